@@ -1,0 +1,11 @@
+pub mod Address
+pub mod AddressParts
+pub mod Ascending
+pub mod Change
+pub mod Digest
+pub mod IpText
+pub mod Members
+pub mod Numbers
+pub mod Numeral
+pub mod Refutation
+pub mod Status

@@ -1,0 +1,17 @@
+-- The limits of incarnations, moments, weights and members.
+use Rattle.std.specs.Prelude.{ℕ, ◌≤◌}
+
+-- the greatest incarnation and the greatest moment, 2^53 - 1
+abbrev pub greatest_number : ℕ
+greatest_number = 9007199254740991
+
+-- how many members a node holds at most, and so how many changes a message carries
+abbrev pub most_members : ℕ
+most_members = 4096
+
+-- the greatest weight
+abbrev pub greatest_weight : ℕ
+greatest_weight = 8
+
+abbrev pub IsWeight : ℕ → Type 0
+IsWeight w = (1 ≤ w) × (w ≤ greatest_weight)

@@ -1,0 +1,84 @@
+-- What contracts see of a membership, and how it judges a change.
+use Rattle.std.specs.Prelude.{◌≡◌, ℕ, ◌<◌, ◌≤◌, cond, ◌==◌, nat_lt, ◌&&◌, List, [], ◌∷◌, Some, None, length, is_none, IsTrue}
+use Rattle.change_core.specs.declared.changes.Change.{Change}
+use Rattle.change_core.specs.declared.changes.Sourced.{Sourced}
+use Rattle.change_core.specs.declared.statuses.Status.{Status}
+use Rattle.change_core.specs.declared.statuses.Status.TheVariants.{Alive, Suspect, Faulty, Leave, Tombstone}
+use Rattle.change_core.specs.Numbers.{greatest_number, most_members}
+use Rattle.change_core.specs.Status.{rank}
+use Rattle.change_core.specs.Change.{Overrides}
+use Rattle.change_core.specs.Refutation.{refutation}
+use Rattle.change_core.specs.Members.{greatest, is_news, IsMemberList}
+use Rattle.member_core.specs.declared.verdicts.Verdict.{Verdict}
+use Rattle.member_core.specs.declared.verdicts.Verdict.TheVariants.{Old, Take, Refute, Exhausted, Full}
+
+-- the node's own entry, all members with it, how many there may be, and how many more find room without a growth
+pub record Membership : Type 0 where
+  pub own : Change
+  pub members : List Change
+  pub max : ℕ
+  pub room : ℕ
+
+-- a node holds itself as alive or leave
+abbrev pub IsOwnStatus : Status → Type 0
+IsOwnStatus Alive = Unit {0}
+IsOwnStatus Suspect = ⊥
+IsOwnStatus Faulty = ⊥
+IsOwnStatus Leave = Unit {0}
+IsOwnStatus Tombstone = ⊥
+
+-- a member list of at most max members that holds the node itself as alive or leave
+pub record IsMembership (own : Change) (members : List Change) (max : ℕ) : Type 0 where
+  pub sorted : IsMemberList members
+  pub holds_itself : greatest members own.address ≡ Some own
+  pub alive_or_leave : IsOwnStatus own.status
+  pub fits : length members ≤ max
+  pub positive : 1 ≤ max
+  pub limited : max ≤ most_members
+
+-- a change about the node itself: taken where it has the node's own status, whatever its weight, else refuted while an incarnation is left
+abbrev pub judged_own : Change → Change → Verdict
+judged_own own c = cond (rank c.status == rank own.status) (Take c) (cond (nat_lt c.incarnation greatest_number) (Refute c (refutation own c)) Exhausted)
+
+-- a change about another: taken, unless its address is unknown and there is no room
+abbrev pub judged_other : List Change → ℕ → Change → Verdict
+judged_other ms max c = cond (is_none (greatest ms c.address) && (length ms == max)) Full (Take c)
+
+-- what is no news is old
+abbrev pub judged : Membership → Change → Verdict
+judged m c = cond (is_news m.members c) (cond (c.address == m.own.address) (judged_own m.own c) (judged_other m.members m.max c)) Old
+
+-- what a verdict puts in
+abbrev pub put_in : Verdict → List Change
+put_in Old = []
+put_in (Take c) = c ∷ []
+put_in (Refute given next) = given ∷ next ∷ []
+put_in Exhausted = []
+put_in Full = []
+
+-- the verdict is the present one and puts something in, for which there is room
+abbrev pub CanCommit : Membership → Verdict → Type 0
+CanCommit m Old = ⊥
+CanCommit m (Take c) = (judged m c ≡ Take c) × (greatest m.members c.address ≡ None → 0 < m.room)
+CanCommit m (Refute given next) = judged m given ≡ Refute given next
+CanCommit m Exhausted = ⊥
+CanCommit m Full = ⊥
+
+-- a change about the node itself that it makes itself
+pub record IsOwnAssertion (own c : Change) : Type 0 where
+  pub overrides : Overrides c own
+  pub alive_or_leave : IsOwnStatus c.status
+
+-- a change as the node itself says it
+abbrev pub said_by : Change → Change → Sourced
+said_by own c = record { change = c; source = own.address; source_incarnation = own.incarnation }
+
+-- there is room for the change, and about the node itself it is news that the node may say
+pub record CanPut (m : Membership) (c : Change) : Type 0 where
+  pub fits : greatest m.members c.address ≡ None → length m.members < m.max
+  pub has_room : greatest m.members c.address ≡ None → 0 < m.room
+  pub own : c.address ≡ m.own.address → IsTrue (is_news m.members c) × IsOwnStatus c.status
+
+-- the node's own entry after a change that was put in
+abbrev pub own_after : Change → Change → Change
+own_after own c = cond (c.address == own.address) c own

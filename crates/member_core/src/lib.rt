@@ -1,0 +1,16 @@
+//! The members that a list of changes comes to, kept as a table and edited one change at a time.
+#![tactic(auto)]
+
+mod entries;
+mod errors;
+mod memberships;
+mod tables;
+mod verdicts;
+
+pub use errors::MemberError;
+pub use memberships::Members;
+pub use tables::MemberTable;
+pub use verdicts::Verdict;
+
+#[cfg(test)]
+mod tests;

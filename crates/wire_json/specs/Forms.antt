@@ -1,0 +1,157 @@
+-- What a JSON value stands for, member by member, and the first fault of a value that stands for nothing.
+use Rattle.std.specs.Prelude.{◌≡◌, ℕ, ◌≤◌, ◌++◌, nat_lt, ◌⊎◌, Bool, true, false, List, [], ◌∷◌, Option, Some, None, IsSome}
+use Rattle.serde_json.specs.Data.{Data, boolean, number, string, object, unsigned, Members, no_members, put}
+use Rattle.serde_json.specs.Find.{get}
+use Rattle.change_core.specs.Address.{IsAddress, address_text}
+use Rattle.change_core.specs.Digest.{IsDigest, digest_digits}
+use Rattle.change_core.specs.Numbers.{greatest_number, IsWeight}
+use Rattle.change_core.specs.Status.{status_word}
+use Rattle.change_core.specs.declared.changes.Sourced.{Sourced}
+use Rattle.change_core.specs.declared.digests.Digest.{Digest}
+use Rattle.change_core.specs.declared.statuses.Status.{Status}
+use Rattle.change_core.specs.declared.statuses.Status.TheVariants.{Faulty, Tombstone}
+use Rattle.wire_json.specs.declared.errors.WireError.{WireError}
+use Rattle.wire_json.specs.declared.errors.WireError.TheVariants.{MissingField, BadField}
+use Rattle.wire_json.specs.declared.fields.Field.{Field}
+use Rattle.wire_json.specs.declared.fields.Field.TheVariants as field
+use Rattle.wire_json.specs.declared.kinds.Reason.{Reason}
+use Rattle.wire_json.specs.Fields.{name}
+use Rattle.wire_json.specs.Words.{reason_word}
+
+-- ---- members
+
+-- v has this member, and it is the text t
+abbrev pub HasText : Field → Data → List ℕ → Type 0
+HasText f v t = get (name f) v ≡ Some (string t)
+
+abbrev pub HasAddress : Field → Data → ℕ → Type 0
+HasAddress f v a = HasText f v (address_text a) × IsAddress a
+
+abbrev pub HasNumber : Field → Data → ℕ → Type 0
+HasNumber f v n = (get (name f) v ≡ Some (number (unsigned n))) × (n ≤ greatest_number)
+
+abbrev pub HasDigest : Field → Data → Digest → Type 0
+HasDigest f v d = HasText f v (digest_digits d.bytes) × IsDigest d.bytes
+
+abbrev pub HasTruth : Field → Data → Bool → Type 0
+HasTruth f v b = get (name f) v ≡ Some (boolean b)
+
+abbrev pub HasWord : Data → Status → Type 0
+HasWord v s = HasText field.Status v (status_word s)
+
+-- ---- changes
+
+-- `faulty` is made a tombstone by the member `tombstone`, which may be absent; other words stand for themselves
+abbrev pub Marks : Option Data → Status → Type 0
+Marks None s = s ≡ Faulty
+Marks (Some (boolean true)) s = s ≡ Tombstone
+Marks (Some (boolean false)) s = s ≡ Faulty
+Marks (Some _) s = ⊥
+
+abbrev pub Means : Data → Status → Status → Type 0
+Means v Faulty s = Marks (get (name field.Tombstone) v) s
+Means v word s = s ≡ word
+
+pub record HasStatus (v : Data) (s : Status) : Type 0 where
+  pub word : Status
+  pub has_word : HasWord v word
+  pub means : Means v word s
+
+-- a weight is from 1 to 8, and 1 where the member `weight` is absent
+abbrev pub Weighs : Option Data → ℕ → Type 0
+Weighs None w = w ≡ 1
+Weighs (Some d) w = (d ≡ number (unsigned w)) × IsWeight w
+
+abbrev pub HasWeight : Data → ℕ → Type 0
+HasWeight v w = Weighs (get (name field.Weight) v) w
+
+-- the value stands for the change
+pub record ChangeForm (v : Data) (c : Sourced) : Type 0 where
+  pub address : HasAddress field.Address v c.change.address
+  pub incarnation : HasNumber field.IncarnationNumber v c.change.incarnation
+  pub source : HasAddress field.Source v c.source
+  pub source_incarnation : HasNumber field.SourceIncarnationNumber v c.source_incarnation
+  pub status : HasStatus v c.change.status
+  pub weight : HasWeight v c.change.weight
+
+-- the parts of a change are in range
+pub record IsChange (c : Sourced) : Type 0 where
+  pub address : IsAddress c.change.address
+  pub incarnation : c.change.incarnation ≤ greatest_number
+  pub source : IsAddress c.source
+  pub source_incarnation : c.source_incarnation ≤ greatest_number
+  pub weight : IsWeight c.change.weight
+
+-- these members go in one after another; an object keeps its members ascending by name
+abbrev pub with_members : List (Field × Data) → Members → Members
+with_members [] ms = ms
+with_members (x ∷ xs) ms = with_members xs (put (name x.0) x.1 ms)
+
+-- the object of these members
+abbrev pub written : List (Field × Data) → Data
+written xs = object (with_members xs no_members)
+
+-- a weight is written where it is over 1
+abbrev pub weight_members : Bool → ℕ → List (Field × Data)
+weight_members true w = (field.Weight, number (unsigned w)) ∷ []
+weight_members false w = []
+
+-- the members of the change, with the weight or without it
+abbrev pub change_object : Bool → Sourced → Data
+change_object heavy c =
+    written ((field.Address, string (address_text c.change.address)) ∷ (field.IncarnationNumber, number (unsigned c.change.incarnation))
+    ∷ (field.Source, string (address_text c.source)) ∷ (field.SourceIncarnationNumber, number (unsigned c.source_incarnation))
+    ∷ (field.Status, string (status_word c.change.status)) ∷ weight_members heavy c.change.weight)
+
+-- what is written for the change
+abbrev pub change_data : Sourced → Data
+change_data c = change_object (nat_lt 1 c.change.weight) c
+
+-- ---- faults
+
+-- what a member is asked to be
+pub data Form : Type 0 where
+  text : Form
+  address : Form
+  whole : Form
+  digest : Form
+  truth : Form
+  status : Form
+  reason : Form
+  mark : Form
+  weight : Form
+
+-- the member is of that form
+abbrev pub IsGood : Form → Field → Data → Type 0
+IsGood text f v = (t : List ℕ) × HasText f v t
+IsGood address f v = (a : ℕ) × HasAddress f v a
+IsGood whole f v = (n : ℕ) × HasNumber f v n
+IsGood digest f v = (d : Digest) × HasDigest f v d
+IsGood truth f v = (b : Bool) × HasTruth f v b
+IsGood status f v = (s : Status) × HasText f v (status_word s)
+IsGood reason f v = (r : Reason) × HasText f v (reason_word r)
+IsGood mark f v = (s : Status) × HasStatus v s
+IsGood weight f v = (w : ℕ) × HasWeight v w
+
+-- a required member is absent, or of another form
+abbrev pub IsBad : Form → Field → Data → WireError → Type 0
+IsBad mark f v e = (e ≡ BadField f) × ¬ IsGood mark f v
+IsBad weight f v e = (e ≡ BadField f) × ¬ IsGood weight f v
+IsBad form f v e = ((e ≡ MissingField f) × (get (name f) v ≡ None)) ⊎ ((e ≡ BadField f) × IsSome (get (name f) v) × ¬ IsGood form f v)
+
+-- the first of the members asked for, in this order, that is not as it should be
+abbrev pub FirstFault : List (Form × Field) → Data → WireError → Type 0
+FirstFault [] v e = ⊥
+FirstFault (c ∷ cs) v e = IsBad c.0 c.1 v e ⊎ (IsGood c.0 c.1 v × FirstFault cs v e)
+
+-- where the status is `faulty`, a member `tombstone` that is there is a truth
+abbrev pub status_members : List (Form × Field)
+status_members = (status, field.Status) ∷ (mark, field.Tombstone) ∷ []
+
+abbrev pub change_members : List (Form × Field)
+change_members =
+    (address, field.Address) ∷ (whole, field.IncarnationNumber) ∷ (address, field.Source) ∷ (whole, field.SourceIncarnationNumber)
+    ∷ (status_members ++ (weight, field.Weight) ∷ [])
+
+abbrev pub ChangeFault : Data → WireError → Type 0
+ChangeFault = FirstFault change_members

@@ -3,9 +3,11 @@ pub mod AddressParts
 pub mod Ascending
 pub mod Change
 pub mod Digest
+pub mod Edits
 pub mod IpText
 pub mod Members
 pub mod Numbers
 pub mod Numeral
+pub mod Order
 pub mod Refutation
 pub mod Status

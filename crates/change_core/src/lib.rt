@@ -1,10 +1,15 @@
-//! What one node says of another: addresses, incarnations, statuses and changes, and which of two changes holds.
+//! What one node says of another: addresses, incarnations, statuses, weights and changes, and which of two changes
+//! holds.
+//!
+//! The membership of SWIM (Das, Gupta, Motivala, DSN 2002, section 4.2) with the statuses of ringpop-go's package `swim`.
+//! Every format, bound and order here is this project's choice. `laws` has what holds of all of them.
 #![tactic(auto)]
 
 mod addresses;
 mod changes;
 mod digests;
 mod errors;
+pub mod laws;
 mod numbers;
 mod statuses;
 mod weights;

@@ -3,13 +3,14 @@ ghost use Rattle.change_core.specs.Numbers.{greatest_number};
 
 use std::marker::Model;
 
-/// How many members a node holds at most, and so how many changes a message carries.
+/// How many members a node holds at most, and how many changes a message carries at most.
 pub const MOST_MEMBERS: usize = 4_096;
 
-/// The greatest incarnation and the greatest moment, 2^53 - 1.
+/// The greatest incarnation, moment and probe number, 2^53 - 1: the greatest whole number up to which JSON readers agree.
 pub const GREATEST_NUMBER: u64 = 9_007_199_254_740_991;
 
-/// How often a node has asserted itself anew. Contracts see the number.
+/// How often a node has asserted itself anew, 0 to 9,007,199,254,740,991 (SWIM, DSN 2002, section 4.2). Only the node
+/// itself raises it, to override what others say of it. Contracts see the number.
 #[derive(Clone, Copy, Debug, PartialEq, Eq, PartialOrd, Ord, Hash)]
 pub struct Incarnation {
     number: u64,
@@ -26,6 +27,7 @@ impl Model for Incarnation {
 }
 
 impl Incarnation {
+    /// The incarnation with this number. None over the greatest.
     pub fn new(number: u64) -> Option<Self>
         ensures { SomeIff result (number ≤ greatest_number) number }
     {
@@ -36,6 +38,7 @@ impl Incarnation {
         }
     }
 
+    /// The incarnation as a number.
     pub fn number(self) -> u64
         ensures value { result ≡ self }
         ensures within { result ≤ greatest_number }
@@ -43,7 +46,7 @@ impl Incarnation {
         self.number
     }
 
-    /// The incarnation that comes after this one.
+    /// The incarnation that comes after this one. None at the greatest.
     pub fn next(self) -> Option<Self>
         ensures { SomeIff result (self < greatest_number) (self + 1) }
     {
@@ -57,7 +60,8 @@ impl Incarnation {
     }
 }
 
-/// A count of milliseconds. Contracts see the number.
+/// A count of milliseconds, 0 to 9,007,199,254,740,991, since a beginning that the caller chooses: no part of this project
+/// reads a clock of its own to make one. Contracts see the number.
 #[derive(Clone, Copy, Debug, PartialEq, Eq, PartialOrd, Ord, Hash)]
 pub struct Moment {
     number: u64,
@@ -74,6 +78,7 @@ impl Model for Moment {
 }
 
 impl Moment {
+    /// The moment with this number of milliseconds. None over the greatest.
     pub fn new(number: u64) -> Option<Self>
         ensures { SomeIff result (number ≤ greatest_number) number }
     {
@@ -84,6 +89,7 @@ impl Moment {
         }
     }
 
+    /// The milliseconds.
     pub fn number(self) -> u64
         ensures value { result ≡ self }
         ensures within { result ≤ greatest_number }

@@ -1,0 +1,126 @@
+//! The laws of what this crate defines. Each is the contract of a function that does nothing, for every list of changes
+//! and every number; the calls of this crate and of those above promise their results in the same words.
+ghost use Rattle.std.specs.Prelude.{◌≡◌, ◌≢◌, ◌⊎◌, ◌↔◌, ℕ, ◌≤◌, List, [], ◌∷◌, ◌++◌, map, length, Some, None, IsTrue, IsSomeAnd};
+ghost use Rattle.std.specs.List.{Contains};
+ghost use Rattle.std.specs.List.Sorted.{IsStrictlyIncreasing};
+ghost use Rattle.std.specs.declared.cmp.Ordering.TheVariants.{Less};
+ghost use Rattle.change_core.specs.declared.changes.Change.{Change};
+ghost use Rattle.change_core.specs.declared.statuses.Status.{Status};
+ghost use Rattle.change_core.specs.Address.{IsAddress, address_text};
+ghost use Rattle.change_core.specs.Change.{Overrides};
+ghost use Rattle.change_core.specs.Digest.{IsDigest, digest_digits};
+ghost use Rattle.change_core.specs.Edits.{IsInserted, IsReplaced};
+ghost use Rattle.change_core.specs.Members.{greatest, members, serving, IsGreatest, IsMemberList, HaveSameChanges, address_of_change, change_text, digest_text};
+ghost use Rattle.change_core.specs.Numbers.{greatest_number, greatest_weight};
+ghost use Rattle.change_core.specs.Order.{change_cmp};
+ghost use Rattle.change_core.specs.Refutation.{refutation, is_refuted, log_one};
+ghost use Rattle.change_core.specs.Status.{status_word, IsServing};
+
+use crate::changes::Change;
+use std::cmp::Ordering;
+
+/// Precedence is one strict total order of the changes about each address: of two that differ one overrides the other.
+/// It is the order in which they are sorted, the stronger last. Changes about two addresses are never compared.
+pub fn precedence()
+    ensures irreflexive { (c : Change) → ¬ Overrides c c }
+    ensures asymmetric { (c d : Change) → Overrides c d → ¬ Overrides d c }
+    ensures transitive { (c d e : Change) → Overrides c d → Overrides d e → Overrides c e }
+    ensures total { (c d : Change) → c.address ≡ d.address
+        → (c ≡ d) ⊎ (Overrides c d ⊎ Overrides d c) }
+    ensures sorted { (c d : Change) → c.address ≡ d.address
+        → (Overrides c d ↔ (change_cmp d c ≡ Less)) }
+{}
+
+/// The greatest change about an address stands in the list and overrides every other one about the address there. No
+/// other change is the greatest, and there is none exactly where no change of the list is about the address.
+pub fn greatest_change()
+    ensures stands { (L : List Change) (a : ℕ) (c : Change)
+        → (greatest L a ≡ Some c) ↔ IsGreatest L a c }
+    ensures exceeds_all { (L : List Change) (a : ℕ) (c d : Change)
+        → greatest L a ≡ Some c → Contains L d → d.address ≡ a → (c ≡ d) ⊎ Overrides c d }
+    ensures unnamed { (L : List Change) (a : ℕ)
+        → (greatest L a ≡ None) ↔ ((c : Change) → Contains L c → c.address ≢ a) }
+{}
+
+/// The members of a list are the greatest change of each address that it names, ascending by address.
+pub fn members_are_greatest()
+    ensures exactly { (L : List Change) (c : Change)
+        → Contains (members L) c ↔ (greatest L c.address ≡ Some c) }
+    ensures ascending { (L : List Change) → IsMemberList (members L) }
+    ensures same_greatest { (L : List Change) (a : ℕ) → greatest (members L) a ≡ greatest L a }
+{}
+
+/// Member lists are exactly the lists whose addresses strictly increase, and exactly those that are their own members.
+/// Two of them that hold the same changes are the same.
+pub fn member_lists()
+    ensures increasing { (M : List Change)
+        → IsMemberList M ↔ IsStrictlyIncreasing (map address_of_change M) }
+    ensures own_members { (M : List Change) → IsMemberList M ↔ (members M ≡ M) }
+    ensures by_changes { (M N : List Change)
+        → IsMemberList M → IsMemberList N → HaveSameChanges M N → M ≡ N }
+{}
+
+/// What a list comes to depends on the set of its changes alone: not on their order, their grouping or how often each
+/// stands there.
+pub fn merge()
+    ensures members_same { (L K : List Change) → HaveSameChanges L K → members L ≡ members K }
+    ensures serving_same { (L K : List Change) → HaveSameChanges L K → serving L ≡ serving K }
+    ensures in_any_order { (L K : List Change) → members (L ++ K) ≡ members (K ++ L) }
+    ensures grouped_before { (L K : List Change) → members (members L ++ K) ≡ members (L ++ K) }
+    ensures grouped_after { (L K : List Change) → members (L ++ members K) ≡ members (L ++ K) }
+    ensures repeated { (L : List Change) → members (L ++ L) ≡ members L }
+{}
+
+/// One change more is an insertion where its address is new, a replacement of the change that it overrides, or nothing.
+pub fn one_change_more()
+    ensures unknown { (L : List Change) (c : Change) → greatest L c.address ≡ None
+        → IsInserted (members L) c (members (L ++ c ∷ [])) }
+    ensures newer { (L : List Change) (c d : Change) → greatest L c.address ≡ Some d
+        → Overrides c d → IsReplaced (members L) d c (members (L ++ c ∷ [])) }
+    ensures old { (L : List Change) (c d : Change) → greatest L c.address ≡ Some d
+        → ¬ Overrides c d → members (L ++ c ∷ []) ≡ members L }
+{}
+
+/// The serving addresses are those whose greatest change is alive or suspect, ascending, each once.
+pub fn serving_addresses()
+    ensures exactly { (L : List Change) (a : ℕ)
+        → Contains (serving L) a ↔ IsSomeAnd (greatest L a) (λ c. IsServing c.status) }
+    ensures increasing { (L : List Change) → IsStrictlyIncreasing (serving L) }
+{}
+
+/// A refutation overrides the change that it answers and the one that was held, and is what is held from then on.
+pub fn refutation_holds()
+    ensures over_given { (own : ℕ) (held given : Change) → held.address ≡ own
+        → IsTrue (is_refuted own (Some held) given) → Overrides (refutation held given) given }
+    ensures over_held { (own : ℕ) (held given : Change) → held.address ≡ own
+        → IsTrue (is_refuted own (Some held) given) → Overrides (refutation held given) held }
+    ensures is_held { (own : ℕ) (L : List Change) (held given : Change) → greatest L own ≡ Some held
+        → IsTrue (is_refuted own (Some held) given)
+        → greatest (log_one own L given) own ≡ Some (refutation held given) }
+{}
+
+/// No two addresses, digests, statuses, changes or lists of changes have one text.
+pub fn one_text()
+    ensures address { (a b : ℕ) → address_text a ≡ address_text b → a ≡ b }
+    ensures digest { (x y : List ℕ) → IsDigest x → IsDigest y
+        → digest_digits x ≡ digest_digits y → x ≡ y }
+    ensures status { (s t : Status) → status_word s ≡ status_word t → s ≡ t }
+    ensures change { (c d : Change) → change_text c ≡ change_text d → c ≡ d }
+    ensures changes { (L K : List Change) → digest_text L ≡ digest_text K → L ≡ K }
+{}
+
+/// How many bytes a text has: at most 21 of an address, 9 of a status and 48 of a change, 64 of a digest.
+pub fn text_lengths()
+    ensures address { (a : ℕ) → IsAddress a → length (address_text a) ≤ 21 }
+    ensures status { (s : Status) → length (status_word s) ≤ 9 }
+    ensures change { (c : Change) → IsAddress c.address → c.incarnation ≤ greatest_number
+        → c.weight ≤ greatest_weight → length (change_text c) ≤ 48 }
+    ensures digest { (x : List ℕ) → IsDigest x → length (digest_digits x) ≡ 64 }
+{}
+
+/// Changes are sorted by address, then incarnation, then rank, then weight.
+pub fn change_order(one: &Change, other: &Change) -> Ordering
+    ensures { result ≡ change_cmp one.now other.now }
+{
+    one.cmp(other)
+}

@@ -10,13 +10,13 @@ ghost use Rattle.change_core.specs.Address.{IsAddress, address_text};
 ghost use Rattle.change_core.specs.Change.{Overrides};
 ghost use Rattle.change_core.specs.Digest.{IsDigest, digest_digits};
 ghost use Rattle.change_core.specs.Edits.{IsInserted, IsReplaced};
-ghost use Rattle.change_core.specs.Members.{greatest, members, serving, IsGreatest, IsMemberList, HaveSameChanges, address_of_change, change_text, digest_text};
+ghost use Rattle.change_core.specs.Members.{greatest, members, serving, is_news, IsNews, IsGreatest, IsMemberList, HaveSameChanges, address_of_change, change_text, digest_text};
 ghost use Rattle.change_core.specs.Numbers.{greatest_number, greatest_weight};
-ghost use Rattle.change_core.specs.Order.{change_cmp};
+ghost use Rattle.change_core.specs.Order.{change_cmp, sourced_cmp};
 ghost use Rattle.change_core.specs.Refutation.{refutation, is_refuted, log_one};
 ghost use Rattle.change_core.specs.Status.{status_word, IsServing};
 
-use crate::changes::Change;
+use crate::changes::{Change, Sourced};
 use std::cmp::Ordering;
 
 /// Precedence is one strict total order of the changes about each address: of two that differ one overrides the other.
@@ -68,6 +68,8 @@ pub fn merge()
     ensures in_any_order { (L K : List Change) → members (L ++ K) ≡ members (K ++ L) }
     ensures grouped_before { (L K : List Change) → members (members L ++ K) ≡ members (L ++ K) }
     ensures grouped_after { (L K : List Change) → members (L ++ members K) ≡ members (L ++ K) }
+    ensures grouped_both { (L K : List Change)
+        → members (members L ++ members K) ≡ members (L ++ K) }
     ensures repeated { (L : List Change) → members (L ++ L) ≡ members L }
 {}
 
@@ -79,6 +81,13 @@ pub fn one_change_more()
         → Overrides c d → IsReplaced (members L) d c (members (L ++ c ∷ [])) }
     ensures old { (L : List Change) (c d : Change) → greatest L c.address ≡ Some d
         → ¬ Overrides c d → members (L ++ c ∷ []) ≡ members L }
+{}
+
+/// A change is news to a list where it exceeds every change about its address there. The members of a list tell what is
+/// news to it.
+pub fn news()
+    ensures exceeds_all { (L : List Change) (c : Change) → IsTrue (is_news L c) ↔ IsNews L c }
+    ensures by_members { (L : List Change) (c : Change) → is_news (members L) c ≡ is_news L c }
 {}
 
 /// The serving addresses are those whose greatest change is alive or suspect, ascending, each once.
@@ -121,6 +130,13 @@ pub fn text_lengths()
 /// Changes are sorted by address, then incarnation, then rank, then weight.
 pub fn change_order(one: &Change, other: &Change) -> Ordering
     ensures { result ≡ change_cmp one.now other.now }
+{
+    one.cmp(other)
+}
+
+/// Sourced changes are sorted by change, then source, then the source's incarnation.
+pub fn sourced_order(one: &Sourced, other: &Sourced) -> Ordering
+    ensures { result ≡ sourced_cmp one.now other.now }
 {
     one.cmp(other)
 }

@@ -1,4 +1,4 @@
-use Rattle.change_core.proofs.Members.{members-same, members-append, members-append_members}
+use Rattle.change_core.proofs.Members.{members-same, members-append, members-append_members, members-append_both}
 use Rattle.change_core.proofs.SameChanges.{members-swapped, members-repeated}
 use Rattle.change_core.proofs.Serving.{serving-same}
 use Rattle.change_core.proofs.laws.merge.Goals as goal
@@ -17,6 +17,9 @@ returns-clause-grouped_before c = members-append
 
 pub returns-clause-grouped_after : goal.returns-clause-grouped_after
 returns-clause-grouped_after c = members-append_members
+
+pub returns-clause-grouped_both : goal.returns-clause-grouped_both
+returns-clause-grouped_both c = members-append_both
 
 pub returns-clause-repeated : goal.returns-clause-repeated
 returns-clause-repeated c = members-repeated

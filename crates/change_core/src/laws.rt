@@ -12,11 +12,11 @@ ghost use Rattle.change_core.specs.Digest.{IsDigest, digest_digits};
 ghost use Rattle.change_core.specs.Edits.{IsInserted, IsReplaced};
 ghost use Rattle.change_core.specs.Members.{greatest, members, serving, is_news, IsNews, IsGreatest, IsMemberList, HaveSameChanges, address_of_change, change_text, digest_text};
 ghost use Rattle.change_core.specs.Numbers.{greatest_number, greatest_weight};
-ghost use Rattle.change_core.specs.Order.{change_cmp, sourced_cmp};
+ghost use Rattle.change_core.specs.Order.{change_cmp};
 ghost use Rattle.change_core.specs.Refutation.{refutation, is_refuted, log_one};
 ghost use Rattle.change_core.specs.Status.{status_word, IsServing};
 
-use crate::changes::{Change, Sourced};
+use crate::changes::Change;
 use std::cmp::Ordering;
 
 /// Precedence is one strict total order of the changes about each address: of two that differ one overrides the other.
@@ -130,13 +130,6 @@ pub fn text_lengths()
 /// Changes are sorted by address, then incarnation, then rank, then weight.
 pub fn change_order(one: &Change, other: &Change) -> Ordering
     ensures { result ≡ change_cmp one.now other.now }
-{
-    one.cmp(other)
-}
-
-/// Sourced changes are sorted by change, then source, then the source's incarnation.
-pub fn sourced_order(one: &Sourced, other: &Sourced) -> Ordering
-    ensures { result ≡ sourced_cmp one.now other.now }
 {
     one.cmp(other)
 }

@@ -1,0 +1,4 @@
+pub mod IssueLaws
+pub mod PendingLaws
+pub mod PendingLemmas
+pub mod RunLaws

@@ -1,0 +1,30 @@
+-- What contracts see of a `Gossip`, and what its calls make of it.
+use Rattle.std.specs.Prelude.{ℕ, ◌≤◌, List}
+use Rattle.change_core.specs.declared.changes.Sourced.{Sourced}
+use Rattle.gossip_core.specs.declared.pending.Pending.{Pending}
+use Rattle.gossip_core.specs.Pending.{put_pending, counted, below, limit_for, OnePerAddress, AllBelow}
+
+-- the factor, the limit and the pending list
+pub record Dissemination : Type 0 where
+  pub factor : ℕ
+  pub limit : ℕ
+  pub pending : List Pending
+
+-- one more change is passed on
+abbrev pub with_news : Dissemination → Sourced → Dissemination
+with_news g s = record g { pending = put_pending g.pending s }
+
+-- n members serve: the limit is theirs, and what has reached it goes
+abbrev pub adjusted : Dissemination → ℕ → Dissemination
+adjusted g n = let limit = limit_for g.factor n in record g { limit = limit; pending = below limit g.pending }
+
+-- a message took the first k to the target: they count once more, and what has reached the limit goes
+abbrev pub after_issue : Dissemination → ℕ → ℕ → Dissemination
+after_issue g target k = record g { pending = below g.limit (counted target k g.pending) }
+
+-- what always holds: factor and limit are within their bounds, one change is pending for an address, and each has been issued less often than the limit
+pub record IsWhole (g : Dissemination) : Type 0 where
+  pub factor_within : (1 ≤ g.factor) × (g.factor ≤ 1000)
+  pub limit_within : (1 ≤ g.limit) × (g.limit ≤ 20000)
+  pub one_each : OnePerAddress g.pending
+  pub unspent : AllBelow g.limit g.pending

@@ -1,0 +1,4 @@
+pub mod Dissemination
+pub mod Kept
+pub mod Pending
+pub mod Runs

@@ -1,0 +1,24 @@
+//! Laws of the pending list: what follows from its definitions for every list, with no code to run.
+ghost use Rattle.std.specs.Prelude.{◌≡◌, ◌≢◌, ◌≤◌, ℕ, List, All, map, if◌then◌else◌};
+ghost use Rattle.change_core.specs.declared.changes.Sourced.{Sourced};
+ghost use Rattle.gossip_core.specs.declared.pending.Pending.{Pending};
+ghost use Rattle.gossip_core.specs.Dissemination.{Dissemination, with_news, IsWhole};
+ghost use Rattle.gossip_core.specs.Pending.{issued, counted, once_more, is_issued, OnePerAddress};
+ghost use Rattle.gossip_core.specs.Runs.{Event, times_issued, greatest_limit, IsElsewhere};
+
+/// The issued are those that count one more: each pending change that is issued counts one more, each other one stays as it was.
+pub fn issued_count_one_more()
+    ensures { (target k : ℕ) (ps : List Pending) → OnePerAddress ps
+        → counted target k ps ≡ map (λ p. if is_issued target k ps p then once_more p else p) ps }
+{}
+
+/// A change is never issued to the node that it came from.
+pub fn never_to_its_source()
+    ensures { (target k : ℕ) (ps : List Pending) → All (λ s. s.source ≢ target) (issued target k ps) }
+{}
+
+/// From one put to the next for its address, a change is issued at most as often as the greatest limit that stands meanwhile.
+pub fn issued_within_the_limit()
+    ensures { (g : Dissemination) (s : Sourced) (es : List Event) → IsWhole g → All (IsElsewhere s.change.address) es
+        → times_issued s.change.address (with_news g s) es ≤ greatest_limit (with_news g s) es }
+{}

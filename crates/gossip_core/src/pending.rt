@@ -1,0 +1,117 @@
+ghost use Rattle.std.specs.Prelude.{◌≡◌, ◌+◌, ◌-◌, ◌*◌, ◌<◌, ◌≤◌, ◌^◌, All, nat_lt, map, IfOk, OnOk, OnErr};
+ghost use Rattle.indexmap.specs.IndexMap.{values};
+ghost use Rattle.gossip_core.specs.Pending.{subject, put_pending, issued, counted, below, digit_count, limit_for, NoneAbout, IsByAddress};
+
+use change_core::{Address, Sourced};
+use indexmap::IndexMap;
+use std::alloc::{AllocError, Global};
+
+/// A change that is still passed on, and how often it has been issued.
+#[derive(Clone, Copy, Debug)]
+pub struct Pending {
+    pub sourced: Sourced,
+    pub count: u32,
+}
+
+impl Pending {
+    /// Whom the change is about.
+    pub(crate) fn subject(&self) -> Address
+        ensures { result ≡ subject self.now }
+    {
+        self.sourced.change.address
+    }
+}
+
+/// The pending changes by address, in the order in which their addresses were first put.
+pub(crate) type PendingMap = IndexMap<Address, Pending>;
+
+/// All changes, in their order.
+pub(crate) fn all_of(alloc: Global, pending: &PendingMap) -> Result<Vec<Sourced>, AllocError>
+    ensures { IfOk result (λ v. v.items ≡ map (λ p. p.sourced) (values pending.now)) }
+{
+    let mut changes = Vec::with_capacity(alloc, pending.len())?;
+    'changes: for index in 0..pending.len() {
+        changes.push_reserved(pending[index].sourced);
+    }
+    Ok(changes)
+}
+
+/// Puts a change under its address, in the place of the one before it or last.
+pub(crate) fn put_at(
+    pending: &mut PendingMap,
+    address: Address,
+    change: Pending,
+) -> Result<(), AllocError>
+    requires by_address { IsByAddress pending.old }
+    requires subject { subject change ≡ address }
+    requires unissued { change.count ≡ 0 }
+    ensures ok { OnOk result (values pending.new ≡ put_pending (values pending.old) change.sourced) }
+    ensures growth { OnErr result (NoneAbout address (values pending.old)) }
+    ensures err { OnErr result (values pending.new ≡ values pending.old) }
+    ensures by_address { IsByAddress pending.new }
+{
+    pending.insert(address, change)?;
+    Ok(())
+}
+
+/// Gives the first `at_most` changes that may go to `target`, each of which counts once more.
+pub(crate) fn issue_first(
+    alloc: Global,
+    pending: &mut PendingMap,
+    target: Address,
+    at_most: usize,
+) -> Result<Vec<Sourced>, AllocError>
+    requires countable { All (λ p. p.count < 2 ^ 32 - 1) (values pending.old) }
+    requires by_address { IsByAddress pending.old }
+    ensures issued { IfOk result (λ v. v.items ≡ issued target at_most (values pending.old)) }
+    ensures counted { OnOk result (values pending.new ≡ counted target at_most (values pending.old)) }
+    ensures err { OnErr result (values pending.new ≡ values pending.old) }
+    ensures by_address { IsByAddress pending.new }
+{
+    let mut changes = Vec::with_capacity(alloc, at_most.min(pending.len()))?;
+    'changes: for index in 0..pending.len() {
+        if changes.len() == at_most {
+            break;
+        }
+        let sourced = pending[index].sourced;
+        if sourced.source != target {
+            pending[index].count += 1;
+            changes.push_reserved(sourced);
+        }
+    }
+    Ok(changes)
+}
+
+/// Drops the changes that have reached the limit. Where none has, nothing is moved.
+pub(crate) fn drop_spent(pending: &mut PendingMap, limit: u32)
+    requires { IsByAddress pending.old }
+    ensures below { values pending.new ≡ below limit (values pending.old) }
+    ensures by_address { IsByAddress pending.new }
+{
+    if pending.values().all(|p| p.count < limit) {
+        return;
+    }
+    pending.retain(
+        |_address: &Address, p: &mut Pending| -> bool
+            ensures { (result ≡ nat_lt p.old.count limit) × (p.new ≡ p.old) }
+        { p.count < limit },
+    );
+}
+
+/// The number of decimal digits of `n`, where 0 has one.
+fn decimal_digits(n: usize) -> u32
+    ensures digits { result ≡ digit_count n }
+    ensures within { (1 ≤ result) × (result ≤ 20) }
+{
+    n.checked_ilog10().unwrap_or(0) + 1
+}
+
+/// How often a change is issued while `n` members serve.
+pub(crate) fn limit_at(factor: u32, n: usize) -> u32
+    requires { factor ≤ 1000 }
+    ensures value { result ≡ limit_for factor n }
+    ensures positive { 1 ≤ factor → 1 ≤ result }
+    ensures within { result ≤ 20000 }
+{
+    factor * decimal_digits(n)
+}

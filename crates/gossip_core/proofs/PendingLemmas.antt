@@ -5,7 +5,7 @@ use Rattle.std.proofs.Math.Bool.{and-false}
 use Rattle.std.proofs.lemmas.Bool.{ltb-true, lt-ltb, eqb-false}
 use Rattle.std.proofs.lemmas.Bool.Decides.{Decides-eqb}
 use Rattle.std.proofs.lemmas.Int.Digits.{length-digits_of-le, number_lt, number_digits_of, all_below_base_digits_of}
-use Rattle.std.proofs.lemmas.List.{take-append-drop, take-map, drop_all, take_more, take_more_set, drop-set-lt, get_or-map, length-map, take_all}
+use Rattle.std.proofs.lemmas.List.{map-append, take-append-drop, drop_all, take_more, take_more_set, drop-set-lt, get_or-map, length-map, take_all}
 use Rattle.std.proofs.lemmas.List.Elements.{All-cons, All-nil, All-tail, filter_passes}
 use Rattle.std.proofs.lemmas.Map.Made.{AllPairs-from_IsDistinct}
 use Rattle.std.proofs.lemmas.Option.{get_or_from_slice_get, slice_get_within}
@@ -53,6 +53,12 @@ drop_at xs i x h =
 pub counted-none : (t : ℕ) (ps : List Pending) → counted t 0 ps ≡ ps
 counted-none t [] = refl
 counted-none t (p ∷ ps) = ap (λ l. p ∷ l) (counted-none t ps)
+
+-- one more of the changes
+pub sourced-take_more : (xs : List Pending) (i : ℕ) (p : Pending) → slice_get xs i ≡ Some p → map (λ p. p.sourced) (take i xs) ++ p.sourced ∷ [] ≡ map (λ p. p.sourced) (take (i + 1) xs)
+sourced-take_more xs i p at =
+    let more : take (i + 1) xs ≡ take i xs ++ p ∷ [] = take_more xs i p (slice_get_within xs i p at) ∙ ap (λ y. take i xs ++ y ∷ []) (get_or_from_slice_get xs i p p at) in
+    sym (ap (map (λ p. p.sourced)) more ∙ map-append (λ p. p.sourced) (take i xs) (p ∷ []))
 
 -- the first is issued
 pub counted-cons_yes : (t k : ℕ) (p : Pending) (ps : List Pending) → 0 < k → may_go_to t p ≡ true → counted t k (p ∷ ps) ≡ once_more p ∷ counted t (k - 1) ps
@@ -124,6 +130,13 @@ IsIssuing-none t k old countable =
       behind = omega arith;
       countable = countable;
     }
+
+-- the count of the change at i has room for one more
+pub IsIssuing-countable : (t k : ℕ) (old : List Pending) (given : List Sourced) (i : ℕ) (now : List Pending) (p : Pending) → IsIssuing t k old given i now → slice_get now i ≡ Some p
+    → p.count + 1 < 2 ^ 32
+IsIssuing-countable t k old given i now p h at =
+    let first : p.count < 2 ^ 32 - 1 = subst (All (λ p. p.count < 2 ^ 32 - 1)) (drop_at now i p at) h.countable 0 p (omega arith) in
+    omega (arith, first)
 
 -- the change at i is issued
 pub IsIssuing-yes : (t k : ℕ) (old : List Pending) (given : List Sourced) (i : ℕ) (now : List Pending) (p : Pending) → IsIssuing t k old given i now → slice_get now i ≡ Some p

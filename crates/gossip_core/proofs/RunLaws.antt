@@ -1,13 +1,13 @@
 -- How often a change is issued from one put to the next for its address: what its count leaves to the greatest limit falls by one with each issue.
-use Rattle.std.proofs.Common.{◌≡◌, ℕ, zero, suc, ◌+◌, ◌-◌, ◌<◌, ◌≤◌, ◌≢◌, ◌==◌, Bool, true, false, nat_lt, cond, if◌then◌else◌, max, List, [], ◌∷◌, refl, sym, ap, ◌∙◌, subst, All, count_by, arith, eqb-true}
+use Rattle.std.proofs.Common.{◌≡◌, ℕ, zero, suc, ◌+◌, ◌-◌, ◌<◌, ◌≤◌, ◌≢◌, ◌==◌, Bool, true, false, nat_lt, cond, List, [], ◌∷◌, refl, sym, ap, ◌∙◌, subst, All, count_by, arith, eqb-true}
 use Rattle.std.proofs.Math.Nat.{le-max_left, le-max_right}
 use Rattle.std.proofs.lemmas.Bool.{ne_eqb, eqb-false}
 use Rattle.std.proofs.lemmas.List.Elements.{All-cons, All-nil, All-tail, All-weaker}
 use Rattle.std.proofs.lemmas.List.Sums.{sum_by-cons}
 use Rattle.change_core.specs.declared.changes.Sourced.{Sourced}
 use Rattle.gossip_core.specs.declared.pending.Pending.{Pending}
-use Rattle.gossip_core.specs.Dissemination.{Dissemination, with_news, adjusted, after_issue, IsWhole}
-use Rattle.gossip_core.specs.Pending.{subject, fresh, put_pending, may_go_to, issued, once_more, counted, below, limit_for, NoneAbout, OnePerAddress, AllBelow}
+use Rattle.gossip_core.specs.Dissemination.{Dissemination, with_news, IsWhole}
+use Rattle.gossip_core.specs.Pending.{subject, fresh, put_pending, may_go_to, issued, counted, below, limit_for, NoneAbout, OnePerAddress, AllBelow}
 use Rattle.gossip_core.specs.Runs.{Event, after, times_issued, greatest_limit, IsElsewhere}
 use Rattle.gossip_core.proofs.PendingLemmas.{counted-none, counted-cons_yes, counted-cons_no, issued-cons_yes, issued-cons_no, AllBelow-below, AllBelow-put_pending}
 

@@ -1,5 +1,5 @@
 -- What happens to a `Gossip` between two puts for an address: issues, adjustments, and puts about others (own).
-use Rattle.std.specs.Prelude.{ℕ, ◌+◌, ◌==◌, ◌≢◌, max, List, [], ◌∷◌, count_by, ⊤, All}
+use Rattle.std.specs.Prelude.{ℕ, ◌+◌, ◌==◌, ◌≢◌, max, List, [], ◌∷◌, count_by, ⊤}
 use Rattle.change_core.specs.declared.changes.Sourced.{Sourced}
 use Rattle.gossip_core.specs.Pending.{issued}
 use Rattle.gossip_core.specs.Dissemination.{Dissemination, with_news, adjusted, after_issue}

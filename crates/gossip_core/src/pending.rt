@@ -1,4 +1,5 @@
 ghost use Rattle.std.specs.Prelude.{◌≡◌, ◌+◌, ◌-◌, ◌*◌, ◌<◌, ◌≤◌, ◌^◌, All, nat_lt, map, IfOk, OnOk, OnErr};
+ghost use Rattle.std.specs.List.{list_all};
 ghost use Rattle.indexmap.specs.IndexMap.{values};
 ghost use Rattle.gossip_core.specs.Pending.{subject, put_pending, issued, counted, below, digit_count, limit_for, NoneAbout, IsByAddress};
 
@@ -82,13 +83,20 @@ pub(crate) fn issue_first(
     Ok(changes)
 }
 
+/// Whether no change has reached the limit.
+fn all_below(pending: &PendingMap, limit: u32) -> bool
+    ensures { result ≡ list_all (λ p. nat_lt p.count limit) (values pending.now) }
+{
+    pending.values().all(|p| p.count < limit)
+}
+
 /// Drops the changes that have reached the limit. Where none has, nothing is moved.
 pub(crate) fn drop_spent(pending: &mut PendingMap, limit: u32)
     requires { IsByAddress pending.old }
     ensures below { values pending.new ≡ below limit (values pending.old) }
     ensures by_address { IsByAddress pending.new }
 {
-    if pending.values().all(|p| p.count < limit) {
+    if all_below(pending, limit) {
         return;
     }
     pending.retain(

@@ -1,4 +1,4 @@
-use Rattle.std.proofs.Common.{◌≡◌, ◌≤◌, min, length, vec_len, vec_capacity}
+use Rattle.std.proofs.Common.{◌≡◌, ◌≤◌, min, length, vec_capacity}
 use Rattle.indexmap.specs.IndexMap.{keys, values}
 use Rattle.gossip_core.proofs.PendingLemmas.{IsIssuing}
 use Rattle.gossip_core.proofs.pending.issue_first.Given as goal

@@ -153,7 +153,7 @@ IsIssuing-yes t k old given i now p h at more may =
     record {
       so_far = h.so_far ∙ counted_on ∙ ap (λ l. take (i + 1) (set now i (once_more p)) ++ counted t l (drop (i + 1) (set now i (once_more p)))) left;
       issued_is = h.issued_is ∙ ap (λ l. given ++ l) one ∙ sym (append_assoc given (p.sourced ∷ []) (issued t ((k - length given) - 1) (drop (i + 1) now)))
-        ∙ (λ j. (given ++ p.sourced ∷ []) ++ issued t (left j) (sym rest j));
+          ∙ (λ j. (given ++ p.sourced ∷ []) ++ issued t (left j) (sym rest j));
       within = omega (arith, long, h.within, more);
       behind = omega (arith, long, h.behind);
       countable = subst (All (λ p. p.count < 2 ^ 32 - 1)) (sym rest) (room_left now i p at h.countable);
@@ -180,13 +180,15 @@ pub IsIssuing-all : (t k : ℕ) (old : List Pending) (given : List Sourced) (i :
 IsIssuing-all t k old given i now h (inl all) =
     let none : drop i now ≡ [] = drop_all i now all in
     let whole : take i now ≡ now = take_all i now all in
-    let none_issued : issued t (k - length given) (drop i now) ≡ [] = ap (issued t (k - length given)) none ∙ issued-nil t (k - length given) in
-    (sym (h.so_far ∙ ap (λ l. take i now ++ counted t (k - length given) l) none ∙ append-nil (take i now) ∙ whole)
-      , sym (h.issued_is ∙ ap (λ l. given ++ l) none_issued ∙ append-nil given))
+    let none_issued : issued t (k - length given) (drop i now) ≡ [] = ap (issued t (k - length given)) none ∙ issued-nil t (k - length given) in (
+      sym (h.so_far ∙ ap (λ l. take i now ++ counted t (k - length given) l) none ∙ append-nil (take i now) ∙ whole),
+      sym (h.issued_is ∙ ap (λ l. given ++ l) none_issued ∙ append-nil given),
+    )
 IsIssuing-all t k old given i now h (inr full) =
-    let none : k - length given ≡ 0 = omega (arith, full) in
-    (sym (h.so_far ∙ ap (λ l. take i now ++ counted t l (drop i now)) none ∙ ap (λ l. take i now ++ l) (counted-none t (drop i now)) ∙ take-append-drop i now)
-      , sym (h.issued_is ∙ ap (λ l. given ++ issued t l (drop i now)) none ∙ append-nil given))
+    let none : k - length given ≡ 0 = omega (arith, full) in (
+      sym (h.so_far ∙ ap (λ l. take i now ++ counted t l (drop i now)) none ∙ ap (λ l. take i now ++ l) (counted-none t (drop i now)) ∙ take-append-drop i now),
+      sym (h.issued_is ∙ ap (λ l. given ++ issued t l (drop i now)) none ∙ append-nil given),
+    )
 
 -- a map's `insert` puts the change in its place
 pub values_of-insert : (es : List (ℕ × Pending)) (s : Sourced) → map subject (values_of es) ≡ keys_of es → values_of (insert_entry nat_eq es s.change.address (fresh s)) ≡ put_pending (values_of es) s

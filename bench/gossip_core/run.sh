@@ -1,0 +1,13 @@
+#!/usr/bin/env bash
+# Puts, issues and adjustments of a pending list of 4,096 changes, in nanoseconds a call. Wants rt. It works on a copy, so nothing
+# is left in the repository.
+set -euo pipefail
+here=$(cd "$(dirname "$0")" && pwd)
+root=$here/../..
+work=$(mktemp -d)
+trap 'rm -rf "$work"' EXIT
+mkdir "$work/crates"
+cp -r "$root/crates/change_core" "$root/crates/gossip_core" "$here/gossip_bench" "$work/crates/"
+grep -E '^(change_core|gossip_core):' "$root/crates.txt" > "$work/crates.txt"
+echo 'gossip_bench: change_core gossip_core anyhow' >> "$work/crates.txt"
+(cd "$work/crates/gossip_bench" && rt try)

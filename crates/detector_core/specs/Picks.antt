@@ -1,0 +1,86 @@
+-- What a pick and a loss do to a prober, and what follows for a run of picks.
+use Rattle.std.specs.Prelude.{◌≡◌, ℕ, ◌+◌, ◌-◌, ◌*◌, List, [], ◌∷◌, Option, ◌<◌, ◌≤◌, Some, None, Contains, length, map}
+use Rattle.std.specs.Option.{option_map}
+use Rattle.change_core.specs.Numbers.{greatest_number}
+use Rattle.detector_core.specs.declared.prober.Probe.{Probe}
+use Rattle.detector_core.specs.declared.prober.Running.{Running}
+use Rattle.detector_core.specs.declared.prober.Lost.{Lost}
+use Rattle.detector_core.specs.declared.prober.Lost.TheVariants.{Ask, NoHelper}
+use Rattle.detector_core.specs.Helpers.{first_waiting, others, unanswered, IsSample}
+use Rattle.detector_core.specs.Choices.{sample}
+use Rattle.detector_core.specs.Order.{AllDifferent, bound, IsTurn, AllNearer, drawn_turn}
+use Rattle.detector_core.specs.Probing.{ProbeState, choices, helper_count}
+
+-- the probe has the next number, its target is a pingable member in turn, as the choices give it, and every other
+-- pingable member comes nearer
+pub record IsPick (pingable : List ℕ) (old : ProbeState) (p : Probe) (new : ProbeState) : Type 0 where
+  pub number : p.number ≡ old.last + 1
+  pub within : p.number ≤ greatest_number
+  pub target : Contains pingable p.target
+  pub turn : IsTurn pingable old.rest p.target new.rest
+  pub drawn : drawn_turn pingable old.rest (choices old) ≡ (Some (p.target, new.rest), choices new)
+  pub different : AllDifferent new.rest
+  pub nearer : AllNearer pingable old.rest p.target new.rest
+  pub left : new ≡ record { last = old.last + 1; helpers = old.helpers; rest = new.rest; generator = new.generator; running = Some (record { target = p.target; asked = [] }) }
+
+-- the running probe, with the helper of least address that is waited for
+abbrev pub running_of : ProbeState → Option Running
+running_of s = option_map (λ a. record { number = s.last; target = a.target; waiting = first_waiting a.asked }) s.running
+
+-- helpers are asked, a sample of the others as the choices give it, and none of them has answered
+pub record WasAsked (pingable : List ℕ) (target : ℕ) (old : ProbeState) (helpers : List ℕ) (new : ProbeState) : Type 0 where
+  pub somebody : 0 < helper_count old pingable target
+  pub chosen : IsSample (others pingable target) (helper_count old pingable target) helpers
+  pub drawn : sample (others pingable target) old.helpers (choices old) ≡ (helpers, choices new)
+  pub left : new ≡ record old { generator = new.generator; running = Some (record { target = target; asked = unanswered helpers }) }
+
+-- where nobody can be asked the probe ends, and else helpers are asked
+abbrev pub WasLost : List ℕ → ℕ → ProbeState → Lost → ProbeState → Type 0
+WasLost pingable target old NoHelper new = (helper_count old pingable target ≡ 0) × (new ≡ record old { running = None })
+WasLost pingable target old (Ask helpers) new = WasAsked pingable target old helpers new
+
+-- one pick of a run: the prober before it, the probe, and the prober after it
+pub record Picked : Type 0 where
+  pub before : ProbeState
+  pub probe : Probe
+  pub after : ProbeState
+
+-- the targets of some picks
+abbrev pub targets_of : List Picked → List ℕ
+targets_of picks = map (λ p. p.probe.target) picks
+
+-- picks one after another from the same members: what is left of the order after one is the rest before the next
+abbrev pub ArePicks : List ℕ → List ℕ → List Picked → Type 0
+ArePicks pingable rest [] = Unit {0}
+ArePicks pingable rest (p ∷ picks) = (p.before.rest ≡ rest) × IsPick pingable p.before p.probe p.after × ArePicks pingable p.after.rest picks
+
+-- 2n - 1 picks from n members that stay hold each of them
+abbrev pub HoldsEach : Type 0
+HoldsEach =
+    (pingable rest : List ℕ) (picks : List Picked)
+    → AllDifferent rest → ArePicks pingable rest picks → 2 * length pingable - 1 ≤ length picks
+    → (a : ℕ) → Contains pingable a → Contains (targets_of picks) a
+
+-- with n members a bound is at most 2n - 2
+abbrev pub BoundIsLow : Type 0
+BoundIsLow = (pingable rest : List ℕ) (a : ℕ) → AllDifferent rest → Contains pingable a → bound pingable rest a ≤ 2 * length pingable - 2
+
+-- two probers that stand at one place of one run: all is equal, and so are the random choices to come
+pub record Agree (s t : ProbeState) : Type 0 where
+  pub last : s.last ≡ t.last
+  pub helpers : s.helpers ≡ t.helpers
+  pub rest : s.rest ≡ t.rest
+  pub coming : choices s ≡ choices t
+  pub running : s.running ≡ t.running
+
+-- two probers that agree pick the same of the same members, and agree afterwards
+abbrev pub PicksAreOne : Type 0
+PicksAreOne =
+    (pingable : List ℕ) (s t s' t' : ProbeState) (p q : Probe)
+    → Agree s t → IsPick pingable s p s' → IsPick pingable t q t' → (p ≡ q) × Agree s' t'
+
+-- and they ask the same helpers about a lost target
+abbrev pub LossesAreOne : Type 0
+LossesAreOne =
+    (pingable : List ℕ) (target : ℕ) (s t s' t' : ProbeState) (l m : Lost)
+    → Agree s t → WasLost pingable target s l s' → WasLost pingable target t m t' → (l ≡ m) × Agree s' t'

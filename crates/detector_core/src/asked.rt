@@ -1,0 +1,127 @@
+ghost use Rattle.std.specs.Prelude.{◌≡◌, ◌==◌, ◌&&◌, is_none, map};
+ghost use Rattle.std.specs.List.{list_any};
+
+use change_core::Address;
+
+/// What a helper said of a target: it reached it, it did not, or the helper itself failed to answer (own).
+#[derive(Clone, Copy, Debug, PartialEq, Eq)]
+pub enum Said {
+    Reached,
+    NotReached,
+    Failed,
+}
+
+impl Said {
+    ghost use Rattle.detector_core.specs.Helpers.{is_reached};
+
+    fn is_reached(&self) -> bool
+        ensures { result ≡ is_reached self.now }
+    {
+        matches!(self, Said::Reached)
+    }
+}
+
+/// What became of a probe. All but `Waiting` end it.
+#[derive(Clone, Copy, Debug, PartialEq, Eq)]
+pub enum Outcome {
+    Waiting,
+    Reached,
+    Suspect,
+    Inconclusive,
+}
+
+/// A helper that was asked, and what it said.
+#[derive(Clone, Copy, Debug)]
+pub struct Asked {
+    pub helper: Address,
+    pub said: Option<Said>,
+}
+
+impl Asked {
+    ghost use Rattle.detector_core.specs.Helpers.{noted, missed};
+
+    /// The same, with what this helper said.
+    fn noted(&self, helper: Address, said: Said) -> Asked
+        ensures { result ≡ noted helper said self.now }
+    {
+        if self.helper == helper {
+            Asked {
+                helper,
+                said: Some(said),
+            }
+        } else {
+            *self
+        }
+    }
+
+    /// Whether it said that it did not reach the target.
+    fn missed(&self) -> bool
+        ensures { result ≡ missed self.now }
+    {
+        matches!(self.said, Some(Said::NotReached))
+    }
+}
+
+ghost use Rattle.detector_core.specs.Helpers.{noted, missed, waits, outcome_after, first_waiting};
+
+/// Whether this helper was asked and has not answered.
+pub(crate) fn waits(asked: &[Asked], helper: Address) -> bool
+    ensures { result ≡ waits asked.now helper }
+{
+    asked.iter().any(|q| q.helper == helper && q.said.is_none())
+}
+
+/// What becomes of the probe once this helper has said this.
+pub(crate) fn outcome_after(asked: &[Asked], helper: Address, said: Said) -> Outcome
+    ensures { result ≡ outcome_after asked.now helper said }
+{
+    if said.is_reached() {
+        Outcome::Reached
+    } else if waits_for_another(asked, helper, said) {
+        Outcome::Waiting
+    } else if one_missed(asked, helper, said) {
+        Outcome::Suspect
+    } else {
+        Outcome::Inconclusive
+    }
+}
+
+/// Whether a helper has not answered once this one has said this.
+fn waits_for_another(asked: &[Asked], helper: Address, said: Said) -> bool
+    ensures { result ≡ list_any (λ q. is_none q.said) (map (noted helper said) asked.now) }
+{
+    asked
+        .iter()
+        .map(|q| q.noted(helper, said))
+        .any(|q| q.said.is_none())
+}
+
+/// Whether a helper did not reach the target, once this one has said this.
+fn one_missed(asked: &[Asked], helper: Address, said: Said) -> bool
+    ensures { result ≡ list_any missed (map (noted helper said) asked.now) }
+{
+    asked
+        .iter()
+        .map(|q| q.noted(helper, said))
+        .any(|q| q.missed())
+}
+
+/// Notes what a helper said.
+pub(crate) fn note(asked: &mut [Asked], helper: Address, said: Said)
+    ensures { asked.new ≡ map (noted helper said) asked.old }
+{
+    for q in asked.iter_mut() {
+        *q = q.noted(helper, said);
+    }
+}
+
+/// The helper of least address that has not answered.
+pub(crate) fn first_waiting(asked: &[Asked]) -> Option<Address>
+    ensures { result ≡ first_waiting asked.now }
+{
+    asked
+        .iter()
+        .filter(|q| q.said.is_none())
+        .map(|q| q.helper)
+        .min()
+}

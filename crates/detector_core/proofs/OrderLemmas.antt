@@ -28,7 +28,7 @@ not_true : (b : Bool) → (b ≡ true → ⊥) → b ≡ false
 not_true true h = absurd (h refl)
 not_true false h = refl
 
-not_is : (b : Bool) → not b ≡ true → b ≡ false
+pub not_is : (b : Bool) → not b ≡ true → b ≡ false
 not_is true h = sym h
 not_is false h = refl
 

@@ -20,8 +20,7 @@ pub picks_are_one : PicksAreOne
 picks_are_one pingable s t s' t' p q agree one other =
     let same = sym one.drawn ∙ (λ j. drawn_turn pingable (agree.rest j) (agree.coming j)) ∙ other.drawn in
     let target : p.target ≡ q.target = ap (λ r. target_or 0 r.0) same in
-    let number : p.number ≡ q.number = one.number ∙ ap (λ n. n + 1) agree.last ∙ sym other.number in
-    (
+    let number : p.number ≡ q.number = one.number ∙ ap (λ n. n + 1) agree.last ∙ sym other.number in (
       (λ j. record { number = number j; target = target j }),
       record {
         last = ap (λ s. s.last) one.left ∙ ap (λ n. n + 1) agree.last ∙ sym (ap (λ s. s.last) other.left);
@@ -33,13 +32,16 @@ picks_are_one pingable s t s' t' p q agree one other =
     )
 
 pub losses_are_one : LossesAreOne
-losses_are_one pingable target s t s' t' NoHelper NoHelper agree one other = (refl, record {
-  last = ap (λ s. s.last) one.1 ∙ agree.last ∙ sym (ap (λ s. s.last) other.1);
-  helpers = ap (λ s. s.helpers) one.1 ∙ agree.helpers ∙ sym (ap (λ s. s.helpers) other.1);
-  rest = ap (λ s. s.rest) one.1 ∙ agree.rest ∙ sym (ap (λ s. s.rest) other.1);
-  coming = ap choices one.1 ∙ agree.coming ∙ sym (ap choices other.1);
-  running = ap (λ s. s.running) one.1 ∙ sym (ap (λ s. s.running) other.1);
-})
+losses_are_one pingable target s t s' t' NoHelper NoHelper agree one other = (
+  refl,
+  record {
+    last = ap (λ s. s.last) one.1 ∙ agree.last ∙ sym (ap (λ s. s.last) other.1);
+    helpers = ap (λ s. s.helpers) one.1 ∙ agree.helpers ∙ sym (ap (λ s. s.helpers) other.1);
+    rest = ap (λ s. s.rest) one.1 ∙ agree.rest ∙ sym (ap (λ s. s.rest) other.1);
+    coming = ap choices one.1 ∙ agree.coming ∙ sym (ap choices other.1);
+    running = ap (λ s. s.running) one.1 ∙ sym (ap (λ s. s.running) other.1);
+  },
+)
 losses_are_one pingable target s t s' t' NoHelper (Ask helpers) agree one other = absurd (nobody agree.helpers)
   where
     nobody : s.helpers ≡ t.helpers → ⊥
@@ -50,8 +52,7 @@ losses_are_one pingable target s t s' t' (Ask helpers) NoHelper agree one other 
     nobody same = omega (arith, other.0, one.somebody, same)
 losses_are_one pingable target s t s' t' (Ask helpers) (Ask more) agree one other =
     let same = sym one.drawn ∙ (λ j. sample (others pingable target) (agree.helpers j) (agree.coming j)) ∙ other.drawn in
-    let asked : helpers ≡ more = ap (λ r. r.0) same in
-    (
+    let asked : helpers ≡ more = ap (λ r. r.0) same in (
       ap Ask asked,
       record {
         last = ap (λ s. s.last) one.left ∙ agree.last ∙ sym (ap (λ s. s.last) other.left);

@@ -38,9 +38,13 @@ word_of-another : (t : Option Said → Bool) (helper : ℕ) (s : Said) (asked : 
     → Another t asked helper → list_any (λ q. t q.said) (map (noted helper s) asked) ≡ true
 word_of-another t helper s asked a =
     list_any-noted t helper s asked
-    ∙ list_any-from_Any (λ q. t (noted helper s q).said) asked
-      (a.listed.0, a.other, a.listed.1, a.listed.2,
-      ap (λ b. t (cond b (record { helper = helper; said = Some s }) a.other).said) (ne_eqb a.other.helper helper a.another) ∙ a.passes)
+    ∙ list_any-from_Any (λ q. t (noted helper s q).said) asked (
+      a.listed.0,
+      a.other,
+      a.listed.1,
+      a.listed.2,
+      ap (λ b. t (cond b (record { helper = helper; said = Some s }) a.other).said) (ne_eqb a.other.helper helper a.another) ∙ a.passes,
+    )
 
 word_of-own : (t : Option Said → Bool) (helper : ℕ) (s : Said) (asked : List Asked)
     → waits asked helper ≡ true → t (Some s) ≡ true → list_any (λ q. t q.said) (map (noted helper s) asked) ≡ true
@@ -49,7 +53,7 @@ word_of-own t helper s asked waiting passes =
     let own : (some.1.helper == helper) ≡ true = first (some.1.helper == helper) (is_none some.1.said) some.4 in
     list_any-noted t helper s asked
     ∙ list_any-from_Any (λ q. t (noted helper s q).said) asked
-      (some.0, some.1, some.2, some.3, ap (λ b. t (cond b (record { helper = helper; said = Some s }) some.1).said) own ∙ passes)
+    (some.0, some.1, some.2, some.3, ap (λ b. t (cond b (record { helper = helper; said = Some s }) some.1).said) own ∙ passes)
   where
     first : (a b : Bool) → (a && b) ≡ true → a ≡ true
     first true b h = refl

@@ -33,8 +33,11 @@ pub(crate) fn choose(
     count: usize,
 ) -> Result<Vec<Address>, AllocError>
     requires { IsStrictlyIncreasing pingable.now }
-    ensures chosen { IfOk result (λ v. IsSample (others pingable.now target) (min count (length (others pingable.now target))) v.items) }
-    ensures drawn { IfOk result (λ v. sample (others pingable.now target) count (choices_of rng.old) ≡ (v.items, choices_of rng.new)) }
+    ensures chosen { IfOk result (λ v. IsSample (others pingable.now target)
+        (min count (length (others pingable.now target))) v.items) }
+    ensures drawn { IfOk result
+        (λ v. sample (others pingable.now target) count (choices_of rng.old)
+        ≡ (v.items, choices_of rng.new)) }
 {
     let mut chosen = others(alloc, pingable, target)?;
     order::shuffle(&mut chosen, rng);

@@ -45,7 +45,8 @@ impl Order {
         members: &[Address],
     ) -> Result<Self, AllocError>
         ensures permutation { IfOk result (λ rest. IsPermutation members.now rest) }
-        ensures drawn { IfOk result (λ rest. (rest, choices_of rng.new) ≡ new_order members.now (choices_of rng.old)) }
+        ensures drawn { IfOk result
+            (λ rest. (rest, choices_of rng.new) ≡ new_order members.now (choices_of rng.old)) }
         ensures err { OnErr result (rng.new ≡ rng.old) }
     {
         let mut members = Vec::from_slice(alloc, members)?;
@@ -70,7 +71,8 @@ impl Order {
 /// Puts members in a random order.
 pub(crate) fn shuffle(members: &mut Vec<Address>, rng: &mut Pcg32)
     ensures permutation { IsPermutation members.old.items members.new.items }
-    ensures drawn { (members.new.items, choices_of rng.new) ≡ new_order members.old.items (choices_of rng.old) }
+    ensures drawn { (members.new.items, choices_of rng.new)
+        ≡ new_order members.old.items (choices_of rng.old) }
 {
     members.as_mut_slice().shuffle(rng);
 }
@@ -85,7 +87,9 @@ pub(crate) fn pick(
     requires rising { IsStrictlyIncreasing pingable.now }
     requires some { 0 < length pingable.now }
     ensures turn { IfOk result (λ target. IsTurn pingable.now order.old target order.new) }
-    ensures drawn { IfOk result (λ target. drawn_turn pingable.now order.old (choices_of rng.old) ≡ (Some (target, order.new), choices_of rng.new)) }
+    ensures drawn { IfOk result
+        (λ target. drawn_turn pingable.now order.old (choices_of rng.old)
+        ≡ (Some (target, order.new), choices_of rng.new)) }
     ensures order { OnErr result (order.new ≡ order.old) }
     ensures choices { OnErr result (rng.new ≡ rng.old) }
     ensures growth { OnErr result (near pingable.now order.old ≡ []) }

@@ -68,7 +68,13 @@ impl Model for Prober {
 
     ghost Value = { ProbeState };
 
-    ghost view = { λ p. record { last = p.last; helpers = p.helpers; rest = p.order; generator = p.rng; running = option_map (λ a. record { target = a.target; asked = a.asked.items }) p.running } };
+    ghost view = { λ p. record {
+      last = p.last;
+      helpers = p.helpers;
+      rest = p.order;
+      generator = p.rng;
+      running = option_map (λ a. record { target = a.target; asked = a.asked.items }) p.running;
+    } };
 
     ghost invariant = { λ p. (p.last ≤ greatest_number) × AllDifferent p.order };
 }
@@ -78,7 +84,8 @@ impl Prober {
     /// whose next probe has the number after `last` (0 for a new node). It takes no memory yet.
     pub fn new(alloc: Global, seed: u64, helpers: usize, last: u64) -> Self
         requires { last ≤ greatest_number }
-        ensures { result ≡ record { last = last; helpers = helpers; rest = []; generator = seeded seed; running = None } }
+        ensures { result
+            ≡ record { last = last; helpers = helpers; rest = []; generator = seeded seed; running = None } }
     {
         Prober {
             rng: Pcg32::seed_from_u64(seed),
@@ -97,11 +104,15 @@ impl Prober {
     pub fn next_target(&mut self, pingable: &[Address]) -> Result<Option<Probe>, DetectorError>
         requires { IsStrictlyIncreasing pingable.now }
         ensures busy { IsErrOf result DetectorError.Busy ↔ IsSome self.old.running }
-        ensures spent { IsErrOf result DetectorError.Spent ↔ ((self.old.running ≡ None) × (self.old.last ≡ greatest_number)) }
-        ensures none { (result ≡ Ok None) ↔ ((self.old.running ≡ None) × (self.old.last < greatest_number) × (pingable.now ≡ [])) }
-        ensures pick { IfOk result (λ o. MatchOption o (self.new ≡ self.old) (λ p. IsPick pingable.now self.old p self.new)) }
+        ensures spent { IsErrOf result DetectorError.Spent
+            ↔ ((self.old.running ≡ None) × (self.old.last ≡ greatest_number)) }
+        ensures none { (result ≡ Ok None)
+            ↔ ((self.old.running ≡ None) × (self.old.last < greatest_number) × (pingable.now ≡ [])) }
+        ensures pick { IfOk result
+            (λ o. MatchOption o (self.new ≡ self.old) (λ p. IsPick pingable.now self.old p self.new)) }
         ensures err { OnErr result (self.new ≡ self.old) }
-        ensures refusal { IfErr result (λ e. (e ≡ DetectorError.Busy) ⊎ ((e ≡ DetectorError.Spent) ⊎ (e ≡ DetectorError.Memory))) }
+        ensures refusal { IfErr result
+            (λ e. (e ≡ DetectorError.Busy) ⊎ ((e ≡ DetectorError.Spent) ⊎ (e ≡ DetectorError.Memory))) }
         ensures memory { IsErrOf result DetectorError.Memory → near pingable.now self.old.rest ≡ [] }
     {
         if self.running.is_some() {
@@ -155,9 +166,13 @@ impl Prober {
     /// the helpers. A refusal changes nothing.
     pub fn lost(&mut self, number: u64, pingable: &[Address]) -> Result<Lost, DetectorError>
         requires { IsStrictlyIncreasing pingable.now }
-        ensures stale { IsErrOf result DetectorError.StaleProbe ↔ (unasked_target self.old number ≡ None) }
-        ensures ok { IfOk result (λ l. (target : ℕ) × (unasked_target self.old number ≡ Some target) × WasLost pingable.now target self.old l self.new) }
-        ensures nobody { (target : ℕ) → unasked_target self.old number ≡ Some target → helper_count self.old pingable.now target ≡ 0 → result ≡ Ok Lost.NoHelper }
+        ensures stale { IsErrOf result DetectorError.StaleProbe
+            ↔ (unasked_target self.old number ≡ None) }
+        ensures ok { IfOk result (λ l. (target : ℕ)
+            × (unasked_target self.old number ≡ Some target)
+            × WasLost pingable.now target self.old l self.new) }
+        ensures nobody { (target : ℕ) → unasked_target self.old number ≡ Some target
+            → helper_count self.old pingable.now target ≡ 0 → result ≡ Ok Lost.NoHelper }
         ensures err { OnErr result (self.new ≡ self.old) }
         ensures refusal { IfErr result (λ e. (e ≡ DetectorError.StaleProbe) ⊎ (e ≡ DetectorError.Memory)) }
     {

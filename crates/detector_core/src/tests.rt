@@ -1,201 +1,289 @@
-ghost use Rattle.std.specs.Prelude.{◌≡◌, ◌+◌, ◌<◌, IfSome};
+ghost use Rattle.std.specs.Prelude.{◌≡◌, ◌+◌, ◌≤◌};
 ghost use Rattle.std.specs.List.Sorted.{IsStrictlyIncreasing};
 ghost use Rattle.change_core.specs.Address.{address_of};
+ghost use Rattle.change_core.specs.Numbers.{greatest_number};
 
 use crate::{DetectorError, Due, Lost, Outcome, Probe, Prober, Running, Said, Timers};
 use change_core::{Address, GREATEST_NUMBER, Incarnation, Moment, Status};
+use std::process::Abort;
 use std::test::Fail;
 
-fn node(number: u32) -> Option<Address>
-    requires { number < 256 }
-    ensures { IfSome result (λ a. a ≡ address_of (167772160 + number) 1) }
+/// The member 10.0.0.`number`:1.
+fn node(rt: &impl Abort, number: u8) -> Address
+    ensures { result ≡ address_of (167772160 + number) 1 }
 {
-    Address::new(0x0a00_0000 + number, 1)
+    Address::new(0x0a00_0000 + u32::from(number), 1).expect(rt, "an address")
 }
 
-fn due_of(address: Address) -> Option<Due> {
-    Some(Due {
-        address,
-        incarnation: Incarnation::new(1)?,
-        next: Status::Faulty,
-    })
+fn moment(rt: &impl Abort, number: u64) -> Moment {
+    Moment::new(number).expect(rt, "a moment")
 }
 
+fn pair(rt: &impl Abort) -> [Address; 2]
+    ensures { IsStrictlyIncreasing result }
+{
+    [node(rt, 3), node(rt, 5)]
+}
+
+fn three(rt: &impl Abort) -> [Address; 3]
+    ensures { IsStrictlyIncreasing result }
+{
+    [node(rt, 2), node(rt, 3), node(rt, 4)]
+}
+
+fn four(rt: &impl Abort) -> [Address; 4]
+    ensures { IsStrictlyIncreasing result }
+{
+    [node(rt, 2), node(rt, 3), node(rt, 4), node(rt, 5)]
+}
+
+/// A pick. Where a growth is refused nothing has changed, and the next try goes on.
+fn pick(
+    rt: &impl Abort,
+    prober: &mut Prober,
+    pingable: &[Address],
+) -> Result<Option<Probe>, DetectorError>
+    requires { IsStrictlyIncreasing pingable.now }
+{
+    let before = prober.running();
+    match prober.next_target(pingable) {
+        Err(DetectorError::Memory) => {
+            assert_eq!(rt; prober.running(), before);
+            prober.next_target(pingable)
+        }
+        answer => answer,
+    }
+}
+
+/// A loss. Where a growth is refused nothing has changed, and the next try goes on.
+fn lose(
+    rt: &impl Abort,
+    prober: &mut Prober,
+    number: u64,
+    pingable: &[Address],
+) -> Result<Lost, DetectorError>
+    requires { IsStrictlyIncreasing pingable.now }
+{
+    let before = prober.running();
+    match prober.lost(number, pingable) {
+        Err(DetectorError::Memory) => {
+            assert_eq!(rt; prober.running(), before);
+            match prober.lost(number, pingable) {
+                Err(DetectorError::Memory) => prober.lost(number, pingable),
+                answer => answer,
+            }
+        }
+        answer => answer,
+    }
+}
+
+/// Sets a timer to faulty. Where the growth is refused nothing has changed, and the next try goes on.
+fn start(
+    rt: &impl Abort,
+    timers: &mut Timers,
+    number: u8,
+    deadline: u64,
+) -> Result<(), DetectorError> {
+    let one = Incarnation::new(1).expect(rt, "an incarnation");
+    let last = moment(rt, GREATEST_NUMBER);
+    let before = (timers.len(), timers.due(last));
+    if timers.reserve_one().is_err() {
+        assert_eq!(rt; (timers.len(), timers.due(last)), before);
+        timers.reserve_one()?;
+    }
+    timers.set(node(rt, number), one, Status::Faulty, deadline);
+    Ok(())
+}
+
+/// Picks of these members, each acked.
+fn assert_picks(
+    rt: &impl Abort,
+    prober: &mut Prober,
+    pingable: &[Address],
+    wanted: &[u8],
+) -> Result<(), Fail>
+    requires { IsStrictlyIncreasing pingable.now }
+{
+    for number in wanted {
+        let probe = pick(rt, prober, pingable)?.ok_or("nobody to probe")?;
+        assert_eq!(rt; probe.target, node(rt, *number));
+        prober.acked(probe.number)?;
+    }
+    Ok(())
+}
+
+// The numbers were made by a program of its own after the published PCG32 and Rust's `rand`: each order holds each of
+// the members that were pingable when it was made, those who left are passed over, and those who came wait.
 #[test]
-fn timers_run_out_in_the_order_of_addresses(rt: HostRuntime) -> Result<(), Fail> {
-    let b = node(2).ok_or("address")?;
-    let c = node(3).ok_or("address")?;
-    let one = Incarnation::new(1).ok_or("incarnation")?;
-    let mut timers = Timers::new(rt.alloc());
-    timers.reserve_one()?;
-    timers.set(b, one, Status::Faulty, 20);
-    timers.reserve_one()?;
-    timers.set(c, one, Status::Faulty, 10);
-    assert_eq!(rt; timers.due(Moment::new(9).ok_or("moment")?), None);
-    assert_eq!(rt; timers.due(Moment::new(10).ok_or("moment")?), due_of(c));
-    assert_eq!(rt; timers.due(Moment::new(20).ok_or("moment")?), due_of(b));
-    assert!(rt; timers.clear(b));
-    assert!(rt; !timers.clear(b));
-    assert_eq!(rt; timers.due(Moment::new(20).ok_or("moment")?), due_of(c));
-    assert_eq!(rt; timers.len(), 1);
+fn picks_follow_from_the_seed(rt: HostRuntime) -> Result<(), Fail> {
+    for (seed, of_three, of_four, of_pair) in [
+        (7, [3, 4, 2, 4], [3, 2, 3, 5], [5, 3, 5]),
+        (1, [4, 2, 3, 2], [4, 3, 2, 5], [3, 3, 5]),
+        (7, [3, 4, 2, 4], [3, 2, 3, 5], [5, 3, 5]),
+    ] {
+        let mut prober = Prober::new(rt.alloc(), seed, 2, 0);
+        assert_picks(&rt, &mut prober, &three(&rt), &of_three)?;
+        assert_picks(&rt, &mut prober, &four(&rt), &of_four)?;
+        assert_picks(&rt, &mut prober, &pair(&rt), &of_pair)?;
+    }
     Ok(())
 }
 
 #[test]
-fn a_deadline_past_the_last_moment_never_comes(rt: HostRuntime) -> Result<(), Fail> {
-    let b = node(2).ok_or("address")?;
-    let one = Incarnation::new(1).ok_or("incarnation")?;
-    let mut timers = Timers::new(rt.alloc());
-    timers.reserve_one()?;
-    timers.set(b, one, Status::Faulty, GREATEST_NUMBER + 1);
-    assert_eq!(rt;
-        timers.due(Moment::new(GREATEST_NUMBER).ok_or("moment")?),
-        None
-    );
+fn helpers_follow_from_the_seed(rt: HostRuntime) -> Result<(), Fail> {
+    let pingable = four(&rt);
+    for (seed, target, wanted, next) in [(7, 3, [5, 4], 4), (1, 5, [2, 4], 2)] {
+        let mut prober = Prober::new(rt.alloc(), seed, 2, 0);
+        let probe = pick(&rt, &mut prober, &pingable)?.ok_or("nobody to probe")?;
+        assert_eq!(rt; probe.target, node(&rt, target));
+        let Lost::Ask(helpers) = lose(&rt, &mut prober, probe.number, &pingable)? else {
+            return Err(Fail::from("nobody to ask"));
+        };
+        assert_eq!(rt; helpers.as_slice().len(), 2);
+        for (helper, number) in helpers.as_slice().iter().zip(wanted.iter()) {
+            assert_eq!(rt; *helper, node(&rt, *number));
+        }
+        prober.acked(probe.number)?;
+        assert_picks(&rt, &mut prober, &pingable, &[next])?;
+    }
     Ok(())
 }
 
 #[test]
 fn a_probe_with_nobody_to_ask_ends(rt: HostRuntime) -> Result<(), Fail> {
-    let b = node(2).ok_or("address")?;
-    let pingable = [b];
-    let mut prober = Prober::new(rt.alloc(), 1, 3, 0);
-    assert_eq!(rt;
-        prober.next_target(&pingable)?,
-        Some(Probe {
-            number: 1,
-            target: b
-        })
-    );
-    assert_eq!(rt; prober.next_target(&pingable), Err(DetectorError::Busy));
-    assert_eq!(rt;
-        prober.running(),
-        Some(Running {
-            number: 1,
-            target: b,
-            waiting: None
-        })
-    );
-    assert!(rt; matches!(prober.lost(1, &pingable)?, Lost::NoHelper));
-    assert_eq!(rt; prober.acked(1), Err(DetectorError::StaleProbe));
-    assert_eq!(rt; prober.running(), None);
+    let target = node(&rt, 2);
+    let pingable = [target];
+    for helpers in [3, 0] {
+        let mut prober = Prober::new(rt.alloc(), 1, helpers, 0);
+        assert_eq!(rt;
+            pick(&rt, &mut prober, &pingable),
+            Ok(Some(Probe { number: 1, target }))
+        );
+        assert_eq!(rt; pick(&rt, &mut prober, &pingable), Err(DetectorError::Busy));
+        assert_eq!(rt; prober.target_of(1), Some(target));
+        assert_eq!(rt;
+            prober.running(),
+            Some(Running {
+                number: 1,
+                target,
+                waiting: None
+            })
+        );
+        assert!(rt; matches!(prober.lost(1, &pingable)?, Lost::NoHelper));
+        assert_eq!(rt; prober.acked(1), Err(DetectorError::StaleProbe));
+        assert_eq!(rt; prober.running(), None);
+    }
     Ok(())
 }
 
 #[test]
 fn numbers_run_out(rt: HostRuntime) -> Result<(), Fail> {
-    let b = node(2).ok_or("address")?;
+    let target = node(&rt, 2);
     let mut prober = Prober::new(rt.alloc(), 1, 3, GREATEST_NUMBER);
-    assert_eq!(rt; prober.next_target(&[b]), Err(DetectorError::Spent));
+    assert_eq!(rt;
+        pick(&rt, &mut prober, &[target]),
+        Err(DetectorError::Spent)
+    );
     let mut prober = Prober::new(rt.alloc(), 1, 3, 7);
-    assert_eq!(rt; prober.next_target(&[]), Ok(None));
+    assert_eq!(rt; pick(&rt, &mut prober, &[]), Ok(None));
+    assert_eq!(rt;
+        pick(&rt, &mut prober, &[target]),
+        Ok(Some(Probe { number: 8, target }))
+    );
     Ok(())
-}
-
-/// Members 2, 3, and so on.
-fn three() -> Option<[Address; 3]>
-    ensures { IfSome result IsStrictlyIncreasing }
-{
-    Some([node(2)?, node(3)?, node(4)?])
-}
-
-fn four() -> Option<[Address; 4]>
-    ensures { IfSome result IsStrictlyIncreasing }
-{
-    Some([node(2)?, node(3)?, node(4)?, node(5)?])
-}
-
-#[test]
-fn every_order_holds_each_member(rt: HostRuntime) -> Result<(), Fail> {
-    let pingable = three().ok_or("addresses")?;
-    let mut prober = Prober::new(rt.alloc(), 7, 3, 0);
-    for turn in 0..2u64 {
-        let mut picked = Vec::new(rt.alloc());
-        for _ in 0..3 {
-            let probe = prober.next_target(&pingable)?.ok_or("no target")?;
-            picked.push(probe.target)?;
-            prober.acked(probe.number)?;
-        }
-        for address in &pingable {
-            assert!(rt; picked.contains(address), "turn {turn}");
-        }
-    }
-    Ok(())
-}
-
-/// What becomes of a probe once its three helpers have said this.
-fn verdict(rt: &HostRuntime, words: [Said; 3]) -> Result<Outcome, Fail> {
-    let pingable = four().ok_or("addresses")?;
-    let mut prober = Prober::new(rt.alloc(), 7, 3, 0);
-    let probe = prober.next_target(&pingable)?.ok_or("no target")?;
-    let Lost::Ask(helpers) = prober.lost(probe.number, &pingable)? else {
-        return Err(Fail::from("nobody to ask"));
-    };
-    let mut outcome = Outcome::Waiting;
-    for (helper, said) in helpers.as_slice().iter().zip(words.iter()) {
-        if outcome == Outcome::Waiting {
-            outcome = prober.helper_said(probe.number, *helper, *said)?;
-        }
-    }
-    Ok(outcome)
 }
 
 #[test]
 fn helpers_decide(rt: HostRuntime) -> Result<(), Fail> {
-    let failed = [Said::Failed, Said::Failed, Said::Failed];
-    assert_eq!(rt; verdict(&rt, failed)?, Outcome::Inconclusive);
-    let one_missed = [Said::NotReached, Said::Failed, Said::Failed];
-    assert_eq!(rt; verdict(&rt, one_missed)?, Outcome::Suspect);
-    let reached = [Said::Reached, Said::Failed, Said::Failed];
-    assert_eq!(rt; verdict(&rt, reached)?, Outcome::Reached);
+    let pingable = four(&rt);
+    for (words, wanted) in [
+        (
+            [Said::Failed, Said::Failed, Said::Failed],
+            Outcome::Inconclusive,
+        ),
+        (
+            [Said::NotReached, Said::Failed, Said::Failed],
+            Outcome::Suspect,
+        ),
+        (
+            [Said::Failed, Said::Failed, Said::NotReached],
+            Outcome::Suspect,
+        ),
+        (
+            [Said::Reached, Said::Failed, Said::Failed],
+            Outcome::Reached,
+        ),
+        (
+            [Said::NotReached, Said::Failed, Said::Reached],
+            Outcome::Reached,
+        ),
+    ] {
+        let mut prober = Prober::new(rt.alloc(), 7, 3, 0);
+        let probe = pick(&rt, &mut prober, &pingable)?.ok_or("nobody to probe")?;
+        let Lost::Ask(helpers) = lose(&rt, &mut prober, probe.number, &pingable)? else {
+            return Err(Fail::from("nobody to ask"));
+        };
+        let mut outcome = Outcome::Waiting;
+        for (helper, said) in helpers.as_slice().iter().zip(words.iter()) {
+            if outcome == Outcome::Waiting {
+                let foretold = prober.would_say(probe.number, *helper, *said);
+                outcome = prober.helper_said(probe.number, *helper, *said)?;
+                assert_eq!(rt; foretold, Ok(outcome));
+            }
+        }
+        assert_eq!(rt; outcome, wanted, "after {words:?}");
+        assert_eq!(rt; prober.running(), None);
+    }
     Ok(())
 }
 
 #[test]
 fn a_helper_answers_once(rt: HostRuntime) -> Result<(), Fail> {
-    let pingable = three().ok_or("addresses")?;
+    let pingable = three(&rt);
     let mut prober = Prober::new(rt.alloc(), 7, 16, 0);
-    let probe = prober.next_target(&pingable)?.ok_or("no target")?;
-    let Lost::Ask(helpers) = prober.lost(probe.number, &pingable)? else {
+    let probe = pick(&rt, &mut prober, &pingable)?.ok_or("nobody to probe")?;
+    let Lost::Ask(helpers) = lose(&rt, &mut prober, probe.number, &pingable)? else {
         return Err(Fail::from("nobody to ask"));
     };
     assert_eq!(rt; helpers.as_slice().len(), 2);
-    let running = prober.running().ok_or("no probe")?;
+    let running = prober.running().ok_or("no probe runs")?;
     assert_eq!(rt; running.waiting, helpers.as_slice().iter().copied().min());
     let helper = running.waiting.ok_or("nobody is waited for")?;
-    assert_eq!(rt;
-        prober.helper_said(1, helper, Said::Failed),
-        Ok(Outcome::Waiting)
-    );
-    assert_eq!(rt;
-        prober.helper_said(1, helper, Said::Failed),
-        Err(DetectorError::NotAsked)
-    );
+    for wanted in [Ok(Outcome::Waiting), Err(DetectorError::NotAsked)] {
+        assert_eq!(rt; prober.helper_said(1, helper, Said::Failed), wanted);
+    }
     assert!(rt; matches!(prober.lost(1, &pingable), Err(DetectorError::StaleProbe)));
     Ok(())
 }
 
 #[test]
-fn no_helpers_may_be_asked(rt: HostRuntime) -> Result<(), Fail> {
-    let pingable = three().ok_or("addresses")?;
-    let mut prober = Prober::new(rt.alloc(), 7, 0, 0);
-    let probe = prober.next_target(&pingable)?.ok_or("no target")?;
-    assert!(rt; matches!(prober.lost(probe.number, &pingable)?, Lost::NoHelper));
-    assert_eq!(rt; prober.running(), None);
-    Ok(())
-}
-
-#[test]
-fn seeds_tell_orders_apart(rt: HostRuntime) -> Result<(), Fail> {
-    let pingable = four().ok_or("addresses")?;
-    let mut alike = true;
-    for seed in 1..8u64 {
-        let mut one = Prober::new(rt.alloc(), 0, 3, 0);
-        let mut other = Prober::new(rt.alloc(), seed, 3, 0);
-        if one.next_target(&pingable)? != other.next_target(&pingable)? {
-            alike = false;
-        }
+fn timers_run_out_at_their_deadlines(rt: HostRuntime) -> Result<(), Fail> {
+    let mut timers = Timers::new(rt.alloc());
+    start(&rt, &mut timers, 2, 20)?;
+    start(&rt, &mut timers, 3, 10)?;
+    start(&rt, &mut timers, 4, GREATEST_NUMBER + 1)?;
+    for (now, wanted) in [
+        (9, None),
+        (10, Some(3)),
+        (20, Some(2)),
+        (GREATEST_NUMBER, Some(2)),
+    ] {
+        let due = timers.due(moment(&rt, now)).map(|due| due.address);
+        assert_eq!(rt; due, wanted.map(|number| node(&rt, number)), "at {now}");
     }
-    assert!(rt; !alike);
+    for wanted in [true, false] {
+        assert_eq!(rt; timers.clear(node(&rt, 2)), wanted);
+    }
+    assert_eq!(rt;
+        timers.due(moment(&rt, 20)),
+        Some(Due {
+            address: node(&rt, 3),
+            incarnation: Incarnation::new(1).ok_or("an incarnation")?,
+            next: Status::Faulty
+        })
+    );
+    timers.clear(node(&rt, 3));
+    assert_eq!(rt; timers.due(moment(&rt, GREATEST_NUMBER)), None);
+    assert_eq!(rt; timers.len(), 1);
     Ok(())
 }

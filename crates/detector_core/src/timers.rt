@@ -39,7 +39,10 @@ impl Model for Timers {
 
     ghost Value = { TimerList };
 
-    ghost view = { λ t. record { timers = t.timers.items; room = vec_capacity t.timers - vec_len t.timers } };
+    ghost view = { λ t. record {
+      timers = t.timers.items;
+      room = vec_capacity t.timers - vec_len t.timers;
+    } };
 
     ghost invariant = { λ t. IsAscending t.timers.items };
 }
@@ -72,7 +75,8 @@ impl Timers {
     /// has a timer.
     pub fn set(&mut self, address: Address, incarnation: Incarnation, next: Status, deadline: u64)
         requires { (0 < self.old.room) ⊎ HasTimer self.old.timers address }
-        ensures timers { self.new.timers ≡ with_timer self.old.timers (record { address = address; incarnation = incarnation; next = next; deadline = deadline }) }
+        ensures timers { self.new.timers ≡ with_timer self.old.timers
+            (record { address = address; incarnation = incarnation; next = next; deadline = deadline }) }
         ensures room { self.old.room ≤ self.new.room + 1 }
     {
         let timer = Timer {
@@ -135,7 +139,8 @@ fn place_of(timers: &[Timer], address: Address) -> usize
 /// Whether the timer at this place is of this address.
 fn stands_at(timers: &[Timer], place: usize, address: Address) -> bool
     ensures yes { IsTrue result → IsTimerAt timers.now place address }
-    ensures no { IsTrue (not result) → place < length timers.now → (d : Timer) → (slice_index_or timers.now place d).address ≢ address }
+    ensures no { IsTrue (not result) → place < length timers.now → (d : Timer)
+        → (slice_index_or timers.now place d).address ≢ address }
 {
     place < timers.len() && timers[place].address == address
 }

@@ -10,4 +10,4 @@ mkdir "$work/crates"
 cp -r "$root/crates/change_core" "$root/crates/detector_core" "$here/detector_bench" "$work/crates/"
 grep -E '^(change_core|detector_core):' "$root/crates.txt" > "$work/crates.txt"
 echo 'detector_bench: change_core detector_core anyhow' >> "$work/crates.txt"
-(cd "$work/crates/detector_bench" && rt try)
+(cd "$work/crates/detector_bench" && rt run)

@@ -1,4 +1,4 @@
--- Helpers of a lost probe (SWIM, section 4.1): what each said, and what becomes of the probe.
+-- Helpers of a lost probe (SWIM, section 3.1): what each said, and what becomes of the probe.
 use Rattle.std.specs.Prelude.{ℕ, ◌==◌, ◌&&◌, ◌≡◌, ◌≢◌, ◌↔◌, ◌⊎◌, not, length, All, AllPairs, Contains, filter, min, Bool, true, false, List, map, is_none, Option, Some, None, if◌then◌else◌}
 use Rattle.std.specs.List.{list_any, reduce}
 use Rattle.detector_core.specs.declared.asked.Asked.{Asked}

@@ -32,7 +32,7 @@ pub struct Running {
     pub waiting: Option<Address>,
 }
 
-/// Whom to ask about a target that was lost: helpers (SWIM, section 4.1: ping-req), or nobody, which ends the probe.
+/// Whom to ask about a target that was lost: helpers (SWIM, section 3.1: ping-req), or nobody, which ends the probe.
 #[derive(Debug, Drop)]
 pub enum Lost {
     Ask(Addresses),
@@ -46,7 +46,7 @@ struct Attempt {
     asked: Vec<Asked>,
 }
 
-/// What picks targets and follows one probe at a time (SWIM, sections 4.1 and 4.3). Contracts see the last number used,
+/// What picks targets and follows one probe at a time (SWIM, sections 3.1 and 4.3). Contracts see the last number used,
 /// which is the running probe's, how many helpers are asked, the rest of the current order, the generator of random choices,
 /// and the running probe. So the run of a prober is a function of its seed and of what it is handed.
 #[derive(Drop)]
@@ -161,7 +161,7 @@ impl Prober {
     }
 
     /// Gives a probe up, and answers whom to ask about its target: different members, pingable and not the target, as many
-    /// as this prober asks or all there are (SWIM, section 4.1). Where that is nobody the probe ends, and no memory is
+    /// as this prober asks or all there are (SWIM, section 3.1). Where that is nobody the probe ends, and no memory is
     /// taken. `StaleProbe`: it is not the running probe, or helpers were asked already. `Memory`: there was no room for
     /// the helpers. A refusal changes nothing.
     pub fn lost(&mut self, number: u64, pingable: &[Address]) -> Result<Lost, DetectorError>

@@ -1,11 +1,21 @@
-//! Probes and timers among 100, 1,000 and 4,096 members: nanoseconds a call, the median of five rounds.
+//! Probes and timers among 100, 1,000 and 4,096 members: nanoseconds a call, in five rounds.
 #![tactic(auto)]
 
-use anyhow::Context;
+ghost use Rattle.std.specs.Prelude.{IsTrue};
+ghost use Rattle.std.specs.List.Sorted.{IsStrictlyIncreasing};
+
+use anyhow::{Context, anyhow};
 use change_core::{Address, Incarnation, Moment, Status};
 use detector_core::{Prober, Timers};
 use std::alloc::Global;
+use std::rt::Clock;
 use std::time::Instant;
+
+const PICKS: usize = 1_000_000;
+
+const LOSSES: usize = 2_000;
+
+const LOOKS: usize = 10_000;
 
 fn members(alloc: Global, count: u32) -> anyhow::Result<Vec<Address>> {
     let mut list = Vec::new(alloc);
@@ -15,13 +25,26 @@ fn members(alloc: Global, count: u32) -> anyhow::Result<Vec<Address>> {
     Ok(list)
 }
 
+fn is_rising(members: &[Address]) -> bool
+    ensures { IsTrue result → IsStrictlyIncreasing members.now }
+{
+    for i in 1..members.len() {
+        if members[i - 1] >= members[i] {
+            return false;
+        }
+    }
+    true
+}
+
 // The timers of members come in no order: a step of 1,663 goes through all of 100, 1,000 and 4,096.
 fn scattered(members: &[Address], turn: usize) -> anyhow::Result<Address> {
     let place = turn.wrapping_mul(1663).checked_rem(members.len()).unwrap_or(0);
     Ok(*members.get(place).context("no member")?)
 }
 
-fn pick_turns(prober: &mut Prober, members: &[Address], turns: usize) -> anyhow::Result<u64> {
+fn pick_turns(prober: &mut Prober, members: &[Address], turns: usize) -> anyhow::Result<u64>
+    requires { IsStrictlyIncreasing members.now }
+{
     let mut sum = 0u64;
     for _ in 0..turns {
         let probe = prober.next_target(members)?.context("nobody")?;
@@ -31,7 +54,9 @@ fn pick_turns(prober: &mut Prober, members: &[Address], turns: usize) -> anyhow:
     Ok(sum)
 }
 
-fn loss_turns(prober: &mut Prober, members: &[Address], turns: usize) -> anyhow::Result<u64> {
+fn loss_turns(prober: &mut Prober, members: &[Address], turns: usize) -> anyhow::Result<u64>
+    requires { IsStrictlyIncreasing members.now }
+{
     for _ in 0..turns {
         let probe = prober.next_target(members)?.context("nobody")?;
         prober.lost(probe.number, members)?;
@@ -74,58 +99,51 @@ fn each(nanos: u128, turns: usize) -> u64 {
     whole.checked_div(turns as u64).unwrap_or(0)
 }
 
+/// The nanoseconds of one call of each kind.
+fn round(rt: &impl Clock, alloc: Global, members: &[Address]) -> anyhow::Result<[u64; 5]>
+    requires { IsStrictlyIncreasing members.now }
+{
+    let early = Moment::new(4_999).context("a moment")?;
+    let mut prober = Prober::new(alloc, 7, 3, 0);
+    let mut timers = Timers::new(alloc);
+    let start = Instant::now(rt)?;
+    pick_turns(&mut prober, members, PICKS)?;
+    let picked = start.elapsed(rt)?.as_nanos();
+    let start = Instant::now(rt)?;
+    loss_turns(&mut prober, members, LOSSES)?;
+    let lost = start.elapsed(rt)?.as_nanos();
+    let start = Instant::now(rt)?;
+    set_all(&mut timers, members)?;
+    let set = start.elapsed(rt)?.as_nanos();
+    let start = Instant::now(rt)?;
+    let found = due_turns(&timers, early, LOOKS);
+    let looked = start.elapsed(rt)?.as_nanos();
+    let start = Instant::now(rt)?;
+    let cleared = clear_all(&mut timers, members)?;
+    let clear = start.elapsed(rt)?.as_nanos();
+    if found != 0 || cleared != members.len() as u64 {
+        return Err(anyhow!("not what was set"));
+    }
+    Ok([
+        each(picked, PICKS),
+        each(lost, LOSSES),
+        each(set, members.len()),
+        each(looked, LOOKS),
+        each(clear, members.len()),
+    ])
+}
+
 fn main(rt: HostRuntime) -> anyhow::Result<()> {
     let alloc = rt.alloc();
-    let early = Moment::new(4_999).context("a moment")?;
-    let picks = 1_000_000usize;
-    let losses = 2_000usize;
-    let looks = 10_000usize;
     for count in [100u32, 1_000, 4_096] {
         let members = members(alloc, count)?;
-        let mut rows = vec![in alloc; vec![in alloc; 0u64; 5]?; 5]?;
-        let mut sum = 0u64;
-        for round in 0..5usize {
-            let mut prober = Prober::new(alloc, 7, 3, 0);
-            let mut timers = Timers::new(alloc);
-            let start = Instant::now(&rt)?;
-            sum = sum.wrapping_add(pick_turns(&mut prober, &members, picks)?);
-            let picked = start.elapsed(&rt)?.as_nanos();
-            let start = Instant::now(&rt)?;
-            sum = sum.wrapping_add(loss_turns(&mut prober, &members, losses)?);
-            let lost = start.elapsed(&rt)?.as_nanos();
-            let start = Instant::now(&rt)?;
-            sum = sum.wrapping_add(set_all(&mut timers, &members)?);
-            let set = start.elapsed(&rt)?.as_nanos();
-            let start = Instant::now(&rt)?;
-            sum = sum.wrapping_add(due_turns(&timers, early, looks));
-            let looked = start.elapsed(&rt)?.as_nanos();
-            let start = Instant::now(&rt)?;
-            sum = sum.wrapping_add(clear_all(&mut timers, &members)?);
-            let cleared = start.elapsed(&rt)?.as_nanos();
-            for (row, nanos) in rows.iter_mut().zip([
-                each(picked, picks),
-                each(lost, losses),
-                each(set, members.len()),
-                each(looked, looks),
-                each(cleared, members.len()),
-            ]) {
-                if let Some(place) = row.get_mut(round) {
-                    *place = nanos;
-                }
-            }
+        if !is_rising(&members) {
+            return Err(anyhow!("the members do not rise"));
         }
-        for (row, name) in rows.iter_mut().zip([
-            "next_target and acked",
-            "next_target, lost and acked",
-            "reserve_one and set",
-            "due, none of them",
-            "clear",
-        ]) {
-            row.sort()?;
-            let median = row.get(2).copied().unwrap_or(0);
-            println!(rt; "{count} members, {name}: {median} ns")?;
+        for _ in 0..5u32 {
+            let nanos = round(&rt, alloc, &members)?;
+            println!(rt; "{count} members, ns a call: next_target and acked {}; next_target, lost and acked {}; reserve_one and set {}; due, none of them {}; clear {}", nanos[0], nanos[1], nanos[2], nanos[3], nanos[4])?;
         }
-        println!(rt; "({sum})")?;
     }
     Ok(())
 }

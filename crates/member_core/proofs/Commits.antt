@@ -1,21 +1,23 @@
--- What a commit leaves of a membership.
-use Rattle.std.proofs.Common.{◌≡◌, ℕ, ◌+◌, ◌<◌, true, eqb, ltb, ◌&&◌, List, [], ◌∷◌, ◌++◌, Some, None, IsTrue, length, inl, inr, arith, sym, ◌∙◌, ap, subst}
+-- What a verdict tells of its change, and what a commit leaves of a membership.
+use Rattle.std.proofs.Common.{◌≡◌, ℕ, ◌+◌, ◌<◌, true, false, eqb, ltb, ◌&&◌, List, [], ◌∷◌, ◌++◌, Some, None, IsTrue, length, inl, inr, arith, refl, sym, ◌∙◌, ap, subst}
 use Rattle.std.specs.Option.{is_none}
 use Rattle.std.proofs.lemmas.Bool.{cases_Bool, eqb-true, eqb-false}
 use Rattle.std.proofs.lemmas.List.Elements.{Contains-push}
 use Rattle.change_core.specs.declared.changes.Change.{Change}
 use Rattle.change_core.specs.Numbers.{greatest_number}
 use Rattle.change_core.specs.Status.{rank}
-use Rattle.change_core.specs.Change.{Exceeds}
+use Rattle.change_core.specs.Change.{Exceeds, Overrides, exceeds}
 use Rattle.change_core.specs.Members.{greatest, members, alters, is_news}
-use Rattle.change_core.proofs.Precedence.{Exceeds-true, exceeds-true}
+use Rattle.change_core.specs.Refutation.{refutation, refutations, log_one}
+use Rattle.change_core.proofs.Precedence.{Exceeds-true, exceeds-true, exceeds-false}
 use Rattle.change_core.proofs.Members.{greatest-members, members-same_greatest, greatest-overridden}
-use Rattle.change_core.proofs.News.{greatest-news, greatest-others}
+use Rattle.change_core.proofs.News.{greatest-news, greatest-others, members-no_news}
+use Rattle.member_core.specs.declared.verdicts.Verdict.{Verdict}
 use Rattle.member_core.specs.declared.verdicts.Verdict.TheVariants.{Old, Take, Refute, Exhausted, Full}
 use Rattle.member_core.specs.Table.{IsTable}
-use Rattle.change_core.specs.Refutation.{refutation}
-use Rattle.member_core.specs.Membership.{Membership, IsMembership, IsOwnStatus, judged, CanPut, own_after}
-use Rattle.member_core.proofs.Edits.{IsTable-members}
+use Rattle.member_core.specs.Membership.{Membership, IsMembership, IsOwnStatus, judged, judged_other, put_in, CanCommit, own_after}
+use Rattle.member_core.specs.Places.{CanPut}
+use Rattle.member_core.proofs.Edits.{IsTable-members, same_address}
 
 -- the node's own entry after a change that was put in
 pub greatest-own_after : (own c : Change) (cs : List Change) → greatest cs own.address ≡ Some own → (c.address ≡ own.address → is_news cs c ≡ true) → greatest (members (cs ++ c ∷ [])) own.address ≡ Some (own_after own c)
@@ -40,25 +42,32 @@ IsMembership-put own c cs after max m fits its_own e =
       limited = m.limited;
     })
 
+-- about the node itself a change is news where it exceeds the node's own entry
+is_news-own : (m : Membership) (c : Change) → IsMembership m.own m.members m.max → c.address ≡ m.own.address → is_news m.members c ≡ exceeds c m.own
+is_news-own m c stands same = ap (λ o. alters o c) (ap (greatest m.members) same ∙ stands.holds_itself)
+
 -- a refutation exceeds what it refutes, and the entry before it
 module _ (m : Membership) (given next : Change) (stands : IsMembership m.own m.members m.max) (answer : judged m given ≡ Refute given next) where
   -- what the verdict tells
-  pub refuted : (is_news m.members given ≡ true) × (given.address ≡ m.own.address) × (next ≡ refutation m.own given)
-  refuted = elim (cases_Bool (is_news m.members given)) [
-    | inl news ↦ elim (cases_Bool (eqb given.address m.own.address)) [
-      | inl self ↦ elim (cases_Bool (eqb (rank given.status) (rank m.own.status))) [
-        | inl same ↦ let q : Take given ≡ Refute given next = simp (news, self, same) at answer in absurd cc
+  pub refuted : (given.address ≡ m.own.address) × (exceeds given m.own ≡ true) × (next ≡ refutation m.own given)
+  refuted = elim (cases_Bool (eqb given.address m.own.address)) [
+    | inl self ↦ elim (cases_Bool (exceeds given m.own)) [
+      | inl news ↦ elim (cases_Bool (eqb (rank given.status) (rank m.own.status))) [
+        | inl same ↦ let q : Take given ≡ Refute given next = simp (self, news, same) at answer in absurd cc
         | inr other ↦ elim (cases_Bool (ltb given.incarnation greatest_number)) [
-          | inl left ↦ let q : Refute given (refutation m.own given) ≡ Refute given next = simp (news, self, other, left) at answer in (news, eqb-true given.address m.own.address self, cc)
-          | inr none ↦ let q : Exhausted ≡ Refute given next = simp (news, self, other, none) at answer in absurd cc
+          | inl left ↦ let q : Refute given (refutation m.own given) ≡ Refute given next = simp (self, news, other, left) at answer in (eqb-true given.address m.own.address self, news, cc)
+          | inr none ↦ let q : Exhausted ≡ Refute given next = simp (self, news, other, none) at answer in absurd cc
         ]
       ]
-      | inr another ↦ elim (cases_Bool (is_none (greatest m.members given.address) && eqb (length m.members) m.max)) [
-        | inl full ↦ let q : Full ≡ Refute given next = simp (news, another, full) at answer in absurd cc
-        | inr room ↦ let q : Take given ≡ Refute given next = simp (news, another, room) at answer in absurd cc
-      ]
+      | inr old ↦ let q : Old ≡ Refute given next = simp (self, old) at answer in absurd cc
     ]
-    | inr old ↦ let q : Old ≡ Refute given next = simp old at answer in absurd cc
+    | inr another ↦ elim (cases_Bool (is_news m.members given)) [
+      | inl news ↦ elim (cases_Bool (is_none (greatest m.members given.address) && eqb (length m.members) m.max)) [
+        | inl full ↦ let q : Full ≡ Refute given next = simp (another, news, full) at answer in absurd cc
+        | inr room ↦ let q : Take given ≡ Refute given next = simp (another, news, room) at answer in absurd cc
+      ]
+      | inr old ↦ let q : Old ≡ Refute given next = simp (another, old) at answer in absurd cc
+    ]
   ]
 
   next_address : next.address ≡ m.own.address
@@ -74,13 +83,13 @@ module _ (m : Membership) (given next : Change) (stands : IsMembership m.own m.m
   held = ap (greatest m.members) next_address ∙ stands.holds_itself
 
   given_exceeds : Exceeds given m.own
-  given_exceeds = Exceeds-true given m.own (sym (ap (λ o. alters o given) (ap (greatest m.members) refuted.1 ∙ stands.holds_itself)) ∙ refuted.0)
+  given_exceeds = Exceeds-true given m.own refuted.1
 
   next_exceeds : Exceeds next m.own
   next_exceeds = elim given_exceeds [ inl l ↦ inl (omega (arith, next_incarnation, l)) | inr p ↦ inl (omega (arith, next_incarnation, p.0)) ]
 
   next_news : is_news m.members next ≡ true
-  next_news = ap (λ o. alters o next) held ∙ exceeds-true next m.own next_exceeds
+  next_news = is_news-own m next stands next_address ∙ exceeds-true next m.own next_exceeds
 
   pub CanPut-refute : CanPut m next
   CanPut-refute = record {
@@ -97,17 +106,91 @@ module _ (m : Membership) (given next : Change) (stands : IsMembership m.own m.m
 
   -- what is refuted leaves no trace beside its refutation
   pub members-refuted : members (m.members ++ given ∷ next ∷ []) ≡ members (m.members ++ next ∷ [])
-  members-refuted = members-same_greatest (m.members ++ given ∷ next ∷ []) (m.members ++ next ∷ []) (λ a. greatest-overridden m.members (next ∷ []) given a (next, Contains-push m.members next, next_address ∙ sym refuted.1, not_given))
+  members-refuted = members-same_greatest (m.members ++ given ∷ next ∷ []) (m.members ++ next ∷ []) (λ a. greatest-overridden m.members (next ∷ []) given a (next, Contains-push m.members next, next_address ∙ sym refuted.0, not_given))
 
-  pub greatest-refuted : greatest (members (m.members ++ next ∷ [])) m.own.address ≡ Some (own_after m.own next)
-  greatest-refuted = greatest-own_after m.own next m.members stands.holds_itself (λ s. next_news)
+  pub own_after-refuted : own_after m.own next ≡ next
+  own_after-refuted = elim (cases_Bool (eqb next.address m.own.address)) [ inl t ↦ simp t | inr f ↦ absurd (eqb-false next.address m.own.address f next_address) ]
 
--- a change that is taken is news
-pub is_news-taken : (m : Membership) (c : Change) → judged m c ≡ Take c → is_news m.members c ≡ true
-is_news-taken m c answer = elim (cases_Bool (is_news m.members c)) [
-  | inl news ↦ news
-  | inr old ↦ let q : Old ≡ Take c = simp old at answer in absurd cc
+-- the verdict alters an entry
+abbrev pub Alters : Verdict → Type 0
+Alters Old = ⊥
+Alters (Take c) = Unit {0}
+Alters (Refute given next) = Unit {0}
+Alters Exhausted = ⊥
+Alters Full = ⊥
+
+-- what a verdict that alters an entry puts in is what a log gains: the change, and its refutation where it calls for one
+pub put_in-judged : (m : Membership) (given : Change) → IsMembership m.own m.members m.max → Alters (judged m given) → put_in (judged m given) ≡ given ∷ refutations m.own.address (greatest m.members m.own.address) given
+put_in-judged m given stands alters = elim (cases_Bool (eqb given.address m.own.address)) [
+  | inl self ↦ elim (cases_Bool (exceeds given m.own)) [
+    | inl news ↦ elim (cases_Bool (eqb (rank given.status) (rank m.own.status))) [
+      | inl same ↦ simp (self, news, same, stands.holds_itself)
+      | inr other ↦ elim (cases_Bool (ltb given.incarnation greatest_number)) [
+        | inl left ↦ simp (self, news, other, left, stands.holds_itself)
+        | inr none ↦ let q : ⊥ = simp (self, news, other, none) at alters in absurd q
+      ]
+    ]
+    | inr old ↦ let q : ⊥ = simp (self, old) at alters in absurd q
+  ]
+  | inr another ↦ elim (cases_Bool (is_news m.members given)) [
+    | inl news ↦ elim (cases_Bool (is_none (greatest m.members given.address) && eqb (length m.members) m.max)) [
+      | inl full ↦ let q : ⊥ = simp (another, news, full) at alters in absurd q
+      | inr room ↦ simp (another, news, room, stands.holds_itself)
+    ]
+    | inr old ↦ let q : ⊥ = simp (another, old) at alters in absurd q
+  ]
 ]
 
-pub greatest-taken : (m : Membership) (c : Change) → IsMembership m.own m.members m.max → judged m c ≡ Take c → greatest (members (m.members ++ c ∷ [])) m.own.address ≡ Some (own_after m.own c)
-greatest-taken m c stands answer = greatest-own_after m.own c m.members stands.holds_itself (λ s. is_news-taken m c answer)
+-- a verdict that may be committed alters an entry
+pub Alters-committed : (m : Membership) (v : Verdict) → CanCommit m v → Alters v
+Alters-committed m Old can = can
+Alters-committed m (Take c) can = tt
+Alters-committed m (Refute given next) can = tt
+Alters-committed m Exhausted can = can
+Alters-committed m Full can = can
+
+-- a commit leaves the members of the log with the change, and its refutation where it calls for one
+pub members-committed : (m : Membership) (given : Change) (v : Verdict) → IsMembership m.own m.members m.max → judged m given ≡ v → CanCommit m v → members (m.members ++ put_in v) ≡ members (log_one m.own.address m.members given)
+members-committed m given v stands answer can =
+    ap (λ (w : Verdict). members (m.members ++ put_in w)) (sym answer)
+    ∙ ap (λ cs. members (m.members ++ cs)) (put_in-judged m given stands (subst Alters (sym answer) (Alters-committed m v can)))
+
+-- what is news is not old
+not_old : (m : Membership) (given : Change) → IsMembership m.own m.members m.max → is_news m.members given ≡ true → judged m given ≡ Old → ⊥
+not_old m given stands news answer = elim (cases_Bool (eqb given.address m.own.address)) [
+  | inl self ↦ let exceeding : exceeds given m.own ≡ true = sym (is_news-own m given stands (eqb-true given.address m.own.address self)) ∙ news in
+      elim (cases_Bool (eqb (rank given.status) (rank m.own.status))) [
+      | inl same ↦ let q : Take given ≡ Old = simp (self, exceeding, same) at answer in cc
+      | inr other ↦ elim (cases_Bool (ltb given.incarnation greatest_number)) [
+        | inl left ↦ let q : Refute given (refutation m.own given) ≡ Old = simp (self, exceeding, other, left) at answer in cc
+        | inr none ↦ let q : Exhausted ≡ Old = simp (self, exceeding, other, none) at answer in cc
+      ]
+    ]
+  | inr another ↦ elim (cases_Bool (is_none (greatest m.members given.address) && eqb (length m.members) m.max)) [
+    | inl full ↦ let q : Full ≡ Old = simp (another, news, full) at answer in cc
+    | inr room ↦ let q : Take given ≡ Old = simp (another, news, room) at answer in cc
+  ]
+]
+
+pub is_news-old : (m : Membership) (given : Change) → IsMembership m.own m.members m.max → judged m given ≡ Old → is_news m.members given ≡ false
+is_news-old m given stands answer = elim (cases_Bool (is_news m.members given)) [ inl news ↦ absurd (not_old m given stands news answer) | inr old ↦ old ]
+
+-- an old change calls for no refutation
+refutations-old : (m : Membership) (given : Change) → IsMembership m.own m.members m.max → is_news m.members given ≡ false → refutations m.own.address (greatest m.members m.own.address) given ≡ []
+refutations-old m given stands old = elim (cases_Bool (eqb given.address m.own.address)) [
+  | inl self ↦ let below : exceeds given m.own ≡ false = sym (is_news-own m given stands (eqb-true given.address m.own.address self)) ∙ old in simp (self, below, stands.holds_itself)
+  | inr another ↦ simp (another, stands.holds_itself)
+]
+
+-- an old change leaves the members of the log as they were
+pub members-old : (m : Membership) (given : Change) → IsMembership m.own m.members m.max → judged m given ≡ Old → members (log_one m.own.address m.members given) ≡ members m.members
+members-old m given stands answer = let old : is_news m.members given ≡ false = is_news-old m given stands answer in
+    ap (λ cs. members (m.members ++ given ∷ cs)) (refutations-old m given stands old) ∙ members-no_news m.members given old
+
+-- a change about another that is held against is old
+pub judged_other-old : (ms : List Change) (max : ℕ) (c held : Change) → greatest ms c.address ≡ Some held → (Overrides c held → ⊥) → Old ≡ judged_other ms max c
+judged_other-old ms max c held e stands = let old : is_news ms c ≡ false = ap (λ o. alters o c) e ∙ exceeds-false c held (λ x. stands (sym (same_address ms c.address held e), x)) in simp old
+
+-- a change about another is judged by what is held of it
+pub judged-other : (own : Change) (ms : List Change) (max room : ℕ) (c : Change) → eqb c.address own.address ≡ false → judged_other ms max c ≡ judged (record { own = own; members = ms; max = max; room = room }) c
+judged-other own ms max room c another = simp another

@@ -1,8 +1,7 @@
 -- What putting in a change makes of a member list.
 use Rattle.std.proofs.Common.{◌≡◌, ℕ, Bool, true, false, List, [], ◌∷◌, ◌++◌, Option, Some, None, length, get_or, set, refl, sym, ◌∙◌, ap, subst}
 use Rattle.std.proofs.Common.{◌≤◌, Result, Ok, Err, IfOk, OnErr, inl, inr, arith}
-use Rattle.std.proofs.Common.{IsTrue, ◌↔◌}
-use Rattle.std.proofs.lemmas.Bool.{cases_eq, false≢true}
+use Rattle.std.proofs.lemmas.Bool.{cases_eq}
 use Rattle.std.specs.List.{insert}
 use Rattle.change_core.specs.declared.changes.Change.{Change}
 use Rattle.change_core.specs.Change.{Overrides}
@@ -17,7 +16,7 @@ use Rattle.member_core.specs.Table.{IsTable}
 held_change : (cs : List Change) (a i : ℕ) (d : Change) → IsHeldAt cs a i → d ≡ get_or cs i d → greatest cs a ≡ Some d
 held_change cs a i d h e = h.held d ∙ ap Some (sym e)
 
-same_address : (cs : List Change) (a : ℕ) (d : Change) → greatest cs a ≡ Some d → d.address ≡ a
+pub same_address : (cs : List Change) (a : ℕ) (d : Change) → greatest cs a ≡ Some d → d.address ≡ a
 same_address cs a d e = let g : IsGreatest cs a d = IsGreatest-greatest cs a d e in g.about
 
 -- a change that overrides the one held takes its place
@@ -55,12 +54,7 @@ IsTable-members cs max c t room = record {
     ]
     known (Some d) e = omega (arith, t.fits, whole, length-members_known cs c d e)
 
-pub IsTable-put : {E : Type 0} (r : Result Bool E) (cs after : List Change) (max : ℕ) (c : Change) → IsTable cs max → ((greatest cs c.address ≡ None) × (length cs ≡ max) → ⊥) → IfOk r (λ altered. (altered ≡ is_news cs c) × (after ≡ members (cs ++ c ∷ []))) → OnErr r (after ≡ cs) → IsTable after max
-IsTable-put (Ok altered) cs after max c t room ok err = let P : List Change → Type 0 = λ ms. IsTable ms max in subst P (sym ok.1) (IsTable-members cs max c t room)
-IsTable-put (Err e) cs after max c t room ok err = let P : List Change → Type 0 = λ ms. IsTable ms max in subst P (sym err) t
-
--- whether a change alters what is held is whether it overrides the change held
-pub is_news-held : (cs : List Change) (c : Change) (i : ℕ) (d : Change) (b : Bool) → IsHeldAt cs c.address i → d ≡ get_or cs i d → IsTrue b ↔ Overrides c d → b ≡ is_news cs c
-is_news-held cs c i d true h e o = sym (ap (λ o. alters o c) (held_change cs c.address i d h e) ∙ exceeds-true c d (o.0 refl).1)
-is_news-held cs c i d false h e o = let held : greatest cs c.address ≡ Some d = held_change cs c.address i d h e in
-    sym (ap (λ o. alters o c) held ∙ exceeds-false c d (λ x. false≢true (o.1 (sym (same_address cs c.address d held), x))))
+-- a table stays one after an edit that puts in a change, or refuses it where it is full
+pub IsTable-put : {E : Type 0} (r : Result Bool E) (refusal : E) (cs after : List Change) (max : ℕ) (c : Change) → IsTable cs max → ((greatest cs c.address ≡ None) × (length cs ≡ max) → r ≡ Err refusal) → IfOk r (λ altered. (altered ≡ is_news cs c) × (after ≡ members (cs ++ c ∷ []))) → OnErr r (after ≡ cs) → IsTable after max
+IsTable-put (Ok altered) refusal cs after max c t full ok err = subst (λ ms. IsTable ms max) (sym ok.1) (IsTable-members cs max c t (λ p. let q : Ok altered ≡ Err refusal = full p in cc))
+IsTable-put (Err e) refusal cs after max c t full ok err = subst (λ ms. IsTable ms max) (sym err) t

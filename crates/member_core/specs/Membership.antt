@@ -1,12 +1,12 @@
--- What contracts see of a membership, and how it judges a change.
-use Rattle.std.specs.Prelude.{◌≡◌, ℕ, ◌<◌, ◌≤◌, cond, ◌==◌, nat_lt, ◌&&◌, List, [], ◌∷◌, Some, None, length, is_none, IsTrue}
+-- What contracts see of a node's membership, how it judges a change, and what a commit makes of it.
+use Rattle.std.specs.Prelude.{◌≡◌, ℕ, ◌<◌, ◌≤◌, cond, ◌==◌, nat_lt, ◌&&◌, List, [], ◌∷◌, Some, None, length, is_none}
 use Rattle.change_core.specs.declared.changes.Change.{Change}
 use Rattle.change_core.specs.declared.changes.Sourced.{Sourced}
 use Rattle.change_core.specs.declared.statuses.Status.{Status}
 use Rattle.change_core.specs.declared.statuses.Status.TheVariants.{Alive, Suspect, Faulty, Leave, Tombstone}
 use Rattle.change_core.specs.Numbers.{greatest_number, most_members}
 use Rattle.change_core.specs.Status.{rank}
-use Rattle.change_core.specs.Change.{Overrides}
+use Rattle.change_core.specs.Change.{Overrides, exceeds}
 use Rattle.change_core.specs.Refutation.{refutation}
 use Rattle.change_core.specs.Members.{greatest, is_news, IsMemberList}
 use Rattle.member_core.specs.declared.verdicts.Verdict.{Verdict}
@@ -36,17 +36,23 @@ pub record IsMembership (own : Change) (members : List Change) (max : ℕ) : Typ
   pub positive : 1 ≤ max
   pub limited : max ≤ most_members
 
--- a change about the node itself: taken where it has the node's own status, whatever its weight, else refuted while an incarnation is left
+-- the first change about a node, which it makes itself: alive, at its starting incarnation, with its weight
+abbrev pub birth : ℕ → ℕ → ℕ → Change
+birth own incarnation weight = record { address = own; incarnation = incarnation; status = Alive; weight = weight }
+
+-- a change about the node itself: old unless it exceeds the node's own entry; taken where it has the node's own status, whatever its
+-- weight; else refuted while an incarnation is left
 abbrev pub judged_own : Change → Change → Verdict
-judged_own own c = cond (rank c.status == rank own.status) (Take c) (cond (nat_lt c.incarnation greatest_number) (Refute c (refutation own c)) Exhausted)
+judged_own own c =
+    cond (exceeds c own) (cond (rank c.status == rank own.status) (Take c) (cond (nat_lt c.incarnation greatest_number) (Refute c (refutation own c)) Exhausted)) Old
 
--- a change about another: taken, unless its address is unknown and there is no room
+-- a change about another: old where what is held stands against it; else taken, unless its address is unknown and there is no room
 abbrev pub judged_other : List Change → ℕ → Change → Verdict
-judged_other ms max c = cond (is_none (greatest ms c.address) && (length ms == max)) Full (Take c)
+judged_other ms max c = cond (is_news ms c) (cond (is_none (greatest ms c.address) && (length ms == max)) Full (Take c)) Old
 
--- what is no news is old
+-- what becomes of a change
 abbrev pub judged : Membership → Change → Verdict
-judged m c = cond (is_news m.members c) (cond (c.address == m.own.address) (judged_own m.own c) (judged_other m.members m.max c)) Old
+judged m c = cond (c.address == m.own.address) (judged_own m.own c) (judged_other m.members m.max c)
 
 -- what a verdict puts in
 abbrev pub put_in : Verdict → List Change
@@ -56,7 +62,19 @@ put_in (Refute given next) = given ∷ next ∷ []
 put_in Exhausted = []
 put_in Full = []
 
--- the verdict is the present one and puts something in, for which there is room
+-- the node's own entry after a change that was put in
+abbrev pub own_after : Change → Change → Change
+own_after own c = cond (c.address == own.address) c own
+
+-- the node's own entry after a commit: what was taken about the node itself, or its refutation
+abbrev pub own_committed : Change → Verdict → Change
+own_committed own Old = own
+own_committed own (Take c) = own_after own c
+own_committed own (Refute given next) = next
+own_committed own Exhausted = own
+own_committed own Full = own
+
+-- the verdict is the present one and alters an entry, for which there is room
 abbrev pub CanCommit : Membership → Verdict → Type 0
 CanCommit m Old = ⊥
 CanCommit m (Take c) = (judged m c ≡ Take c) × (greatest m.members c.address ≡ None → 0 < m.room)
@@ -64,7 +82,7 @@ CanCommit m (Refute given next) = judged m given ≡ Refute given next
 CanCommit m Exhausted = ⊥
 CanCommit m Full = ⊥
 
--- a change about the node itself that it makes itself
+-- a change about the node itself that it makes itself, to leave or to come back
 pub record IsOwnAssertion (own c : Change) : Type 0 where
   pub overrides : Overrides c own
   pub alive_or_leave : IsOwnStatus c.status
@@ -72,13 +90,3 @@ pub record IsOwnAssertion (own c : Change) : Type 0 where
 -- a change as the node itself says it
 abbrev pub said_by : Change → Change → Sourced
 said_by own c = record { change = c; source = own.address; source_incarnation = own.incarnation }
-
--- there is room for the change, and about the node itself it is news that the node may say
-pub record CanPut (m : Membership) (c : Change) : Type 0 where
-  pub fits : greatest m.members c.address ≡ None → length m.members < m.max
-  pub has_room : greatest m.members c.address ≡ None → 0 < m.room
-  pub own : c.address ≡ m.own.address → IsTrue (is_news m.members c) × IsOwnStatus c.status
-
--- the node's own entry after a change that was put in
-abbrev pub own_after : Change → Change → Change
-own_after own c = cond (c.address == own.address) c own

@@ -4,9 +4,16 @@ use Rattle.change_core.specs.declared.changes.Change.{Change}
 use Rattle.change_core.specs.Numbers.{most_members}
 use Rattle.change_core.specs.Members.{IsMemberList}
 
+-- the members, and how many there may be
 pub record Table : Type 0 where
   pub members : List Change
   pub max : ℕ
+
+-- the same, and how many more members find room without a growth
+pub record Store : Type 0 where
+  pub members : List Change
+  pub max : ℕ
+  pub room : ℕ
 
 -- a member list of at most max members
 pub record IsTable (members : List Change) (max : ℕ) : Type 0 where

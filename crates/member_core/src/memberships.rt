@@ -1,43 +1,44 @@
-ghost use Rattle.std.specs.Prelude.{List, ◌≡◌, ◌≤◌, ◌<◌, ◌+◌, ◌↔◌, ◌∷◌, ◌++◌, [], length, map, IfOk, IsTrue, IsOk, OnOk, OnErr, IsOkUnless, IsErrOf, None, Some, option_map, string_bytes};
-ghost use Rattle.change_core.specs.declared.statuses.Status.TheVariants.{Alive};
+ghost use Rattle.std.specs.Prelude.{List, ◌≡◌, ◌≤◌, ◌<◌, ◌↔◌, ◌∷◌, ◌++◌, [], length, map, IfOk, IsOk, OnOk, OnErr, IsOkUnless, IsErrOf, option_map, string_bytes};
 ghost use Rattle.change_core.specs.Change.{entry_of};
-ghost use Rattle.change_core.specs.Members.{greatest, members, is_news, digest_text};
+ghost use Rattle.change_core.specs.Members.{greatest, members, digest_text};
 ghost use Rattle.change_core.specs.Numbers.{most_members};
-ghost use Rattle.member_core.specs.Membership.{Membership, IsMembership, judged, judged_own, put_in, CanCommit, CanPut, own_after, IsOwnAssertion, said_by};
+ghost use Rattle.change_core.specs.Refutation.{log_one};
+ghost use Rattle.member_core.specs.Membership.{Membership, IsMembership, birth, judged, judged_own, judged_other, put_in, CanCommit, own_after, own_committed, IsOwnAssertion, said_by};
+ghost use Rattle.member_core.specs.Places.{CanPut};
 ghost use Rattle.sha2.specs.Sha256.{sha256};
 
-use crate::entries::{alters, entry_at, is_full_for, put, text_of};
+use crate::entries::Entries;
 use crate::errors::MemberError;
 use crate::verdicts::Verdict;
-use change_core::{
-    Address, Change, Digest, Entry, Incarnation, MOST_MEMBERS, Sourced, Status, Weight,
-};
-use sha2::{Digest as _, Sha256};
+use change_core::{Address, Change, Digest, Entry, Incarnation, Sourced, Status, Weight};
 use std::alloc::Global;
 use std::marker::Model;
 
-/// The members as one node holds them, itself among them. Contracts see its own entry, the member list, the greatest
-/// number of members, and how many more find room without a growth.
+/// The members as one node holds them, itself among them, always as alive or leave.
+///
+/// Contracts see its own entry, the member list, the greatest number of members, and how many more find room
+/// without a growth. The node answers a wrong change about itself with a greater incarnation, as in SWIM
+/// (DSN 2002, section 4.2); precedence and the other rules are own.
 #[derive(Drop)]
 pub struct Members {
     own: Change,
-    changes: Vec<Change>,
-    max: usize,
+    entries: Entries,
 }
 
 impl Model for Members {
-    ghost use Rattle.std.specs.Prelude.{◌-◌, vec_len, vec_capacity};
     ghost use Rattle.member_core.specs.Membership.{Membership, IsMembership};
 
     ghost Value = { Membership };
 
-    ghost view = { λ a. record { own = a.own; members = a.changes.items; max = a.max; room = vec_capacity a.changes - vec_len a.changes } };
+    ghost view = { λ a. record { own = a.own; members = a.entries.members; max = a.entries.max; room = a.entries.room } };
 
-    ghost invariant = { λ a. IsMembership a.own a.changes.items a.max };
+    ghost invariant = { λ a. IsMembership a.own a.entries.members a.entries.max };
 }
 
 impl Members {
-    /// The node alone, alive.
+    /// The node alone, alive, with room for at most `max` members, from 1 to 4,096.
+    ///
+    /// Errors: `BadLimit` for any other `max`, before memory is asked for; `Memory`.
     pub fn new(
         alloc: Global,
         own: Address,
@@ -45,51 +46,49 @@ impl Members {
         weight: Weight,
         max: usize,
     ) -> Result<Self, MemberError>
-        ensures ok { IfOk result (λ m. (m.own ≡ record { address = own; incarnation = incarnation; status = Alive; weight = weight }) × (m.members ≡ m.own ∷ []) × (m.max ≡ max)) }
+        ensures ok { IfOk result (λ m. (m.own ≡ birth own incarnation weight) × (m.members ≡ m.own ∷ []) × (m.max ≡ max)) }
         ensures limit { IsErrOf result MemberError.BadLimit ↔ (1 ≤ max → max ≤ most_members → ⊥) }
         ensures others { IsErrOf result MemberError.Full → ⊥ }
     {
-        if max < 1 || max > MOST_MEMBERS {
-            return Err(MemberError::BadLimit);
-        }
+        let mut entries = Entries::new(alloc, max)?;
         let own = birth(own, incarnation, weight);
-        let changes = alone(alloc, &own)?;
-        Ok(Members { own, changes, max })
+        entries.put(&own)?;
+        Ok(Members { own, entries })
     }
 
-    /// What becomes of a change.
+    /// What becomes of a change. It takes no memory.
     pub fn judge(&self, change: Change) -> Verdict
         ensures { result ≡ judged self.now change }
     {
-        if !alters(self.changes.as_slice(), &change) {
-            return Verdict::Old;
-        }
         if change.address == self.own.address {
-            return judge_own(&self.own, change);
+            judge_own(&self.own, &change)
+        } else {
+            judge_other(&self.entries, &change)
         }
-        if is_full_for(self.changes.as_slice(), self.max, change.address) {
-            return Verdict::Full;
-        }
-        Verdict::Take(change)
     }
 
-    /// Makes room for one more entry.
+    /// Makes room for one more entry. Where there is room already it does nothing.
+    ///
+    /// Errors: `Memory`.
     pub fn reserve_one(&mut self) -> Result<(), MemberError>
         ensures ok { OnOk result (0 < self.new.room) }
         ensures kept { self.new ≡ record self.old { room = self.new.room } }
+        ensures room { 0 < self.old.room → IsOk result }
         ensures err { OnErr result (self.new ≡ self.old) }
         ensures refusal { IsOkUnless result MemberError.Memory }
     {
-        Ok(self.changes.reserve(1)?)
+        self.entries.reserve_one()
     }
 
-    /// Puts in what a verdict of `judge` says, which room was made for.
+    /// Puts in what the present verdict on a change says, which has to be `Take` or `Refute`. For an unknown
+    /// address room was made. It takes no memory.
     pub fn commit(&mut self, verdict: Verdict)
         requires { CanCommit self.old verdict }
-        ensures members { self.new.members ≡ members (self.old.members ++ put_in verdict) }
-        ensures own { greatest self.new.members self.old.own.address ≡ Some self.new.own }
-        ensures address { self.new.own.address ≡ self.old.own.address }
-        ensures max { self.new.max ≡ self.old.max }
+        ensures value { self.new ≡ record self.old { own = own_committed self.old.own verdict; members = members (self.old.members ++ put_in verdict); room = self.new.room } }
+        ensures valid { IsMembership self.new.own self.new.members self.new.max }
+
+        // The given change and its refutation are what a log of the changes gains.
+        ensures logged { (given : Change) → judged self.old given ≡ verdict → self.new.members ≡ members (log_one self.old.own.address self.old.members given) }
     {
         let _ = &self.own;
         match verdict {
@@ -99,12 +98,12 @@ impl Members {
         }
     }
 
-    /// Puts in what the node asserts of itself.
+    /// Puts in what the node asserts of itself, to leave or to come back: about itself, overriding its entry,
+    /// alive or leave. It takes no memory.
     pub fn commit_own(&mut self, change: Change)
         requires { IsOwnAssertion self.old.own change }
-        ensures members { self.new.members ≡ members (self.old.members ++ change ∷ []) }
-        ensures own { self.new.own ≡ change }
-        ensures max { self.new.max ≡ self.old.max }
+        ensures value { self.new ≡ record self.old { own = change; members = members (self.old.members ++ change ∷ []); room = self.new.room } }
+        ensures valid { IsMembership self.new.own self.new.members self.new.max }
     {
         let _ = &self.own;
         self.put(&change);
@@ -112,24 +111,24 @@ impl Members {
 
     fn put(&mut self, change: &Change)
         requires { CanPut self.old change.now }
-        ensures members { self.new.members ≡ members (self.old.members ++ change.now ∷ []) }
-        ensures own { self.new.own ≡ own_after self.old.own change.now }
-        ensures max { self.new.max ≡ self.old.max }
+        ensures value { self.new ≡ record self.old { own = own_after self.old.own change.now; members = members (self.old.members ++ change.now ∷ []); room = self.new.room } }
+        ensures valid { IsMembership self.new.own self.new.members self.new.max }
     {
         self.own = own_after(&self.own, change);
-        match put(&mut self.changes, *change) {
+        match self.entries.put(change) {
             Ok(_) => {}
             Err(_) => unreachable!(),
         }
     }
 
+    /// What is held of an address.
     pub fn get(&self, address: Address) -> Option<Entry>
         ensures { result ≡ option_map entry_of (greatest self.now.members address) }
     {
-        entry_at(self.changes.as_slice(), address)
+        self.entries.find(address).map(|change| change.entry())
     }
 
-    /// The node's own entry as a change.
+    /// The node's own entry, as a change.
     pub fn own(&self) -> Change
         ensures own { result ≡ self.now.own }
         ensures valid { IsMembership self.now.own self.now.members self.now.max }
@@ -137,54 +136,57 @@ impl Members {
         self.own
     }
 
+    /// How many members there are, the node itself among them.
     pub fn len(&self) -> usize
-        ensures { result ≡ length self.now.members }
+        ensures count { result ≡ length self.now.members }
+        ensures valid { IsMembership self.now.own self.now.members self.now.max }
     {
-        self.changes.len()
+        let _ = &self.own;
+        self.entries.len()
     }
 
     /// The members, ascending by address.
+    ///
+    /// Errors: `Memory`.
     pub fn list(&self) -> Result<Vec<Change>, MemberError>
         ensures list { IfOk result (λ v. v.items ≡ self.now.members) }
         ensures refusal { IsOkUnless result MemberError.Memory }
     {
-        Ok(Vec::from_slice(*self.changes.allocator(), self.changes.as_slice())?)
+        self.entries.list()
     }
 
+    /// The members as one line of text: address, status word, incarnation, and `*` and the weight where it is
+    /// over 1, without spaces, joined by `;` (own).
+    ///
+    /// Errors: `Memory`.
     pub fn digest_text(&self) -> Result<String, MemberError>
         ensures text { IfOk result (λ s. string_bytes s ≡ digest_text self.now.members) }
         // No other list of changes has the text.
         ensures only { (ms : List Change) → digest_text ms ≡ digest_text self.now.members → ms ≡ self.now.members }
         ensures refusal { IsOkUnless result MemberError.Memory }
     {
-        text_of(*self.changes.allocator(), self.changes.as_slice())
+        self.entries.text()
     }
 
-    /// The SHA-256 of the digest text.
+    /// The SHA-256 of the digest text (FIPS 180-4).
+    ///
+    /// Errors: `Memory`, for the text.
     pub fn digest(&self) -> Result<Digest, MemberError>
         ensures digest { IfOk result (λ d. d.bytes ≡ sha256 (digest_text self.now.members)) }
         ensures refusal { IsOkUnless result MemberError.Memory }
     {
-        let text = self.digest_text()?;
-        Ok(Digest::new(Sha256::digest(text.as_str())))
+        self.entries.digest()
     }
 
-    /// The members, ascending by address, each as the node itself says it.
+    /// The members, ascending by address, each with the node itself as source, at its incarnation: a full
+    /// synchronisation (ringpop-go, package swim).
+    ///
+    /// Errors: `Memory`.
     pub fn full_sync(&self) -> Result<Vec<Sourced>, MemberError>
         ensures list { IfOk result (λ v. v.items ≡ map (said_by self.now.own) self.now.members) }
         ensures refusal { IsOkUnless result MemberError.Memory }
     {
-        let own = self.own;
-        let said = self
-            .changes
-            .iter()
-            .map(|change| Sourced {
-                change: *change,
-                source: own.address,
-                source_incarnation: own.incarnation,
-            })
-            .collect(*self.changes.allocator())?;
-        Ok(said)
+        said_by(self.entries.allocator(), &self.own, self.entries.as_slice())
     }
 }
 
@@ -199,9 +201,9 @@ fn own_after(own: &Change, change: &Change) -> Change
     }
 }
 
-/// A node's first assertion of itself.
+/// A node's first change, about itself.
 fn birth(own: Address, incarnation: Incarnation, weight: Weight) -> Change
-    ensures { result ≡ record { address = own; incarnation = incarnation; status = Alive; weight = weight } }
+    ensures { result ≡ birth own incarnation weight }
 {
     Change {
         address: own,
@@ -211,25 +213,21 @@ fn birth(own: Address, incarnation: Incarnation, weight: Weight) -> Change
     }
 }
 
-/// The member list of one change.
-fn alone(alloc: Global, change: &Change) -> Result<Vec<Change>, MemberError>
-    ensures list { IfOk result (λ v. v.items ≡ change.now ∷ []) }
-    ensures refusal { IsOkUnless result MemberError.Memory }
+/// What becomes of a change about the node itself.
+fn judge_own(own: &Change, change: &Change) -> Verdict
+    requires { change.now.address ≡ own.now.address }
+    ensures { result ≡ judged_own own.now change.now }
 {
-    Ok(Vec::from_slice(alloc, &[*change])?)
-}
-
-/// What becomes of a change about the node itself that overrides its own entry.
-fn judge_own(own: &Change, change: Change) -> Verdict
-    ensures { result ≡ judged_own own.now change }
-{
+    if !change.overrides(own) {
+        return Verdict::Old;
+    }
     if change.status == own.status {
-        return Verdict::Take(change);
+        return Verdict::Take(*change);
     }
     match change.incarnation.next() {
         None => Verdict::Exhausted,
         Some(incarnation) => Verdict::Refute {
-            given: change,
+            given: *change,
             next: Change {
                 address: own.address,
                 incarnation,
@@ -238,4 +236,42 @@ fn judge_own(own: &Change, change: Change) -> Verdict
             },
         },
     }
+}
+
+/// What becomes of a change about another.
+fn judge_other(entries: &Entries, change: &Change) -> Verdict
+    ensures { result ≡ judged_other entries.now.members entries.now.max change.now }
+{
+    match entries.find(change.address) {
+        None => {
+            if entries.is_full() {
+                Verdict::Full
+            } else {
+                Verdict::Take(*change)
+            }
+        }
+        Some(held) => {
+            if change.overrides(&held) {
+                Verdict::Take(*change)
+            } else {
+                Verdict::Old
+            }
+        }
+    }
+}
+
+/// Each change as the node itself says it.
+fn said_by(alloc: Global, own: &Change, changes: &[Change]) -> Result<Vec<Sourced>, MemberError>
+    ensures list { IfOk result (λ v. v.items ≡ map (said_by own.now) changes.now) }
+    ensures refusal { IsOkUnless result MemberError.Memory }
+{
+    let mut said = Vec::with_capacity(alloc, changes.len())?;
+    for change in changes {
+        said.push_reserved(Sourced {
+            change: *change,
+            source: own.address,
+            source_incarnation: own.incarnation,
+        });
+    }
+    Ok(said)
 }

@@ -1,23 +1,23 @@
-ghost use Rattle.std.specs.Prelude.{List, ◌≡◌, ◌≤◌, ◌<◌, ◌↔◌, ◌∷◌, ◌++◌, [], length, IfOk, IsTrue, IsOk, OnErr, IsOkUnless, IsErrOf, None, option_map, string_bytes};
+ghost use Rattle.std.specs.Prelude.{List, ◌≡◌, ◌≤◌, ◌↔◌, ◌∷◌, ◌++◌, [], length, IfOk, IsTrue, IsOk, IsSome, OnErr, IsOkUnless, IsErrOf, None, option_map, string_bytes};
 ghost use Rattle.change_core.specs.Change.{entry_of};
 ghost use Rattle.change_core.specs.Members.{greatest, members, is_news, digest_text};
-ghost use Rattle.member_core.specs.Table.{Table};
 ghost use Rattle.change_core.specs.Numbers.{most_members};
+ghost use Rattle.member_core.specs.Table.{IsTable};
 ghost use Rattle.sha2.specs.Sha256.{sha256};
 
-use crate::entries::{entry_at, is_full_for, put, text_of};
+use crate::entries::Entries;
 use crate::errors::MemberError;
-use change_core::{Address, Change, Digest, Entry, MOST_MEMBERS};
-use sha2::{Digest as _, Sha256};
+use change_core::{Address, Change, Digest, Entry};
 use std::alloc::Global;
 use std::marker::Model;
 
-/// The greatest change of each address among all that were taken, ascending by address. It has no address of its own.
-/// Contracts see the member list and the greatest number of members.
+/// The greatest change of each address among all that were taken, ascending by address. No address is its own.
+///
+/// Contracts see the member list and the greatest number of members. Entries are kept sorted and looked up by
+/// halving (own).
 #[derive(Drop)]
 pub struct MemberTable {
-    changes: Vec<Change>,
-    max: usize,
+    entries: Entries,
 }
 
 impl Model for MemberTable {
@@ -25,83 +25,93 @@ impl Model for MemberTable {
 
     ghost Value = { Table };
 
-    ghost view = { λ a. record { members = a.changes.items; max = a.max } };
+    ghost view = { λ a. record { members = a.entries.members; max = a.entries.max } };
 
-    ghost invariant = { λ a. IsTable a.changes.items a.max };
+    ghost invariant = { λ a. IsTable a.entries.members a.entries.max };
 }
 
 impl MemberTable {
-    /// An empty table for at most `max` members.
+    /// An empty table for at most `max` members, from 1 to 4,096. It takes no memory yet.
+    ///
+    /// Errors: `BadLimit` for any other `max`.
     pub fn new(alloc: Global, max: usize) -> Result<Self, MemberError>
         ensures ok { IfOk result (λ t. (t.members ≡ []) × (t.max ≡ max) × (1 ≤ max) × (max ≤ most_members)) }
         ensures refusal { IsOkUnless result MemberError.BadLimit }
         ensures limit { 1 ≤ max → max ≤ most_members → IsOk result }
     {
-        if max < 1 || max > MOST_MEMBERS {
-            return Err(MemberError::BadLimit);
-        }
-        Ok(MemberTable {
-            changes: Vec::new(alloc),
-            max,
-        })
+        let entries = Entries::new(alloc, max)?;
+        Ok(MemberTable { entries })
     }
 
     /// Takes a change, and answers whether it altered the entry of its address.
+    ///
+    /// Errors: `Full` exactly for an unknown address where there are `max` members; `Memory` for an unknown
+    /// address whose entry finds no room. The table is then as before.
     pub fn take(&mut self, change: Change) -> Result<bool, MemberError>
         ensures ok { IfOk result (λ altered. (altered ≡ is_news self.old.members change) × (self.new.members ≡ members (self.old.members ++ change ∷ []))) }
         ensures max { self.new.max ≡ self.old.max }
         ensures fits { length self.new.members ≤ self.new.max }
+
+        // What is known is taken, whatever memory there is.
         ensures full { IsErrOf result MemberError.Full ↔ ((greatest self.old.members change.address ≡ None) × (length self.old.members ≡ self.old.max)) }
+        ensures known { IsSome (greatest self.old.members change.address) → IsOk result }
         ensures others { IsErrOf result MemberError.BadLimit → ⊥ }
         ensures err { OnErr result (self.new ≡ self.old) }
     {
-        if is_full_for(self.changes.as_slice(), self.max, change.address) {
-            return Err(MemberError::Full);
-        }
-        put(&mut self.changes, change)
+        self.entries.put(&change)
     }
 
+    /// What is held of an address.
     pub fn get(&self, address: Address) -> Option<Entry>
         ensures { result ≡ option_map entry_of (greatest self.now.members address) }
     {
-        entry_at(self.changes.as_slice(), address)
+        self.entries.find(address).map(|change| change.entry())
     }
 
+    /// How many members there are.
     pub fn len(&self) -> usize
-        ensures { result ≡ length self.now.members }
+        ensures count { result ≡ length self.now.members }
+        ensures valid { IsTable self.now.members self.now.max }
     {
-        self.changes.len()
+        self.entries.len()
     }
 
     pub fn is_empty(&self) -> bool
         ensures { IsTrue result ↔ (self.now.members ≡ []) }
     {
-        self.changes.is_empty()
+        self.entries.as_slice().is_empty()
     }
 
     /// The members, ascending by address.
+    ///
+    /// Errors: `Memory`.
     pub fn list(&self) -> Result<Vec<Change>, MemberError>
         ensures list { IfOk result (λ v. v.items ≡ self.now.members) }
         ensures refusal { IsOkUnless result MemberError.Memory }
     {
-        Ok(Vec::from_slice(*self.changes.allocator(), self.changes.as_slice())?)
+        self.entries.list()
     }
 
+    /// The members as one line of text: address, status word, incarnation, and `*` and the weight where it is
+    /// over 1, without spaces, joined by `;` (own).
+    ///
+    /// Errors: `Memory`.
     pub fn digest_text(&self) -> Result<String, MemberError>
         ensures text { IfOk result (λ s. string_bytes s ≡ digest_text self.now.members) }
         // No other list of changes has the text.
         ensures only { (ms : List Change) → digest_text ms ≡ digest_text self.now.members → ms ≡ self.now.members }
         ensures refusal { IsOkUnless result MemberError.Memory }
     {
-        text_of(*self.changes.allocator(), self.changes.as_slice())
+        self.entries.text()
     }
 
-    /// The SHA-256 of the digest text.
+    /// The SHA-256 of the digest text (FIPS 180-4).
+    ///
+    /// Errors: `Memory`, for the text.
     pub fn digest(&self) -> Result<Digest, MemberError>
         ensures digest { IfOk result (λ d. d.bytes ≡ sha256 (digest_text self.now.members)) }
         ensures refusal { IsOkUnless result MemberError.Memory }
     {
-        let text = self.digest_text()?;
-        Ok(Digest::new(Sha256::digest(text.as_str())))
+        self.entries.digest()
     }
 }

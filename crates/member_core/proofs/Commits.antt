@@ -160,12 +160,12 @@ not_old : (m : Membership) (given : Change) → IsMembership m.own m.members m.m
 not_old m given stands news answer = elim (cases_Bool (eqb given.address m.own.address)) [
   | inl self ↦ let exceeding : exceeds given m.own ≡ true = sym (is_news-own m given stands (eqb-true given.address m.own.address self)) ∙ news in
       elim (cases_Bool (eqb (rank given.status) (rank m.own.status))) [
-      | inl same ↦ let q : Take given ≡ Old = simp (self, exceeding, same) at answer in cc
-      | inr other ↦ elim (cases_Bool (ltb given.incarnation greatest_number)) [
-        | inl left ↦ let q : Refute given (refutation m.own given) ≡ Old = simp (self, exceeding, other, left) at answer in cc
-        | inr none ↦ let q : Exhausted ≡ Old = simp (self, exceeding, other, none) at answer in cc
+        | inl same ↦ let q : Take given ≡ Old = simp (self, exceeding, same) at answer in cc
+        | inr other ↦ elim (cases_Bool (ltb given.incarnation greatest_number)) [
+          | inl left ↦ let q : Refute given (refutation m.own given) ≡ Old = simp (self, exceeding, other, left) at answer in cc
+          | inr none ↦ let q : Exhausted ≡ Old = simp (self, exceeding, other, none) at answer in cc
+        ]
       ]
-    ]
   | inr another ↦ elim (cases_Bool (is_none (greatest m.members given.address) && eqb (length m.members) m.max)) [
     | inl full ↦ let q : Full ≡ Old = simp (another, news, full) at answer in cc
     | inr room ↦ let q : Take given ≡ Old = simp (another, news, room) at answer in cc
@@ -194,3 +194,43 @@ judged_other-old ms max c held e stands = let old : is_news ms c ≡ false = ap 
 -- a change about another is judged by what is held of it
 pub judged-other : (own : Change) (ms : List Change) (max room : ℕ) (c : Change) → eqb c.address own.address ≡ false → judged_other ms max c ≡ judged (record { own = own; members = ms; max = max; room = room }) c
 judged-other own ms max room c another = simp another
+
+-- what a verdict puts in first is the change that was judged
+abbrev Speaks : Change → Verdict → Type 0
+Speaks given Old = Unit {0}
+Speaks given (Take c) = given ≡ c
+Speaks given (Refute refuted next) = given ≡ refuted
+Speaks given Exhausted = Unit {0}
+Speaks given Full = Unit {0}
+
+speaks : (m : Membership) (given : Change) → Speaks given (judged m given)
+speaks m given = elim (cases_Bool (eqb given.address m.own.address)) [
+  | inl self ↦ elim (cases_Bool (exceeds given m.own)) [
+    | inl news ↦ elim (cases_Bool (eqb (rank given.status) (rank m.own.status))) [
+      | inl same ↦ simp (self, news, same)
+      | inr other ↦ elim (cases_Bool (ltb given.incarnation greatest_number)) [
+        | inl left ↦ simp (self, news, other, left)
+        | inr none ↦ simp (self, news, other, none) tt
+      ]
+    ]
+    | inr old ↦ simp (self, old) tt
+  ]
+  | inr another ↦ elim (cases_Bool (is_news m.members given)) [
+    | inl news ↦ elim (cases_Bool (is_none (greatest m.members given.address) && eqb (length m.members) m.max)) [
+      | inl full ↦ simp (another, news, full) tt
+      | inr room ↦ simp (another, news, room)
+    ]
+    | inr old ↦ simp (another, old) tt
+  ]
+]
+
+-- what `judge` answered may be committed, where it alters an entry and there is room
+pub CanCommit-judged : (m : Membership) (given : Change) (v : Verdict) → judged m given ≡ v → Alters v → (greatest m.members given.address ≡ None → 0 < m.room) → CanCommit m v
+CanCommit-judged m given v answer alters room = by v answer alters (subst (Speaks given) answer (speaks m given))
+  where
+    by : (v : Verdict) → judged m given ≡ v → Alters v → Speaks given v → CanCommit m v
+    by Old answer alters same = alters
+    by (Take c) answer alters same = subst (λ (d : Change). (judged m d ≡ Take c) × (greatest m.members d.address ≡ None → 0 < m.room)) same (answer, room)
+    by (Refute refuted next) answer alters same = subst (λ (d : Change). judged m d ≡ Refute refuted next) same answer
+    by Exhausted answer alters same = alters
+    by Full answer alters same = alters

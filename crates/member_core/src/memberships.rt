@@ -47,6 +47,7 @@ impl Members {
         max: usize,
     ) -> Result<Self, MemberError>
         ensures ok { IfOk result (λ m. (m.own ≡ birth own incarnation weight) × (m.members ≡ m.own ∷ []) × (m.max ≡ max)) }
+        ensures valid { IfOk result (λ m. IsMembership m.own m.members m.max) }
         ensures limit { IsErrOf result MemberError.BadLimit ↔ (1 ≤ max → max ≤ most_members → ⊥) }
         ensures others { IsErrOf result MemberError.Full → ⊥ }
     {

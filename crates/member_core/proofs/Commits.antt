@@ -1,5 +1,5 @@
 -- What a verdict tells of its change, and what a commit leaves of a membership.
-use Rattle.std.proofs.Common.{◌≡◌, ℕ, ◌+◌, ◌<◌, true, false, eqb, ltb, ◌&&◌, List, [], ◌∷◌, ◌++◌, Some, None, IsTrue, length, inl, inr, arith, refl, sym, ◌∙◌, ap, subst}
+use Rattle.std.proofs.Common.{◌≡◌, ℕ, ◌+◌, ◌<◌, Bool, true, false, eqb, ltb, ◌&&◌, List, [], ◌∷◌, ◌++◌, Some, None, IsTrue, length, inl, inr, arith, refl, sym, ◌∙◌, ap, subst}
 use Rattle.std.specs.Option.{is_none}
 use Rattle.std.proofs.lemmas.Bool.{cases_Bool, eqb-true, eqb-false}
 use Rattle.std.proofs.lemmas.List.Elements.{Contains-push}
@@ -8,7 +8,7 @@ use Rattle.change_core.specs.Numbers.{greatest_number}
 use Rattle.change_core.specs.Status.{rank}
 use Rattle.change_core.specs.Change.{Exceeds, Overrides, exceeds}
 use Rattle.change_core.specs.Members.{greatest, members, alters, is_news}
-use Rattle.change_core.specs.Refutation.{refutation, refutations, log_one}
+use Rattle.change_core.specs.Refutation.{refutation, refutations, is_refuted, log_one}
 use Rattle.change_core.proofs.Precedence.{Exceeds-true, exceeds-true, exceeds-false}
 use Rattle.change_core.proofs.Members.{greatest-members, members-same_greatest, greatest-overridden}
 use Rattle.change_core.proofs.News.{greatest-news, greatest-others, members-no_news}
@@ -175,6 +175,49 @@ not_old m given stands news answer = elim (cases_Bool (eqb given.address m.own.a
 pub is_news-old : (m : Membership) (given : Change) → IsMembership m.own m.members m.max → judged m given ≡ Old → is_news m.members given ≡ false
 is_news-old m given stands answer = elim (cases_Bool (is_news m.members given)) [ inl news ↦ absurd (not_old m given stands news answer) | inr old ↦ old ]
 
+pub judged-no_news : (m : Membership) (given : Change) → IsMembership m.own m.members m.max → is_news m.members given ≡ false → judged m given ≡ Old
+judged-no_news m given stands old = elim (cases_Bool (eqb given.address m.own.address)) [
+  | inl self ↦ let below : exceeds given m.own ≡ false = sym (is_news-own m given stands (eqb-true given.address m.own.address self)) ∙ old in simp (self, below)
+  | inr another ↦ simp (another, old)
+]
+
+-- a verdict that alters an entry is on news
+pub is_news-alters : (m : Membership) (given : Change) → IsMembership m.own m.members m.max → Alters (judged m given) → is_news m.members given ≡ true
+is_news-alters m given stands alters = elim (cases_Bool (is_news m.members given)) [
+  | inl news ↦ news
+  | inr old ↦ absurd (subst Alters (judged-no_news m given stands old) alters)
+]
+
+-- the change calls for a refutation
+abbrev pub refutes : Verdict → Bool
+refutes Old = false
+refutes (Take c) = false
+refutes (Refute given next) = true
+refutes Exhausted = true
+refutes Full = false
+
+-- a change is refuted, or would be if an incarnation were left, where the log calls for it
+pub is_refuted-judged : (m : Membership) (given : Change) → IsMembership m.own m.members m.max → is_refuted m.own.address (greatest m.members m.own.address) given ≡ refutes (judged m given)
+is_refuted-judged m given stands = elim (cases_Bool (eqb given.address m.own.address)) [
+  | inl self ↦ elim (cases_Bool (exceeds given m.own)) [
+    | inl news ↦ elim (cases_Bool (eqb (rank given.status) (rank m.own.status))) [
+      | inl same ↦ simp (self, news, same, stands.holds_itself)
+      | inr other ↦ elim (cases_Bool (ltb given.incarnation greatest_number)) [
+        | inl left ↦ simp (self, news, other, left, stands.holds_itself)
+        | inr none ↦ simp (self, news, other, none, stands.holds_itself)
+      ]
+    ]
+    | inr old ↦ simp (self, old, stands.holds_itself)
+  ]
+  | inr another ↦ elim (cases_Bool (is_news m.members given)) [
+    | inl news ↦ elim (cases_Bool (is_none (greatest m.members given.address) && eqb (length m.members) m.max)) [
+      | inl full ↦ simp (another, news, full, stands.holds_itself)
+      | inr room ↦ simp (another, news, room, stands.holds_itself)
+    ]
+    | inr old ↦ simp (another, old, stands.holds_itself)
+  ]
+]
+
 -- an old change calls for no refutation
 refutations-old : (m : Membership) (given : Change) → IsMembership m.own m.members m.max → is_news m.members given ≡ false → refutations m.own.address (greatest m.members m.own.address) given ≡ []
 refutations-old m given stands old = elim (cases_Bool (eqb given.address m.own.address)) [
@@ -188,8 +231,8 @@ members-old m given stands answer = let old : is_news m.members given ≡ false 
     ap (λ cs. members (m.members ++ given ∷ cs)) (refutations-old m given stands old) ∙ members-no_news m.members given old
 
 -- a change about another that is held against is old
-pub judged_other-old : (ms : List Change) (max : ℕ) (c held : Change) → greatest ms c.address ≡ Some held → (Overrides c held → ⊥) → Old ≡ judged_other ms max c
-judged_other-old ms max c held e stands = let old : is_news ms c ≡ false = ap (λ o. alters o c) e ∙ exceeds-false c held (λ x. stands (sym (same_address ms c.address held e), x)) in simp old
+pub old_of_other : (ms : List Change) (max : ℕ) (c held : Change) → greatest ms c.address ≡ Some held → (Overrides c held → ⊥) → Old ≡ judged_other ms max c
+old_of_other ms max c held e stands = let old : is_news ms c ≡ false = ap (λ o. alters o c) e ∙ exceeds-false c held (λ x. stands (sym (same_address ms c.address held e), x)) in simp old
 
 -- a change about another is judged by what is held of it
 pub judged-other : (own : Change) (ms : List Change) (max room : ℕ) (c : Change) → eqb c.address own.address ≡ false → judged_other ms max c ≡ judged (record { own = own; members = ms; max = max; room = room }) c

@@ -1,5 +1,5 @@
 -- What contracts see of a node's membership, how it judges a change, and what a commit makes of it.
-use Rattle.std.specs.Prelude.{◌≡◌, ℕ, ◌<◌, ◌≤◌, cond, ◌==◌, nat_lt, ◌&&◌, List, [], ◌∷◌, Some, None, length, is_none}
+use Rattle.std.specs.Prelude.{◌≡◌, ℕ, ◌<◌, ◌≤◌, cond, ◌==◌, nat_lt, ◌&&◌, List, [], ◌∷◌, ◌++◌, Some, None, length, is_none}
 use Rattle.change_core.specs.declared.changes.Change.{Change}
 use Rattle.change_core.specs.declared.changes.Sourced.{Sourced}
 use Rattle.change_core.specs.declared.statuses.Status.{Status}
@@ -8,7 +8,7 @@ use Rattle.change_core.specs.Numbers.{greatest_number, most_members}
 use Rattle.change_core.specs.Status.{rank}
 use Rattle.change_core.specs.Change.{Overrides, exceeds}
 use Rattle.change_core.specs.Refutation.{refutation}
-use Rattle.change_core.specs.Members.{greatest, is_news, IsMemberList}
+use Rattle.change_core.specs.Members.{greatest, members, is_news, IsMemberList}
 use Rattle.member_core.specs.declared.verdicts.Verdict.{Verdict}
 use Rattle.member_core.specs.declared.verdicts.Verdict.TheVariants.{Old, Take, Refute, Exhausted, Full}
 
@@ -73,6 +73,10 @@ own_committed own (Take c) = own_after own c
 own_committed own (Refute given next) = next
 own_committed own Exhausted = own
 own_committed own Full = own
+
+-- a membership after its own entry became this one and these changes were put in, with the room that is left
+abbrev pub after_put : Membership → Change → List Change → ℕ → Membership
+after_put m own cs room = record { own = own; members = members (m.members ++ cs); max = m.max; room = room }
 
 -- the verdict is the present one and alters an entry, for which there is room
 abbrev pub CanCommit : Membership → Verdict → Type 0

@@ -3,7 +3,7 @@ ghost use Rattle.change_core.specs.Change.{entry_of};
 ghost use Rattle.change_core.specs.Members.{greatest, members, digest_text};
 ghost use Rattle.change_core.specs.Numbers.{most_members};
 ghost use Rattle.change_core.specs.Refutation.{log_one};
-ghost use Rattle.member_core.specs.Membership.{Membership, IsMembership, birth, judged, judged_own, judged_other, put_in, CanCommit, own_after, own_committed, IsOwnAssertion, said_by};
+ghost use Rattle.member_core.specs.Membership.{Membership, IsMembership, birth, judged, judged_own, judged_other, put_in, CanCommit, after_put, own_after, own_committed, IsOwnAssertion, said_by};
 ghost use Rattle.member_core.specs.Places.{CanPut};
 ghost use Rattle.sha2.specs.Sha256.{sha256};
 
@@ -46,7 +46,8 @@ impl Members {
         weight: Weight,
         max: usize,
     ) -> Result<Self, MemberError>
-        ensures ok { IfOk result (λ m. (m.own ≡ birth own incarnation weight) × (m.members ≡ m.own ∷ []) × (m.max ≡ max)) }
+        ensures ok { IfOk result (λ m. (m.own ≡ birth own incarnation weight)
+            × (m.members ≡ m.own ∷ []) × (m.max ≡ max)) }
         ensures valid { IfOk result (λ m. IsMembership m.own m.members m.max) }
         ensures limit { IsErrOf result MemberError.BadLimit ↔ (1 ≤ max → max ≤ most_members → ⊥) }
         ensures others { IsErrOf result MemberError.Full → ⊥ }
@@ -85,11 +86,12 @@ impl Members {
     /// address room was made. It takes no memory.
     pub fn commit(&mut self, verdict: Verdict)
         requires { CanCommit self.old verdict }
-        ensures value { self.new ≡ record self.old { own = own_committed self.old.own verdict; members = members (self.old.members ++ put_in verdict); room = self.new.room } }
+        ensures value { self.new ≡ after_put self.old (own_committed self.old.own verdict) (put_in verdict) self.new.room }
         ensures valid { IsMembership self.new.own self.new.members self.new.max }
 
-        // The given change and its refutation are what a log of the changes gains.
-        ensures logged { (given : Change) → judged self.old given ≡ verdict → self.new.members ≡ members (log_one self.old.own.address self.old.members given) }
+        // The members are those of a log with the given change, and directly after it its refutation.
+        ensures logged { (given : Change) → judged self.old given ≡ verdict
+            → self.new.members ≡ members (log_one self.old.own.address self.old.members given) }
     {
         let _ = &self.own;
         match verdict {
@@ -103,7 +105,7 @@ impl Members {
     /// alive or leave. It takes no memory.
     pub fn commit_own(&mut self, change: Change)
         requires { IsOwnAssertion self.old.own change }
-        ensures value { self.new ≡ record self.old { own = change; members = members (self.old.members ++ change ∷ []); room = self.new.room } }
+        ensures value { self.new ≡ after_put self.old change (change ∷ []) self.new.room }
         ensures valid { IsMembership self.new.own self.new.members self.new.max }
     {
         let _ = &self.own;
@@ -112,7 +114,7 @@ impl Members {
 
     fn put(&mut self, change: &Change)
         requires { CanPut self.old change.now }
-        ensures value { self.new ≡ record self.old { own = own_after self.old.own change.now; members = members (self.old.members ++ change.now ∷ []); room = self.new.room } }
+        ensures value { self.new ≡ after_put self.old (own_after self.old.own change.now) (change.now ∷ []) self.new.room }
         ensures valid { IsMembership self.new.own self.new.members self.new.max }
     {
         self.own = own_after(&self.own, change);
@@ -240,6 +242,7 @@ fn judge_own(own: &Change, change: &Change) -> Verdict
 }
 
 /// What becomes of a change about another.
+#[tactic(auto, using(crate::proofs::Commits::old_of_other))]
 fn judge_other(entries: &Entries, change: &Change) -> Verdict
     ensures { result ≡ judged_other entries.now.members entries.now.max change.now }
 {

@@ -48,12 +48,14 @@ impl MemberTable {
     /// Errors: `Full` exactly for an unknown address where there are `max` members; `Memory` for an unknown
     /// address whose entry finds no room. The table is then as before.
     pub fn take(&mut self, change: Change) -> Result<bool, MemberError>
-        ensures ok { IfOk result (λ altered. (altered ≡ is_news self.old.members change) × (self.new.members ≡ members (self.old.members ++ change ∷ []))) }
+        ensures ok { IfOk result (λ altered. (altered ≡ is_news self.old.members change)
+            × (self.new.members ≡ members (self.old.members ++ change ∷ []))) }
         ensures max { self.new.max ≡ self.old.max }
         ensures fits { length self.new.members ≤ self.new.max }
 
         // What is known is taken, whatever memory there is.
-        ensures full { IsErrOf result MemberError.Full ↔ ((greatest self.old.members change.address ≡ None) × (length self.old.members ≡ self.old.max)) }
+        ensures full { IsErrOf result MemberError.Full ↔
+            ((greatest self.old.members change.address ≡ None) × (length self.old.members ≡ self.old.max)) }
         ensures known { IsSome (greatest self.old.members change.address) → IsOk result }
         ensures others { IsErrOf result MemberError.BadLimit → ⊥ }
         ensures err { OnErr result (self.new ≡ self.old) }

@@ -6,7 +6,7 @@ use anyhow::Context;
 use change_core::{Address, Change, Incarnation, Status, Weight};
 use member_core::{MemberTable, Members, Verdict};
 use std::alloc::Global;
-use std::time::Instant;
+use std::time::{Clock, Instant};
 use std::{env, fs};
 
 // Members come in no order: a step of 1,663 goes through all of 100, 1,000 and 4,096.
@@ -69,57 +69,58 @@ fn each(nanos: u128, turns: u64) -> u64 {
     whole.checked_div(turns).unwrap_or(0)
 }
 
-fn median(alloc: Global, rounds: &[u64]) -> anyhow::Result<u64> {
-    let mut sorted = Vec::from_slice(alloc, rounds)?;
-    sorted.sort()?;
-    Ok(*sorted.get(sorted.len() / 2).context("no round")?)
+/// One round: nanoseconds of a first take, a later take, a judgement, a digest text and a digest.
+fn round(
+    rt: &impl Clock,
+    alloc: Global,
+    table: &mut MemberTable,
+    count: usize,
+) -> anyhow::Result<[u64; 5]> {
+    let own = change(1, count, 0)?;
+    let node = Members::new(alloc, own.address, own.incarnation, own.weight, 4_096)?;
+    let turns = 20u64;
+    let all = (count as u64).wrapping_mul(turns);
+    let start = Instant::now(rt)?;
+    let mut sum = take_turns(table, count, 1, 1)?;
+    let first = each(start.elapsed(rt)?.as_nanos(), count as u64);
+    let start = Instant::now(rt)?;
+    sum = sum.wrapping_add(take_turns(table, count, 2, turns)?);
+    let later = each(start.elapsed(rt)?.as_nanos(), all);
+    let start = Instant::now(rt)?;
+    sum = sum.wrapping_add(judge_turns(&node, count, turns)?);
+    let judged = each(start.elapsed(rt)?.as_nanos(), all);
+    let start = Instant::now(rt)?;
+    sum = sum.wrapping_add(text_turns(table, 50)?);
+    let text = each(start.elapsed(rt)?.as_nanos(), 50);
+    let start = Instant::now(rt)?;
+    sum = sum.wrapping_add(digest_turns(table, 50)?);
+    let digest = each(start.elapsed(rt)?.as_nanos(), 50);
+    anyhow::ensure!(sum > 0, "nothing was done");
+    Ok([first, later, judged, text, digest])
 }
 
 fn main(rt: HostRuntime) -> anyhow::Result<()> {
     let alloc = rt.alloc();
+    let file = env::args(&rt)?.nth(1).context("a file")?;
     for count in [100usize, 1_000, 4_096] {
-        let mut rows = vec![in alloc; Vec::new(alloc); 0]?;
+        let mut table = MemberTable::new(alloc, 4_096)?;
+        let mut rows = Vec::new(alloc);
         for _ in 0..5usize {
-            rows.push(Vec::new(alloc))?;
+            table = MemberTable::new(alloc, 4_096)?;
+            rows.push(round(&rt, alloc, &mut table, count)?)?;
         }
-        let mut sum = 0u64;
-        for round in 0..5u64 {
-            let own = change(1, count, 0)?;
-            let node = Members::new(alloc, own.address, own.incarnation, own.weight, 4_096)?;
-            let mut table = MemberTable::new(alloc, 4_096)?;
-            let turns = 20u64;
-            let all = (count as u64).wrapping_mul(turns);
-            let start = Instant::now(&rt)?;
-            sum = sum.wrapping_add(take_turns(&mut table, count, 1, 1)?);
-            let fill = each(start.elapsed(&rt)?.as_nanos(), count as u64);
-            let start = Instant::now(&rt)?;
-            sum = sum.wrapping_add(take_turns(&mut table, count, 2, turns)?);
-            let take = each(start.elapsed(&rt)?.as_nanos(), all);
-            let start = Instant::now(&rt)?;
-            sum = sum.wrapping_add(judge_turns(&node, count, turns)?);
-            let judge = each(start.elapsed(&rt)?.as_nanos(), all);
-            let start = Instant::now(&rt)?;
-            sum = sum.wrapping_add(text_turns(&table, 50)?);
-            let text = each(start.elapsed(&rt)?.as_nanos(), 50);
-            let start = Instant::now(&rt)?;
-            sum = sum.wrapping_add(digest_turns(&table, 50)?);
-            let digest = each(start.elapsed(&rt)?.as_nanos(), 50);
-            for (row, nanos) in rows.iter_mut().zip([fill, take, judge, text, digest]) {
-                row.push(nanos)?;
+        fs::write(&rt, file.as_str(), table.digest_text()?.as_bytes())?;
+        for (i, name) in ["first take", "later take", "judge", "digest_text", "digest"]
+            .iter()
+            .enumerate()
+        {
+            let mut row = Vec::new(alloc);
+            for nanos in rows.iter() {
+                row.push(nanos.get(i).copied().unwrap_or(0))?;
             }
-            if count == 4_096 && round == 0 {
-                let mut words = env::args(&rt)?;
-                let _ = words.next();
-                if let Some(file) = words.next() {
-                    let digest_text = table.digest_text()?;
-                    fs::write(&rt, file, digest_text.as_bytes())?;
-                }
-            }
-        }
-        println!(rt; "{count} members (sum {sum})")?;
-        for (row, name) in rows.iter().zip(["first take", "later take", "judge", "digest_text", "digest"]) {
-            let nanos = median(alloc, row.as_slice())?;
-            println!(rt; "  {name}: {nanos} ns")?;
+            row.sort()?;
+            let median = row.get(2).copied().unwrap_or(0);
+            println!(rt; "{count} members, {name}: {median} ns")?;
         }
     }
     Ok(())

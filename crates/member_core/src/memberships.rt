@@ -69,7 +69,7 @@ impl Members {
         }
     }
 
-    /// Makes room for one more entry. Where there is room already it does nothing.
+    /// Makes room for one more entry. Where there is room already it succeeds.
     ///
     /// Errors: `Memory`.
     pub fn reserve_one(&mut self) -> Result<(), MemberError>

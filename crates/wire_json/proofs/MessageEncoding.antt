@@ -12,11 +12,11 @@ use Rattle.serde_json.specs.View.{items_of}
 use Rattle.serde_json.specs.Read.{max_depth}
 use Rattle.serde_json.specs.Written.{has_float, items_have_float}
 use Rattle.wire_json.specs.declared.messages.Message.{Message}
-use Rattle.wire_json.specs.declared.messages.Gossip.{Gossip}
+use Rattle.wire_json.specs.declared.messages.News.{News}
 use Rattle.wire_json.specs.declared.messages.Content.{Content}
 use Rattle.wire_json.specs.declared.messages.Content.TheVariants.{Join, Joined, Ping, Ack, PingReq, PingReqAck, Forward, Reply, NotOwner, Refused}
 use Rattle.wire_json.specs.Forms.{ChangeForm, IsChange, change_data}
-use Rattle.wire_json.specs.Messages.{HasGossip, MessageForm, IsGossip, IsContent, IsMessage, message_data}
+use Rattle.wire_json.specs.Messages.{HasNews, MessageForm, IsNewsRecord, IsContent, IsMessage, message_data}
 use Rattle.wire_json.proofs.Encoding.{change_stands, change_whole, change_shallow}
 
 abbrev message_of : ℕ → ℕ → Content → Message
@@ -79,19 +79,19 @@ changes_stand (c ∷ cs) h = (change_stands c h.0, changes_stand cs h.1)
 few_elements : (cs : List Sourced) (n : ℕ) → length cs ≤ n → length (map change_data cs) ≤ n
 few_elements cs n h = omega (arith, length-map cs change_data)
 
-gossip_stands : (v : Data) (g : Gossip) → get (codes "checksum") v ≡ Some (string (digest_digits g.checksum.bytes)) → get (codes "changes") v ≡ Some (array (items_of (map change_data g.changes))) → IsGossip g → HasGossip v g
-gossip_stands v g p q h = record {
+news_stands : (v : Data) (g : News) → get (codes "checksum") v ≡ Some (string (digest_digits g.checksum.bytes)) → get (codes "changes") v ≡ Some (array (items_of (map change_data g.changes))) → IsNewsRecord g → HasNews v g
+news_stands v g p q h = record {
   checksum = (p, h.checksum);
   changes = record { elements = map change_data g.changes; are = q; few = few_elements g.changes _ h.few; each = changes_stand g.changes h.each };
 }
 
 stands_by : (a i : ℕ) (x : Content) → IsAddress a → i ≤ greatest_number → IsContent x → MessageForm (message_data (message_of a i x)) (message_of a i x)
-stands_by a i (Join g) p q h = record { kind = refl; source = (refl, p); source_incarnation = (refl, q); content = gossip_stands _ g refl refl h }
-stands_by a i (Joined g) p q h = record { kind = refl; source = (refl, p); source_incarnation = (refl, q); content = gossip_stands _ g refl refl h }
-stands_by a i (Ping g) p q h = record { kind = refl; source = (refl, p); source_incarnation = (refl, q); content = gossip_stands _ g refl refl h }
-stands_by a i (Ack g) p q h = record { kind = refl; source = (refl, p); source_incarnation = (refl, q); content = gossip_stands _ g refl refl h }
-stands_by a i (PingReq g t) p q h = record { kind = refl; source = (refl, p); source_incarnation = (refl, q); content = (gossip_stands _ g refl refl h.0, (refl, h.1)) }
-stands_by a i (PingReqAck g t b) p q h = record { kind = refl; source = (refl, p); source_incarnation = (refl, q); content = (gossip_stands _ g refl refl h.0, (refl, h.1), refl) }
+stands_by a i (Join g) p q h = record { kind = refl; source = (refl, p); source_incarnation = (refl, q); content = news_stands _ g refl refl h }
+stands_by a i (Joined g) p q h = record { kind = refl; source = (refl, p); source_incarnation = (refl, q); content = news_stands _ g refl refl h }
+stands_by a i (Ping g) p q h = record { kind = refl; source = (refl, p); source_incarnation = (refl, q); content = news_stands _ g refl refl h }
+stands_by a i (Ack g) p q h = record { kind = refl; source = (refl, p); source_incarnation = (refl, q); content = news_stands _ g refl refl h }
+stands_by a i (PingReq g t) p q h = record { kind = refl; source = (refl, p); source_incarnation = (refl, q); content = (news_stands _ g refl refl h.0, (refl, h.1)) }
+stands_by a i (PingReqAck g t b) p q h = record { kind = refl; source = (refl, p); source_incarnation = (refl, q); content = (news_stands _ g refl refl h.0, (refl, h.1), refl) }
 stands_by a i (Forward ks t) p q h = record { kind = refl; source = (refl, p); source_incarnation = (refl, q); content = (record { are = refl; some = h.0; few = h.1 }, refl) }
 stands_by a i (Reply t) p q h = record { kind = refl; source = (refl, p); source_incarnation = (refl, q); content = refl }
 stands_by a i NotOwner p q h = record { kind = refl; source = (refl, p); source_incarnation = (refl, q); content = tt }

@@ -20,52 +20,60 @@ use Rattle.wire_json.specs.Words.{reason_word}
 
 -- ---- members
 
--- v has this member, and it is the text t
+-- the member is there, and it is the text t
 abbrev pub HasText : Field → Data → List ℕ → Type 0
 HasText f v t = get (name f) v ≡ Some (string t)
 
+-- the member is the one text of the address
 abbrev pub HasAddress : Field → Data → ℕ → Type 0
 HasAddress f v a = HasText f v (address_text a) × IsAddress a
 
+-- the member is a number that reads as a whole one without a sign, at most 2^53 - 1; so 1.0 is none
 abbrev pub HasNumber : Field → Data → ℕ → Type 0
 HasNumber f v n = (get (name f) v ≡ Some (number (unsigned n))) × (n ≤ greatest_number)
 
+-- the member is the 64 lower-case hexadecimal digits of the digest
 abbrev pub HasDigest : Field → Data → Digest → Type 0
 HasDigest f v d = HasText f v (digest_digits d.bytes) × IsDigest d.bytes
 
+-- the member is `true` or `false`
 abbrev pub HasTruth : Field → Data → Bool → Type 0
 HasTruth f v b = get (name f) v ≡ Some (boolean b)
 
+-- the member `status` is the word of the status
 abbrev pub HasWord : Data → Status → Type 0
 HasWord v s = HasText field.Status v (status_word s)
 
--- ---- changes
+-- ---- a change
 
--- `faulty` is made a tombstone by the member `tombstone`, which may be absent; other words stand for themselves
+-- the member `tombstone`, where the word is `faulty`: `true` makes the status tombstone, `false` and absence leave it faulty (own)
 abbrev pub Marks : Option Data → Status → Type 0
 Marks None s = s ≡ Faulty
 Marks (Some (boolean true)) s = s ≡ Tombstone
 Marks (Some (boolean false)) s = s ≡ Faulty
 Marks (Some _) s = ⊥
 
+-- what the word stands for: every other word than `faulty` stands for itself
 abbrev pub Means : Data → Status → Status → Type 0
 Means v Faulty s = Marks (get (name field.Tombstone) v) s
 Means v word s = s ≡ word
 
+-- the value says the status, by the word and, where it is `faulty`, the member `tombstone`
 pub record HasStatus (v : Data) (s : Status) : Type 0 where
   pub word : Status
   pub has_word : HasWord v word
   pub means : Means v word s
 
--- a weight is from 1 to 8, and 1 where the member `weight` is absent
+-- a weight is from 1 to 8, and 1 where the member `weight` is absent (own)
 abbrev pub Weighs : Option Data → ℕ → Type 0
 Weighs None w = w ≡ 1
 Weighs (Some d) w = (d ≡ number (unsigned w)) × IsWeight w
 
+-- the value says the weight
 abbrev pub HasWeight : Data → ℕ → Type 0
 HasWeight v w = Weighs (get (name field.Weight) v) w
 
--- the value stands for the change
+-- the value stands for the change; the names are those of a change in ringpop-go's package swim
 pub record ChangeForm (v : Data) (c : Sourced) : Type 0 where
   pub address : HasAddress field.Address v c.change.address
   pub incarnation : HasNumber field.IncarnationNumber v c.change.incarnation
@@ -74,7 +82,7 @@ pub record ChangeForm (v : Data) (c : Sourced) : Type 0 where
   pub status : HasStatus v c.change.status
   pub weight : HasWeight v c.change.weight
 
--- the parts of a change are in range
+-- the parts of a change are in range, as those of every change in the code are
 pub record IsChange (c : Sourced) : Type 0 where
   pub address : IsAddress c.change.address
   pub incarnation : c.change.incarnation ≤ greatest_number
@@ -82,7 +90,9 @@ pub record IsChange (c : Sourced) : Type 0 where
   pub source_incarnation : c.source_incarnation ≤ greatest_number
   pub weight : IsWeight c.change.weight
 
--- these members go in one after another; an object keeps its members ascending by name
+-- ---- what is written for a change
+
+-- these members put in one after another; an object keeps its members ascending by name
 abbrev pub with_members : List (Field × Data) → Members → Members
 with_members [] ms = ms
 with_members (x ∷ xs) ms = with_members xs (put (name x.0) x.1 ms)
@@ -96,18 +106,18 @@ abbrev pub weight_members : Bool → ℕ → List (Field × Data)
 weight_members true w = (field.Weight, number (unsigned w)) ∷ []
 weight_members false w = []
 
--- the members of the change, with the weight or without it
+-- the change with the weight, or without it
 abbrev pub change_object : Bool → Sourced → Data
 change_object heavy c =
     written ((field.Address, string (address_text c.change.address)) ∷ (field.IncarnationNumber, number (unsigned c.change.incarnation))
     ∷ (field.Source, string (address_text c.source)) ∷ (field.SourceIncarnationNumber, number (unsigned c.source_incarnation))
     ∷ (field.Status, string (status_word c.change.status)) ∷ weight_members heavy c.change.weight)
 
--- what is written for the change
+-- what is written for the change; a tombstone is written by its own word (own)
 abbrev pub change_data : Sourced → Data
 change_data c = change_object (nat_lt 1 c.change.weight) c
 
--- ---- faults
+-- ---- the first fault of a change
 
 -- what a member is asked to be
 pub data Form : Type 0 where
@@ -133,7 +143,7 @@ IsGood reason f v = (r : Reason) × HasText f v (reason_word r)
 IsGood mark f v = (s : Status) × HasStatus v s
 IsGood weight f v = (w : ℕ) × HasWeight v w
 
--- a required member is absent, or of another form
+-- a required member is absent, or there and of another form; the last two may be absent
 abbrev pub IsBad : Form → Field → Data → WireError → Type 0
 IsBad mark f v e = (e ≡ BadField f) × ¬ IsGood mark f v
 IsBad weight f v e = (e ≡ BadField f) × ¬ IsGood weight f v
@@ -148,10 +158,12 @@ FirstFault (c ∷ cs) v e = IsBad c.0 c.1 v e ⊎ (IsGood c.0 c.1 v × FirstFaul
 abbrev pub status_members : List (Form × Field)
 status_members = (status, field.Status) ∷ (mark, field.Tombstone) ∷ []
 
+-- what a change is asked to have, in the order of checks
 abbrev pub change_members : List (Form × Field)
 change_members =
     (address, field.Address) ∷ (whole, field.IncarnationNumber) ∷ (address, field.Source) ∷ (whole, field.SourceIncarnationNumber)
     ∷ (status_members ++ (weight, field.Weight) ∷ [])
 
+-- the first fault of a value that stands for no change
 abbrev pub ChangeFault : Data → WireError → Type 0
 ChangeFault = FirstFault change_members

@@ -1,0 +1,23 @@
+#!/usr/bin/env bash
+# Decode and encode of pings with 0, 64 and 4,096 changes, in MB/s, in one run: this product, serde_json in Rust (where cargo
+# finds it), and Python's json (and orjson where it is there). Wants rt, python3 and cargo. It works on a copy, so nothing is
+# left in the repository.
+set -euo pipefail
+here=$(cd "$(dirname "$0")" && pwd)
+root=$here/../..
+work=$(mktemp -d)
+trap 'rm -rf "$work"' EXIT
+mkdir "$work/crates"
+cp -r "$root/crates/change_core" "$root/crates/wire_json" "$here/wire_bench" "$work/crates/"
+grep -E '^(change_core|wire_json):' "$root/crates.txt" > "$work/crates.txt"
+echo 'wire_bench: change_core wire_json anyhow' >> "$work/crates.txt"
+python3 "$here/ping.py" make "$work"
+files=("$work/ping0.json" "$work/ping64.json" "$work/ping4096.json")
+(cd "$work/crates/wire_bench" && rt try -- "${files[@]}")
+cp -r "$here/rust" "$work/rust"
+if (cd "$work/rust" && cargo build --release --quiet); then
+    "$work/rust/target/release/ping_lines" "${files[@]}"
+else
+    echo "no serde_json for Rust here"
+fi
+python3 "$here/ping.py" time "${files[@]}"

@@ -1,0 +1,115 @@
+-- The first fault of a JSON value that stands for no message, in the order of checks.
+use Rattle.std.specs.Prelude.{◌≡◌, ◌≢◌, ℕ, ◌<◌, ◌≤◌, ◌⊎◌, List, [], ◌∷◌, ◌++◌, length, map, Some, None}
+use Rattle.std.specs.List.{AllZip, AllByRecursion}
+use Rattle.serde_json.specs.Data.{Data, boolean, number, string, array, unsigned}
+use Rattle.serde_json.specs.Find.{get, as_array}
+use Rattle.serde_json.specs.View.{items_of}
+use Rattle.change_core.specs.Address.{IsAddress, address_text}
+use Rattle.change_core.specs.Digest.{IsDigest, digest_digits}
+use Rattle.change_core.specs.Numbers.{greatest_number, most_members}
+use Rattle.change_core.specs.declared.changes.Sourced.{Sourced}
+use Rattle.wire_json.specs.declared.errors.WireError.{WireError}
+use Rattle.wire_json.specs.declared.errors.WireError.TheVariants.{UnknownKind, MissingField, BadField, TooMany}
+use Rattle.wire_json.specs.declared.fields.Field.{Field}
+use Rattle.wire_json.specs.declared.fields.Field.TheVariants as field
+use Rattle.wire_json.specs.declared.kinds.Kind.{Kind}
+use Rattle.wire_json.specs.declared.kinds.Kind.TheVariants as kind
+use Rattle.wire_json.specs.declared.kinds.Reason.{Reason}
+use Rattle.wire_json.specs.declared.messages.Message.{Message}
+use Rattle.wire_json.specs.declared.messages.News.{News}
+use Rattle.wire_json.specs.declared.messages.Content.{Content}
+use Rattle.wire_json.specs.declared.messages.Content.TheVariants.{Join, Joined, Ping, Ack, PingReq, PingReqAck, Forward, Reply, NotOwner, Refused}
+use Rattle.wire_json.specs.Fields.{name}
+use Rattle.wire_json.specs.Words.{kind_word, reason_word}
+use Rattle.wire_json.specs.Forms.{HasText, HasAddress, HasNumber, HasDigest, HasTruth, ChangeForm, ChangeFault, Form, text, address, whole, digest, truth, reason, IsGood, IsBad, IsChange, written, change_data}
+use Rattle.wire_json.specs.Lines.{IsObject}
+use Rattle.wire_json.specs.Limits.{max_keys}
+use Rattle.wire_json.specs.Messages.{HasChanges, HasKeys}
+
+-- the first element at fault; those before it are good
+abbrev pub FirstElement : (Data → Type 0) → (Data → WireError → Type 0) → List Data → WireError → Type 0
+FirstElement Good Fault [] e = ⊥
+FirstElement Good Fault (d ∷ ds) e = Fault d e ⊎ (Good d × FirstElement Good Fault ds e)
+
+-- the element stands for some change
+abbrev pub StandsForChange : Data → Type 0
+StandsForChange d = (c : Sourced) × ChangeForm d c
+
+-- an element of `changes` is no object, or has the fault of a change
+abbrev pub ElementFault : Data → WireError → Type 0
+ElementFault d e = ((e ≡ BadField field.Changes) × ¬ IsObject d) ⊎ (IsObject d × ChangeFault d e)
+
+-- the element is a string
+abbrev pub IsText : Data → Type 0
+IsText d = (t : List ℕ) × (d ≡ string t)
+
+-- an element of `keys` is no string
+abbrev pub KeyFault : Data → WireError → Type 0
+KeyFault d e = (e ≡ BadField field.Keys) × ¬ IsText d
+
+-- a member that is to be an array of at most so many elements is absent, no array, or too long; no element is looked at
+abbrev pub ListFault : Field → ℕ → Data → WireError → Type 0
+ListFault f most v e =
+    ((e ≡ MissingField f) × (get (name f) v ≡ None))
+    ⊎ (((e ≡ BadField f) × (d : Data) × (get (name f) v ≡ Some d) × (as_array d ≡ None))
+    ⊎ ((e ≡ TooMany) × (ds : List Data) × (get (name f) v ≡ Some (array (items_of ds))) × (most < length ds)))
+
+-- the member is an array of these elements, at most so many
+abbrev pub IsList : Field → ℕ → Data → List Data → Type 0
+IsList f most v ds = (get (name f) v ≡ Some (array (items_of ds))) × (length ds ≤ most)
+
+-- what a message is asked to have: a member of a form, `changes`, or `keys`
+pub data Part : Type 0 where
+  plain : Form → Field → Part
+  changes : Part
+  keys : Part
+
+-- the value has it
+abbrev pub IsMet : Part → Data → Type 0
+IsMet (plain form f) v = IsGood form f v
+IsMet changes v = (cs : List Sourced) × HasChanges v cs
+IsMet keys v = (ks : List (List ℕ)) × HasKeys v ks
+
+-- what is wrong with it: first with the array as a whole, then with its first bad element
+abbrev pub IsUnmet : Part → Data → WireError → Type 0
+IsUnmet (plain form f) v e = IsBad form f v e
+IsUnmet changes v e =
+    ListFault field.Changes most_members v e
+    ⊎ ((ds : List Data) × IsList field.Changes most_members v ds × FirstElement StandsForChange ElementFault ds e)
+IsUnmet keys v e =
+    ListFault field.Keys max_keys v e
+    ⊎ ((ds : List Data) × IsList field.Keys max_keys v ds × (((e ≡ BadField field.Keys) × (ds ≡ [])) ⊎ FirstElement IsText KeyFault ds e))
+
+-- the first of the parts asked for, in this order, that is not as it should be
+abbrev pub FirstUnmet : List Part → Data → WireError → Type 0
+FirstUnmet [] v e = ⊥
+FirstUnmet (p ∷ ps) v e = IsUnmet p v e ⊎ (IsMet p v × FirstUnmet ps v e)
+
+-- what the six kinds of membership ask for
+abbrev pub news_parts : List Part
+news_parts = plain digest field.Checksum ∷ changes ∷ []
+
+-- what each kind asks for beside kind and source, in the order of checks
+abbrev pub parts_of : Kind → List Part
+parts_of kind.Join = news_parts
+parts_of kind.Joined = news_parts
+parts_of kind.Ping = news_parts
+parts_of kind.Ack = news_parts
+parts_of kind.PingReq = news_parts ++ plain address field.Target ∷ []
+parts_of kind.PingReqAck = news_parts ++ plain address field.Target ∷ plain truth field.Reached ∷ []
+parts_of kind.Forward = keys ∷ plain text field.Body ∷ []
+parts_of kind.Reply = plain text field.Body ∷ []
+parts_of kind.NotOwner = []
+parts_of kind.Refused = plain reason field.Reason ∷ []
+
+-- what a message of the kind is asked to have, in the order of checks
+abbrev pub message_parts : Kind → List Part
+message_parts k = plain address field.Source ∷ plain whole field.SourceIncarnationNumber ∷ parts_of k
+
+-- the member `kind` is absent, no string, or no word of a kind
+abbrev pub KindFault : Data → WireError → Type 0
+KindFault v e = IsBad text field.Kind v e ⊎ ((e ≡ UnknownKind) × (t : List ℕ) × HasText field.Kind v t × ((k : Kind) → t ≢ kind_word k))
+
+-- the first fault of a value that stands for no message: that of its kind, or of what the kind asks for
+abbrev pub MessageFault : Data → WireError → Type 0
+MessageFault v e = KindFault v e ⊎ ((k : Kind) × HasText field.Kind v (kind_word k) × FirstUnmet (message_parts k) v e)

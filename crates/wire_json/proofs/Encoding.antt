@@ -1,19 +1,14 @@
 -- What is written for a change stands for it.
-use Rattle.std.proofs.Common.{◌≡◌, ℕ, ◌+◌, ◌*◌, ◌≤◌, Bool, true, false, List, ◌∷◌, length, codes, decimal, nat_lt, ap, refl, arith}
-use Rattle.std.proofs.lemmas.Fmt.{length-decimal-le}
-use Rattle.change_core.specs.Address.{address_text}
+use Rattle.std.proofs.Common.{◌≡◌, ℕ, ◌≤◌, Bool, true, false, nat_lt, refl, arith}
 use Rattle.change_core.specs.Numbers.{IsWeight}
-use Rattle.change_core.specs.Status.{status_word}
 use Rattle.change_core.specs.declared.changes.Sourced.{Sourced}
 use Rattle.change_core.specs.declared.statuses.Status.{Status}
 use Rattle.change_core.specs.declared.statuses.Status.TheVariants.{Alive, Suspect, Faulty, Leave, Tombstone}
-use Rattle.change_core.proofs.OneText.{address_text-short, status_word-short}
-use Rattle.serde_json.specs.Data.{depth, string, number, unsigned, Members, member, no_members}
-use Rattle.serde_json.specs.Written.{compact_text, members_text, has_float}
+use Rattle.serde_json.specs.Data.{depth, member}
+use Rattle.serde_json.specs.Written.{has_float}
 use Rattle.std.proofs.lemmas.Grind.{common_steps}
 use Rattle.std.proofs.lemmas.Bool.Decides.{nat_tests}
 use Rattle.wire_json.specs.Forms.{Means, ChangeForm, IsChange, change_object, change_data}
-use Rattle.wire_json.specs.Lines.{max_line}
 
 -- a word stands for itself where no member `tombstone` is there
 means_itself : (b : Bool) (c : Sourced) (s : Status) → Means (change_object b c) s s

@@ -1,12 +1,9 @@
 -- The first fault of a JSON value that stands for no message, in the order of checks.
-use Rattle.std.specs.Prelude.{◌≡◌, ◌≢◌, ℕ, ◌<◌, ◌≤◌, ◌⊎◌, List, [], ◌∷◌, ◌++◌, length, map, Some, None}
-use Rattle.std.specs.List.{AllZip, AllByRecursion}
-use Rattle.serde_json.specs.Data.{Data, boolean, number, string, array, unsigned}
+use Rattle.std.specs.Prelude.{◌≡◌, ◌≢◌, ℕ, ◌<◌, ◌≤◌, ◌⊎◌, List, [], ◌∷◌, ◌++◌, length, Some, None}
+use Rattle.serde_json.specs.Data.{Data, string, array}
 use Rattle.serde_json.specs.Find.{get, as_array}
 use Rattle.serde_json.specs.View.{items_of}
-use Rattle.change_core.specs.Address.{IsAddress, address_text}
-use Rattle.change_core.specs.Digest.{IsDigest, digest_digits}
-use Rattle.change_core.specs.Numbers.{greatest_number, most_members}
+use Rattle.change_core.specs.Numbers.{most_members}
 use Rattle.change_core.specs.declared.changes.Sourced.{Sourced}
 use Rattle.wire_json.specs.declared.errors.WireError.{WireError}
 use Rattle.wire_json.specs.declared.errors.WireError.TheVariants.{UnknownKind, MissingField, BadField, TooMany}
@@ -15,13 +12,10 @@ use Rattle.wire_json.specs.declared.fields.Field.TheVariants as field
 use Rattle.wire_json.specs.declared.kinds.Kind.{Kind}
 use Rattle.wire_json.specs.declared.kinds.Kind.TheVariants as kind
 use Rattle.wire_json.specs.declared.kinds.Reason.{Reason}
-use Rattle.wire_json.specs.declared.messages.Message.{Message}
-use Rattle.wire_json.specs.declared.messages.News.{News}
-use Rattle.wire_json.specs.declared.messages.Content.{Content}
 use Rattle.wire_json.specs.declared.messages.Content.TheVariants.{Join, Joined, Ping, Ack, PingReq, PingReqAck, Forward, Reply, NotOwner, Refused}
 use Rattle.wire_json.specs.Fields.{name}
-use Rattle.wire_json.specs.Words.{kind_word, reason_word}
-use Rattle.wire_json.specs.Forms.{HasText, HasAddress, HasNumber, HasDigest, HasTruth, ChangeForm, ChangeFault, Form, text, address, whole, digest, truth, reason, IsGood, IsBad, IsChange, written, change_data}
+use Rattle.wire_json.specs.Words.{kind_word}
+use Rattle.wire_json.specs.Forms.{HasText, ChangeForm, ChangeFault, Form, text, address, whole, digest, truth, reason, IsGood, IsBad}
 use Rattle.wire_json.specs.Lines.{IsObject}
 use Rattle.wire_json.specs.Limits.{max_keys}
 use Rattle.wire_json.specs.Messages.{HasChanges, HasKeys}

@@ -1,15 +1,13 @@
 -- Which message a JSON value stands for, and what is written for a message.
-use Rattle.std.specs.Prelude.{◌≡◌, ◌≢◌, ℕ, ◌<◌, ◌≤◌, ◌⊎◌, List, [], ◌∷◌, ◌++◌, length, map, Some, None}
+use Rattle.std.specs.Prelude.{◌≡◌, ℕ, ◌<◌, ◌≤◌, List, [], ◌∷◌, ◌++◌, length, map, Some}
 use Rattle.std.specs.List.{AllZip, AllByRecursion}
 use Rattle.serde_json.specs.Data.{Data, boolean, number, string, array, unsigned}
-use Rattle.serde_json.specs.Find.{get, as_array}
+use Rattle.serde_json.specs.Find.{get}
 use Rattle.serde_json.specs.View.{items_of}
 use Rattle.change_core.specs.Address.{IsAddress, address_text}
 use Rattle.change_core.specs.Digest.{IsDigest, digest_digits}
 use Rattle.change_core.specs.Numbers.{greatest_number, most_members}
 use Rattle.change_core.specs.declared.changes.Sourced.{Sourced}
-use Rattle.wire_json.specs.declared.errors.WireError.{WireError}
-use Rattle.wire_json.specs.declared.errors.WireError.TheVariants.{UnknownKind, MissingField, BadField, TooMany}
 use Rattle.wire_json.specs.declared.fields.Field.{Field}
 use Rattle.wire_json.specs.declared.fields.Field.TheVariants as field
 use Rattle.wire_json.specs.declared.kinds.Kind.{Kind}
@@ -21,7 +19,7 @@ use Rattle.wire_json.specs.declared.messages.Content.{Content}
 use Rattle.wire_json.specs.declared.messages.Content.TheVariants.{Join, Joined, Ping, Ack, PingReq, PingReqAck, Forward, Reply, NotOwner, Refused}
 use Rattle.wire_json.specs.Fields.{name}
 use Rattle.wire_json.specs.Words.{kind_word, reason_word}
-use Rattle.wire_json.specs.Forms.{HasText, HasAddress, HasNumber, HasDigest, HasTruth, ChangeForm, ChangeFault, Form, text, address, whole, digest, truth, reason, IsGood, IsBad, IsChange, written, change_data}
+use Rattle.wire_json.specs.Forms.{HasText, HasAddress, HasNumber, HasDigest, HasTruth, ChangeForm, IsChange, written, change_data}
 use Rattle.wire_json.specs.Limits.{max_keys}
 
 -- ---- the form

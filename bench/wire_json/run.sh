@@ -1,19 +1,25 @@
 #!/usr/bin/env bash
 # Decode and encode of pings with 0, 64 and 4,096 changes, in MB/s, in one run: this product, serde_json in Rust (where cargo
-# finds it), and Python's json (and orjson where it is there). Wants rt, python3 and cargo. It works on a copy, so nothing is
-# left in the repository.
+# finds it), and Python's json (and orjson where it is there). Wants rt, python3 and cargo. It works on a copy, which it proves
+# first (some minutes), so nothing is left in the repository.
 set -euo pipefail
 here=$(cd "$(dirname "$0")" && pwd)
 root=$here/../..
 work=$(mktemp -d)
 trap 'rm -rf "$work"' EXIT
 mkdir "$work/crates"
-cp -r "$root/crates/change_core" "$root/crates/wire_json" "$here/wire_bench" "$work/crates/"
+for crate in "$root/crates/change_core" "$root/crates/wire_json" "$here/wire_bench"; do
+    mkdir "$work/crates/$(basename "$crate")"
+    cp -r "$crate"/src "$work/crates/$(basename "$crate")/"
+    for part in specs proofs; do
+        if [ -d "$crate/$part" ]; then cp -r "$crate/$part" "$work/crates/$(basename "$crate")/"; fi
+    done
+done
 grep -E '^(change_core|wire_json):' "$root/crates.txt" > "$work/crates.txt"
 echo 'wire_bench: change_core wire_json anyhow' >> "$work/crates.txt"
 python3 "$here/ping.py" make "$work"
 files=("$work/ping0.json" "$work/ping64.json" "$work/ping4096.json")
-(cd "$work/crates/wire_bench" && rt try -- "${files[@]}")
+(cd "$work/crates/wire_bench" && rt run -- "${files[@]}")
 cp -r "$here/rust" "$work/rust"
 if (cd "$work/rust" && cargo build --release --quiet); then
     "$work/rust/target/release/ping_lines" "${files[@]}"

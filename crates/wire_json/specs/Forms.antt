@@ -46,7 +46,7 @@ HasWord v s = HasText field.Status v (status_word s)
 
 -- ---- a change
 
--- the member `tombstone`, where the word is `faulty`: `true` makes the status tombstone, `false` and absence leave it faulty (own)
+-- the member `tombstone`, where the word is `faulty`: `true` makes the status tombstone, `false` and absence leave it faulty, as in ringpop-go's package swim
 abbrev pub Marks : Option Data → Status → Type 0
 Marks None s = s ≡ Faulty
 Marks (Some (boolean true)) s = s ≡ Tombstone

@@ -1,0 +1,44 @@
+-- What contracts see of a ring.
+use Rattle.std.specs.Prelude.{◌≡◌, ◌⊎◌, ℕ, ◌-◌, ◌*◌, ◌<◌, ◌≤◌, nat_lt, min, if◌then◌else◌, List, vec_len, vec_capacity}
+use Rattle.std.specs.Global.{Vec}
+use Rattle.hash_ring.specs.declared.points.Point.{Point}
+use Rattle.hash_ring.specs.declared.servers.Server.{Server}
+use Rattle.change_core.specs.Ascending.{In}
+use Rattle.hash_ring.specs.Servers.{shares, AreServers}
+use Rattle.hash_ring.specs.Points.{points, AreSmall, IsReplicas}
+
+-- the hash, the number of replicas, the servers ascending, the points ascending, and for how many more points there is room
+pub record RingModel (H : Type 0) : Type 0 where
+  pub hash : H
+  pub replicas : ℕ
+  pub servers : List Server
+  pub points : List Point
+  pub room : ℕ
+
+-- the ring of these servers: hash_of is the function that hash stands for
+abbrev pub ring_of : {H : Type 0} → H → (List ℕ → ℕ) → ℕ → List Server → ℕ → RingModel H
+ring_of hash hash_of replicas servers room =
+    record { hash = hash; replicas = replicas; servers = servers; points = points hash_of replicas servers; room = room }
+
+-- there is room for more points where there is room for a server, and for its points by themselves
+abbrev pub ring_model : {H : Type 0} → H → ℕ → Vec Server → Vec Point → Vec Point → RingModel H
+ring_model hash replicas servers points fresh =
+    record {
+      hash = hash;
+      replicas = replicas;
+      servers = servers.items;
+      points = points.items;
+      room = if nat_lt (vec_len servers) (vec_capacity servers) then min (vec_capacity points - vec_len points) (vec_capacity fresh) else 0;
+    }
+
+-- the servers are such, the points are theirs, and each one's points fit in what is spare
+pub record IsRing (hash_of : List ℕ → ℕ) (replicas : ℕ) (servers : List Server) (ps : List Point) (spare : ℕ) : Type 0 where
+  pub replicas_fit : IsReplicas replicas
+  pub servers_fit : AreServers servers
+  pub points_are : ps ≡ points hash_of replicas servers
+  pub small : AreSmall ps
+  pub fits : (s : Server) → In s servers → replicas * s.weight ≤ spare
+
+-- the server is there with at least that weight, or there is room for its points
+abbrev pub HasRoom : {H : Type 0} → RingModel H → Server → Type 0
+HasRoom r s = (s.weight ≤ shares s.address r.servers) ⊎ (r.replicas * s.weight ≤ r.room)

@@ -1,0 +1,19 @@
+//! A consistent hash ring over servers with weights: points, the owner of a key and its next owners.
+#![tactic(auto)]
+
+mod errors;
+mod hash;
+pub mod laws;
+mod points;
+mod ring;
+mod search;
+mod servers;
+mod sorted;
+mod text;
+
+pub use errors::RingError;
+pub use hash::{PointHash, Sha256Hash, SumHash};
+pub use points::{MOST_REPLICAS, Point, distance};
+pub use ring::Ring;
+pub use servers::Server;
+

@@ -1,0 +1,173 @@
+// The ring, kept by edits.
+ghost use Rattle.std.specs.Prelude.{◌≡◌, ℕ, List, ◌+◌, ◌-◌, ◌*◌, ◌^◌, ◌<◌, ◌≤◌, ◌↔◌, [], ◌∷◌, ◌++◌, length, take, drop, not, is_some, IsOk, IfOk, IfSome, IfNone, OnOk, IsOkUnless, vec_len, vec_capacity};
+ghost use Rattle.hash_ring.specs.Points.{IsReplicas, IsNearest, owner, owners};
+ghost use Rattle.hash_ring.specs.Servers.{has_weight, weight_of, with_server, without};
+ghost use Rattle.hash_ring.specs.declared.servers.Server.{Server};
+
+use crate::errors::RingError;
+use crate::hash::PointHash;
+use crate::points::{MOST_REPLICAS, Point, fill_points, merge_points, point_count};
+use crate::servers::{Server, take_out, weighs, weight_among};
+use crate::sorted::place;
+use crate::search::{first_at, first_server, name_servers};
+use change_core::{Address, Weight};
+use std::alloc::Global;
+use std::marker::Model;
+
+/// A ring of servers: `replicas` points for each of a server's weight, and of a key the server whose point
+/// comes first at or after the key's hash, as in ringpop-go's package hashring. Contracts see the hash, the
+/// replicas, the servers with their weights, the points, and the room that is made.
+#[derive(Drop)]
+pub struct Ring<H: PointHash> {
+    hash: H,
+    replicas: u32,
+    servers: Vec<Server>,
+    points: Vec<Point>,
+    // The points of the server that is being added.
+    fresh: Vec<Point>,
+}
+
+impl<H: PointHash> Model for Ring<H> {
+    ghost use Rattle.std.specs.Prelude.{vec_capacity};
+    ghost use Rattle.hash_ring.specs.RingModel.{RingModel, ring_model, IsRing};
+
+    ghost Value = { RingModel H };
+
+    ghost view = { λ r. ring_model r.hash r.replicas r.servers r.points r.fresh };
+
+    ghost invariant = { λ r. IsRing (H.hash_of r.hash) r.replicas r.servers.items r.points.items (vec_capacity r.fresh) };
+}
+
+impl<H: PointHash> Ring<H> {
+    ghost use Rattle.hash_ring.specs.RingModel.{ring_of, HasRoom};
+
+    /// A ring without servers. `BadReplicas`: `replicas` is not from 1 to 1,000.
+    pub fn new(alloc: Global, hash: H, replicas: u32) -> Result<Self, RingError>
+        ensures range { IsOk result ↔ IsReplicas replicas }
+        ensures empty { IfOk result (λ r. r ≡ ring_of hash (H.hash_of hash) replicas [] r.room) }
+        ensures refusal { IsOkUnless result RingError.BadReplicas }
+    {
+        if replicas < 1 || replicas > MOST_REPLICAS {
+            return Err(RingError::BadReplicas);
+        }
+        Ok(Ring {
+            hash,
+            replicas,
+            servers: Vec::new(alloc),
+            points: Vec::new(alloc),
+            fresh: Vec::new(alloc),
+        })
+    }
+
+    /// How many servers there are.
+    pub fn len(&self) -> usize
+        ensures count { result ≡ length self.now.servers }
+        // The points that are kept are those of the servers, after any edits.
+        ensures kept { self.now ≡ ring_of self.now.hash (H.hash_of self.now.hash) self.now.replicas self.now.servers self.now.room }
+    {
+        self.servers.len()
+    }
+
+    /// Whether the server of an address is there.
+    pub fn contains(&self, address: Address) -> bool
+        ensures { result ≡ is_some (weight_of address self.now.servers) }
+    {
+        self.weight(address).is_some()
+    }
+
+    /// The weight of the server of an address, if it is there.
+    pub fn weight(&self, address: Address) -> Option<Weight>
+        ensures { result ≡ weight_of address self.now.servers }
+    {
+        weight_among(&self.servers, address)
+    }
+
+    /// Makes room for a server, unless it is there with at least this weight. `Memory`: a growth was refused;
+    /// the ring stays as it was.
+    pub fn reserve_for(&mut self, address: Address, weight: Weight) -> Result<(), RingError>
+        ensures room { OnOk result (HasRoom self.new (record { address = address; weight = weight })) }
+        ensures enough { HasRoom self.old (record { address = address; weight = weight }) → IsOk result }
+        ensures same { self.new ≡ record self.old { room = self.new.room } }
+        ensures grown { self.old.room ≤ self.new.room }
+        ensures refusal { IsOkUnless result RingError.Memory }
+    {
+        if weighs(&self.servers, address, weight) {
+            return Ok(());
+        }
+        let count = point_count(self.replicas, weight) as usize;
+        self.servers.reserve(1)?;
+        self.points.reserve(count)?;
+        self.fresh.clear();
+        self.fresh.reserve(count)?;
+        Ok(())
+    }
+
+    /// Adds a server and its points, in the place of those that it had with another weight, and answers whether
+    /// anything changed. It wants room to have been made, or the server there with at least this weight, and
+    /// takes no memory.
+    pub fn add(&mut self, address: Address, weight: Weight) -> bool
+        requires { HasRoom self.old (record { address = address; weight = weight }) }
+        ensures ring { self.new ≡ ring_of self.old.hash (H.hash_of self.old.hash) self.old.replicas (with_server (record { address = address; weight = weight }) self.old.servers) self.new.room }
+        ensures added { result ≡ not (has_weight weight (weight_of address self.old.servers)) }
+    {
+        if self.weight(address) == Some(weight) {
+            return false;
+        }
+        let count = point_count(self.replicas, weight);
+        take_out(&mut self.servers, &mut self.points, address);
+        let Ok(_) = place(&mut self.servers, Server { address, weight }) else {
+            unreachable!()
+        };
+        fill_points(&mut self.fresh, self.hash, address, count);
+        merge_points(&mut self.points, &self.fresh);
+        true
+    }
+
+    /// Removes a server and its points, and answers whether it was there.
+    pub fn remove(&mut self, address: Address) -> bool
+        ensures ring { self.new ≡ ring_of self.old.hash (H.hash_of self.old.hash) self.old.replicas (without address self.old.servers) self.new.room }
+        ensures removed { result ≡ is_some (weight_of address self.old.servers) }
+    {
+        take_out(&mut self.servers, &mut self.points, address)
+    }
+
+    /// The server of a key: that of the first point at or after the key's hash, the least point after the
+    /// greatest. None in a ring without servers.
+    pub fn owner(&self, key: &[u8]) -> Option<Address>
+        ensures first { result ≡ owner (H.hash_of self.now.hash) self.now.replicas self.now.servers key.now }
+        ensures nearest { IfSome result (IsNearest (H.hash_of self.now.hash) self.now.replicas self.now.servers key.now) }
+        ensures nobody { IfNone result (self.now.servers ≡ []) }
+    {
+        let start = first_at(&self.points, self.hash.hash(key));
+        first_server(&self.points, start)
+    }
+
+    /// The first `count` owners of a key, the owner first, or all servers where there are fewer. `Memory`: the
+    /// list was refused.
+    pub fn owners(&self, key: &[u8], count: usize) -> Result<Vec<Address>, RingError>
+        ensures named { IfOk result (λ named. named.items ≡ take count (owners (H.hash_of self.now.hash) self.now.replicas self.now.servers key.now)) }
+        ensures refusal { IsOkUnless result RingError.Memory }
+    {
+        let start = first_at(&self.points, self.hash.hash(key));
+        let count = count.min(self.servers.len());
+        let mut named = Vec::with_capacity(*self.servers.allocator(), count)?;
+        name_servers(&self.points[start..], count, &mut named)?;
+        name_servers(&self.points[..start], count, &mut named)?;
+        Ok(named)
+    }
+
+    /// A ring of its own that equals this one. `Memory`: a growth was refused.
+    pub fn copy(&self) -> Result<Self, RingError>
+        ensures same { IfOk result (λ ring. ring ≡ record self.now { room = ring.room }) }
+        ensures refusal { IsOkUnless result RingError.Memory }
+    {
+        let alloc = *self.servers.allocator();
+        Ok(Ring {
+            hash: self.hash,
+            replicas: self.replicas,
+            servers: Vec::from_slice(alloc, &self.servers)?,
+            points: Vec::from_slice(alloc, &self.points)?,
+            fresh: Vec::with_capacity(alloc, self.fresh.capacity())?,
+        })
+    }
+}

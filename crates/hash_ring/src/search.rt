@@ -1,0 +1,117 @@
+// Searching the points for a hash, and walking on from there.
+ghost use Rattle.std.specs.Prelude.{◌≡◌, ℕ, ◌+◌, ◌-◌, ◌<◌, ◌≤◌, ◌⊎◌, [], ◌++◌, length, take, drop, OnOk, IsOkUnless, slice_get};
+ghost use Rattle.change_core.specs.Ascending.{In, IsAscending};
+ghost use Rattle.hash_ring.specs.Points.{point_cmp};
+ghost use Rattle.hash_ring.specs.Steps.{IsBelow, IsFrom, firsts};
+ghost use Rattle.hash_ring.specs.declared.points.Point.{Point};
+
+use crate::errors::RingError;
+use crate::points::Point;
+use change_core::Address;
+
+// How far from the guess the bounds of a search are set.
+const REACH: usize = 8;
+
+/// The place of the first point at or after a hash.
+pub(crate) fn first_at(points: &[Point], hash: u64) -> usize
+    requires { IsAscending point_cmp points.now }
+    ensures bound { result ≤ length points.now }
+    ensures low { IsBelow hash (take result points.now) }
+    ensures high { IsFrom hash (drop result points.now) }
+{
+    let (low, high) = bounds(points, hash);
+    low + points[low..high].partition_point(|point| point.hash < hash)
+}
+
+// Two places with the first point at or after a hash between them: close ones round a guess, where they hold,
+// and else the ends.
+fn bounds(points: &[Point], hash: u64) -> (usize, usize)
+    requires { IsAscending point_cmp points.now }
+    ensures order { (result.0 ≤ result.1) × (result.1 ≤ length points.now) }
+    ensures low { IsBelow hash (take result.0 points.now) }
+    ensures high { IsFrom hash (drop result.1 points.now) }
+{
+    let place = guess(points, hash);
+    let low = lower_bound(points, hash, place.saturating_sub(REACH));
+    let high = upper_bound(points, hash, place.saturating_add(REACH));
+    (low, high)
+}
+
+// A place up to which all points are below a hash: the one asked about, or 0.
+fn lower_bound(points: &[Point], hash: u64, place: usize) -> usize
+    requires { IsAscending point_cmp points.now }
+    ensures place { result ≤ place }
+    ensures bound { result ≤ length points.now }
+    ensures low { IsBelow hash (take result points.now) }
+{
+    match points.get(place) {
+        Some(point) if point.hash < hash => place,
+        _ => 0,
+    }
+}
+
+// A place from which on all points are at or above a hash: the one asked about, or the end.
+fn upper_bound(points: &[Point], hash: u64, place: usize) -> usize
+    requires { IsAscending point_cmp points.now }
+    ensures order { (result ≡ place) ⊎ (result ≡ length points.now) }
+    ensures bound { result ≤ length points.now }
+    ensures high { IsFrom hash (drop result points.now) }
+{
+    match points.get(place) {
+        Some(point) if point.hash >= hash => place,
+        _ => points.len(),
+    }
+}
+
+// About where a hash stands among points that are spread evenly: its share of the range, mended twice by how
+// far the point there is from it.
+fn guess(points: &[Point], hash: u64) -> usize
+    ensures { result ≤ length points.now }
+{
+    let count = points.len();
+    let mut place = share(hash, count);
+    for _ in 0..2 {
+        let Some(point) = points.get(place) else {
+            return count;
+        };
+        let found = point.hash;
+        place = if found < hash {
+            place.saturating_add(share(hash - found, count)).min(count - 1)
+        } else {
+            place.saturating_sub(share(found - hash, count))
+        };
+    }
+    place
+}
+
+// A number's share of 2^64, out of a count below 2^32.
+fn share(number: u64, count: usize) -> usize {
+    ((number >> 32).wrapping_mul(count as u64) >> 32) as usize
+}
+
+/// The server of the point at a place, going round.
+pub(crate) fn first_server(points: &[Point], start: usize) -> Option<Address>
+    requires { start ≤ length points.now }
+    ensures { result ≡ slice_get (firsts [] (drop start points.now ++ take start points.now)) 0 }
+{
+    let point = points.get(start).or(points.first())?;
+    Some(point.server)
+}
+
+/// Adds the points' servers that are not named yet, up to a count.
+pub(crate) fn name_servers(points: &[Point], count: usize, named: &mut Vec<Address>) -> Result<(), RingError>
+    requires { length named.old.items ≤ count }
+    ensures named { OnOk result (named.new.items ≡ take count (named.old.items ++ firsts named.old.items points.now)) }
+    ensures len { length named.new.items ≤ count }
+    ensures refusal { IsOkUnless result RingError.Memory }
+{
+    for point in points {
+        if named.len() >= count {
+            break;
+        }
+        if !named.contains(&point.server) {
+            named.push(point.server)?;
+        }
+    }
+    Ok(())
+}

@@ -1,0 +1,56 @@
+ghost use Rattle.std.specs.Prelude.{◌≡◌, ℕ, ◌≤◌, ◌↔◌, not, IsTrue, is_some, vec_capacity};
+ghost use Rattle.std.specs.List.{filter};
+ghost use Rattle.change_core.specs.Ascending.{In};
+ghost use Rattle.hash_ring.specs.Servers.{AreServers, addresses_of, is_same, shares, weight_of, without};
+ghost use Rattle.hash_ring.specs.declared.points.Point.{Point};
+
+use crate::points::Point;
+use change_core::{Address, Weight};
+
+/// A server and its weight.
+#[derive(Clone, Copy, Debug, PartialEq, Eq, PartialOrd, Ord)]
+pub struct Server {
+    pub address: Address,
+    pub weight: Weight,
+}
+
+/// The weight of the server of an address.
+pub(crate) fn weight_among(servers: &[Server], address: Address) -> Option<Weight>
+    requires { AreServers servers.now }
+    ensures { result ≡ weight_of address servers.now }
+{
+    match servers.binary_search_by_key(&address, |server| server.address) {
+        Ok(place) => Some(servers[place].weight),
+        Err(_) => None,
+    }
+}
+
+/// Whether the server of an address has at least a weight.
+pub(crate) fn weighs(servers: &[Server], address: Address, weight: Weight) -> bool
+    requires { AreServers servers.now }
+    ensures { IsTrue result ↔ (weight ≤ shares address servers.now) }
+{
+    let number = weight.number();
+    match weight_among(servers, address) {
+        Some(held) => held.number() >= number,
+        None => false,
+    }
+}
+
+/// Takes out a server and its points, and answers whether it was there.
+pub(crate) fn take_out(servers: &mut Vec<Server>, points: &mut Vec<Point>, address: Address) -> bool
+    requires servers { AreServers servers.old.items }
+    requires theirs { (p : Point) → In p points.old.items → In p.server (addresses_of servers.old.items) }
+    ensures servers { servers.new.items ≡ without address servers.old.items }
+    ensures points { points.new.items ≡ filter (λ (p : Point). not (is_same p.server address)) points.old.items }
+    ensures there { result ≡ is_some (weight_of address servers.old.items) }
+    ensures servers_capacity { vec_capacity servers.new ≡ vec_capacity servers.old }
+    ensures points_capacity { vec_capacity points.new ≡ vec_capacity points.old }
+{
+    if weight_among(servers, address).is_none() {
+        return false;
+    }
+    servers.retain(|server| server.address != address);
+    points.retain(|point| point.server != address);
+    true
+}

@@ -1,11 +1,13 @@
 -- Points added and removed, and searched.
-use Rattle.std.proofs.Common.{◌≡◌, ℕ, ◌+◌, ◌*◌, ◌^◌, ◌<◌, ◌≤◌, Bool, true, false, cond, not, ltb, List, [], ◌∷◌, ◌++◌, take, drop, get_or, refl, ap, sym, ◌∙◌, subst, inl, inr, arith, add-one, length-take, length-drop}
+use Rattle.std.proofs.Common.{◌≡◌, ℕ, ◌+◌, ◌*◌, ◌^◌, ◌<◌, ◌≤◌, Bool, true, false, cond, not, ltb, List, [], ◌∷◌, ◌++◌, take, drop, get_or, refl, ap, sym, ◌∙◌, subst, inl, inr, arith, add-one, append_assoc, length-take, length-drop}
 use Rattle.std.specs.List.{filter, flat_map}
 use Rattle.std.specs.List.Sorted.{IsNonDecreasingBy, IsPartitionPoint}
 use Rattle.std.specs.declared.cmp.Ordering.{Ordering}
 use Rattle.std.proofs.lemmas.List.{get_or-take, get_or-drop, append-nil}
 use Rattle.std.proofs.lemmas.Bool.{cases_order, ltb-true, ltb-false}
 use Rattle.change_core.specs.declared.addresses.Address.{Address}
+use Rattle.change_core.specs.Address.{address_text}
+use Rattle.change_core.specs.Numeral.{number_text}
 use Rattle.std.specs.Ordering.{nat_cmp}
 use Rattle.hash_ring.specs.declared.points.Point.{Point}
 use Rattle.change_core.specs.Ascending.{put, ascending, In, IsAscending, IsExact}
@@ -81,3 +83,15 @@ module _ (hash : List ℕ → ℕ) (replicas : ℕ) where
 
 pub filter_small : (p : Point → Bool) (ps : List Point) → AreSmall ps → AreSmall (filter p ps)
 filter_small p ps small = λ q h. small q (in_filter p q ps h).0
+
+-- one more point of a server
+pub points_of_more : (hash : List ℕ → ℕ) (server : Address) (n h : ℕ) (old ps new : List Point) (text : List ℕ) → text ≡ address_text server → h ≡ hash (text ++ number_text n) → ps ≡ old ++ points_of hash n server → new ≡ ps ++ record { hash = h; server = server } ∷ [] → new ≡ old ++ points_of hash (n + 1) server
+points_of_more hash server n h old ps new text t e f g =
+    rw add-one (g ∙ (λ i. f i ++ record { hash = (e ∙ ap (λ z. hash (z ++ number_text n)) t) i; server = server } ∷ []) ∙ append_assoc old (points_of hash n server) (record { hash = point hash server n; server = server } ∷ []))
+
+pub small_more : (ps : List Point) (p : Point) (new : List Point) → new ≡ ps ++ p ∷ [] → p.hash < 2 ^ 64 → AreSmall ps → AreSmall new
+small_more ps p new e h small = λ q k. elim (in_append q ps (p ∷ []) (subst (In q) e k)) [
+  | inl m ↦ small q m
+  | inr (inl s) ↦ subst (λ (r : Point). r.hash < 2 ^ 64) (sym s) h
+  | inr (inr n) ↦ absurd n
+]

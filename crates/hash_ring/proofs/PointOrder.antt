@@ -1,8 +1,9 @@
 -- The orders of addresses and points, and the least of a function's values.
-use Rattle.std.proofs.Common.{◌≡◌, ℕ, zero, suc, ◌^◌, ◌<◌, ◌≤◌, Bool, true, false, cond, refl, ap, ◌⊎◌, inl, inr, arith, ltb, eqb}
+use Rattle.std.proofs.Common.{rules, ◌&&◌, ◌≡◌, ℕ, zero, suc, ◌^◌, ◌<◌, ◌≤◌, Bool, true, false, cond, refl, ap, ◌⊎◌, inl, inr, arith, ltb, eqb}
 use Rattle.std.specs.declared.cmp.Ordering.{Ordering}
 use Rattle.std.specs.declared.cmp.Ordering.TheVariants.{Less, Equal, Greater}
-use Rattle.std.specs.Ordering.{nat_cmp, ordering_then}
+use Rattle.std.specs.Ordering.{nat_cmp, ordering_then, eq_by_cmp}
+use Rattle.std.specs.Cmp.Rules.{comparing}
 use Rattle.std.proofs.lemmas.Cmp.{then_total, on_total, nat_cmp_total}
 use Rattle.std.proofs.lemmas.Map.Lookups.{exact_pairs, exact_unsigned}
 use Rattle.change_core.specs.declared.addresses.Address.{Address}
@@ -88,3 +89,7 @@ least_is_one f (suc (suc n)) small h =
       | inl k ↦ (suc n, omega arith, omega arith)
       | inr k ↦ (one.0, omega (arith, one.1), omega (arith, one.2))
     ]
+
+-- points tie in their order exactly where they are equal
+pub point_ties : (p q : Point) → (eqb p.hash q.hash && eqb p.server q.server) ≡ eq_by_cmp point_cmp p q
+point_ties p q = search (comparing, rules)

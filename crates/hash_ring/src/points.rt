@@ -70,7 +70,7 @@ pub(crate) fn fill_points<H: PointHash>(points: &mut Vec<Point>, hash: H, server
     ensures made { points.new.items ≡ ascending point_cmp (points_of (H.hash_of hash) count server) }
     ensures small { AreSmall points.new.items }
     ensures len { vec_len points.new ≤ count }
-    ensures capacity { vec_capacity points.new ≡ vec_capacity points.old }
+    ensures capacity { vec_capacity points.old ≤ vec_capacity points.new }
 {
     points.clear();
     push_points(points, hash, server, count);
@@ -85,7 +85,7 @@ fn push_points<H: PointHash>(points: &mut Vec<Point>, hash: H, server: Address, 
     ensures pushed { points.new.items ≡ points.old.items ++ points_of (H.hash_of hash) count server }
     ensures small { AreSmall points.old.items → AreSmall points.new.items }
     ensures len { vec_len points.new ≡ vec_len points.old + count }
-    ensures capacity { vec_capacity points.new ≡ vec_capacity points.old }
+    ensures capacity { vec_capacity points.old ≤ vec_capacity points.new }
 {
     let mut text = ShortText::of(server);
     for index in 0..count {

@@ -64,15 +64,13 @@ fn upper_bound(points: &[Point], hash: u64, place: usize) -> usize
 }
 
 // About where a hash stands among points that are spread evenly: its share of the range, mended twice by how
-// far the point there is from it.
-fn guess(points: &[Point], hash: u64) -> usize
-    ensures { result ≤ length points.now }
-{
+// far the point there is from it. No clause speaks of it: a bad guess costs time alone.
+fn guess(points: &[Point], hash: u64) -> usize {
     let count = points.len();
     let mut place = share(hash, count);
     for _ in 0..2 {
         let Some(point) = points.get(place) else {
-            return count;
+            break;
         };
         let found = point.hash;
         place = if found < hash {

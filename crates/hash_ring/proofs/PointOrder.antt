@@ -68,6 +68,9 @@ less_by_server p q e h = rw (Rattle.std.proofs.lemmas.Bool.le-ltb p.hash q.hash 
 pub less_hash_le : (p q : Point) → point_cmp p q ≡ Less → p.hash ≤ q.hash
 less_hash_le p q h = elim (less_split p q h) [ inl k ↦ omega arith | inr k ↦ omega (arith, k.0) ]
 
+pub less_address_le : (s t : Server) → server_cmp s t ≡ Less → s.address ≤ t.address
+less_address_le s t h = less_hash_le (record { hash = s.address; server = s.weight }) (record { hash = t.address; server = t.weight }) h
+
 -- ---- the least of a function's values below n
 
 pub least-le : (f : ℕ → ℕ) (n i : ℕ) → i < n → least f n ≤ f i

@@ -1,8 +1,9 @@
 -- The places of points below a hash, and at or above it.
 use Rattle.std.proofs.Common.{◌≡◌, ℕ, ◌+◌, ◌-◌, ◌<◌, ◌≤◌, List, [], take, drop, length, get_or, ap, sym, ◌∙◌, subst, inl, inr, arith, length-take, length-drop}
-use Rattle.std.proofs.lemmas.List.{get_or-take, get_or-drop, get_or_default}
+use Rattle.std.proofs.lemmas.List.{get_or-take, get_or-drop, take-append-drop}
 use Rattle.std.proofs.lemmas.Bool.{cases_lt}
 use Rattle.change_core.specs.Ascending.{In, IsAscending}
+use Rattle.change_core.proofs.Order.{ascends_front, ascends_back}
 use Rattle.hash_ring.specs.Points.{point_cmp}
 use Rattle.hash_ring.specs.Steps.{IsBelow, IsFrom}
 use Rattle.hash_ring.specs.declared.points.Point.{Point}
@@ -82,3 +83,8 @@ module _ (ps : List Point) (h low high k : ℕ) (order : low ≤ high) (within :
         | inl less ↦ subst (λ (r : Point). h ≤ r.hash) (between_at m.0 q (omega (arith, m.1)) less) (part (get_or between (m.0 - low) q) (at_drop between k (m.0 - low) q (omega (arith, m.1)) (omega (arith, m.1, n))))
         | inr le ↦ back (get_or ps m.0 q) (at_drop ps high m.0 q le m.2)
       ])
+
+  pub between_ascends : IsAscending point_cmp ps → IsAscending point_cmp between
+  between_ascends up =
+      let rest = ascends_back point_exact (take low ps) (drop low ps) (subst (IsAscending point_cmp) (sym (take-append-drop low ps)) up) in
+      ascends_front point_exact between (drop (high - low) (drop low ps)) (subst (IsAscending point_cmp) (sym (take-append-drop (high - low) (drop low ps))) rest)

@@ -1,13 +1,16 @@
 -- The first servers of a list of points, up to a count, and those of a ring.
-use Rattle.std.proofs.Common.{◌≡◌, ℕ, zero, suc, ◌+◌, ◌^◌, ◌<◌, ◌≤◌, true, false, List, [], ◌∷◌, ◌++◌, take, drop, length, get_or, ◌-◌, ap, sym, ◌∙◌, subst, inl, inr, arith, append_assoc, length-take}
+use Rattle.std.proofs.Common.{◌≡◌, ℕ, zero, suc, ◌+◌, ◌^◌, ◌<◌, ◌≤◌, true, false, List, [], ◌∷◌, ◌++◌, take, drop, length, get_or, ◌-◌, ap, sym, ◌∙◌, subst, inl, inr, arith, append_assoc, length-take, length-map, min}
 use Rattle.std.proofs.lemmas.List.{take_all, take-append-le, take-append-drop, append-nil, drop_more, take_rest}
 use Rattle.std.proofs.lemmas.Bool.{cases_lt}
 use Rattle.change_core.specs.declared.addresses.Address.{Address}
 use Rattle.hash_ring.specs.Steps.{firsts, has}
 use Rattle.hash_ring.specs.declared.points.Point.{Point}
 use Rattle.hash_ring.specs.declared.servers.Server.{Server}
-use Rattle.change_core.specs.Ascending.{In}
-use Rattle.hash_ring.specs.Points.{owners}
+use Rattle.std.specs.declared.cmp.Ordering.{Ordering}
+use Rattle.std.specs.Ordering.{is_lt, is_eq}
+use Rattle.change_core.specs.Ascending.{put, ascending, In}
+use Rattle.hash_ring.specs.Servers.{addresses_of, address_of_server}
+use Rattle.hash_ring.specs.Points.{by_distance, owners}
 use Rattle.hash_ring.specs.RingModel.{IsRing}
 use Rattle.hash_ring.proofs.Firsts.{firsts_seen, firsts_new, test_cases}
 use Rattle.hash_ring.proofs.Walk.{walk_owners}
@@ -76,3 +79,23 @@ named_around n i ps ps2 ps3 none some all e f g h k =
     named_in_parts n (drop i ps) (take i ps) some all
     (h ∙ (ap (λ z. take n (z ++ firsts z (take (length ps2 - i) (drop i ps2)))) e ∙ ap (λ qs. take n (firsts [] qs)) (take_rest ps2 i ∙ ap (drop i) f)))
     (k ∙ ap (λ qs. take n (some ++ firsts some (take i qs))) g)
+
+length-put : {K : Type 0} (R : K → K → Ordering) (x : K) (ys : List K) → length (put R x ys) ≤ length ys + 1
+length-put R x [] = omega arith
+length-put R x (y ∷ ys) =
+    let rest = length-put R x ys in
+    test_cases _ (is_lt (R x y)) (λ l. rw l (omega arith)) (λ l. test_cases _ (is_eq (R x y)) (λ e. rw (l, e) (omega arith)) (λ e. rw (l, e) (omega (arith, rest))))
+
+length-ascending : {K : Type 0} (R : K → K → Ordering) (xs : List K) → length (ascending R xs) ≤ length xs
+length-ascending R [] = omega arith
+length-ascending R (x ∷ xs) = omega (arith, length-ascending R xs, length-put R x (ascending R xs))
+
+-- there are no more owners than servers
+pub owners_enough : (hash : List ℕ → ℕ) (replicas : ℕ) (servers : List Server) (key : List ℕ) (count n : ℕ) → n ≡ min count (length servers) → take n (owners hash replicas servers key) ≡ take count (owners hash replicas servers key)
+owners_enough hash replicas servers key count n e =
+    let all = owners hash replicas servers key in
+    let few : length all ≤ length servers = omega (arith, length-ascending (by_distance hash replicas servers key) (addresses_of servers), length-map address_of_server servers) in
+    elim (cases_lt count (length servers)) [
+      | inl less ↦ let same : n ≡ count = omega arith in ap (λ k. take k all) same
+      | inr le ↦ take_all n all (omega arith) ∙ sym (take_all count all (omega (arith, few, le)))
+    ]

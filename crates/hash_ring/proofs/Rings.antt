@@ -7,7 +7,7 @@ use Rattle.change_core.specs.Ascending.{put, ascending, In, IsAscending}
 use Rattle.change_core.proofs.Order.{ascending_ascends, in_ascending, in_append, in_put}
 use Rattle.hash_ring.specs.declared.points.Point.{Point}
 use Rattle.hash_ring.specs.declared.servers.Server.{Server}
-use Rattle.hash_ring.specs.Points.{point_cmp, points_by, points, AreSmall}
+use Rattle.hash_ring.specs.Points.{point_cmp, points_of, points_by, points, AreSmall}
 use Rattle.hash_ring.specs.Servers.{is_same, addresses_of, address_of_server, server_cmp, without, AreServers}
 use Rattle.hash_ring.specs.RingModel.{ring_of, ring_model, IsRing}
 use Rattle.hash_ring.proofs.Lists.{map_in}
@@ -19,6 +19,10 @@ use Rattle.hash_ring.proofs.Edits.{points_merge, points-without, filter_small}
 pub ring_is : {H : Type 0} (hash : H) (hash_of : List ℕ → ℕ) (replicas : ℕ) (servers : Vec Server) (ps fresh : Vec Point) (all : List Server) → servers.items ≡ all → ps.items ≡ points hash_of replicas all → ring_model hash replicas servers ps fresh ≡ ring_of hash hash_of replicas all (ring_model hash replicas servers ps fresh).room
 ring_is hash hash_of replicas servers ps fresh all e f =
     λ i. record { hash = hash; replicas = replicas; servers = e i; points = f i; room = (ring_model hash replicas servers ps fresh).room }
+
+-- the points of a server that is added
+pub fresh_is : (hash : List ℕ → ℕ) (n replicas : ℕ) (s : Server) (slice made : List Point) → slice ≡ made → made ≡ ascending point_cmp (points_of hash n s.address) → n ≡ replicas * s.weight → slice ≡ ascending point_cmp (points_by hash replicas s)
+fresh_is hash n replicas s slice made e f h = e ∙ f ∙ ap (λ k. ascending point_cmp (points_of hash k s.address)) h
 
 module _ (hash : List ℕ → ℕ) (replicas : ℕ) (servers : List Server) (ps : List Point) {spare : ℕ} (ring : IsRing hash replicas servers ps spare) where
   pub ring_ascends : IsAscending point_cmp ps

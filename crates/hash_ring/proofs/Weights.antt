@@ -2,9 +2,12 @@
 use Rattle.std.proofs.Common.{◌≡◌, ℕ, zero, suc, ◌*◌, ◌<◌, Bool, true, false, not, List, [], ◌∷◌, Some, None, refl, ap, sym, ◌∙◌, subst, ◌⊎◌, inl, inr, arith}
 use Rattle.change_core.specs.declared.addresses.Address.{Address}
 use Rattle.change_core.specs.Ascending.{put, In, IsAscending}
-use Rattle.change_core.proofs.Order.{in_put, put_new, put_old, put_ascends, same_ascending, in_filter, filter_in, filter_ascends}
+use Rattle.change_core.proofs.Order.{in_put, put_new, put_old, put_ascends, same_ascending, in_filter, filter_in, filter_all, filter_ascends}
+use Rattle.std.specs.List.{filter}
+use Rattle.hash_ring.specs.declared.points.Point.{Point}
+use Rattle.hash_ring.proofs.Lists.{in_map}
 use Rattle.hash_ring.specs.declared.servers.Server.{Server}
-use Rattle.hash_ring.specs.Servers.{is_same, address_of_server, addresses_of, server_cmp, without, with_server, weight_of, shares, EachOnce, AreServers, has_weight}
+use Rattle.hash_ring.specs.Servers.{is_same, address_of_server, addresses_of, server_cmp, without, with_server, weight_of, shares, EachOnce, AreServers}
 use Rattle.hash_ring.proofs.PointOrder.{server_exact}
 use Rattle.hash_ring.proofs.Firsts.{same_is, is_same_itself, test_cases}
 
@@ -13,7 +16,7 @@ positive_product zero n h k = absurd (omega arith)
 positive_product (suc m) zero h k = absurd (omega arith)
 positive_product (suc m) (suc n) h k = omega arith
 
-not_same : (a b : Address) → is_same a b ≡ false → a ≡ b → ⊥
+pub not_same : (a b : Address) → is_same a b ≡ false → a ≡ b → ⊥
 not_same a b f e = apart (is_same b b) (ap (λ x. is_same x b) (sym e) ∙ f) (is_same_itself b)
   where
     apart : (c : Bool) → c ≡ false → c ≡ true → ⊥
@@ -64,12 +67,18 @@ in_weight_of (t ∷ ts) a w h =
     some_same v w e = cc
 
 -- no server has an address that has no weight
-pub absent_if_none : (servers : List Server) → EachOnce servers → (a : Address) → weight_of a servers ≡ None → (t : Server) → In t servers → t.address ≡ a → ⊥
-absent_if_none servers once a e t h q =
-    none_some t.weight (sym e ∙ (ap (λ b. weight_of b servers) (sym q) ∙ weight_of_in servers once t h))
+pub absent_if_none : (servers : List Server) (a : Address) → weight_of a servers ≡ None → (t : Server) → In t servers → t.address ≡ a → ⊥
+absent_if_none [] a e t h q = h
+absent_if_none (x ∷ xs) a e t h q =
+    test_cases _ (is_same x.address a)
+    (λ s. some_none x.weight (rw s at e))
+    (λ s. elim h [
+      | inl k ↦ not_same x.address a s (ap address_of_server (sym k) ∙ q)
+      | inr m ↦ absent_if_none xs a (rw s at e) t m q
+    ])
   where
-    none_some : (w : ℕ) → None ≡ Some w → ⊥
-    none_some w e = cc
+    some_none : (w : ℕ) → Some w ≡ None → ⊥
+    some_none w e = cc e
 
 -- the servers of other addresses
 pub in_without : (a : Address) (t : Server) (servers : List Server) → In t (without a servers) → In t servers × (t.address ≡ a → ⊥)
@@ -80,6 +89,18 @@ in_without a t servers h =
     not_both : (b : Bool) → not b ≡ true → b ≡ true → ⊥
     not_both true h k = cc h
     not_both false h k = cc k
+
+-- to take out an address that no server has changes nothing
+pub differs : (a b : Address) → (a ≡ b → ⊥) → is_same a b ≡ false
+differs a b n = test_cases _ (is_same a b) (λ e. absurd (n (same_is a b e))) (λ e. e)
+
+pub without_none : (a : Address) (servers : List Server) → weight_of a servers ≡ None → without a servers ≡ servers
+without_none a servers e = filter_all (λ (s : Server). not (is_same s.address a)) servers (λ s h. ap not (differs s.address a (absent_if_none servers a e s h)))
+
+pub points_none : (a : Address) (servers : List Server) (ps : List Point) → weight_of a servers ≡ None → ((p : Point) → In p ps → In p.server (addresses_of servers)) → filter (λ (p : Point). not (is_same p.server a)) ps ≡ ps
+points_none a servers ps e theirs =
+    filter_all (λ (p : Point). not (is_same p.server a)) ps
+    (λ p h. let m = in_map address_of_server p.server servers (theirs p h) in ap not (differs p.server a (λ q. absent_if_none servers a e m.0 m.1 (sym m.2 ∙ q))))
 
 pub once_without : (a : Address) (servers : List Server) → EachOnce servers → EachOnce (without a servers)
 once_without a servers once = λ s t h k. once s t (in_without a s servers h).0 (in_without a t servers k).0
@@ -134,3 +155,10 @@ with_server_there s servers up once h =
     (λ z k. test_cases _ (is_same z.address s.address)
     (λ e. subst (λ (x : Server). In x (with_server s servers)) (once s z h k (sym (same_is z.address s.address e))) (put_new server_exact s (without s.address servers)))
     (λ e. put_old server_exact s z (without s.address servers) (filter_in other z servers k (ap not e))))
+
+-- a server whose weight is found is there
+pub in_if_weight : (servers : List Server) (s : Server) → weight_of s.address servers ≡ Some s.weight → In s servers
+in_if_weight servers s e =
+    let m = in_weight_of servers s.address s.weight e in
+    let same : m.0 ≡ s = λ i. record { address = m.2 i; weight = m.3 i } in
+    subst (λ (t : Server). In t servers) same m.1

@@ -1,0 +1,15 @@
+use Rattle.hash_ring.specs.Servers.{without}
+use Rattle.hash_ring.proofs.Rings.{ring_removed, ring_theirs, points_removed, ring_is}
+use Rattle.hash_ring.proofs.ring.Ring.remove.Goals as goal
+
+pub take_out-requires-clause-theirs : goal.take_out-requires-clause-theirs
+take_out-requires-clause-theirs g c = ring_theirs _ _ _ _ c.self.invariant
+
+pub invariant_of-self : goal.invariant_of-self
+invariant_of-self g c = ring_removed _ _ _ _ c.self.invariant c.args.address _ _ c.take_out.ensures.servers c.take_out.ensures.points
+
+pub returns-clause-ring : goal.returns-clause-ring
+returns-clause-ring g c =
+    rw (← c.self.view_is)
+    (ring_is c.self.inside.hash (g.H.PointHash.hash_of c.self.inside.hash) c.self.inside.replicas c.take_out.new.servers c.take_out.new.points c.self.inside.fresh (without c.args.address c.self.inside.servers.items) c.take_out.ensures.servers
+    (points_removed _ _ _ _ c.self.invariant c.args.address _ c.take_out.ensures.points))

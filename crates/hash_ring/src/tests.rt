@@ -1,0 +1,275 @@
+ghost use Rattle.std.specs.Prelude.{◌≡◌, ◌≤◌, ℕ, List, ◌%◌, ◌^◌, sum, IsOk};
+ghost use Rattle.hash_ring.specs.RingModel.{HasRoom};
+
+use crate::*;
+use change_core::{Address, Weight};
+use std::alloc::Global;
+use std::process::Abort;
+use std::sync::atomic::{AtomicU64, Ordering};
+use std::test::Fail;
+
+const A: &str = "10.0.0.1:1";
+
+const B: &str = "10.0.0.2:1";
+
+const C: &str = "10.0.0.3:1";
+
+fn address(text: &str) -> Result<Address, Fail> {
+    Ok(Address::parse(text)?)
+}
+
+fn weight(number: u8) -> Result<Weight, Fail> {
+    Ok(Weight::new(number).ok_or("a weight")?)
+}
+
+// Makes room for a server, at the second try where the first was refused. A refusal leaves the ring as it was.
+fn reserve<H: PointHash>(
+    rt: &impl Abort,
+    ring: &mut Ring<H>,
+    server: Address,
+    weight: Weight,
+) -> Result<(), Fail>
+    ensures { IsOk result → HasRoom ring.new (record { address = server; weight = weight }) }
+{
+    let before = (ring.len(), ring.weight(server), ring.owner(b"key"));
+    if ring.reserve_for(server, weight) == Err(RingError::Memory) {
+        assert!(rt; (ring.len(), ring.weight(server), ring.owner(b"key")) == before);
+    }
+    ring.reserve_for(server, weight)?;
+    Ok(())
+}
+
+fn add<H: PointHash>(
+    rt: &impl Abort,
+    ring: &mut Ring<H>,
+    text: &str,
+    number: u8,
+) -> Result<bool, Fail> {
+    let server = address(text)?;
+    let weight = weight(number)?;
+    reserve(rt, ring, server, weight)?;
+    Ok(ring.add(server, weight))
+}
+
+fn filled<H: PointHash>(
+    rt: &impl Abort,
+    alloc: Global,
+    hash: H,
+    replicas: u32,
+    texts: &[&str],
+) -> Result<Ring<H>, Fail> {
+    let mut ring = Ring::new(alloc, hash, replicas)?;
+    for text in texts {
+        let added = add(rt, &mut ring, text, 1)?;
+        assert!(rt; added);
+    }
+    Ok(ring)
+}
+
+fn owners<H: PointHash>(
+    rt: &impl Abort,
+    ring: &Ring<H>,
+    key: &[u8],
+    count: usize,
+) -> Result<Vec<Address>, Fail> {
+    match ring.owners(key, count) {
+        Ok(named) => Ok(named),
+        Err(refused) => {
+            assert!(rt; refused == RingError::Memory);
+            Ok(ring.owners(key, count)?)
+        }
+    }
+}
+
+// A key, how many owners are asked for, and their texts.
+type Row<'a> = (&'a str, usize, &'a [&'a str]);
+
+fn check_rows<H: PointHash>(rt: &impl Abort, ring: &Ring<H>, rows: &[Row]) -> Result<(), Fail> {
+    for (key, count, texts) in rows {
+        let named = owners(rt, ring, key.as_bytes(), *count)?;
+        assert_eq!(rt; named.len(), texts.len());
+        for (server, text) in named.iter().zip(texts.iter()) {
+            assert!(rt; *server == address(text)?);
+        }
+        if !named.is_empty() {
+            assert!(rt; ring.owner(key.as_bytes()) == named.first().copied());
+        }
+    }
+    Ok(())
+}
+
+#[test]
+fn owners_by_sum_and_weight(rt: HostRuntime) -> Result<(), Fail> {
+    let even: [Row; 6] = [
+        ("zzzz1", 3, &[B, C, A]),
+        ("zzzz2", 3, &[C, A, B]),
+        ("zzzz3", 3, &[A, B, C]),
+        ("", 0, &[]),
+        ("", 1, &[A]),
+        ("", 9, &[A, B, C]),
+    ];
+    let weighted: [Row; 3] = [
+        ("zzzz1", 3, &[B, C, A]),
+        ("zzzz2", 3, &[B, C, A]),
+        ("zzzz3", 3, &[B, A, C]),
+    ];
+    let mut ring = filled(&rt, rt.alloc(), SumHash, 2, &[C, A, B])?;
+    check_rows(&rt, &ring, &even)?;
+    let heavier = add(&rt, &mut ring, B, 3)?;
+    assert!(rt; heavier);
+    let again = add(&rt, &mut ring, B, 3)?;
+    assert!(rt; !again);
+    assert!(rt; ring.weight(address(B)?) == Weight::new(3) && ring.len() == 3);
+    check_rows(&rt, &ring, &weighted)?;
+    let lighter = add(&rt, &mut ring, B, 1)?;
+    assert!(rt; lighter);
+    check_rows(&rt, &ring, &even)
+}
+
+#[test]
+fn a_lighter_server_needs_no_room(rt: HostRuntime) -> Result<(), Fail> {
+    let server = address(B)?;
+    let heavy = weight(3)?;
+    let light = weight(1)?;
+    let mut ring = filled(&rt, rt.alloc(), SumHash, 2, &[A, C])?;
+    reserve(&rt, &mut ring, server, heavy)?;
+    ring.add(server, heavy);
+    let changed = ring.add(server, light);
+    assert!(rt; changed);
+    check_rows(&rt, &ring, &[("zzzz2", 3, &[C, A, B]), ("zzzz3", 3, &[A, B, C])])
+}
+
+#[test]
+fn a_copy_stays_as_it_was(rt: HostRuntime) -> Result<(), Fail> {
+    let server = address(B)?;
+    let mut ring = filled(&rt, rt.alloc(), SumHash, 2, &[A, B, C])?;
+    let copy = match ring.copy() {
+        Ok(copy) => copy,
+        Err(_) => ring.copy()?,
+    };
+    assert!(rt; ring.contains(server) && ring.remove(server));
+    assert!(rt; !ring.contains(server) && !ring.remove(server));
+    check_rows(&rt, &ring, &[("zzzz0", 1, &[A]), ("zzzz1", 1, &[C])])?;
+    check_rows(&rt, &copy, &[("zzzz0", 1, &[A]), ("zzzz1", 1, &[B])])?;
+    ring.remove(address(A)?);
+    ring.remove(address(C)?);
+    assert!(rt; ring.owner(b"zzzz1").is_none());
+    check_rows(&rt, &ring, &[("zzzz1", 3, &[])])
+}
+
+#[test]
+fn a_tie_goes_to_the_lesser_address(rt: HostRuntime) -> Result<(), Fail> {
+    let ring = filled(&rt, rt.alloc(), Sha256Hash, 100, &["10.0.0.1:11", A])?;
+    check_rows(&rt, &ring, &[("10.0.0.1:110", 2, &[A, "10.0.0.1:11"])])
+}
+
+#[test]
+fn sha256_begins_with_eight_bytes(rt: HostRuntime) -> Result<(), Fail> {
+    assert!(rt; Sha256Hash.hash(b"abc") == 0xba78_16bf_8f01_cfea);
+    assert!(rt; Sha256Hash.hash(b"") == 0xe3b0_c442_98fc_1c14);
+    assert!(rt; distance(SumHash, 2, address(B)?, weight(1)?, b"zzzz0") == 0);
+    assert!(rt; distance(SumHash, 2, address(B)?, weight(1)?, b"zzzz2") == u64::MAX - 1);
+    Ok(())
+}
+
+#[test]
+fn replicas_are_bounded(rt: HostRuntime) {
+    for (replicas, good) in [(0, false), (1, true), (1000, true), (1001, false)] {
+        let refused = Ring::new(rt.alloc(), SumHash, replicas).err();
+        assert!(rt; refused == if good { None } else { Some(RingError::BadReplicas) });
+    }
+}
+
+// A sum of bytes that counts how often it is asked for.
+#[derive(Clone, Copy)]
+struct CountingHash<'a> {
+    calls: &'a AtomicU64,
+}
+
+impl<'a> PointHash for CountingHash<'a> {
+    ghost hash_of = { λ _ bytes. sum bytes % 2 ^ 64 };
+
+    fn hash(&self, bytes: &[u8]) -> u64 {
+        self.calls.fetch_add(1, Ordering::SeqCst);
+        SumHash.hash(bytes)
+    }
+}
+
+#[test]
+fn an_edit_hashes_its_own_points_alone(rt: HostRuntime) -> Result<(), Fail> {
+    let calls = AtomicU64::new(0);
+    let server = address(A)?;
+    let heavy = weight(8)?;
+    let mut ring = Ring::new(rt.alloc(), CountingHash { calls: &calls }, 7)?;
+    reserve(&rt, &mut ring, server, heavy)?;
+    let before = calls.load(Ordering::SeqCst);
+    ring.add(server, heavy);
+    let added = calls.load(Ordering::SeqCst);
+    assert_eq!(rt; added - before, 56);
+    ring.add(server, heavy);
+    assert_eq!(rt; calls.load(Ordering::SeqCst), added);
+    ring.add(server, weight(2)?);
+    let replaced = calls.load(Ordering::SeqCst);
+    assert_eq!(rt; replaced - added, 14);
+    ring.owner(b"key");
+    assert_eq!(rt; calls.load(Ordering::SeqCst), replaced + 1);
+    let copied = ring.copy().is_ok();
+    ring.remove(server);
+    assert!(rt; copied || ring.len() == 0);
+    assert_eq!(rt; calls.load(Ordering::SeqCst), replaced + 1);
+    Ok(())
+}
+
+// The next number of a linear congruential generator, below a bound.
+fn draw(state: &mut u64, bound: u64) -> u64
+    requires { 1 ≤ bound }
+{
+    *state = state.wrapping_mul(6364136223846793005).wrapping_add(1442695040888963407);
+    (*state >> 33) % bound
+}
+
+// Whether the owners of a key are all servers, by their distance and then by address.
+fn are_nearest<H: PointHash>(ring: &Ring<H>, hash: H, key: &[u8], named: &[Address]) -> bool {
+    let mut last = None;
+    for server in named {
+        let Some(weight) = ring.weight(*server) else {
+            return false;
+        };
+        let here = Some((distance(hash, 3, *server, weight, key), *server));
+        if last >= here {
+            return false;
+        }
+        last = here;
+    }
+    named.len() == ring.len()
+}
+
+// Twenty edits of a ring over servers whose texts run into one another, and ten keys after each.
+fn check_edits<H: PointHash>(rt: &impl Abort, alloc: Global, hash: H, seed: u64) -> Result<(), Fail> {
+    let mut state = seed;
+    let mut ring = Ring::new(alloc, hash, 3)?;
+    for _ in 0..20 {
+        let port = [1, 11, 2, 12, 110, 21][(draw(&mut state, 6)) as usize];
+        let server = Address::new(0x0a00_0001, port).ok_or("a port")?;
+        if draw(&mut state, 4) == 0 {
+            ring.remove(server);
+        } else {
+            let weight = weight(1 + draw(&mut state, 8) as u8)?;
+            reserve(rt, &mut ring, server, weight)?;
+            ring.add(server, weight);
+        }
+        for _ in 0..10 {
+            let key = [b'0' + draw(&mut state, 10) as u8, draw(&mut state, 256) as u8];
+            let named = owners(rt, &ring, &key, 9)?;
+            assert!(rt; are_nearest(&ring, hash, &key, &named));
+            assert!(rt; ring.owner(&key) == named.first().copied());
+        }
+    }
+    Ok(())
+}
+
+#[test]
+fn owners_are_the_servers_by_distance(rt: HostRuntime) -> Result<(), Fail> {
+    check_edits(&rt, rt.alloc(), SumHash, 1)?;
+    check_edits(&rt, rt.alloc(), Sha256Hash, 2)
+}

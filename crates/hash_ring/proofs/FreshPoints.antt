@@ -13,10 +13,10 @@ use Rattle.change_core.specs.Ascending.{ascending, In, IsAscending, IsExact}
 use Rattle.change_core.proofs.Order.{ascending_is}
 use Rattle.hash_ring.proofs.Placed.{in_at, at_in}
 
-in_of_contains : {X : Type 0} (x : X) (xs : List X) → Contains xs x → In x xs
+pub in_of_contains : {X : Type 0} (x : X) (xs : List X) → Contains xs x → In x xs
 in_of_contains x xs h = subst (λ y. In y xs) h.2 (in_at xs h.0 x h.1)
 
-contains_of_in : {X : Type 0} (x : X) (xs : List X) → In x xs → Contains xs x
+pub contains_of_in : {X : Type 0} (x : X) (xs : List X) → In x xs → Contains xs x
 contains_of_in x xs h = let m = at_in x xs h in (m.0, m.1, m.2 x)
 
 ascends_by_place : {X : Type 0} (R : X → X → Ordering) (xs : List X) → ((i j : ℕ) (d : X) → i < j → j < length xs → R (get_or xs i d) (get_or xs j d) ≡ Less) → IsAscending R xs

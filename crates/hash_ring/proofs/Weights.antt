@@ -1,5 +1,6 @@
 -- Servers and their weights.
-use Rattle.std.proofs.Common.{◌≡◌, ℕ, zero, suc, ◌*◌, ◌<◌, Bool, true, false, not, List, [], ◌∷◌, Some, None, refl, ap, sym, ◌∙◌, subst, ◌⊎◌, inl, inr, arith}
+use Rattle.std.proofs.Common.{◌≡◌, ℕ, zero, suc, ◌*◌, ◌<◌, Bool, true, false, not, List, [], ◌∷◌, Option, Some, None, ◌==◌, refl, ap, sym, ◌∙◌, subst, ◌⊎◌, inl, inr, arith}
+use Rattle.std.proofs.lemmas.Bool.{eqb-true}
 use Rattle.change_core.specs.declared.addresses.Address.{Address}
 use Rattle.change_core.specs.Ascending.{put, In, IsAscending}
 use Rattle.change_core.proofs.Order.{in_put, put_new, put_old, put_ascends, same_ascending, in_filter, filter_in, filter_all, filter_ascends}
@@ -7,7 +8,7 @@ use Rattle.std.specs.List.{filter}
 use Rattle.hash_ring.specs.declared.points.Point.{Point}
 use Rattle.hash_ring.proofs.Lists.{in_map}
 use Rattle.hash_ring.specs.declared.servers.Server.{Server}
-use Rattle.hash_ring.specs.Servers.{is_same, address_of_server, addresses_of, server_cmp, without, with_server, weight_of, shares, EachOnce, AreServers}
+use Rattle.hash_ring.specs.Servers.{is_same, address_of_server, addresses_of, server_cmp, without, with_server, weight_of, shares, EachOnce, AreServers, has_weight}
 use Rattle.hash_ring.proofs.PointOrder.{server_exact}
 use Rattle.hash_ring.proofs.Firsts.{same_is, is_same_itself, test_cases}
 
@@ -162,3 +163,11 @@ in_if_weight servers s e =
     let m = in_weight_of servers s.address s.weight e in
     let same : m.0 ≡ s = λ i. record { address = m.2 i; weight = m.3 i } in
     subst (λ (t : Server). In t servers) same m.1
+
+pub weight_if_had : (w : ℕ) (o : Option ℕ) → false ≡ not (has_weight w o) → o ≡ Some w
+weight_if_had w None h = cc h
+weight_if_had w (Some v) h = ap Some (eqb-true v w (had (v == w) h))
+  where
+    had : (b : Bool) → false ≡ not b → b ≡ true
+    had true h = refl
+    had false h = cc h

@@ -1,13 +1,13 @@
-use Rattle.std.proofs.Common.{◌≡◌, ◌<◌, ◌≤◌, length, vec_len, vec_capacity, ap, sym, ◌∙◌, subst, arith, Some}
+use Rattle.std.proofs.Common.{◌≡◌, ◌<◌, ◌≤◌, length, vec_len, vec_capacity, ap, sym, ◌∙◌, subst, arith, Some, false, not, rules}
 use Rattle.change_core.specs.Ascending.{put, ascending, In, IsAscending}
 use Rattle.change_core.proofs.Order.{ascending_ascends}
 use Rattle.hash_ring.specs.declared.points.Point.{Point}
 use Rattle.hash_ring.specs.declared.servers.Server.{Server}
 use Rattle.hash_ring.specs.Points.{point_cmp, points, points_by, AreSmall}
-use Rattle.hash_ring.specs.Servers.{server_cmp, weight_of, with_server}
+use Rattle.hash_ring.specs.Servers.{has_weight, server_cmp, weight_of, with_server}
 use Rattle.hash_ring.specs.RingModel.{HasRoom}
 use Rattle.hash_ring.proofs.PointOrder.{server_exact, point_exact}
-use Rattle.hash_ring.proofs.Weights.{in_if_weight, positive_factor, with_server_there}
+use Rattle.hash_ring.proofs.Weights.{in_if_weight, weight_if_had, positive_factor, with_server_there}
 use Rattle.hash_ring.proofs.Rooms.{rooms}
 use Rattle.hash_ring.proofs.Rings.{ring_ascends, ring_theirs, ring_removed, ring_added, points_added, fresh_is, fresh_apart, absent_after, ring_is, ring_spare}
 use Rattle.hash_ring.proofs.ring.Ring.add.Goals as goal
@@ -16,7 +16,8 @@ pub returns-then-eq-clause-ring : goal.returns-then-eq-clause-ring
 returns-then-eq-clause-ring g c =
     let hash_of = g.H.PointHash.hash_of c.self.inside.hash in
     let server : Server = record { address = c.args.address; weight = c.args.weight } in
-    let held : weight_of c.args.address c.self.inside.servers.items ≡ Some c.args.weight = ? in
+    let answer : false ≡ not (has_weight c.args.weight (weight_of c.args.address c.args.self.now.servers)) = search rules in
+    let held = subst (λ (r : _). weight_of c.args.address r.servers ≡ Some c.args.weight) (sym c.self.view_is) (weight_if_had c.args.weight (weight_of c.args.address c.args.self.now.servers) answer) in
     let there : In server c.self.inside.servers.items = in_if_weight c.self.inside.servers.items server held in
     let are = c.self.invariant.servers_fit in
     let same = sym (with_server_there server c.self.inside.servers.items are.ascends are.once there) in

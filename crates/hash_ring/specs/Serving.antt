@@ -1,0 +1,14 @@
+-- The servers that members of a node are.
+use Rattle.std.specs.Prelude.{List, map}
+use Rattle.std.specs.List.{filter}
+use Rattle.change_core.specs.declared.changes.Change.{Change}
+use Rattle.change_core.specs.Members.{members}
+use Rattle.change_core.specs.Status.{is_serving}
+use Rattle.hash_ring.specs.declared.servers.Server.{Server}
+
+abbrev pub server_of : Change → Server
+server_of c = record { address = c.address; weight = c.weight }
+
+-- the members of a list of changes that serve, with their weights
+abbrev pub servers_of : List Change → List Server
+servers_of cs = map server_of (filter (λ c. is_serving c.status) (members cs))

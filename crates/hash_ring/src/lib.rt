@@ -17,6 +17,5 @@ pub use points::{MOST_REPLICAS, Point, distance};
 pub use ring::Ring;
 pub use servers::Server;
 
-
 #[cfg(test)]
 mod tests;

@@ -64,7 +64,12 @@ pub fn distance<H: PointHash>(
 }
 
 /// Makes the list that of a server's first points, ascending. With room this takes no memory.
-pub(crate) fn fill_points<H: PointHash>(points: &mut Vec<Point>, hash: H, server: Address, count: u32)
+pub(crate) fn fill_points<H: PointHash>(
+    points: &mut Vec<Point>,
+    hash: H,
+    server: Address,
+    count: u32,
+)
     requires few { count ≤ 8000 }
     requires room { count ≤ vec_capacity points.old }
     ensures made { points.new.items ≡ ascending point_cmp (points_of (H.hash_of hash) count server) }

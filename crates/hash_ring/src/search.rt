@@ -74,7 +74,9 @@ fn guess(points: &[Point], hash: u64) -> usize {
         };
         let found = point.hash;
         place = if found < hash {
-            place.saturating_add(share(hash - found, count)).min(count - 1)
+            place
+                .saturating_add(share(hash - found, count))
+                .min(count - 1)
         } else {
             place.saturating_sub(share(found - hash, count))
         };
@@ -97,7 +99,11 @@ pub(crate) fn first_server(points: &[Point], start: usize) -> Option<Address>
 }
 
 /// Adds the points' servers that are not named yet, up to a count.
-pub(crate) fn name_servers(points: &[Point], count: usize, named: &mut Vec<Address>) -> Result<(), RingError>
+pub(crate) fn name_servers(
+    points: &[Point],
+    count: usize,
+    named: &mut Vec<Address>,
+) -> Result<(), RingError>
     requires { length named.old.items ≤ count }
     ensures named { OnOk result (named.new.items ≡ take count (named.old.items ++ firsts named.old.items points.now)) }
     ensures len { length named.new.items ≤ count }

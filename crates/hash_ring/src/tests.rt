@@ -136,7 +136,11 @@ fn a_lighter_server_needs_no_room(rt: HostRuntime) -> Result<(), Fail> {
     ring.add(server, heavy);
     let changed = ring.add(server, light);
     assert!(rt; changed);
-    check_rows(&rt, &ring, &[("zzzz2", 3, &[C, A, B]), ("zzzz3", 3, &[A, B, C])])
+    check_rows(
+        &rt,
+        &ring,
+        &[("zzzz2", 3, &[C, A, B]), ("zzzz3", 3, &[A, B, C])],
+    )
 }
 
 #[test]
@@ -176,7 +180,14 @@ fn sha256_begins_with_eight_bytes(rt: HostRuntime) -> Result<(), Fail> {
 fn replicas_are_bounded(rt: HostRuntime) {
     for (replicas, good) in [(0, false), (1, true), (1000, true), (1001, false)] {
         let refused = Ring::new(rt.alloc(), SumHash, replicas).err();
-        assert!(rt; refused == if good { None } else { Some(RingError::BadReplicas) });
+        assert!(rt;
+            refused
+                == if good {
+                    None
+                } else {
+                    Some(RingError::BadReplicas)
+                }
+        );
     }
 }
 
@@ -224,7 +235,9 @@ fn an_edit_hashes_its_own_points_alone(rt: HostRuntime) -> Result<(), Fail> {
 fn draw(state: &mut u64, bound: u64) -> u64
     requires { 1 ≤ bound }
 {
-    *state = state.wrapping_mul(6364136223846793005).wrapping_add(1442695040888963407);
+    *state = state
+        .wrapping_mul(6364136223846793005)
+        .wrapping_add(1442695040888963407);
     (*state >> 33) % bound
 }
 
@@ -245,7 +258,12 @@ fn are_nearest<H: PointHash>(ring: &Ring<H>, hash: H, key: &[u8], named: &[Addre
 }
 
 // Twenty edits of a ring over servers whose texts run into one another, and ten keys after each.
-fn check_edits<H: PointHash>(rt: &impl Abort, alloc: Global, hash: H, seed: u64) -> Result<(), Fail> {
+fn check_edits<H: PointHash>(
+    rt: &impl Abort,
+    alloc: Global,
+    hash: H,
+    seed: u64,
+) -> Result<(), Fail> {
     let mut state = seed;
     let mut ring = Ring::new(alloc, hash, 3)?;
     for _ in 0..20 {
@@ -259,7 +277,10 @@ fn check_edits<H: PointHash>(rt: &impl Abort, alloc: Global, hash: H, seed: u64)
             ring.add(server, weight);
         }
         for _ in 0..10 {
-            let key = [b'0' + draw(&mut state, 10) as u8, draw(&mut state, 256) as u8];
+            let key = [
+                b'0' + draw(&mut state, 10) as u8,
+                draw(&mut state, 256) as u8,
+            ];
             let named = owners(rt, &ring, &key, 9)?;
             assert!(rt; are_nearest(&ring, hash, &key, &named));
             assert!(rt; ring.owner(&key) == named.first().copied());

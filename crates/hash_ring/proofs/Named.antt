@@ -1,6 +1,6 @@
 -- The first servers of a list of points, up to a count, and those of a ring.
-use Rattle.std.proofs.Common.{◌≡◌, ℕ, zero, suc, ◌+◌, ◌^◌, ◌<◌, ◌≤◌, true, false, List, [], ◌∷◌, ◌++◌, take, drop, length, get_or, ◌-◌, ap, sym, ◌∙◌, subst, inl, inr, arith, append_assoc, length-take, length-map, min}
-use Rattle.std.proofs.lemmas.List.{take_all, take-append-le, take-append-drop, append-nil, drop_more, take_rest}
+use Rattle.std.proofs.Common.{◌≡◌, ℕ, zero, suc, ◌+◌, ◌^◌, ◌<◌, ◌≤◌, true, false, List, [], ◌∷◌, ◌++◌, take, drop, length, get_or, ◌-◌, ap, sym, ◌∙◌, subst, inl, inr, arith, append_assoc, length-take, min}
+use Rattle.std.proofs.lemmas.List.{length-map, take_all, take-append-le, take-append-drop, append-nil, drop_more, take_rest}
 use Rattle.std.proofs.lemmas.Bool.{cases_lt}
 use Rattle.change_core.specs.declared.addresses.Address.{Address}
 use Rattle.hash_ring.specs.Steps.{firsts, has}
@@ -94,7 +94,7 @@ length-ascending R (x ∷ xs) = omega (arith, length-ascending R xs, length-put 
 pub owners_enough : (hash : List ℕ → ℕ) (replicas : ℕ) (servers : List Server) (key : List ℕ) (count n : ℕ) → n ≡ min count (length servers) → take n (owners hash replicas servers key) ≡ take count (owners hash replicas servers key)
 owners_enough hash replicas servers key count n e =
     let all = owners hash replicas servers key in
-    let few : length all ≤ length servers = omega (arith, length-ascending (by_distance hash replicas servers key) (addresses_of servers), length-map address_of_server servers) in
+    let few : length all ≤ length servers = omega (arith, length-ascending (by_distance hash replicas servers key) (addresses_of servers), length-map servers address_of_server) in
     elim (cases_lt count (length servers)) [
       | inl less ↦ let same : n ≡ count = omega arith in ap (λ k. take k all) same
       | inr le ↦ take_all n all (omega arith) ∙ sym (take_all count all (omega (arith, few, le)))

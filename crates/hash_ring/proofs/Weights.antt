@@ -5,6 +5,7 @@ use Rattle.change_core.specs.declared.addresses.Address.{Address}
 use Rattle.change_core.specs.Ascending.{put, In, IsAscending}
 use Rattle.change_core.proofs.Order.{in_put, put_new, put_old, put_ascends, same_ascending, in_filter, filter_in, filter_all, filter_ascends}
 use Rattle.std.specs.List.{filter}
+use Rattle.std.specs.Option.{is_some}
 use Rattle.hash_ring.specs.declared.points.Point.{Point}
 use Rattle.hash_ring.proofs.Lists.{in_map}
 use Rattle.hash_ring.specs.declared.servers.Server.{Server}
@@ -171,3 +172,7 @@ weight_if_had w (Some v) h = ap Some (eqb-true v w (had (v == w) h))
     had : (b : Bool) → false ≡ not b → b ≡ true
     had true h = refl
     had false h = cc h
+
+pub none_if_not_some : {X : Type 0} (o : Option X) → is_some o ≡ false → o ≡ None
+none_if_not_some None h = refl
+none_if_not_some (Some x) h = cc h

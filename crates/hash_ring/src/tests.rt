@@ -1,4 +1,4 @@
-ghost use Rattle.std.specs.Prelude.{◌≡◌, ◌≤◌, ℕ, List, ◌%◌, ◌^◌, sum, IsOk};
+ghost use Rattle.std.specs.Prelude.{◌≡◌, ◌≤◌, ◌<◌, ℕ, List, ◌%◌, ◌^◌, sum, IsOk};
 ghost use Rattle.hash_ring.specs.RingModel.{HasRoom};
 
 use crate::*;
@@ -126,16 +126,21 @@ fn owners_by_sum_and_weight(rt: HostRuntime) -> Result<(), Fail> {
     check_rows(&rt, &ring, &even)
 }
 
+// Gives a server that is there a weight that is not greater, with no room made before.
+fn lighten<H: PointHash>(ring: &mut Ring<H>, server: Address, light: Weight) -> Result<bool, Fail> {
+    let held = ring.weight(server).ok_or("a server")?;
+    if held.number() < light.number() {
+        return Ok(false);
+    }
+    Ok(ring.add(server, light))
+}
+
 #[test]
 fn a_lighter_server_needs_no_room(rt: HostRuntime) -> Result<(), Fail> {
-    let server = address(B)?;
-    let heavy = weight(3)?;
-    let light = weight(1)?;
     let mut ring = filled(&rt, rt.alloc(), SumHash, 2, &[A, C])?;
-    reserve(&rt, &mut ring, server, heavy)?;
-    ring.add(server, heavy);
-    let changed = ring.add(server, light);
-    assert!(rt; changed);
+    let heavier = add(&rt, &mut ring, B, 3)?;
+    let lighter = lighten(&mut ring, address(B)?, weight(1)?)?;
+    assert!(rt; heavier && lighter);
     check_rows(
         &rt,
         &ring,
@@ -214,26 +219,25 @@ fn an_edit_hashes_its_own_points_alone(rt: HostRuntime) -> Result<(), Fail> {
     let mut ring = Ring::new(rt.alloc(), CountingHash { calls: &calls }, 7)?;
     reserve(&rt, &mut ring, server, heavy)?;
     let before = calls.load(Ordering::SeqCst);
-    ring.add(server, heavy);
-    let added = calls.load(Ordering::SeqCst);
-    assert_eq!(rt; added - before, 56);
-    ring.add(server, heavy);
-    assert_eq!(rt; calls.load(Ordering::SeqCst), added);
-    ring.add(server, weight(2)?);
-    let replaced = calls.load(Ordering::SeqCst);
-    assert_eq!(rt; replaced - added, 14);
+    let added = ring.add(server, heavy);
+    assert_eq!(rt; calls.load(Ordering::SeqCst), before.wrapping_add(56));
+    let again = lighten(&mut ring, server, heavy)?;
+    assert_eq!(rt; calls.load(Ordering::SeqCst), before.wrapping_add(56));
+    let lighter = lighten(&mut ring, server, weight(2)?)?;
+    assert_eq!(rt; calls.load(Ordering::SeqCst), before.wrapping_add(70));
     ring.owner(b"key");
-    assert_eq!(rt; calls.load(Ordering::SeqCst), replaced + 1);
+    assert_eq!(rt; calls.load(Ordering::SeqCst), before.wrapping_add(71));
     let copied = ring.copy().is_ok();
     ring.remove(server);
-    assert!(rt; copied || ring.len() == 0);
-    assert_eq!(rt; calls.load(Ordering::SeqCst), replaced + 1);
+    assert_eq!(rt; calls.load(Ordering::SeqCst), before.wrapping_add(71));
+    assert!(rt; added && !again && lighter && (copied || ring.len() == 0));
     Ok(())
 }
 
 // The next number of a linear congruential generator, below a bound.
 fn draw(state: &mut u64, bound: u64) -> u64
     requires { 1 ≤ bound }
+    ensures { result < bound }
 {
     *state = state
         .wrapping_mul(6364136223846793005)

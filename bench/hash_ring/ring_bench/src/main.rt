@@ -88,9 +88,8 @@ fn round(
     Ok(([hashes, owner, owners, add, remove], sum))
 }
 
-fn each(nanos: u128, turns: u64) -> u64 {
-    let whole = nanos as u64;
-    whole.checked_div(turns).unwrap_or(0)
+fn each(nanos: u128, turns: u64) -> u128 {
+    nanos.checked_div(u128::from(turns)).unwrap_or(0)
 }
 
 fn main(rt: HostRuntime) -> anyhow::Result<()> {
@@ -109,7 +108,17 @@ fn main(rt: HostRuntime) -> anyhow::Result<()> {
             }
         }
         let [hashes, owner, owners, add, remove] = best;
-        println!(rt; "servers={} build_us={} hash_ns={} owner_ns={} owners3_ns={} add_ns={} remove_ns={} ({})", servers, built, each(hashes, KEYS), each(owner, KEYS), each(owners, KEYS), add, remove, check)?;
+        println!(rt;
+            "servers={} build_us={} hash_ns={} owner_ns={} owners3_ns={} add_ns={} remove_ns={} ({})",
+            servers,
+            built,
+            each(hashes, KEYS),
+            each(owner, KEYS),
+            each(owners, KEYS),
+            add,
+            remove,
+            check
+        )?;
     }
     Ok(())
 }

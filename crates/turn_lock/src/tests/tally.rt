@@ -1,0 +1,48 @@
+//! A list of numbers under a lock.
+use crate::{Kept, Pass, TurnLock};
+use std::alloc::{AllocError, Global};
+
+// The numbers that were added, in their order. A turn adds a number, or none.
+#[derive(Drop)]
+pub(super) struct Tally {
+    pub(super) numbers: Vec<u64>,
+}
+
+impl Kept for Tally {
+    type Entry = Option<u64>;
+
+    ghost use Rattle.std.specs.Prelude.{◌≡◌, ◌++◌};
+    ghost use Rattle.std.specs.List.{filter_map};
+
+    ghost stands_for = { λ opening history tally. tally.numbers.items ≡ opening.numbers.items ++ filter_map (λ t. t.entry) history };
+}
+
+pub(super) type Shared = TurnLock<Tally>;
+
+pub(super) type Entrant = Pass<Tally>;
+
+impl Tally {
+    ghost use Rattle.std.specs.Prelude.{◌≡◌, ◌++◌, ◌∷◌, [], MatchOption};
+
+    // The number, where it was added.
+    pub(super) fn add(&mut self, number: u64) -> Option<u64>
+        ensures { MatchOption result (self.new.numbers.items ≡ self.old.numbers.items) (λ n. self.new.numbers.items ≡ self.old.numbers.items ++ n ∷ []) }
+    {
+        match self.numbers.push(number) {
+            Ok(()) => Some(number),
+            Err(_) => None,
+        }
+    }
+}
+
+impl Tally {
+    pub(super) fn with_room(alloc: Global, room: usize) -> Result<Tally, AllocError> {
+        Ok(Tally {
+            numbers: Vec::with_capacity(alloc, room)?,
+        })
+    }
+
+    pub(super) fn count(&self, number: u64) -> usize {
+        self.numbers.iter().filter(|n| **n == number).count()
+    }
+}

@@ -3,14 +3,14 @@ ghost use Rattle.std.specs.Prelude.{◌≡◌, ◌≤◌, ◌↔◌, List, [], �
 ghost use Rattle.std.specs.List.{All};
 ghost use Rattle.turn_lock.specs.Rule.{outside};
 ghost use Rattle.turn_lock.specs.declared.kept.Turn.{Turn};
-ghost use Rattle.turn_lock.specs.Made.{IsReady, part_of, HasAll};
+ghost use Rattle.turn_lock.specs.Seats.{IsReady, part_of, HasAll};
 
-use crate::error::{CloseError, CloseRefused};
+use crate::errors::{CloseError, CloseRefused};
 use crate::kept::Kept;
 use crate::lock::TurnLock;
 use crate::pass::Pass;
 use crate::plays::Gather;
-use crate::view::{Board, Place, STATE};
+use crate::table::{Board, Place, STATE};
 
 fn are_own<S: Kept>(name: u64, passes: &[Pass<S>]) -> bool
     ensures { IsTrue result ↔ All (λ p. p.name ≡ name) passes.now }
@@ -19,11 +19,7 @@ fn are_own<S: Kept>(name: u64, passes: &[Pass<S>]) -> bool
 }
 
 // The first pass's seat, which then stands for all.
-fn gather<S: Kept>(
-    board: &Board<S>,
-    first: Pass<S>,
-    rest: Vec<Pass<S>>,
-) -> Place<S>
+fn gather<S: Kept>(board: &Board<S>, first: Pass<S>, rest: Vec<Pass<S>>) -> Place<S>
     requires board { board.now.shared.table_id.words ≡ 2 }
     requires first { IsReady board.now.shared.table_id board.now.shared.key.opening.value first }
     requires rest { All (IsReady board.now.shared.table_id board.now.shared.key.opening.value) rest.items }
@@ -62,14 +58,19 @@ fn take_out<S: Kept>(board: Board<S>, root: Place<S>) -> S
 }
 
 impl<S: Kept> TurnLock<S> {
-    ghost use Rattle.turn_lock.specs.Passes.{name_of, passes_of, opening_of, lock_name, IsOutside, IsWhole, RefusesToClose};
+    ghost use Rattle.turn_lock.specs.Passes.{passes_of, opening_of, AreOwn, Fits, IsWhole, RefusesToClose};
 
-    /// Takes the state back. It stands for a history that has the entries of each pass, once and in their order, and no other.
-    /// Each pass had seen a beginning of it.
+    /// Takes the state back. It stands for one history: each pass had seen a beginning of it, and it has the entries
+    /// of each pass, once and in their order, and no other. The passes may come in any order. Nothing grows here.
+    ///
+    /// # Errors
+    /// `ForeignPass` where some pass bears another lock's name, else `MissingPass` where there are fewer passes than
+    /// were made, both with the very lock and passes.
+    #[tactic(auto, unfolding(crate::specs::Passes::IsOutside))]
     pub fn close(self, mut passes: Vec<Pass<S>>) -> Result<S, CloseRefused<S>>
-        requires { All (λ p. lock_name p ≡ name_of self → IsOutside self p) passes.items }
+        requires { All (Fits self) passes.items }
         ensures closed { IfOk result (λ s. (history : List (Turn S.Entry)) × S.stands_for (opening_of self) history s × IsWhole history passes.items) }
-        ensures all { IfOk result (λ s. All (λ p. lock_name p ≡ name_of self) passes.items × (length passes.items ≡ passes_of self)) }
+        ensures all { IfOk result (λ s. AreOwn self passes.items × (length passes.items ≡ passes_of self)) }
         ensures back { IfErr result (λ r. (r.lock ≡ self) × (r.passes.items ≡ passes.items)) }
         ensures cause { IfErr result (λ r. RefusesToClose self passes.items r.cause) }
     {

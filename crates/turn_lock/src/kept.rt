@@ -3,24 +3,25 @@ ghost use Rattle.std.specs.Prelude.{List, Option, None};
 
 use std::marker::Brand;
 
-/// One entry of a history, with the number of the pass that made it.
+/// One turn of a history: which pass took it, and what it added.
 pub struct Turn<E> {
     pub pass: u64,
     pub entry: E,
 }
 
-/// A value that stands for a list of entries, in contracts alone.
+/// A value that stands for a list of entries. The list is in contracts alone, and takes no memory.
 pub trait Kept {
-    /// What one turn adds to the history.
-    type Entry;
-
     ghost use Rattle.turn_lock.specs.declared.kept.Turn.{Turn};
 
-    /// The value at the opening, the entries since then, and the value that now stands for them.
+    /// What one turn adds to the history. No value of this type need ever be made.
+    type Entry;
+
+    /// Of the value that the lock was made with, the turns that were taken since, and a value now:
+    /// that the last stands for these turns from that opening.
     ghost stands_for: { Self → List (Turn Self.Entry) → Self → Type 0 };
 }
 
-/// The entry that a turn makes, for the proof alone.
+/// The entry that a turn adds, for the proof alone.
 pub(crate) trait Told<E> {
     ghost entry: { Option E };
 }

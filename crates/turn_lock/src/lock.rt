@@ -1,18 +1,29 @@
-//! The lock.
-ghost use Rattle.std.specs.Prelude.{◌≡◌, ◌≢◌, ◌<◌, ◌+◌, ◌++◌, ◌∷◌, [], length, Some, None, MatchBool, IfOk, IfErr};
+//! The lock: how a pass enters and leaves.
+ghost use Rattle.std.specs.Prelude.{◌≡◌, ◌≢◌, ◌<◌, ◌+◌, ◌++◌, ◌∷◌, [], Some, IfOk, IfErr};
 ghost use Rattle.turn_lock.specs.History.{turn, GoesOn};
-ghost use Rattle.turn_lock.specs.Rule.{known, outside, waiting, inside, ticket_of, told_by};
+ghost use Rattle.turn_lock.specs.Rule.{inside, ticket_of, told_by};
 
-use crate::error::LockError;
+use crate::errors::LockError;
 use crate::kept::{Kept, Told};
 use crate::pass::Pass;
 use crate::plays::{Draw, Give, Look};
-use crate::view::{Board, SERVING, STATE, TICKET};
+use crate::table::{Board, SERVING, STATE, TICKET};
+use std::hint;
 use std::marker::Brand;
 use std::sync::Wait;
 use std::thread;
+use std::time::Duration;
 
-/// What it guards is handed to one pass at a time, in the order in which they drew their tickets.
+// A waiting thread looks this often without a pause, until then it lets other threads run between looks, and from
+// then on it sleeps between them.
+const SPINS: u32 = 64;
+
+const YIELDS: u32 = 512;
+
+// How long it sleeps at most, in microseconds. At worst it sees its turn so much later.
+const NAP: u64 = 100;
+
+/// Hands the state that it guards to one pass at a time, in the order in which the passes drew their tickets.
 #[derive(Drop)]
 pub struct TurnLock<S: Kept> {
     pub(crate) name: u64,
@@ -22,7 +33,8 @@ pub struct TurnLock<S: Kept> {
 }
 
 impl<S: Kept> TurnLock<S> {
-    ghost use Rattle.turn_lock.specs.Passes.{name_of, opening_of, lock_name, number_of, left_of, seen, Refuses, IsOutside, IsWaiting, IsServed, IsInside, IsSamePass, IsPassOf};
+    ghost use Rattle.turn_lock.specs.Passes.{opening_of, number_of, left_of, seen, Fits, Refuses, IsPassOf, IsOutside, IsInside, IsSamePass};
+    ghost use Rattle.turn_lock.specs.Seats.{IsWaiting, IsServed};
 
     pub(crate) fn of(name: u64, passes: u64, board: Board<S>) -> TurnLock<S>
         requires { (board.shared.table_id.words ≡ 2) × (board.shared.table_id.slots ≡ 1) × (board.shared.key.passes ≡ passes) × (0 < passes) }
@@ -36,6 +48,7 @@ impl<S: Kept> TurnLock<S> {
     }
 
     // Draws a ticket.
+    #[tactic(auto, unfolding(crate::specs::Passes::IsOutside))]
     fn draw(&self, pass: &mut Pass<S>) -> u64
         requires outside { IsOutside self.now pass.old }
         requires left { 0 < pass.old.left }
@@ -48,16 +61,52 @@ impl<S: Kept> TurnLock<S> {
             .fetch_add::<Draw>(&mut pass.seat, TICKET, 1)
     }
 
-    // Reads the ticket that is served, and with it the history so far.
-    fn look(&self, pass: &mut Pass<S>, ticket: u64) -> bool
+    // Reads which ticket is served, and with it the history so far.
+    fn look(&self, pass: &mut Pass<S>, ticket: u64) -> u64
         requires { IsWaiting self.now ticket pass.old }
         ensures pass { IsSamePass pass.old pass.new × (pass.new.left ≡ pass.old.left) }
         ensures seen { GoesOn pass.old.number (seen pass.new) (seen pass.old) }
-        ensures turn { MatchBool result (IsServed S.stands_for self.now pass.new) (IsWaiting self.now ticket pass.new) }
+        ensures served { result ≡ ticket → IsServed S.stands_for self.now pass.new }
+        ensures waits { result ≢ ticket → IsWaiting self.now ticket pass.new }
     {
-        self.board.shared.load::<Look>(&mut pass.seat, SERVING) == ticket
+        self.board.shared.load::<Look>(&mut pass.seat, SERVING)
     }
 
+    // What a waiting thread does after so many looks, the last of which found this ticket served.
+    fn pause<R: Wait>(&self, rt: &R, looks: u32, serving: u64) {
+        if looks < SPINS {
+            hint::spin_loop();
+        } else if looks < YIELDS {
+            thread::yield_now();
+        } else {
+            // It does not fall asleep if another ticket is served by now. Nobody wakes it: each `leave` would pay.
+            let low = (serving % (1 << 32)) as u32;
+            self.board
+                .shared
+                .park_timeout(rt, SERVING, low, Duration::from_micros(NAP));
+        }
+    }
+
+    // Waits until the ticket is served.
+    fn wait<R: Wait>(&self, rt: &R, pass: &mut Pass<S>, ticket: u64)
+        requires { IsWaiting self.now ticket pass.old }
+        ensures pass { IsServed S.stands_for self.now pass.new × IsSamePass pass.old pass.new × (pass.new.left ≡ pass.old.left) }
+        ensures seen { GoesOn pass.old.number (seen pass.new) (seen pass.old) }
+    {
+        let mut looks: u32 = 0;
+        for _ in rt.forever() {
+            let serving = self.look(pass, ticket);
+            if serving == ticket {
+                return;
+            }
+            self.pause(rt, looks, serving);
+            looks = looks.saturating_add(1);
+        }
+        unreachable!()
+    }
+
+    // Takes the state out of the slot.
+    #[tactic(auto, unfolding(crate::specs::Passes::IsInside))]
     fn take(&self, pass: &mut Pass<S>) -> S
         requires { IsServed S.stands_for self.now pass.old }
         ensures pass { IsInside self.now pass.new × IsSamePass pass.old pass.new × (pass.new.left ≡ pass.old.left) }
@@ -68,25 +117,16 @@ impl<S: Kept> TurnLock<S> {
         state.unwrap()
     }
 
-    // Waits until the ticket is served.
-    fn wait<R: Wait>(&self, rt: &R, pass: &mut Pass<S>, ticket: u64)
-        requires { IsWaiting self.now ticket pass.old }
-        ensures pass { IsServed S.stands_for self.now pass.new × IsSamePass pass.old pass.new × (pass.new.left ≡ pass.old.left) }
-        ensures seen { GoesOn pass.old.number (seen pass.new) (seen pass.old) }
-    {
-        for _ in rt.forever() {
-            if self.look(pass, ticket) {
-                return;
-            }
-            thread::yield_now();
-        }
-        unreachable!()
-    }
-
-    /// Waits for a turn, and takes the state. It stands for a history that begins with all that the pass had seen,
-    /// and has since then no entry of this pass.
+    /// Waits for a turn, and hands out the state. The pass is inside from then on and has one turn less, and the state
+    /// stands for the history that it has now seen: all that it had seen, and since then no entry of its own.
+    ///
+    /// A pass that is let in has to leave before another can enter. No clause says that a turn ever comes.
+    ///
+    /// # Errors
+    /// `ForeignPass` where the pass bears another lock's name, else `PassSpent` where it has no turn left.
+    /// The pass is then as it was.
     pub fn enter<R: Wait>(&self, rt: &R, pass: &mut Pass<S>) -> Result<S, LockError>
-        requires { lock_name pass.old ≡ name_of self.now → IsOutside self.now pass.old }
+        requires { Fits self.now pass.old }
         ensures entered { IfOk result (λ s. IsInside self.now pass.new × IsSamePass pass.old pass.new × (left_of pass.new + 1 ≡ left_of pass.old)) }
         ensures seen { IfOk result (λ s. GoesOn (number_of pass.old) (seen pass.new) (seen pass.old)) }
         ensures state { IfOk result (λ s. S.stands_for (opening_of self.now) (seen pass.new) s) }
@@ -103,7 +143,9 @@ impl<S: Kept> TurnLock<S> {
         Ok(self.take(pass))
     }
 
-    /// Gives the turn back. The state stands for the history that the pass has seen, and one entry more, which is the pass's own.
+    /// Gives the turn back. The state has to stand for the history that the pass has seen and one entry more, of this
+    /// pass, which is named in contracts alone. The pass has then seen that entry too, and is outside.
+    #[tactic(auto, unfolding(crate::specs::Passes::IsInside))]
     pub fn leave(&self, pass: &mut Pass<S>, state: S)
         ghost entry: { S.Entry }
         requires inside { IsInside self.now pass.old }
@@ -120,6 +162,7 @@ impl<S: Kept> TurnLock<S> {
     }
 
     // The turn is the next ticket's.
+    #[tactic(auto, unfolding(crate::specs::Passes::IsOutside))]
     fn give<J: Told<S::Entry>>(&self, pass: &mut Pass<S>)
         requires inside { IsPassOf self.now pass.old }
         requires told { (e : S.Entry) × (J.entry ≡ Some e) × ((y : S) × (pass.old.seat.me ≡ (inside (opening_of self.now) pass.old.number (seen pass.old) pass.old.seat.me.0.used (ticket_of pass.old.seat.me.0.stage), (0, Some y) ∷ [])) × S.stands_for (opening_of self.now) (seen pass.old ++ turn pass.old.number e ∷ []) y) }

@@ -1,21 +1,23 @@
 //! How a lock is made.
-ghost use Rattle.std.specs.Prelude.{◌≡◌, ◌<◌, ◌≤◌, ◌*◌, ◌^◌, [], map, length, IfOk, IfErr};
+ghost use Rattle.std.specs.Prelude.{◌≡◌, ◌<◌, ◌≤◌, ◌*◌, ◌^◌, [], map, IfOk, IfErr};
 ghost use Rattle.std.specs.List.{All, range_with_len};
-ghost use Rattle.turn_lock.specs.Rule.{outside, unused, known};
-ghost use Rattle.turn_lock.specs.Made.{IsDealt};
+ghost use Rattle.turn_lock.specs.Rule.{outside, unused};
+ghost use Rattle.turn_lock.specs.Seats.{IsDealt};
 
-use crate::error::NewError;
+use crate::errors::NewError;
 use crate::kept::Kept;
 use crate::lock::TurnLock;
 use crate::pass::Pass;
 use crate::plays::Part;
-use crate::view::{Board, Place, Terms};
+use crate::table::{Board, Place, Terms};
 use atomic_table::Table;
 use std::alloc::{AllocError, Global};
 use std::snapshot::Snapshot;
 
-const MOST_PASSES: u32 = 1024;
+/// The most passes that a lock may have.
+pub const MOST_PASSES: u32 = 1024;
 
+// The table with the state in its slot, and its first seat, which stands for all passes.
 fn open<S: Kept + Drop>(
     alloc: Global,
     terms: &Terms<S>,
@@ -72,7 +74,13 @@ fn deal<S: Kept>(
 impl<S: Kept + Drop> TurnLock<S> {
     ghost use Rattle.turn_lock.specs.Passes.{name_of, passes_of, opening_of, number_of, IsNew, IsInRange, IsNewError};
 
-    /// A lock, and passes with the numbers from 0 on, each for so many turns. At `Memory` the state is given up.
+    /// A lock round the state, with so many passes (1 to `MOST_PASSES`), each for so many turns (at least 1). The
+    /// state stands for the empty history. The passes come in the order of their numbers, from 0 on.
+    ///
+    /// # Errors
+    /// `BadCount`, with the very state, where the passes or the turns are out of range, else `Memory` where a growth
+    /// was refused. At `Memory` the state is given up.
+    #[tactic(auto, unfolding(crate::specs::Passes::IsOutside))]
     pub fn new(
         alloc: Global,
         name: u64,

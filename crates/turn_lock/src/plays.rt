@@ -1,6 +1,6 @@
 //! What each step on the table tells.
 use crate::kept::{Kept, Told};
-use crate::view::View;
+use crate::table::View;
 use atomic_table::{Join, Play, Split};
 use std::marker::PhantomData;
 

@@ -1,10 +1,11 @@
-ghost use Rattle.std.specs.Prelude.{◌≡◌, ◌++◌, ◌∷◌, [], ℕ, Option, IfSome, IfOk};
+//! What no clause says: that the calls succeed, that threads take turns, and what a refused growth leaves.
+ghost use Rattle.std.specs.Prelude.{◌≡◌, ◌++◌, ◌∷◌, [], ℕ, Option, IfOk};
 ghost use Rattle.std.specs.List.{All, filter_map};
 ghost use Rattle.turn_lock.specs.History.{turn};
-ghost use Rattle.turn_lock.specs.Passes.{opening_of, lock_name, name_of, number_of, seen, IsOutside, IsInside};
+ghost use Rattle.turn_lock.specs.Passes.{opening_of, number_of, seen, IsOutside, IsInside};
 
-use crate::{CloseError, CloseRefused, LockError, NewError, TurnLock};
-use std::alloc::{AllocError, Global};
+use crate::{CloseError, CloseRefused, LockError, MOST_PASSES, NewError, TurnLock};
+use std::alloc::Global;
 use std::process::Abort;
 use std::sync::Wait;
 use std::test::Fail;
@@ -73,51 +74,47 @@ fn meet<R: Wait + Clock>(
     mut pass: Entrant,
     own: u64,
     other: u64,
-) -> Result<(Entrant, bool), LockError>
+) -> Result<bool, LockError>
     requires { IsOutside lock.now pass }
-    ensures { IfOk result (λ r. IsOutside lock.now r.0) }
 {
     add(rt, lock, &mut pass, own)?;
     for _ in 0..TRIES {
         thread::sleep(rt, Duration::from_millis(1));
         if has(rt, lock, &mut pass, other)? {
-            return Ok((pass, true));
+            return Ok(true);
         }
     }
-    Ok((pass, false))
+    Ok(false)
 }
 
-// A lock with two passes.
-fn pair(
-    alloc: Global,
-    name: u64,
-    turns: u32,
-) -> Result<Option<(Shared, Entrant, Entrant)>, AllocError>
-    ensures passes { IfOk result (λ r. IfSome r (λ t. IsOutside t.0 t.1 × IsOutside t.0 t.2)) }
-    ensures name { IfOk result (λ r. IfSome r (λ t. name_of t.0 ≡ name)) }
+// A lock with two passes, and the empty list that they came in. Where memory was refused, it is asked for once more.
+fn pair(alloc: Global, name: u64, turns: u32) -> Result<(Shared, Entrant, Entrant, Vec<Entrant>), Fail>
+    ensures { IfOk result (λ r. IsOutside r.0 r.1 × IsOutside r.0 r.2 × (r.3.items ≡ [])) }
 {
-    let tally = Tally::with_room(alloc, 4096)?;
-    let Ok((lock, mut passes)) = TurnLock::new(alloc, name, tally, 2, turns) else {
-        return Ok(None);
+    let made = match TurnLock::new(alloc, name, Tally::with_room(alloc, 4096)?, 2, turns) {
+        Err(NewError::Memory) => {
+            TurnLock::new(alloc, name, Tally::with_room(alloc, 4096)?, 2, turns)
+        }
+        made => made,
     };
-    let (Some(second), Some(first)) = (passes.pop(), passes.pop()) else {
-        return Ok(None);
-    };
-    Ok(Some((lock, first, second)))
+    let (lock, mut passes) = made.ok().ok_or("a lock")?;
+    let second = passes.pop().ok_or("a pass")?;
+    let first = passes.pop().ok_or("a pass")?;
+    Ok((lock, first, second, passes))
 }
 
 fn close_pair(
-    alloc: Global,
     lock: Shared,
     first: Entrant,
     second: Entrant,
-) -> Result<Option<Tally>, AllocError>
-    requires { IsOutside lock first × IsOutside lock second }
+    mut room: Vec<Entrant>,
+) -> Result<Tally, Fail>
+    requires passes { IsOutside lock first × IsOutside lock second }
+    requires room { room.items ≡ [] }
 {
-    let mut passes = Vec::with_capacity(alloc, 2)?;
-    passes.push(first)?;
-    passes.push(second)?;
-    Ok(lock.close(passes).ok())
+    room.push(first)?;
+    room.push(second)?;
+    Ok(lock.close(room).ok().ok_or("it closes")?)
 }
 
 fn add_in_both<R: Threads + Wait + Sync>(
@@ -145,12 +142,10 @@ fn add_in_both<R: Threads + Wait + Sync>(
 
 #[test]
 fn two_threads_add_a_thousand_each(rt: HostRuntime) -> Result<(), Fail> {
-    let (lock, first, second) = pair(rt.alloc(), 7, 1000)?.ok_or("a lock")?;
+    let (lock, first, second, room) = pair(rt.alloc(), 7, 1000)?;
     let (first, second) = add_in_both(&rt, &lock, first, second)?;
-    let tally = close_pair(rt.alloc(), lock, first, second)?.ok_or("it closes")?;
-    assert_eq!(rt; tally.numbers.len(), 2000);
-    assert_eq!(rt; tally.count(1), 1000);
-    assert_eq!(rt; tally.count(2), 1000);
+    let tally = close_pair(lock, first, second, room)?;
+    assert_eq!(rt; (tally.numbers.len(), tally.count(1), tally.count(2)), (2000, 1000, 1000));
     Ok(())
 }
 
@@ -164,100 +159,145 @@ fn meet_in_both<R: Threads + Wait + Clock + Sync>(
 {
     let (a, b) = join(
         rt,
-        move || -> Result<(Entrant, bool), LockError>
+        move || -> Result<bool, LockError>
             requires { IsOutside lock.now first }
         { meet(rt, lock, first, 1, 2) },
-        move || -> Result<(Entrant, bool), LockError>
+        move || -> Result<bool, LockError>
             requires { IsOutside lock.now second }
         { meet(rt, lock, second, 2, 1) },
     );
-    Ok((a?.1, b?.1))
+    Ok((a?, b?))
 }
 
 #[test]
 fn each_of_two_threads_reads_the_others_entry(rt: HostRuntime) -> Result<(), Fail> {
-    let (lock, first, second) = pair(rt.alloc(), 7, 20_000)?.ok_or("a lock")?;
-    let met = meet_in_both(&rt, &lock, first, second)?;
-    assert_eq!(rt; met, (true, true));
+    let (lock, first, second, _) = pair(rt.alloc(), 7, 20_000)?;
+    assert_eq!(rt; meet_in_both(&rt, &lock, first, second)?, (true, true));
+    Ok(())
+}
+
+// Rests inside, and then adds a number.
+fn add_late<R: Clock>(
+    rt: &R,
+    lock: &Shared,
+    mut pass: Entrant,
+    mut tally: Tally,
+    number: u64,
+)
+    requires inside { IsInside lock.now pass }
+    requires tally { tally.numbers.items ≡ (opening_of lock.now).numbers.items ++ filter_map (λ t. t.entry) (seen pass) }
+{
+    thread::sleep(rt, Duration::from_millis(20));
+    let added = tally.add(number);
+    leave(lock, &mut pass, tally, added);
+}
+
+fn wait_for_a_number<R: Threads + Wait + Clock + Sync>(
+    rt: &R,
+    lock: &Shared,
+    mut first: Entrant,
+    mut second: Entrant,
+) -> Result<bool, LockError>
+    requires { IsOutside lock.now first × IsOutside lock.now second }
+{
+    let tally = lock.enter(rt, &mut first)?;
+    let ((), found) = join(
+        rt,
+        move ||
+            requires inside { IsInside lock.now first }
+            requires tally { tally.numbers.items ≡ (opening_of lock.now).numbers.items ++ filter_map (λ t. t.entry) (seen first) }
+        { add_late(rt, lock, first, tally, 5) },
+        move || -> Result<bool, LockError>
+            requires { IsOutside lock.now second }
+        { has(rt, lock, &mut second, 5) },
+    );
+    found
+}
+
+#[test]
+fn a_pass_waits_while_another_rests_inside(rt: HostRuntime) -> Result<(), Fail> {
+    let (lock, first, second, _) = pair(rt.alloc(), 7, 1)?;
+    assert!(rt; wait_for_a_number(&rt, &lock, first, second)?);
     Ok(())
 }
 
 #[test]
 fn counts_out_of_range_hand_the_state_back(rt: HostRuntime) -> Result<(), Fail> {
-    for (passes, turns) in [(0, 1), (1025, 1), (1, 0)] {
-        let tally = Tally::with_room(rt.alloc(), 1)?;
-        let made: Result<(Shared, Vec<Entrant>), NewError<Tally>> = TurnLock::new(
-            rt.alloc(),
-            7,
-            tally,
-            passes,
-            turns,
-        );
-        assert!(rt; matches!(made, Err(NewError::BadCount(_))));
+    for (passes, turns) in [(0, 1), (MOST_PASSES + 1, 1), (1, 0)] {
+        let mut tally = Tally::with_room(rt.alloc(), 1)?;
+        tally.add(5);
+        let Err(NewError::BadCount(tally)) = TurnLock::new(rt.alloc(), 7, tally, passes, turns)
+        else {
+            panic!(rt; "{passes} passes of {turns} turns")
+        };
+        assert_eq!(rt; tally.count(5), 1);
     }
     Ok(())
 }
 
-#[test]
-fn a_thousand_and_twenty_four_passes_close(rt: HostRuntime) -> Result<(), Fail> {
-    let tally = Tally::with_room(rt.alloc(), 1)?;
-    let Ok((lock, passes)) = TurnLock::<Tally>::new(
-        rt.alloc(),
-        7,
-        tally,
-        1024,
-        u32::MAX,
-    ) else {
-        panic!(rt; "the counts are in range")
+// A lock with as many passes and turns as there may be. Where memory was refused, it is asked for once more.
+fn greatest(alloc: Global) -> Result<(Shared, Vec<Entrant>), Fail>
+    ensures { IfOk result (λ r. All (IsOutside r.0) r.1.items) }
+{
+    let made = match TurnLock::new(alloc, 7, Tally::with_room(alloc, 1)?, MOST_PASSES, u32::MAX) {
+        Err(NewError::Memory) => {
+            TurnLock::new(alloc, 7, Tally::with_room(alloc, 1)?, MOST_PASSES, u32::MAX)
+        }
+        made => made,
     };
+    Ok(made.ok().ok_or("a lock")?)
+}
+
+#[test]
+fn a_lock_with_the_most_passes_and_turns_closes(rt: HostRuntime) -> Result<(), Fail> {
+    let (lock, passes) = greatest(rt.alloc())?;
+    assert_eq!(rt; passes.len(), 1024);
     assert!(rt; lock.close(passes).is_ok());
     Ok(())
 }
 
 #[test]
-fn a_pass_without_turns_is_spent(rt: HostRuntime) -> Result<(), Fail> {
-    let (lock, mut first, _second) = pair(rt.alloc(), 7, 2)?.ok_or("a lock")?;
-    assert!(rt; add(&rt, &lock, &mut first, 1).is_ok());
-    assert!(rt; add(&rt, &lock, &mut first, 1).is_ok());
-    assert!(rt; matches!(add(&rt, &lock, &mut first, 1), Err(LockError::PassSpent)));
+fn a_pass_is_spent_after_its_turns(rt: HostRuntime) -> Result<(), Fail> {
+    let (lock, mut first, second, room) = pair(rt.alloc(), 7, 2)?;
+    for wanted in [Ok(()), Ok(()), Err(LockError::PassSpent)] {
+        assert_eq!(rt; add(&rt, &lock, &mut first, 1), wanted);
+    }
+    let tally = close_pair(lock, first, second, room)?;
+    assert_eq!(rt; tally.count(1), 2);
     Ok(())
 }
 
 #[test]
-fn a_pass_of_another_lock_is_foreign(rt: HostRuntime) -> Result<(), Fail> {
-    let (lock, first, second) = pair(rt.alloc(), 7, 2)?.ok_or("a lock")?;
-    let (_other, mut foreign, _) = pair(rt.alloc(), 8, 2)?.ok_or("a lock")?;
-    assert!(rt; matches!(lock.enter(&rt, &mut foreign), Err(LockError::ForeignPass)));
-    let mut passes = Vec::with_capacity(rt.alloc(), 3)?;
+fn a_pass_of_another_lock_is_refused(rt: HostRuntime) -> Result<(), Fail> {
+    let (lock, first, second, mut passes) = pair(rt.alloc(), 7, 2)?;
+    let (_other, mut foreign, _, _) = pair(rt.alloc(), 8, 2)?;
+    let refused = lock.enter(&rt, &mut foreign).err();
+    assert_eq!(rt; refused, Some(LockError::ForeignPass));
     passes.push(first)?;
     passes.push(foreign)?;
-    passes.push(second)?;
-    let Err(refused) = lock.close(passes) else {
+    let Err(CloseRefused { lock, passes, cause }) = lock.close(passes) else {
         panic!(rt; "a pass is foreign")
     };
-    assert!(rt; matches!(refused.cause, CloseError::ForeignPass) && refused.passes.len() == 3);
+    assert_eq!(rt; (cause, passes.len()), (CloseError::ForeignPass, 2));
     Ok(())
 }
 
 #[test]
 fn a_lock_does_not_close_without_a_pass(rt: HostRuntime) -> Result<(), Fail> {
-    let (lock, mut first, second) = pair(rt.alloc(), 7, 2)?.ok_or("a lock")?;
+    let (lock, mut first, second, mut passes) = pair(rt.alloc(), 7, 2)?;
     add(&rt, &lock, &mut first, 5)?;
-    let mut passes = Vec::with_capacity(rt.alloc(), 2)?;
     passes.push(first)?;
-    let Err(refused) = lock.close(passes) else {
-        panic!(rt; "a pass is missing")
-    };
-    let CloseRefused {
+    let Err(CloseRefused {
         lock,
         mut passes,
         cause,
-    } = refused;
-    assert!(rt; matches!(cause, CloseError::MissingPass));
-    passes.push(second)?;
-    let Ok(tally) = lock.close(passes) else {
-        panic!(rt; "both passes are there")
+    }) = lock.close(passes)
+    else {
+        panic!(rt; "a pass is missing")
     };
+    assert_eq!(rt; (cause, passes.len()), (CloseError::MissingPass, 1));
+    passes.push(second)?;
+    let tally = lock.close(passes).ok().ok_or("both passes are there")?;
     assert_eq!(rt; tally.count(5), 1);
     Ok(())
 }

@@ -9,10 +9,10 @@ pub(super) struct Tally {
 }
 
 impl Kept for Tally {
-    type Entry = Option<u64>;
-
     ghost use Rattle.std.specs.Prelude.{◌≡◌, ◌++◌};
     ghost use Rattle.std.specs.List.{filter_map};
+
+    type Entry = Option<u64>;
 
     ghost stands_for = { λ opening history tally. tally.numbers.items ≡ opening.numbers.items ++ filter_map (λ t. t.entry) history };
 }
@@ -33,13 +33,14 @@ impl Tally {
             Err(_) => None,
         }
     }
-}
 
-impl Tally {
+    // An empty list with room for so many. Where memory was refused, it is asked for once more.
     pub(super) fn with_room(alloc: Global, room: usize) -> Result<Tally, AllocError> {
-        Ok(Tally {
-            numbers: Vec::with_capacity(alloc, room)?,
-        })
+        let numbers = match Vec::with_capacity(alloc, room) {
+            Err(_) => Vec::with_capacity(alloc, room)?,
+            Ok(numbers) => numbers,
+        };
+        Ok(Tally { numbers })
     }
 
     pub(super) fn count(&self, number: u64) -> usize {

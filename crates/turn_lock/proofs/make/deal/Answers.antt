@@ -1,9 +1,11 @@
 use Rattle.std.proofs.Common.{rules, arith, ◌≡◌, ℕ, ◌+◌, [], ◌∷◌, ◌++◌, map, drop, sym, ap, ◌∙◌, subst}
 use Rattle.std.specs.List.{All, range_with_len}
 use Rattle.turn_lock.specs.declared.pass.Pass.{Pass}
-use Rattle.turn_lock.specs.Made.{IsDealt}
+use Rattle.turn_lock.specs.Seats.{IsDealt}
 use Rattle.turn_lock.specs.Rule.{outside, known, unused, kept_part, cut_part}
-use Rattle.turn_lock.proofs.Lists.{unused_drop, unused_gone, all_push, map_push, numbers_push}
+use Rattle.std.proofs.lemmas.List.{map_push}
+use Rattle.std.proofs.lemmas.List.Elements.{All-push}
+use Rattle.turn_lock.proofs.Lists.{unused_drop, unused_gone, numbers_push}
 use Rattle.turn_lock.proofs.Steps.{splits_at}
 use Rattle.turn_lock.proofs.make.deal.Goals as goal
 
@@ -23,7 +25,7 @@ loop-number-preserved g c =
     let P = IsDealt c.args.board.now.shared.table_id o c.args.name c.args.turns in record {
       table = search rules;
       root = c.split_seat-seat.ensures.2 ∙ ap (λ m. (kept_part m.0, m.1)) is;
-      dealt = subst (All P) (sym items) (all_push P c.loop-number.dealt.items pass was.dealt (search rules, search rules, search rules, c.split_seat-seat.ensures.4 ∙ ap (λ m. (cut_part m.0, [])) is));
+      dealt = subst (All P) (sym items) (All-push P c.loop-number.dealt.items pass was.dealt (search rules, search rules, search rules, c.split_seat-seat.ensures.4 ∙ ap (λ m. (cut_part m.0, [])) is));
       numbers = ap (map (λ p. p.number)) items ∙ (map_push (λ p. p.number) c.loop-number.dealt.items pass ∙ (ap (λ l. l ++ i ∷ []) was.numbers ∙ sym (numbers_push i)));
     }
 
@@ -35,7 +37,7 @@ returns-clause-dealt g c =
     let pass : Pass g.row.S.Denot g.row.S-Entry.Denot = record { name = c.args.name; number = i; left = c.args.turns; seat = c.loop-number.root } in
     let items : c.push-2.new.self.items ≡ c.loop-number.dealt.items ++ pass ∷ [] = search rules in
     let P = IsDealt c.args.board.now.shared.table_id o c.args.name c.args.turns in
-    subst (All P) (sym items) (all_push P c.loop-number.dealt.items pass was.dealt (search rules, search rules, search rules, is))
+    subst (All P) (sym items) (All-push P c.loop-number.dealt.items pass was.dealt (search rules, search rules, search rules, is))
 
 pub returns-clause-numbers : goal.returns-clause-numbers
 returns-clause-numbers g c =

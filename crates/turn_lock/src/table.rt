@@ -1,5 +1,17 @@
-//! What a pass knows, and the rule of the table.
-//! Word 0 is the ticket that is served, word 1 the next ticket to be drawn. Slot 0 has the state, or nothing while a pass is inside.
+//! The table that threads share, what a seat at it knows, and its rule.
+//!
+//! Word 0 is the ticket that is served, and word 1 the next one to be drawn. Slot 0 has the state, or nothing while a
+//! pass is inside. These are all kinds of step on it, and only the last adds to the history:
+//!
+//! | Step | In | What the seat knows after it |
+//! |---|---|---|
+//! | split a seat | `new` | the new seat stands for one pass, which has seen nothing |
+//! | join a seat | `close` | the one that stays stands for the passes of both |
+//! | add 1 to word 1 | `enter` | it holds that ticket |
+//! | load word 0 | `enter` | it has seen the history so far; it has the slot if its ticket is served |
+//! | take the state from the slot | `enter` | it has the state |
+//! | put the state into the slot | `leave` | it has given it back |
+//! | add 1 to word 0 | `leave` | its ticket and the slot are gone, and it has seen its own entry |
 use crate::kept::{Kept, Turn};
 use atomic_table::{Seat, Table, TableRule};
 use std::alloc::Global;
@@ -16,11 +28,11 @@ pub enum Stage {
     Outside,
     /// It holds this ticket.
     Waiting(u64),
-    /// Its ticket is served, and it has the state.
+    /// Its ticket is served, and it has the slot.
     Inside(u64),
 }
 
-/// The number of a pass, and the history that it has seen.
+/// A pass that a seat stands for, and the history that it has seen.
 pub struct Known<E> {
     pub number: u64,
     pub seen: LinkedList<Turn<E>>,
@@ -28,11 +40,11 @@ pub struct Known<E> {
 
 /// What one seat knows. No value of it is made.
 pub struct View<S, E> {
-    /// The state at the opening.
+    /// The state that the lock was made with.
     pub opening: Option<S>,
-    /// Of each pass that it stands for.
+    /// The passes that it stands for.
     pub parts: LinkedList<Known<E>>,
-    /// How many tickets were drawn.
+    /// How many tickets it drew.
     pub used: u64,
     pub stage: Stage,
 }

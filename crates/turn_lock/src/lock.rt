@@ -8,11 +8,10 @@ use crate::kept::{Kept, Told};
 use crate::pass::Pass;
 use crate::plays::{Draw, Give, Look};
 use crate::table::{Board, SERVING, STATE, TICKET};
-use std::hint;
 use std::marker::Brand;
 use std::sync::Wait;
-use std::thread;
 use std::time::Duration;
+use std::{hint, thread};
 
 // A waiting thread looks this often without a pause, until then it lets other threads run between looks, and from
 // then on it sleeps between them.
@@ -24,6 +23,9 @@ const YIELDS: u32 = 512;
 const NAP: u64 = 100;
 
 /// Hands the state that it guards to one pass at a time, in the order in which the passes drew their tickets.
+///
+/// A ticket lock (Reed and Kanodia, CACM 1979; Mellor-Crummey and Scott, TOCS 1991). That the state stands for a
+/// history, which passes have seen in part, is this project's own.
 #[derive(Drop)]
 pub struct TurnLock<S: Kept> {
     pub(crate) name: u64,

@@ -88,7 +88,11 @@ fn meet<R: Wait + Clock>(
 }
 
 // A lock with two passes, and the empty list that they came in. Where memory was refused, it is asked for once more.
-fn pair(alloc: Global, name: u64, turns: u32) -> Result<(Shared, Entrant, Entrant, Vec<Entrant>), Fail>
+fn pair(
+    alloc: Global,
+    name: u64,
+    turns: u32,
+) -> Result<(Shared, Entrant, Entrant, Vec<Entrant>), Fail>
     ensures { IfOk result (λ r. IsOutside r.0 r.1 × IsOutside r.0 r.2 × (r.3.items ≡ [])) }
 {
     let made = match TurnLock::new(alloc, name, Tally::with_room(alloc, 4096)?, 2, turns) {
@@ -145,7 +149,10 @@ fn two_threads_add_a_thousand_each(rt: HostRuntime) -> Result<(), Fail> {
     let (lock, first, second, room) = pair(rt.alloc(), 7, 1000)?;
     let (first, second) = add_in_both(&rt, &lock, first, second)?;
     let tally = close_pair(lock, first, second, room)?;
-    assert_eq!(rt; (tally.numbers.len(), tally.count(1), tally.count(2)), (2000, 1000, 1000));
+    assert_eq!(rt;
+        (tally.numbers.len(), tally.count(1), tally.count(2)),
+        (2000, 1000, 1000)
+    );
     Ok(())
 }
 
@@ -177,13 +184,7 @@ fn each_of_two_threads_reads_the_others_entry(rt: HostRuntime) -> Result<(), Fai
 }
 
 // Rests inside, and then adds a number.
-fn add_late<R: Clock>(
-    rt: &R,
-    lock: &Shared,
-    mut pass: Entrant,
-    mut tally: Tally,
-    number: u64,
-)
+fn add_late<R: Clock>(rt: &R, lock: &Shared, mut pass: Entrant, mut tally: Tally, number: u64)
     requires inside { IsInside lock.now pass }
     requires tally { tally.numbers.items ≡ (opening_of lock.now).numbers.items ++ filter_map (λ t. t.entry) (seen pass) }
 {
@@ -275,7 +276,14 @@ fn a_pass_of_another_lock_is_refused(rt: HostRuntime) -> Result<(), Fail> {
     assert_eq!(rt; refused, Some(LockError::ForeignPass));
     passes.push(first)?;
     passes.push(foreign)?;
-    let Err(CloseRefused { lock, passes, cause }) = lock.close(passes) else {
+    let Err(
+        CloseRefused {
+            lock,
+            passes,
+            cause,
+        },
+    ) = lock.close(passes)
+    else {
         panic!(rt; "a pass is foreign")
     };
     assert_eq!(rt; (cause, passes.len()), (CloseError::ForeignPass, 2));
@@ -287,11 +295,13 @@ fn a_lock_does_not_close_without_a_pass(rt: HostRuntime) -> Result<(), Fail> {
     let (lock, mut first, second, mut passes) = pair(rt.alloc(), 7, 2)?;
     add(&rt, &lock, &mut first, 5)?;
     passes.push(first)?;
-    let Err(CloseRefused {
-        lock,
-        mut passes,
-        cause,
-    }) = lock.close(passes)
+    let Err(
+        CloseRefused {
+            lock,
+            mut passes,
+            cause,
+        },
+    ) = lock.close(passes)
     else {
         panic!(rt; "a pass is missing")
     };

@@ -1,11 +1,11 @@
 //! What no clause says: that the calls succeed, that threads take turns, and what a refused growth leaves.
-ghost use Rattle.std.specs.Prelude.{◌≡◌, ◌++◌, ◌∷◌, [], ℕ, Option, IfOk};
+ghost use Rattle.std.specs.Prelude.{◌≡◌, ◌++◌, ◌∷◌, [], ℕ, Option, IfSome, IfOk};
 ghost use Rattle.std.specs.List.{All, filter_map};
 ghost use Rattle.turn_lock.specs.History.{turn};
-ghost use Rattle.turn_lock.specs.Passes.{opening_of, number_of, seen, IsOutside, IsInside};
+ghost use Rattle.turn_lock.specs.Passes.{name_of, opening_of, number_of, seen, IsOutside, IsInside};
 
 use crate::{CloseError, CloseRefused, LockError, MOST_PASSES, NewError, TurnLock};
-use std::alloc::Global;
+use std::alloc::{AllocError, Global};
 use std::process::Abort;
 use std::sync::Wait;
 use std::test::Fail;
@@ -87,24 +87,41 @@ fn meet<R: Wait + Clock>(
     Ok(false)
 }
 
-// A lock with two passes, and the empty list that they came in. Where memory was refused, it is asked for once more.
+// A lock with two passes, and the list that they came in, now empty. There is none where memory was refused.
+fn try_pair(
+    alloc: Global,
+    name: u64,
+    turns: u32,
+) -> Result<Option<(Shared, Entrant, Entrant, Vec<Entrant>)>, AllocError>
+    ensures passes { IfOk result (λ r. IfSome r (λ t. IsOutside t.0 t.1 × IsOutside t.0 t.2)) }
+    ensures name { IfOk result (λ r. IfSome r (λ t. name_of t.0 ≡ name)) }
+    ensures room { IfOk result (λ r. IfSome r (λ t. t.3.items ≡ [])) }
+{
+    let tally = Tally::with_room(alloc, 4096)?;
+    let Ok((lock, mut passes)) = TurnLock::new(alloc, name, tally, 2, turns) else {
+        return Ok(None);
+    };
+    let (Some(second), Some(first)) = (passes.pop(), passes.pop()) else {
+        return Ok(None);
+    };
+    passes.clear();
+    Ok(Some((lock, first, second, passes)))
+}
+
+// The same. Where memory was refused, it is asked for once more.
 fn pair(
     alloc: Global,
     name: u64,
     turns: u32,
 ) -> Result<(Shared, Entrant, Entrant, Vec<Entrant>), Fail>
-    ensures { IfOk result (λ r. IsOutside r.0 r.1 × IsOutside r.0 r.2 × (r.3.items ≡ [])) }
+    ensures passes { IfOk result (λ t. IsOutside t.0 t.1 × IsOutside t.0 t.2) }
+    ensures name { IfOk result (λ t. name_of t.0 ≡ name) }
+    ensures room { IfOk result (λ t. t.3.items ≡ []) }
 {
-    let made = match TurnLock::new(alloc, name, Tally::with_room(alloc, 4096)?, 2, turns) {
-        Err(NewError::Memory) => {
-            TurnLock::new(alloc, name, Tally::with_room(alloc, 4096)?, 2, turns)
-        }
-        made => made,
-    };
-    let (lock, mut passes) = made.ok().ok_or("a lock")?;
-    let second = passes.pop().ok_or("a pass")?;
-    let first = passes.pop().ok_or("a pass")?;
-    Ok((lock, first, second, passes))
+    if let Some(made) = try_pair(alloc, name, turns)? {
+        return Ok(made);
+    }
+    Ok(try_pair(alloc, name, turns)?.ok_or("a lock")?)
 }
 
 fn close_pair(
@@ -260,15 +277,20 @@ fn a_lock_with_the_most_passes_and_turns_closes(rt: HostRuntime) -> Result<(), F
 #[test]
 fn a_pass_is_spent_after_its_turns(rt: HostRuntime) -> Result<(), Fail> {
     let (lock, mut first, second, room) = pair(rt.alloc(), 7, 2)?;
-    for wanted in [Ok(()), Ok(()), Err(LockError::PassSpent)] {
-        assert_eq!(rt; add(&rt, &lock, &mut first, 1), wanted);
-    }
+    let once = add(&rt, &lock, &mut first, 1);
+    let twice = add(&rt, &lock, &mut first, 1);
+    let refused = add(&rt, &lock, &mut first, 1);
+    assert_eq!(rt;
+        (once, twice, refused),
+        (Ok(()), Ok(()), Err(LockError::PassSpent))
+    );
     let tally = close_pair(lock, first, second, room)?;
     assert_eq!(rt; tally.count(1), 2);
     Ok(())
 }
 
 #[test]
+#[tactic(auto, unfolding(crate::specs::Passes::IsOutside))]
 fn a_pass_of_another_lock_is_refused(rt: HostRuntime) -> Result<(), Fail> {
     let (lock, first, second, mut passes) = pair(rt.alloc(), 7, 2)?;
     let (_other, mut foreign, _, _) = pair(rt.alloc(), 8, 2)?;

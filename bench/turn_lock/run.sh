@@ -1,5 +1,6 @@
 #!/usr/bin/env bash
-# Enters and leaves of a counter under the lock, with 1, 2 and 4 threads, and the same counter under the kit's Mutex.
+# Enters and leaves of a counter under the lock, with 1, 2 and 4 threads, and the same counter under the kit's Mutex; then the
+# processor time of three threads that wait two seconds for one that rests inside.
 # Wants rt. It works on a copy, so nothing is left in the repository.
 set -euo pipefail
 here=$(cd "$(dirname "$0")" && pwd)
@@ -9,6 +10,7 @@ trap 'rm -rf "$work"' EXIT
 mkdir "$work/crates"
 cp -r "$root/crates/turn_lock" "$here/lock_bench" "$work/crates/"
 grep -E '^turn_lock' "$root/crates.txt" > "$work/crates.txt"
-echo 'lock_bench: turn_lock anyhow' >> "$work/crates.txt"
+echo 'lock_bench may_wait=8: turn_lock anyhow' >> "$work/crates.txt"
 cd "$work/crates/lock_bench"
 rt run
+time out/lock_bench hold

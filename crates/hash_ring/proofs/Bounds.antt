@@ -1,5 +1,5 @@
 -- The places of points below a hash, and at or above it.
-use Rattle.std.proofs.Common.{◌≡◌, ℕ, ◌+◌, ◌-◌, ◌<◌, ◌≤◌, List, [], take, drop, length, get_or, ap, sym, ◌∙◌, subst, inl, inr, arith, length-take, length-drop}
+use Rattle.std.proofs.Common.{◌≡◌, ℕ, ◌+◌, ◌-◌, ◌<◌, ◌≤◌, List, take, drop, length, get_or, ap, sym, ◌∙◌, subst, inl, inr, arith, length-take, length-drop}
 use Rattle.std.proofs.lemmas.List.{get_or-take, get_or-drop, take-append-drop}
 use Rattle.std.proofs.lemmas.Bool.{cases_lt}
 use Rattle.change_core.specs.Ascending.{In, IsAscending}

@@ -1,20 +1,19 @@
 -- What one server's coming and going does to the owners of a key.
-use Rattle.std.proofs.Common.{◌≡◌, ◌⊎◌, ℕ, ◌*◌, Bool, true, false, cond, not, List, [], ◌∷◌, Option, Some, None, refl, ap, sym, ◌∙◌, subst, inl, inr}
+use Rattle.std.proofs.Common.{◌≡◌, ◌⊎◌, ℕ, ◌*◌, Bool, true, false, cond, not, List, [], ◌∷◌, Some, None, refl, ap, sym, ◌∙◌, subst, inl, inr}
 use Rattle.std.specs.List.{filter, slice_get}
 use Rattle.std.specs.declared.cmp.Ordering.{Ordering}
-use Rattle.std.specs.declared.cmp.Ordering.TheVariants.{Less}
 use Rattle.std.specs.Ordering.{is_lt, is_eq, nat_cmp, ordering_then}
 use Rattle.change_core.specs.declared.addresses.Address.{Address}
-use Rattle.change_core.specs.Ascending.{put, ascending, In, IsAscending}
+use Rattle.change_core.specs.Ascending.{put, In, IsAscending}
 use Rattle.change_core.proofs.Order.{ascending_ascends, ascending_is, in_ascending, ascending_in, in_filter, filter_in, filter_all, filter_ascends}
 use Rattle.hash_ring.specs.Consistency.{others}
 use Rattle.hash_ring.specs.Points.{by_distance, distance, distance_among, owner, owners}
-use Rattle.hash_ring.specs.Servers.{is_same, address_of_server, addresses_of, server_cmp, shares, weight_of, weight_or_none, with_server, without}
+use Rattle.hash_ring.specs.Servers.{is_same, address_of_server, addresses_of, server_cmp, weight_of, weight_or_none, with_server, without}
 use Rattle.hash_ring.specs.declared.servers.Server.{Server}
 use Rattle.hash_ring.proofs.Firsts.{same_is, is_same_itself, test_cases}
 use Rattle.hash_ring.proofs.Lists.{in_map, map_in}
 use Rattle.hash_ring.proofs.PointOrder.{by_exact}
-use Rattle.hash_ring.proofs.Weights.{absent_if_none, differs, not_same}
+use Rattle.hash_ring.proofs.Weights.{absent_if_none, differs}
 
 -- ---- other servers keep their weights
 

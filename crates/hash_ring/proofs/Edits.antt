@@ -1,20 +1,18 @@
 -- Points added and removed, and searched.
-use Rattle.std.proofs.Common.{◌≡◌, ℕ, ◌+◌, ◌*◌, ◌^◌, ◌<◌, ◌≤◌, Bool, true, false, cond, not, ltb, List, [], ◌∷◌, ◌++◌, take, drop, get_or, refl, ap, sym, ◌∙◌, subst, inl, inr, arith, add-one, append_assoc, length-take, length-drop}
+use Rattle.std.proofs.Common.{◌≡◌, ℕ, ◌+◌, ◌*◌, ◌^◌, ◌<◌, ◌≤◌, Bool, true, false, not, ltb, List, [], ◌∷◌, ◌++◌, take, drop, get_or, ap, sym, ◌∙◌, subst, inl, inr, arith, add-one, append_assoc, length-take, length-drop}
 use Rattle.std.specs.List.{filter, flat_map}
 use Rattle.std.specs.List.Sorted.{IsNonDecreasingBy, IsPartitionPoint}
-use Rattle.std.specs.declared.cmp.Ordering.{Ordering}
-use Rattle.std.proofs.lemmas.List.{get_or-take, get_or-drop, append-nil}
+use Rattle.std.proofs.lemmas.List.{get_or-take, get_or-drop}
 use Rattle.std.proofs.lemmas.Bool.{cases_order, ltb-true, ltb-false}
 use Rattle.change_core.specs.declared.addresses.Address.{Address}
 use Rattle.change_core.specs.Address.{address_text}
 use Rattle.change_core.specs.Numeral.{number_text}
-use Rattle.std.specs.Ordering.{nat_cmp}
 use Rattle.hash_ring.specs.declared.points.Point.{Point}
-use Rattle.change_core.specs.Ascending.{put, ascending, In, IsAscending, IsExact}
+use Rattle.change_core.specs.Ascending.{put, ascending, In, IsAscending}
 use Rattle.hash_ring.specs.Points.{point_cmp, points_of, points_by, points, point, AreSmall}
 use Rattle.hash_ring.specs.Servers.{is_same, server_cmp, without}
 use Rattle.hash_ring.specs.declared.servers.Server.{Server}
-use Rattle.change_core.proofs.Order.{in_append, in_append_left, in_append_right, in_put, put_new, put_old, put_ascends, ascending_ascends, ascending_in, in_ascending, ascending_is, ascending_same, in_filter, filter_in, filter_all, filter_ascends}
+use Rattle.change_core.proofs.Order.{in_append, in_append_left, in_append_right, in_put, put_new, put_old, ascending_ascends, ascending_in, in_ascending, ascending_is, ascending_same, in_filter, filter_in, filter_ascends}
 use Rattle.hash_ring.proofs.Placed.{at_in, ascending_at}
 use Rattle.hash_ring.proofs.PointOrder.{point_exact, server_exact, less_hash_le}
 use Rattle.hash_ring.proofs.Lists.{in_flat_map, flat_map_in}

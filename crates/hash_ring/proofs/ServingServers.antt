@@ -1,7 +1,6 @@
 -- How one change more alters the servers that the members are.
-use Rattle.std.proofs.Common.{◌≡◌, ℕ, ◌<◌, Bool, true, false, not, eqb, List, [], ◌∷◌, ◌++◌, Some, map, arith, refl, ap, sym, ◌∙◌, subst, inl, inr}
+use Rattle.std.proofs.Common.{◌≡◌, ℕ, ◌<◌, Bool, true, false, not, List, [], ◌∷◌, ◌++◌, Some, map, refl, ap, sym, ◌∙◌, subst, inl, inr}
 use Rattle.std.specs.List.{filter}
-use Rattle.std.specs.Ordering.{nat_cmp}
 use Rattle.std.specs.declared.cmp.Ordering.TheVariants.{Less}
 use Rattle.std.proofs.lemmas.Bool.{lt-ltb}
 use Rattle.change_core.specs.declared.changes.Change.{Change}
@@ -15,11 +14,11 @@ use Rattle.change_core.proofs.Serving.{IsMemberList-filter}
 use Rattle.hash_ring.specs.declared.servers.Server.{Server}
 use Rattle.hash_ring.specs.Servers.{is_same, server_cmp, with_server, without}
 use Rattle.hash_ring.specs.Serving.{server_of, servers_of}
-use Rattle.hash_ring.proofs.Firsts.{same_is, is_same_itself, test_cases}
+use Rattle.hash_ring.proofs.Firsts.{same_is, test_cases}
 use Rattle.hash_ring.proofs.FreshPoints.{in_of_contains, contains_of_in}
 use Rattle.hash_ring.proofs.Lists.{in_map, map_in}
 use Rattle.hash_ring.proofs.PointOrder.{server_exact}
-use Rattle.hash_ring.proofs.Weights.{differs, in_without, not_same}
+use Rattle.hash_ring.proofs.Weights.{in_without, not_same}
 
 -- a server is a member that serves
 server_is : (cs : List Change) (s : Server) → In s (servers_of cs) → (c : Change) × (greatest cs s.address ≡ Some c) × (is_serving c.status ≡ true) × (s ≡ server_of c)

@@ -1,5 +1,5 @@
 -- Servers and their weights.
-use Rattle.std.proofs.Common.{◌≡◌, ℕ, zero, suc, ◌*◌, ◌<◌, Bool, true, false, not, List, [], ◌∷◌, Option, Some, None, ◌==◌, refl, ap, sym, ◌∙◌, subst, ◌⊎◌, inl, inr, arith}
+use Rattle.std.proofs.Common.{◌≡◌, ℕ, zero, suc, ◌*◌, ◌<◌, Bool, true, false, not, List, [], ◌∷◌, Option, Some, None, ◌==◌, refl, ap, sym, ◌∙◌, subst, inl, inr, arith}
 use Rattle.std.proofs.lemmas.Bool.{eqb-true}
 use Rattle.change_core.specs.declared.addresses.Address.{Address}
 use Rattle.change_core.specs.Ascending.{put, In, IsAscending}

@@ -1,5 +1,5 @@
 -- What contracts see of a ring.
-use Rattle.std.specs.Prelude.{◌≡◌, ◌⊎◌, ℕ, ◌-◌, ◌*◌, ◌<◌, ◌≤◌, nat_lt, min, if◌then◌else◌, List, vec_len, vec_capacity}
+use Rattle.std.specs.Prelude.{◌≡◌, ◌⊎◌, ℕ, ◌-◌, ◌*◌, ◌≤◌, nat_lt, min, if◌then◌else◌, List, vec_len, vec_capacity}
 use Rattle.std.specs.Global.{Vec}
 use Rattle.hash_ring.specs.declared.points.Point.{Point}
 use Rattle.hash_ring.specs.declared.servers.Server.{Server}

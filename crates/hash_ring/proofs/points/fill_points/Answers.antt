@@ -1,4 +1,4 @@
-use Rattle.std.proofs.Common.{◌≡◌, ◌∙◌, sym, ap, subst, rules, ◌++◌, []}
+use Rattle.std.proofs.Common.{◌∙◌, sym, ap, subst, ◌++◌}
 use Rattle.std.proofs.lemmas.List.Filters.{dedup_is}
 use Rattle.change_core.specs.Ascending.{ascending, In}
 use Rattle.change_core.proofs.Order.{in_ascending}

@@ -1,4 +1,4 @@
-use Rattle.std.proofs.Common.{rules, length, arith, ap, sym, ◌∙◌, ◌++◌}
+use Rattle.std.proofs.Common.{rules, arith}
 use Rattle.std.proofs.lemmas.Fmt.{length-decimal-le}
 use Rattle.change_core.proofs.NumberTexts.{number_text-decimal}
 use Rattle.hash_ring.proofs.points.point_hash.Goals as goal

@@ -1,5 +1,4 @@
-use Rattle.std.proofs.Common.{◌≡◌, ◌+◌, ◌^◌, ◌<◌, ◌++◌, ◌∷◌, [], List, add-one, arith, ap, sym, ◌∙◌, subst}
-use Rattle.hash_ring.specs.Points.{point, points_of}
+use Rattle.std.proofs.Common.{arith, ◌∙◌}
 use Rattle.hash_ring.specs.declared.points.Point.{Point}
 use Rattle.hash_ring.proofs.Edits.{points_of_more, small_more}
 use Rattle.hash_ring.proofs.points.push_points.Goals as goal

@@ -1,7 +1,6 @@
-use Rattle.std.proofs.Common.{◌≡◌, ◌<◌, ◌≤◌, length, vec_len, vec_capacity, ap, sym, ◌∙◌, subst, arith, Some, false, not, rules}
-use Rattle.change_core.specs.Ascending.{put, ascending, In, IsAscending}
+use Rattle.std.proofs.Common.{◌≡◌, ◌<◌, length, vec_len, vec_capacity, ap, sym, ◌∙◌, subst, arith, Some, false, not, rules}
+use Rattle.change_core.specs.Ascending.{put, In, IsAscending}
 use Rattle.change_core.proofs.Order.{ascending_ascends}
-use Rattle.hash_ring.specs.declared.points.Point.{Point}
 use Rattle.hash_ring.specs.declared.servers.Server.{Server}
 use Rattle.hash_ring.specs.Points.{point_cmp, points, points_by, AreSmall}
 use Rattle.hash_ring.specs.Servers.{has_weight, server_cmp, weight_of, with_server}

@@ -1,0 +1,148 @@
+-- An input folds to one output, or has a first fault, and not both.
+use Rattle.std.proofs.Common.{◌≡◌, ℕ, ◌≤◌, List, [], ◌∷◌, ◌++◌, map, length, Option, Some, None, refl, sym, ap, subst, ◌∙◌, append_assoc, append-nil, inl, inr, arith}
+use Rattle.std.specs.Prelude.{codes}
+use Rattle.std.proofs.lemmas.List.{map-append}
+use Rattle.change_core.specs.declared.changes.Change.{Change}
+use Rattle.change_core.specs.declared.changes.Sourced.{Sourced}
+use Rattle.change_core.specs.Members.{greatest, members}
+use Rattle.change_core.proofs.Members.{greatest-members}
+use Rattle.change_core.proofs.News.{length-members_known, length-members_new}
+use Rattle.serde_json.specs.Data.{Data, null, boolean, number, string, array, object}
+use Rattle.serde_json.specs.Find.{get}
+use Rattle.wire_json.specs.Forms.{ChangeForm, ChangeFault}
+use Rattle.wire_json.specs.Lines.{IsObject, Faults}
+use Rattle.wire_json.specs.declared.errors.WireError.{WireError}
+use Rattle.wire_json.proofs.Uniqueness.{one_read, one_change, sound_change}
+use Rattle.ringpop_cli.specs.declared.faults.LineFault.{LineFault}
+use Rattle.ringpop_cli.specs.declared.faults.LineFault.TheVariants.{Wire, TooManyMembers, ReadFailed, OutOfMemory}
+use Rattle.ringpop_cli.specs.declared.faults.RunFault.{RunFault}
+use Rattle.ringpop_cli.specs.declared.faults.RunFault.TheVariants.{AtLine, NoMemory, CannotWrite}
+use Rattle.ringpop_cli.specs.Input.{lines_of}
+use Rattle.ringpop_cli.specs.Changes.{IsChangeLine, AreChangeLines, change_of, ComeTo, IsLineFault, IsFaultAt, IsFirstFault, IsRefused, IsTooMany, IsOutside}
+use Rattle.ringpop_cli.specs.Runs.{RunsTo}
+
+-- ---- one line
+
+pub one_line_change : (line : List ℕ) (c d : Sourced) → IsChangeLine line c → IsChangeLine line d → c ≡ d
+one_line_change line c d p q =
+    let same : p.0 ≡ q.0 = one_read line p.0 q.0 p.1 q.1 in
+    one_change q.0 c d (subst (λ (v : Data). ChangeForm v c) same p.2) q.2
+
+-- a value with a member is an object
+object_of : (v d : Data) (k : List ℕ) → get k v ≡ Some d → IsObject v
+object_of null d k e = absurd (cc)
+object_of (boolean b) d k e = absurd (cc)
+object_of (number n) d k e = absurd (cc)
+object_of (string s) d k e = absurd (cc)
+object_of (array ds) d k e = absurd (cc)
+object_of (object ms) d k e = refl
+
+-- a line that is a change has no fault
+pub sound_line : (line : List ℕ) (c : Sourced) (e : WireError) → IsChangeLine line c → Faults ChangeFault line e → ⊥
+sound_line line c e p (inl (inl long)) = let w = p.1.within in absurd (omega (arith, long.1))
+sound_line line c e p (inl (inr (inl bad))) = bad.2 p.0 p.1
+sound_line line c e p (inl (inr (inr other))) =
+    let same : p.0 ≡ other.1 = one_read line p.0 other.1 p.1 other.2 in
+    let form = subst (λ (v : Data). ChangeForm v c) same p.2 in
+    other.3 (object_of other.1 _ (codes "address") form.address.0)
+sound_line line c e p (inr fault) =
+    let same : p.0 ≡ fault.0 = one_read line p.0 fault.0 p.1 fault.1 in
+    sound_change fault.0 c e (subst (λ (v : Data). ChangeForm v c) same p.2) fault.2.1
+
+-- ---- all lines
+
+same_cons : (c d : Sourced) (cs ds : List Sourced) → c ≡ d → cs ≡ ds → c ∷ cs ≡ d ∷ ds
+same_cons c d cs ds p q = cc
+
+pub one_heard : (lines : List (List ℕ)) (cs ds : List Sourced) → AreChangeLines lines cs → AreChangeLines lines ds → cs ≡ ds
+one_heard [] [] [] p q = refl
+one_heard [] [] (d ∷ ds) p q = absurd q
+one_heard [] (c ∷ cs) ds p q = absurd p
+one_heard (l ∷ lines) [] ds p q = absurd p
+one_heard (l ∷ lines) (c ∷ cs) [] p q = absurd q
+one_heard (l ∷ lines) (c ∷ cs) (d ∷ ds) p q = same_cons c d cs ds (one_line_change l c d p.0 q.0) (one_heard lines cs ds p.1 q.1)
+
+pub one_come_to : (lines : List (List ℕ)) (held now : List Change) → ComeTo lines held → ComeTo lines now → held ≡ now
+one_come_to lines held now p q =
+    p.are_members ∙ ap (λ cs. members (map change_of cs)) (one_heard lines p.heard q.heard p.read q.read) ∙ sym q.are_members
+
+pub one_output : (text : List Change → List ℕ) (input output other : List ℕ) → RunsTo text input output → RunsTo text input other → output ≡ other
+one_output text input output other p q = p.is ∙ ap text (one_come_to (lines_of input) p.held q.held p.come_to q.come_to) ∙ sym q.is
+
+-- ---- a fault
+
+-- what the lines in front, and those after them, are
+pub parted : (before left : List (List ℕ)) (cs : List Sourced) → AreChangeLines (before ++ left) cs
+    → (xs ys : List Sourced) × (cs ≡ xs ++ ys) × AreChangeLines before xs × AreChangeLines left ys
+parted [] left cs p = ([], cs, refl, tt, p)
+parted (l ∷ before) left [] p = absurd p
+parted (l ∷ before) left (c ∷ cs) p =
+    let (xs, ys, e, front, back) = parted before left cs p.1 in
+    (c ∷ xs, ys, ap (λ ds. c ∷ ds) e, (p.0, front), back)
+
+-- one change more comes to no fewer members
+no_fewer_one : (cs : List Change) (c : Change) → length (members cs) ≤ length (members (cs ++ c ∷ []))
+no_fewer_one cs c = by_held (greatest cs c.address) refl
+  where
+    by_held : (o : Option Change) → greatest cs c.address ≡ o → length (members cs) ≤ length (members (cs ++ c ∷ []))
+    by_held None e = omega (arith, length-members_new cs c e)
+    by_held (Some d) e = omega (arith, length-members_known cs c d e)
+
+pub no_fewer : (cs ds : List Change) → length (members cs) ≤ length (members (cs ++ ds))
+no_fewer cs [] = rw append-nil (omega arith)
+no_fewer cs (d ∷ ds) =
+    let more = no_fewer (cs ++ d ∷ []) ds in
+    let same : (cs ++ d ∷ []) ++ ds ≡ cs ++ d ∷ ds = append_assoc cs (d ∷ []) ds in
+    omega (arith, no_fewer_one cs d, rw same at more)
+
+-- where a change was one too many, all that come to members are too many
+too_many : (cs : List Change) (c : Change) (ds : List Change) → IsTooMany (members cs) c → length (members (cs ++ c ∷ ds)) ≤ 4096 → ⊥
+too_many cs c ds t few =
+    let unknown : greatest cs c.address ≡ None = sym (greatest-members cs c.address) ∙ t.unknown in
+    let more = no_fewer (cs ++ c ∷ []) ds in
+    let same : (cs ++ c ∷ []) ++ ds ≡ cs ++ c ∷ ds = append_assoc cs (c ∷ []) ds in
+    let counted = rw same at more in
+    let full = t.full in
+    omega (arith, length-members_new cs c unknown, counted)
+
+no_line_fault : (cs : List Change) (line : List ℕ) (c : Sourced) (ds : List Change) (f : LineFault) → IsChangeLine line c → IsLineFault (members cs) line f
+    → length (members (cs ++ c.change ∷ ds)) ≤ 4096 → IsOutside (AtLine 0 f)
+no_line_fault cs line c ds (Wire e) p f few = absurd (sound_line line c e p f)
+no_line_fault cs line c ds TooManyMembers p f few =
+    let same : f.0 ≡ c = one_line_change line f.0 c f.1 p in
+    let many = subst (λ (x : Sourced). IsTooMany (members cs) x.change) same f.2 in
+    absurd (too_many cs c.change ds many few)
+no_line_fault cs line c ds ReadFailed p f few = tt
+no_line_fault cs line c ds OutOfMemory p f few = tt
+
+no_fault_at : (cs : List Change) (left : List (List ℕ)) (ys : List Sourced) (f : LineFault) → AreChangeLines left ys → IsFaultAt (members cs) left f
+    → length (members (cs ++ map change_of ys)) ≤ 4096 → IsOutside (AtLine 0 f)
+no_fault_at cs [] ys (Wire e) p h few = absurd h
+no_fault_at cs [] ys TooManyMembers p h few = absurd h
+no_fault_at cs [] ys ReadFailed p h few = tt
+no_fault_at cs [] ys OutOfMemory p h few = tt
+no_fault_at cs (line ∷ left) [] f p h few = absurd p
+no_fault_at cs (line ∷ left) (c ∷ ys) f p h few = no_line_fault cs line c (map change_of ys) f p.0 h few
+
+outside_anywhere : (m n : ℕ) (f : LineFault) → IsOutside (AtLine m f) → IsOutside (AtLine n f)
+outside_anywhere m n (Wire e) h = h
+outside_anywhere m n TooManyMembers h = h
+outside_anywhere m n ReadFailed h = tt
+outside_anywhere m n OutOfMemory h = tt
+
+-- an input that folds has no fault of its own
+pub no_first_fault : (text : List Change → List ℕ) (input output : List ℕ) (n : ℕ) (f : LineFault) → RunsTo text input output → IsFirstFault input n f → IsOutside (AtLine n f)
+no_first_fault text input output n f p q =
+    let read = rw q.lines at p.come_to.read in
+    let (xs, ys, all, front, back) = parted q.before q.left p.come_to.heard read in
+    let same : xs ≡ q.come_to.heard = one_heard q.before xs q.come_to.heard front q.come_to.read in
+    let held : q.held ≡ members (map change_of xs) = q.come_to.are_members ∙ ap (λ cs. members (map change_of cs)) (sym same) in
+    let split : map change_of p.come_to.heard ≡ map change_of xs ++ map change_of ys = ap (map change_of) all ∙ map-append change_of xs ys in
+    let total : length p.held ≡ length (members (map change_of xs ++ map change_of ys)) = ap length (p.come_to.are_members ∙ ap members split) in
+    let few : length (members (map change_of xs ++ map change_of ys)) ≤ 4096 = let fits = p.come_to.fits in omega arith in
+    outside_anywhere 0 n f (no_fault_at (map change_of xs) q.left ys f back (rw held at q.is) few)
+
+pub no_refusal : (text : List Change → List ℕ) (input output : List ℕ) (e : RunFault) → RunsTo text input output → IsRefused input e → IsOutside e
+no_refusal text input output (AtLine n f) p q = no_first_fault text input output n f p q
+no_refusal text input output NoMemory p q = tt
+no_refusal text input output CannotWrite p q = tt

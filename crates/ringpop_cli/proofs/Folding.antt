@@ -1,0 +1,181 @@
+-- Folding an input line by line.
+use Rattle.std.proofs.Common.{◌≡◌, ◌≢◌, ℕ, ◌+◌, ◌<◌, ◌≤◌, true, false, List, [], ◌∷◌, ◌++◌, map, length, length-append, Option, Some, None, Ok, Err, Vec, Global, refl, sym, ap, subst, ◌∙◌, append_assoc, append-nil, inl, inr, arith, lit≤}
+use Rattle.std.specs.Prelude.{IfSome, ◌⊎◌}
+use Rattle.std.specs.Io.KnownBytes.{Appends, Keeps}
+use Rattle.std.proofs.lemmas.List.{map-append}
+use Rattle.change_core.specs.declared.changes.Change.{Change}
+use Rattle.change_core.specs.declared.changes.Sourced.{Sourced}
+use Rattle.change_core.specs.Members.{members, digest_text}
+use Rattle.change_core.specs.Digest.{digest_digits}
+use Rattle.change_core.proofs.Members.{members-append}
+use Rattle.sha2.specs.Sha256.{sha256}
+use Rattle.wire_json.specs.Forms.{ChangeFault}
+use Rattle.wire_json.specs.Lines.{Faults, max_line}
+use Rattle.wire_json.specs.Input.{line_of, after_line, TakesLine, AppendsFront}
+use Rattle.wire_json.specs.declared.errors.WireError.{WireError}
+use Rattle.wire_json.specs.declared.errors.WireError.TheVariants.{LineTooLong, BadJson, NotObject, UnknownKind, MissingField, BadField, TooMany, Io, Memory}
+use Rattle.ringpop_cli.specs.declared.faults.LineFault.{LineFault}
+use Rattle.ringpop_cli.specs.declared.faults.LineFault.TheVariants.{Wire, ReadFailed, OutOfMemory}
+use Rattle.ringpop_cli.specs.declared.faults.RunFault.TheVariants.{AtLine, CannotWrite}
+use Rattle.ringpop_cli.specs.Input.{lines_of}
+use Rattle.ringpop_cli.specs.Faults.{fault_of_wire}
+use Rattle.ringpop_cli.specs.Changes.{IsChangeLine, AreChangeLines, change_of, ComeTo, IsLineFault, IsFaultAt, IsRefused, Hears}
+use Rattle.ringpop_cli.specs.Runs.{RunsTo, Writes, Leaves}
+use Rattle.ringpop_cli.proofs.Lines.{lines_of-first, some_from_line}
+
+-- ---- one line
+
+-- an error of decoding is the fault of the line
+pub fault_line : (held : List Change) (line : List ℕ) (e : WireError) → (e ≢ Memory → Faults ChangeFault line e) → IsLineFault held line (fault_of_wire e)
+fault_line held line LineTooLong h = h (λ q. cc)
+fault_line held line BadJson h = h (λ q. cc)
+fault_line held line NotObject h = h (λ q. cc)
+fault_line held line UnknownKind h = h (λ q. cc)
+fault_line held line (MissingField f) h = h (λ q. cc)
+fault_line held line (BadField f) h = h (λ q. cc)
+fault_line held line TooMany h = h (λ q. cc)
+fault_line held line Io h = tt
+fault_line held line Memory h = tt
+
+read_failed : (held : List Change) (lines : List (List ℕ)) → IsFaultAt held lines ReadFailed
+read_failed held [] = tt
+read_failed held (line ∷ lines) = tt
+
+pub no_memory : (held : List Change) (lines : List (List ℕ)) → IsFaultAt held lines OutOfMemory
+no_memory held [] = tt
+no_memory held (line ∷ lines) = tt
+
+abbrev pub IsReadError : WireError → Type 0
+IsReadError e = (e ≡ LineTooLong) ⊎ ((e ≡ Io) ⊎ (e ≡ Memory))
+
+too_long : (held : List Change) (xs : List ℕ) → max_line < length (line_of xs) → IsFaultAt held (lines_of xs) (Wire LineTooLong)
+too_long held xs h =
+    let first = lines_of-first xs (some_from_line xs max_line h) in
+    rw first (inl (inl (refl, h)))
+
+-- an error of reading is the fault of the line that was to be read
+pub unread : (known new : Option (List ℕ)) (held : List Change) (e : WireError) → TakesLine known (Err e) new → IsReadError e
+    → IfSome known (λ xs. IsFaultAt held (lines_of xs) (fault_of_wire e))
+unread None new held e t i = tt
+unread (Some xs) new held e t (inl q) =
+    let long = rw q at t in
+    rw q (too_long held xs long.0)
+unread (Some xs) new held e t (inr (inl q)) = rw q (read_failed held (lines_of xs))
+unread (Some xs) new held e t (inr (inr q)) = rw q (no_memory held (lines_of xs))
+
+-- a line was read, and it is at fault
+pub bad_line : (known new : Option (List ℕ)) (held : List Change) (v : Vec ℕ Global) (f : LineFault) → TakesLine known (Ok (Some v)) new → IsLineFault held v.items f
+    → IfSome known (λ xs. IsFaultAt held (lines_of xs) f)
+bad_line None new held v f t i = tt
+bad_line (Some xs) new held v f t i = rw (lines_of-first xs t.0) (rw t.1 at i)
+
+-- a line was read, but it is one too many
+pub uncounted : (known new : Option (List ℕ)) (held : List Change) → IfSome known (λ xs. IsFaultAt held (lines_of xs) ReadFailed)
+uncounted None new held = tt
+uncounted (Some xs) new held = read_failed held (lines_of xs)
+
+-- a line was read, and its change taken
+pub good_line : (known new : Option (List ℕ)) (held now : List Change) (v : Vec ℕ Global) → TakesLine known (Ok (Some v)) new
+    → (c : Sourced) × IsChangeLine v.items c × (now ≡ members (held ++ c.change ∷ []))
+    → IfSome known (λ xs. Hears xs held (Ok true) new now)
+good_line None new held now v t p = tt
+good_line (Some xs) new held now v t p =
+    (line_of xs, after_line xs, p.0, t.2, lines_of-first xs t.0, subst (λ (l : List ℕ). IsChangeLine l p.0) t.1 p.1, p.2)
+
+-- ---- all lines
+
+pub AreChangeLines-more : (lines : List (List ℕ)) (heard : List Sourced) (line : List ℕ) (c : Sourced) → AreChangeLines lines heard → IsChangeLine line c
+    → AreChangeLines (lines ++ line ∷ []) (heard ++ c ∷ [])
+AreChangeLines-more [] [] line c h i = (i, tt)
+AreChangeLines-more [] (d ∷ heard) line c h i = absurd h
+AreChangeLines-more (l ∷ lines) [] line c h i = absurd h
+AreChangeLines-more (l ∷ lines) (d ∷ heard) line c h i = (h.0, AreChangeLines-more lines heard line c h.1 i)
+
+pub ComeTo-nil : ComeTo [] []
+ComeTo-nil = record { heard = []; read = tt; are_members = refl; fits = lit≤ tt }
+
+pub ComeTo-more : (lines : List (List ℕ)) (held now : List Change) (line : List ℕ) (c : Sourced) → ComeTo lines held → IsChangeLine line c
+    → now ≡ members (held ++ c.change ∷ []) → length now ≤ 4096 → ComeTo (lines ++ line ∷ []) now
+ComeTo-more lines held now line c p i e fits = record {
+  heard = p.heard ++ c ∷ [];
+  read = AreChangeLines-more lines p.heard line c p.read i;
+  are_members =
+      e ∙ ap (λ cs. members (cs ++ c.change ∷ [])) p.are_members
+      ∙ members-append (map change_of p.heard) (c.change ∷ [])
+      ∙ ap members (sym (map-append change_of p.heard (c ∷ [])));
+  fits = fits;
+}
+
+-- the lines heard so far stand before those that are left, and come to these members
+pub record HasHeard (known left : Option (List ℕ)) (number : ℕ) (held : List Change) : Type 0 where
+  pub is : IfSome known (λ input. (rest : List ℕ) × (before : List (List ℕ)) × (left ≡ Some rest)
+      × (lines_of input ≡ before ++ lines_of rest) × ComeTo before held × (number ≡ length before + 1))
+
+pub starts : (known : Option (List ℕ)) (held : List Change) → held ≡ [] → HasHeard known known 1 held
+starts None held e = record { is = tt }
+starts (Some input) held e = record { is = (input, [], refl, refl, rw e ComeTo-nil, refl) }
+
+goes_known : (input : List ℕ) (left new : Option (List ℕ)) (number : ℕ) (held now : List Change)
+    → (rest : List ℕ) × (before : List (List ℕ)) × (left ≡ Some rest) × (lines_of input ≡ before ++ lines_of rest) × ComeTo before held × (number ≡ length before + 1)
+    → IfSome left (λ xs. Hears xs held (Ok true) new now) → length now ≤ 4096
+    → (rest : List ℕ) × (before : List (List ℕ)) × (new ≡ Some rest) × (lines_of input ≡ before ++ lines_of rest) × ComeTo before now × (number + 1 ≡ length before + 1)
+goes_known input left new number held now p h fits =
+    let (rest, before, is, lines, come_to, place) = p in
+    let (line, after, c, left_is, first, is_line, now_is) = rw is at h in (
+      after,
+      before ++ line ∷ [],
+      left_is,
+      lines ∙ ap (λ ls. before ++ ls) first ∙ sym (append_assoc before (line ∷ []) (lines_of after)),
+      ComeTo-more before held now line c come_to is_line now_is fits,
+      omega (arith, length-append before (line ∷ [])),
+    )
+
+pub goes : (known left new : Option (List ℕ)) (number : ℕ) (held now : List Change) → HasHeard known left number held
+    → IfSome left (λ xs. Hears xs held (Ok true) new now) → length now ≤ 4096 → HasHeard known new (number + 1) now
+goes None left new number held now p h fits = record { is = tt }
+goes (Some input) left new number held now p h fits = record { is = goes_known input left new number held now p.is h fits }
+
+pub ends : (known left new : Option (List ℕ)) (number : ℕ) (held now : List Change) → HasHeard known left number held
+    → IfSome left (λ xs. Hears xs held (Ok false) new now) → number ≤ 9007199254740992
+    → IfSome known (λ input. ComeTo (lines_of input) now × (length (lines_of input) ≤ 9007199254740991))
+ends None left new number held now p h few = tt
+ends (Some input) left new number held now p h few =
+    let (rest, before, is, lines, come_to, place) = p.is in
+    let (none, same) = rw is at h in
+    let all : lines_of input ≡ before = lines ∙ ap (λ xs. before ++ lines_of xs) none ∙ append-nil before in
+    rw (all, same) (come_to, omega arith)
+
+pub faults : (known left new : Option (List ℕ)) (number : ℕ) (held now : List Change) (f : LineFault) → HasHeard known left number held
+    → IfSome left (λ xs. Hears xs held (Err f) new now) → IfSome known (λ input. IsRefused input (AtLine number f))
+faults None left new number held now f p h = tt
+faults (Some input) left new number held now f p h =
+    let (rest, before, is, lines, come_to, place) = p.is in
+    let fault = rw is at h in
+    record { before = before; left = lines_of rest; held = held; lines = lines; come_to = come_to; place = place; is = fault }
+
+-- ---- the output
+
+abbrev pub ComesTo : Option (List ℕ) → List Change → Type 0
+ComesTo known held = IfSome known (λ input. ComeTo (lines_of input) held × (length (lines_of input) ≤ 9007199254740991))
+
+RunsTo-text : (text : List Change → List ℕ) (input : List ℕ) (held : List Change) → ComeTo (lines_of input) held × (length (lines_of input) ≤ 9007199254740991) → RunsTo text input (text held)
+RunsTo-text text input held p = record { held = held; come_to = p.0; counted = p.1; is = refl }
+
+pub written : (text : List Change → List ℕ) (known old new : Option (List ℕ)) (held : List Change) (output : List ℕ) → ComesTo known held
+    → output ≡ text held → Appends old new output → Writes text known old new
+written text None old new held output p e a = tt
+written text (Some input) old new held output p e a = (text held, RunsTo-text text input held p, rw e at a)
+
+pub front_written : (text : List Change → List ℕ) (known old new : Option (List ℕ)) (held : List Change) (output : List ℕ) → ComesTo known held
+    → output ≡ text held → AppendsFront old new output → Leaves text CannotWrite known old new
+front_written text None old new held output p e a = tt
+front_written text (Some input) old new held output p e a = (text held, RunsTo-text text input held p, rw e at a)
+
+pub Keeps-refl : (known : Option (List ℕ)) → Keeps known known
+Keeps-refl None = tt
+Keeps-refl (Some xs) = refl
+
+-- a front of a part in front is a front of the whole
+pub front_more : (a b : Option (List ℕ)) (xs ys : List ℕ) → AppendsFront a b xs → AppendsFront a b (xs ++ ys)
+front_more None b xs ys p = tt
+front_more (Some o) b xs ys p = (p.0, p.1 ++ ys, ap (λ s. s ++ ys) p.2 ∙ append_assoc p.0 p.1 ys, p.3)

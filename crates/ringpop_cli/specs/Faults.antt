@@ -1,0 +1,46 @@
+-- What a fault of the crates below is to a run, and the exit status.
+use Rattle.std.specs.Prelude.{◌≡◌, ℕ}
+use Rattle.clap.specs.Values.{kind_of}
+use Rattle.clap.specs.declared.error.Error.{Error}
+use Rattle.clap.specs.declared.error.kind.ErrorKind.{ErrorKind}
+use Rattle.clap.specs.declared.error.kind.ErrorKind.TheVariants.{OutOfMemory as no_room}
+use Rattle.wire_json.specs.declared.errors.WireError.{WireError}
+use Rattle.wire_json.specs.declared.errors.WireError.TheVariants.{Io, Memory}
+use Rattle.member_core.specs.declared.errors.MemberError.{MemberError}
+use Rattle.member_core.specs.declared.errors.MemberError.TheVariants.{BadLimit, Full}
+use Rattle.member_core.specs.declared.errors.MemberError.TheVariants as held
+use Rattle.ringpop_cli.specs.declared.faults.LineFault.{LineFault}
+use Rattle.ringpop_cli.specs.declared.faults.LineFault.TheVariants.{Wire, TooManyMembers, ReadFailed, OutOfMemory}
+use Rattle.ringpop_cli.specs.declared.faults.RunFault.TheVariants.{NoMemory}
+use Rattle.ringpop_cli.specs.declared.faults.Fault.{Fault}
+use Rattle.ringpop_cli.specs.declared.faults.Fault.TheVariants.{Usage, Run}
+
+-- a failed read and a want of memory are no faults of the line's bytes
+abbrev pub fault_of_wire : WireError → LineFault
+fault_of_wire Io = ReadFailed
+fault_of_wire Memory = OutOfMemory
+fault_of_wire e = Wire e
+
+-- the table is full, or a growth was refused
+abbrev pub fault_of_table : MemberError → LineFault
+fault_of_table BadLimit = TooManyMembers
+fault_of_table Full = TooManyMembers
+fault_of_table held.Memory = OutOfMemory
+
+-- an error of the words is a refusal of them, unless a growth was refused
+abbrev pub fault_of_kind : ErrorKind → Error → Fault
+fault_of_kind no_room e = Run NoMemory
+fault_of_kind k e = Usage e
+
+abbrev pub fault_of_words : Error → Fault
+fault_of_words e = fault_of_kind (kind_of e) e
+
+-- the words are refused, or a growth was
+abbrev pub IsWordsFault : Fault → Type 0
+IsWordsFault (Usage e) = Unit {0}
+IsWordsFault (Run f) = f ≡ NoMemory
+
+-- refused words end with 2, and all else with 1
+abbrev pub status_of : Fault → ℕ
+status_of (Usage e) = 2
+status_of (Run f) = 1

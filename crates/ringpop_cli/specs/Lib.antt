@@ -1,0 +1,5 @@
+pub mod Input
+pub mod Faults
+pub mod Changes
+pub mod Runs
+pub mod Fold

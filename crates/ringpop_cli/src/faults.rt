@@ -1,0 +1,158 @@
+//! Why a run ends before its end.
+ghost use Rattle.std.specs.Prelude.{◌≡◌};
+ghost use Rattle.ringpop_cli.specs.declared.faults.Fault.TheVariants.{Run};
+ghost use Rattle.ringpop_cli.specs.declared.faults.RunFault.TheVariants.{NoMemory};
+
+use change_core::ChangeError;
+use clap::error::ErrorKind;
+use member_core::MemberError;
+use std::alloc::{AllocError, AllocFailed};
+use std::fmt;
+use thiserror::Error;
+use wire_json::WireError;
+
+/// What is wrong with a line of the input.
+#[derive(Clone, Copy, Debug, PartialEq, Eq, Error)]
+pub enum LineFault {
+    /// It is no change.
+    #[error("{0}")]
+    Wire(WireError),
+    /// Its address would be one too many.
+    #[error("too many members")]
+    TooManyMembers,
+    /// The reader failed.
+    #[error("read failed")]
+    ReadFailed,
+    /// A growth was refused while it was read or taken.
+    #[error("out of memory")]
+    OutOfMemory,
+}
+
+/// Why a run ended before its end.
+#[derive(Clone, Copy, Debug, PartialEq, Eq, Error)]
+pub enum RunFault {
+    /// The line with this number, from 1, is at fault.
+    #[error("line {0}: {1}")]
+    AtLine(u64, LineFault),
+    /// A growth was refused outside the lines.
+    #[error("out of memory")]
+    NoMemory,
+    /// The writer failed.
+    #[error("cannot write")]
+    CannotWrite,
+}
+
+impl From<WireError> for LineFault {
+    ghost use Rattle.ringpop_cli.specs.Faults.{fault_of_wire};
+
+    ghost from_gives = { λ e f. f ≡ fault_of_wire e };
+
+    fn from(error: WireError) -> LineFault {
+        match error {
+            WireError::Io => LineFault::ReadFailed,
+            WireError::Memory => LineFault::OutOfMemory,
+            other => LineFault::Wire(other),
+        }
+    }
+}
+
+/// What a table refuses of a change is a fault of the line; a change is never refused for a bad maximum.
+impl From<MemberError> for LineFault {
+    ghost use Rattle.ringpop_cli.specs.Faults.{fault_of_table};
+
+    ghost from_gives = { λ e f. f ≡ fault_of_table e };
+
+    fn from(error: MemberError) -> LineFault {
+        match error {
+            MemberError::BadLimit | MemberError::Full => LineFault::TooManyMembers,
+            MemberError::Memory => LineFault::OutOfMemory,
+        }
+    }
+}
+
+/// What a table refuses when its texts are made is a want of memory.
+impl From<MemberError> for RunFault {
+    ghost from_gives = { λ _ f. f ≡ NoMemory };
+
+    fn from(_error: MemberError) -> RunFault {
+        RunFault::NoMemory
+    }
+}
+
+/// What a digest refuses when its text is made is a want of memory.
+impl From<ChangeError> for RunFault {
+    ghost from_gives = { λ _ f. f ≡ NoMemory };
+
+    fn from(_error: ChangeError) -> RunFault {
+        RunFault::NoMemory
+    }
+}
+
+/// Why the program ended before its end. Its `Display` is what standard error gets.
+#[derive(Debug, Drop)]
+pub enum Fault {
+    /// The words are refused, or ask for help: `clap`'s own text.
+    Usage(clap::Error),
+    /// The run ended early.
+    Run(RunFault),
+}
+
+impl Fault {
+    ghost use Rattle.ringpop_cli.specs.Faults.{status_of};
+
+    /// The exit status: 2 where the words are refused, else 1.
+    pub fn status(&self) -> u8
+        ensures { result ≡ status_of self.now }
+    {
+        match self {
+            Fault::Usage(_) => 2,
+            Fault::Run(_) => 1,
+        }
+    }
+}
+
+impl fmt::Display for Fault {
+    fn fmt<W: fmt::Write>(&self, f: &mut fmt::Formatter<W>) -> fmt::Result {
+        match self {
+            Fault::Usage(error) => write!(f, "{error}"),
+            Fault::Run(fault) => writeln!(f, "ringpop: {fault}"),
+        }
+    }
+}
+
+impl From<RunFault> for Fault {
+    ghost from_gives = { λ e f. f ≡ Run e };
+
+    fn from(fault: RunFault) -> Fault {
+        Fault::Run(fault)
+    }
+}
+
+impl From<AllocError> for Fault {
+    ghost from_gives = { λ _ f. f ≡ Run NoMemory };
+
+    fn from(_refused: AllocError) -> Fault {
+        Fault::Run(RunFault::NoMemory)
+    }
+}
+
+impl<T: Drop> From<AllocFailed<T>> for Fault {
+    ghost from_gives = { λ _ f. f ≡ Run NoMemory };
+
+    fn from(_refused: AllocFailed<T>) -> Fault {
+        Fault::Run(RunFault::NoMemory)
+    }
+}
+
+impl From<clap::Error> for Fault {
+    ghost use Rattle.ringpop_cli.specs.Faults.{fault_of_words};
+
+    ghost from_gives = { λ e f. f ≡ fault_of_words e };
+
+    fn from(error: clap::Error) -> Fault {
+        match error.kind() {
+            ErrorKind::OutOfMemory => Fault::Run(RunFault::NoMemory),
+            _ => Fault::Usage(error),
+        }
+    }
+}

@@ -1,0 +1,61 @@
+//! The members of a cluster, from a command line.
+#![tactic(auto)]
+
+mod commands;
+mod faults;
+mod fold;
+mod laws;
+mod members;
+#[cfg(test)]
+mod tests;
+mod words;
+
+use faults::{Fault, RunFault};
+use std::alloc::{Alloc, Global};
+use std::env::Env;
+use std::io::{BufReader, BufWriter, ErrorKind};
+use std::process::ExitCode;
+use std::{env, io};
+use words::Words;
+
+/// The words that the program was given, its name first.
+fn given_words(rt: &(impl Env + Alloc<A = Global>)) -> Result<Vec<String>, Fault> {
+    let given = match env::args(rt) {
+        Ok(given) => given,
+        Err(error) if error.kind() == ErrorKind::OutOfMemory => return Err(
+            RunFault::NoMemory.into(),
+        ),
+        Err(_) => return Err(words::words_not_text(rt.alloc())),
+    };
+    let mut words = Vec::with_capacity(rt.alloc(), given.len())?;
+    for word in given {
+        words.push(word)?;
+    }
+    Ok(words)
+}
+
+/// Folds standard input to standard output.
+fn fold_input(rt: &(impl Input + Print), alloc: Global) -> Result<(), RunFault> {
+    let mut reader = BufReader::new(alloc, rt.reader()).map_err(|_| RunFault::NoMemory)?;
+    let mut writer = BufWriter::new(alloc, io::writer(rt)).map_err(|_| RunFault::NoMemory)?;
+    fold::fold_run(alloc, &mut reader, &mut writer)
+}
+
+/// Does what the words ask for.
+fn run(rt: &(impl Input + Print + Env + Alloc<A = Global>)) -> Result<(), Fault> {
+    let given = given_words(rt)?;
+    match words::read_words(rt.alloc(), given.as_slice())? {
+        Words::Fold => fold_input(rt, rt.alloc())?,
+    }
+    Ok(())
+}
+
+fn main(rt: HostRuntime) -> ExitCode {
+    match run(&rt) {
+        Ok(()) => ExitCode::SUCCESS,
+        Err(fault) => {
+            let _ = eprint!(rt; "{fault}");
+            ExitCode::from(fault.status())
+        }
+    }
+}

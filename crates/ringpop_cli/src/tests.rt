@@ -1,0 +1,331 @@
+use crate::faults::{Fault, LineFault, RunFault};
+use crate::fold::fold_run;
+use crate::words::{Words, read_words, words_not_text};
+use fakes::{Lines, Long, Many, Page};
+use std::alloc::Global;
+use std::io::{Read, Write};
+use std::process::Abort;
+use std::test::Fail;
+
+mod fakes;
+
+const ALIVE: &str =
+    r#"{"address":"10.0.0.2:1","incarnationNumber":5,"source":"10.0.0.2:1","sourceIncarnationNumber":5,"status":"alive"}"#;
+
+const HEAVIER: &str =
+    r#"{"address":"10.0.0.2:1","incarnationNumber":5,"source":"10.0.0.2:1","sourceIncarnationNumber":5,"status":"alive","weight":2}"#;
+
+const SUSPECT: &str =
+    r#"{"address":"10.0.0.2:1","incarnationNumber":5,"source":"10.0.0.2:1","sourceIncarnationNumber":5,"status":"suspect"}"#;
+
+const LEAVE: &str =
+    r#"{"address":"10.0.0.2:1","incarnationNumber":5,"source":"10.0.0.2:1","sourceIncarnationNumber":5,"status":"leave"}"#;
+
+const TOMBSTONE: &str =
+    r#"{"address":"10.0.0.2:1","incarnationNumber":5,"source":"10.0.0.2:1","sourceIncarnationNumber":5,"status":"tombstone"}"#;
+
+const LATER: &str =
+    r#"{"address":"10.0.0.2:1","incarnationNumber":6,"source":"10.0.0.2:1","sourceIncarnationNumber":6,"status":"alive"}"#;
+
+const LATER_FOLDED: &str =
+    "10.0.0.2:1alive6\n71f2e2fce762716835393b50a95728bc73ddc10927921dee7639cf34388c0cf7\n";
+
+const TOMBSTONE_FOLDED: &str =
+    "10.0.0.2:1tombstone5\n21e49ae7bac0c30dc69c86d7041a4d805d4b07cb76855f399736b790c1e0ca64\n";
+
+const HEAVIER_FOLDED: &str =
+    "10.0.0.2:1alive5*2\n5be5dc0d93f4cec3f7404be94076d71e9248d288f98985a89d38db45759128af\n";
+
+const NOTHING_FOLDED: &str = "\ne3b0c44298fc1c149afbf4c8996fb92427ae41e4649b934ca495991b7852b855\n";
+
+/// No end of bytes, or of room.
+const ALL: usize = usize::MAX;
+
+/// Folds what the reader gives. After a refused growth nothing is written, and it is folded again.
+fn fold<R: Read + Copy>(
+    rt: &impl Abort,
+    alloc: Global,
+    reader: R,
+    page: &mut Page,
+) -> Result<(), RunFault> {
+    let (mut first, mut second) = (reader, reader);
+    match fold_run(alloc, &mut first, page) {
+        Err(RunFault::NoMemory | RunFault::AtLine(_, LineFault::OutOfMemory)) => {
+            assert_eq!(rt; page.text(), "");
+            fold_run(alloc, &mut second, page)
+        }
+        ended => ended,
+    }
+}
+
+/// That folding what the reader gives writes nothing, and ends with this text and status 1.
+fn refuses<R: Read + Copy>(rt: &impl Abort, alloc: Global, reader: R, text: &str) {
+    let mut page = Page::new(ALL);
+    let Err(fault) = fold(rt, alloc, reader, &mut page) else {
+        assert_eq!(rt; page.text(), text);
+        return;
+    };
+    assert_eq!(rt; page.text(), "");
+    let fault = Fault::from(fault);
+    assert_eq!(rt; fault.status(), 1);
+    let written = write!(page, "{fault}").is_ok();
+    assert!(rt; written);
+    assert_eq!(rt; page.text(), text);
+}
+
+#[test]
+fn folds_in_any_order_and_number(rt: HostRuntime) {
+    let cases: [(&[&str], &str); 13] = [
+        (
+            &[ALIVE, ALIVE, SUSPECT, SUSPECT, LATER, LATER],
+            LATER_FOLDED,
+        ),
+        (
+            &[ALIVE, ALIVE, LATER, LATER, SUSPECT, SUSPECT],
+            LATER_FOLDED,
+        ),
+        (
+            &[SUSPECT, SUSPECT, ALIVE, ALIVE, LATER, LATER],
+            LATER_FOLDED,
+        ),
+        (
+            &[SUSPECT, SUSPECT, LATER, LATER, ALIVE, ALIVE],
+            LATER_FOLDED,
+        ),
+        (
+            &[LATER, LATER, ALIVE, ALIVE, SUSPECT, SUSPECT],
+            LATER_FOLDED,
+        ),
+        (
+            &[LATER, LATER, SUSPECT, SUSPECT, ALIVE, ALIVE],
+            LATER_FOLDED,
+        ),
+        (&[], NOTHING_FOLDED),
+        (&[TOMBSTONE, LEAVE, LATER], LATER_FOLDED),
+        (&[TOMBSTONE, LEAVE], TOMBSTONE_FOLDED),
+        (&[HEAVIER, ALIVE], HEAVIER_FOLDED),
+        (&[ALIVE, HEAVIER], HEAVIER_FOLDED),
+        (&[HEAVIER, ALIVE, LATER], LATER_FOLDED),
+        (&[LATER, HEAVIER], LATER_FOLDED),
+    ];
+    for (i, (lines, text)) in cases.iter().enumerate() {
+        let mut page = Page::new(ALL);
+        let folded = fold(&rt, rt.alloc(), Lines::new(lines, ALL), &mut page);
+        assert!(rt; folded.is_ok(), "case {i}");
+        assert_eq!(rt; page.text(), *text, "case {i}");
+    }
+}
+
+#[test]
+fn refuses_a_line_at_fault(rt: HostRuntime) {
+    let cases: [(&str, &str); 20] = [
+        (r#"[]"#, "ringpop: line 2: not an object\n"),
+        (r#"7"#, "ringpop: line 2: not an object\n"),
+        (r#""#, "ringpop: line 2: not JSON\n"),
+        (
+            r#"{"address":"10.0.0.2:1","incarnationNumb"#,
+            "ringpop: line 2: not JSON\n",
+        ),
+        (
+            r#"{"incarnationNumber":5,"source":"10.0.0.2:1","sourceIncarnationNumber":5,"status":"alive"}"#,
+            "ringpop: line 2: missing field address\n",
+        ),
+        (
+            r#"{"address":"10.0.0.2:1","source":"10.0.0.2:1","sourceIncarnationNumber":5,"status":"alive"}"#,
+            "ringpop: line 2: missing field incarnationNumber\n",
+        ),
+        (
+            r#"{"address":"10.0.0.2:1","incarnationNumber":5,"sourceIncarnationNumber":5,"status":"alive"}"#,
+            "ringpop: line 2: missing field source\n",
+        ),
+        (
+            r#"{"address":"10.0.0.2:1","incarnationNumber":5,"source":"10.0.0.2:1","status":"alive"}"#,
+            "ringpop: line 2: missing field sourceIncarnationNumber\n",
+        ),
+        (
+            r#"{"address":"10.0.0.2:1","incarnationNumber":5,"source":"10.0.0.2:1","sourceIncarnationNumber":5}"#,
+            "ringpop: line 2: missing field status\n",
+        ),
+        (
+            r#"{"address":"10.0.0.01:1","incarnationNumber":5,"source":"10.0.0.2:1","sourceIncarnationNumber":5,"status":"alive"}"#,
+            "ringpop: line 2: bad field address\n",
+        ),
+        (
+            r#"{"address":"10.0.0.2:1","incarnationNumber":1.0,"source":"10.0.0.2:1","sourceIncarnationNumber":5,"status":"alive"}"#,
+            "ringpop: line 2: bad field incarnationNumber\n",
+        ),
+        (
+            r#"{"address":"10.0.0.2:1","incarnationNumber":9007199254740992,"source":"10.0.0.2:1","sourceIncarnationNumber":5,"status":"alive"}"#,
+            "ringpop: line 2: bad field incarnationNumber\n",
+        ),
+        (
+            r#"{"address":"10.0.0.2:1","incarnationNumber":5,"source":7,"sourceIncarnationNumber":5,"status":"alive"}"#,
+            "ringpop: line 2: bad field source\n",
+        ),
+        (
+            r#"{"address":"10.0.0.2:1","incarnationNumber":5,"source":"10.0.0.2:1","sourceIncarnationNumber":-1,"status":"alive"}"#,
+            "ringpop: line 2: bad field sourceIncarnationNumber\n",
+        ),
+        (
+            r#"{"address":"10.0.0.2:1","incarnationNumber":5,"source":"10.0.0.2:1","sourceIncarnationNumber":5,"status":"Alive"}"#,
+            "ringpop: line 2: bad field status\n",
+        ),
+        (
+            r#"{"address":"10.0.0.2:1","incarnationNumber":5,"source":"10.0.0.2:1","sourceIncarnationNumber":5,"status":"faulty","tombstone":1}"#,
+            "ringpop: line 2: bad field tombstone\n",
+        ),
+        (
+            r#"{"address":"10.0.0.2:1","incarnationNumber":5,"source":"10.0.0.2:1","sourceIncarnationNumber":5,"status":"alive","weight":0}"#,
+            "ringpop: line 2: bad field weight\n",
+        ),
+        (
+            r#"{"address":"10.0.0.2:1","incarnationNumber":5,"source":"10.0.0.2:1","sourceIncarnationNumber":5,"status":"alive","weight":9}"#,
+            "ringpop: line 2: bad field weight\n",
+        ),
+        (
+            r#"{"address":"10.0.0.2:1","incarnationNumber":5,"source":"10.0.0.2:1","sourceIncarnationNumber":5,"status":"alive","weight":1.0}"#,
+            "ringpop: line 2: bad field weight\n",
+        ),
+        (
+            r#"{"address":"10.0.0.2:1","incarnationNumber":5,"source":"10.0.0.2:1","sourceIncarnationNumber":5,"status":"alive","weight":"2"}"#,
+            "ringpop: line 2: bad field weight\n",
+        ),
+    ];
+    for (line, text) in cases {
+        refuses(&rt, rt.alloc(), Lines::new(&[ALIVE, line, "[]"], ALL), text);
+    }
+}
+
+#[test]
+fn refuses_too_many_and_too_long(rt: HostRuntime) {
+    refuses(
+        &rt,
+        rt.alloc(),
+        Many::new(4097),
+        "ringpop: line 4097: too many members\n",
+    );
+    refuses(
+        &rt,
+        rt.alloc(),
+        Long { left: 1_048_577 },
+        "ringpop: line 1: line too long\n",
+    );
+    refuses(
+        &rt,
+        rt.alloc(),
+        Long { left: 1_048_576 },
+        "ringpop: line 1: not JSON\n",
+    );
+}
+
+/// The output is longer than a page, so 4,096 members are folded up to the failing write.
+#[test]
+fn holds_as_many_as_may_be(rt: HostRuntime) {
+    let mut page = Page::new(ALL);
+    let ended = fold(&rt, rt.alloc(), Many::new(4096), &mut page);
+    assert_eq!(rt; ended, Err(RunFault::CannotWrite));
+    assert!(rt;
+        page.text()
+            .starts_with("10.0.0.0:1alive1;10.0.0.1:1alive1;")
+    );
+}
+
+#[test]
+fn writes_nothing_after_a_failed_read(rt: HostRuntime) {
+    let texts = [
+        "ringpop: line 1: read failed\n",
+        "ringpop: line 2: read failed\n",
+        "ringpop: line 3: read failed\n",
+    ];
+    let ends = [ALIVE.len(), ALIVE.len() + LATER.len() + 1];
+    for left in 0..=ALIVE.len() + LATER.len() + 2 {
+        let whole = ends.iter().filter(|&&end| end < left).count();
+        let text = texts.get(whole).copied().unwrap_or("");
+        refuses(&rt, rt.alloc(), Lines::new(&[ALIVE, LATER], left), text);
+    }
+}
+
+#[test]
+fn writes_what_the_writer_takes(rt: HostRuntime) {
+    let whole = LATER_FOLDED.as_bytes();
+    for room in 0..whole.len() {
+        let mut page = Page::new(room);
+        let ended = fold(&rt, rt.alloc(), Lines::new(&[ALIVE, LATER], ALL), &mut page);
+        assert_eq!(rt; ended, Err(RunFault::CannotWrite), "room {room}");
+        assert_eq!(rt; Some(page.as_slice()), whole.get(..room), "room {room}");
+    }
+}
+
+#[test]
+fn tells_what_the_machine_refused(rt: HostRuntime) {
+    let cases = [
+        (RunFault::NoMemory, "ringpop: out of memory\n"),
+        (
+            RunFault::AtLine(7, LineFault::OutOfMemory),
+            "ringpop: line 7: out of memory\n",
+        ),
+        (RunFault::CannotWrite, "ringpop: cannot write\n"),
+    ];
+    for (fault, text) in cases {
+        let mut page = Page::new(ALL);
+        let fault = Fault::from(fault);
+        let written = write!(page, "{fault}").is_ok();
+        assert!(rt; written);
+        assert_eq!(rt; page.text(), text);
+        assert_eq!(rt; fault.status(), 1);
+    }
+}
+
+/// What the words ask for, or the refusal. After a refused growth they are read again.
+fn read(rt: &impl Abort, alloc: Global, words: &[&str]) -> Result<Words, Fault> {
+    match read_words(alloc, words) {
+        Err(Fault::Run(fault)) => {
+            assert_eq!(rt; fault, RunFault::NoMemory);
+            read_words(alloc, words)
+        }
+        ended => ended,
+    }
+}
+
+#[test]
+fn reads_the_words(rt: HostRuntime) {
+    let folds: [&[&str]; 3] = [&[], &["ringpop"], &["ringpop", "fold"]];
+    for words in folds {
+        let words = read(&rt, rt.alloc(), words);
+        assert!(rt; matches!(words, Ok(Words::Fold)));
+    }
+    let refused: [(&[&str], &str); 4] = [
+        (
+            &["ringpop", "fold", "x"],
+            "error: unexpected argument 'x' found\n",
+        ),
+        (&["ringpop", ""], "error: unrecognized subcommand ''\n"),
+        (
+            &["ringpop", "sim"],
+            "error: unrecognized subcommand 'sim'\n",
+        ),
+        (&["ringpop", "--help"], "The members of a cluster"),
+    ];
+    for (words, text) in refused {
+        let Err(fault) = read(&rt, rt.alloc(), words) else {
+            assert_eq!(rt; "words", text);
+            return;
+        };
+        assert_eq!(rt; fault.status(), 2);
+        let mut page = Page::new(ALL);
+        let _ = write!(page, "{fault}");
+        assert!(rt; page.text().starts_with(text), "{text}");
+    }
+}
+
+#[test]
+fn refuses_words_that_are_not_text(rt: HostRuntime) {
+    let fault = match words_not_text(rt.alloc()) {
+        Fault::Run(RunFault::NoMemory) => words_not_text(rt.alloc()),
+        fault => fault,
+    };
+    let mut page = Page::new(ALL);
+    let written = write!(page, "{fault}").is_ok();
+    assert!(rt; written && fault.status() == 2);
+    assert!(rt; page.text().starts_with("error: the words are not UTF-8\n"));
+}

@@ -1,0 +1,161 @@
+//! Readers and writers that take no memory, a byte at a time.
+use std::io;
+use std::io::{ErrorKind, Read, Write};
+
+/// How many bytes a page holds.
+const PAGE: usize = 1024;
+
+/// A writer that fails once it has so many bytes.
+#[derive(Clone, Copy)]
+pub struct Page {
+    bytes: [u8; PAGE],
+    len: usize,
+    room: usize,
+}
+
+impl Page {
+    pub fn new(room: usize) -> Page {
+        Page {
+            bytes: [0; PAGE],
+            len: 0,
+            room,
+        }
+    }
+
+    pub fn as_slice(&self) -> &[u8] {
+        self.bytes.get(..self.len).unwrap_or(b"")
+    }
+
+    pub fn text(&self) -> &str {
+        str::from_utf8(self.as_slice()).unwrap_or("not text")
+    }
+}
+
+impl Write for Page {
+    fn write(&mut self, buf: &[u8]) -> io::Result<usize> {
+        let Some(&byte) = buf.first() else {
+            return Ok(0);
+        };
+        match self.bytes.get_mut(self.len) {
+            Some(place) if self.len < self.room => {
+                *place = byte;
+                self.len += 1;
+                Ok(1)
+            }
+            _ => Err(io::Error::from(ErrorKind::WriteZero)),
+        }
+    }
+
+    fn flush(&mut self) -> io::Result<()> {
+        Ok(())
+    }
+}
+
+/// Lines, each with its newline. The reader fails after so many bytes.
+#[derive(Clone, Copy)]
+pub struct Lines<'a> {
+    lines: &'a [&'a str],
+    line: usize,
+    place: usize,
+    left: usize,
+}
+
+impl<'a> Lines<'a> {
+    pub fn new(lines: &'a [&'a str], left: usize) -> Lines<'a> {
+        Lines {
+            lines,
+            line: 0,
+            place: 0,
+            left,
+        }
+    }
+}
+
+impl<'a> Read for Lines<'a> {
+    fn read(&mut self, buf: &mut [u8]) -> io::Result<usize> {
+        if self.left == 0 {
+            return Err(io::Error::from(ErrorKind::Other));
+        }
+        let (Some(to), Some(line)) = (buf.first_mut(), self.lines.get(self.line)) else {
+            return Ok(0);
+        };
+        match line.as_bytes().get(self.place) {
+            Some(&byte) => {
+                *to = byte;
+                self.place += 1;
+            }
+            None => {
+                *to = b'\n';
+                self.line += 1;
+                self.place = 0;
+            }
+        }
+        self.left -= 1;
+        Ok(1)
+    }
+}
+
+/// So many lines about distinct addresses.
+#[derive(Clone, Copy)]
+pub struct Many {
+    left: u32,
+    line: Page,
+    place: usize,
+}
+
+impl Many {
+    pub fn new(count: u32) -> Many {
+        Many {
+            left: count,
+            line: Page::new(PAGE),
+            place: 0,
+        }
+    }
+
+    fn next_line(&mut self) -> io::Result<()> {
+        self.left = self.left.saturating_sub(1);
+        self.place = 0;
+        self.line = Page::new(PAGE);
+        let (high, low) = (self.left / 256, self.left % 256);
+        writeln!(
+            self.line,
+            "{{\"address\":\"10.0.{high}.{low}:1\",\"incarnationNumber\":1,\"source\":\"10.0.0.1:1\",\"sourceIncarnationNumber\":1,\"status\":\"alive\"}}"
+        )
+    }
+}
+
+impl Read for Many {
+    fn read(&mut self, buf: &mut [u8]) -> io::Result<usize> {
+        if self.place >= self.line.len && self.left > 0 {
+            self.next_line()?;
+        }
+        match (buf.first_mut(), self.line.as_slice().get(self.place)) {
+            (Some(to), Some(&byte)) => {
+                *to = byte;
+                self.place += 1;
+                Ok(1)
+            }
+            _ => Ok(0),
+        }
+    }
+}
+
+/// One line of so many bytes.
+#[derive(Clone, Copy)]
+pub struct Long {
+    pub left: usize,
+}
+
+impl Read for Long {
+    fn read(&mut self, buf: &mut [u8]) -> io::Result<usize> {
+        if self.left == 0 {
+            return Ok(0);
+        }
+        let Some(to) = buf.first_mut() else {
+            return Ok(0);
+        };
+        *to = b' ';
+        self.left -= 1;
+        Ok(1)
+    }
+}

@@ -1,0 +1,46 @@
+/* Preloaded into a test program: makes its Nth allocation fail, N being FAIL_ALLOC, and none where that is absent.
+   Where FAIL_ALLOC_COUNT names a file, the number of allocations is written to it at the end. */
+#include <errno.h>
+#include <stdatomic.h>
+#include <stdio.h>
+#include <stdlib.h>
+
+void *__libc_malloc(size_t size);
+void *__libc_realloc(void *from, size_t size);
+
+static atomic_ulong count;
+static unsigned long failing;
+
+__attribute__((constructor)) static void start(void) {
+    const char *word = getenv("FAIL_ALLOC");
+    failing = word ? strtoul(word, NULL, 10) : 0;
+    atomic_store(&count, 0);
+}
+
+static int fails(void) { return atomic_fetch_add(&count, 1) + 1 == failing; }
+
+void *malloc(size_t size) {
+    if (fails()) {
+        errno = ENOMEM;
+        return NULL;
+    }
+    return __libc_malloc(size);
+}
+
+void *realloc(void *from, size_t size) {
+    if (fails()) {
+        errno = ENOMEM;
+        return NULL;
+    }
+    return __libc_realloc(from, size);
+}
+
+__attribute__((destructor)) static void end(void) {
+    const char *name = getenv("FAIL_ALLOC_COUNT");
+    unsigned long made = atomic_load(&count);
+    FILE *file = name ? fopen(name, "w") : NULL;
+    if (file) {
+        fprintf(file, "%lu\n", made);
+        fclose(file);
+    }
+}

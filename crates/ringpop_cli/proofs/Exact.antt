@@ -1,4 +1,4 @@
--- An input folds to one output, or has a first fault, and not both.
+-- An input has one output at most, and one that has an output has no fault of its own.
 use Rattle.std.proofs.Common.{◌≡◌, ℕ, ◌≤◌, List, [], ◌∷◌, ◌++◌, map, length, Option, Some, None, refl, sym, ap, subst, ◌∙◌, append_assoc, append-nil, inl, inr, arith}
 use Rattle.std.specs.Prelude.{codes}
 use Rattle.std.proofs.lemmas.List.{map-append}
@@ -124,23 +124,28 @@ no_fault_at cs [] ys OutOfMemory p h few = tt
 no_fault_at cs (line ∷ left) [] f p h few = absurd p
 no_fault_at cs (line ∷ left) (c ∷ ys) f p h few = no_line_fault cs line c (map change_of ys) f p.0 h few
 
-outside_anywhere : (m n : ℕ) (f : LineFault) → IsOutside (AtLine m f) → IsOutside (AtLine n f)
+pub outside_anywhere : (m n : ℕ) (f : LineFault) → IsOutside (AtLine m f) → IsOutside (AtLine n f)
 outside_anywhere m n (Wire e) h = h
 outside_anywhere m n TooManyMembers h = h
 outside_anywhere m n ReadFailed h = tt
 outside_anywhere m n OutOfMemory h = tt
 
--- an input that folds has no fault of its own
+-- lines that come to members have no fault of their own
+pub no_fault_before : (before left : List (List ℕ)) (held now : List Change) (f : LineFault) → ComeTo before held → ComeTo (before ++ left) now → IsFaultAt held left f
+    → IsOutside (AtLine 0 f)
+no_fault_before before left held now f p q is =
+    let (xs, ys, all, front, back) = parted before left q.heard q.read in
+    let same : xs ≡ p.heard = one_heard before xs p.heard front p.read in
+    let are : held ≡ members (map change_of xs) = p.are_members ∙ ap (λ cs. members (map change_of cs)) (sym same) in
+    let split : map change_of q.heard ≡ map change_of xs ++ map change_of ys = ap (map change_of) all ∙ map-append change_of xs ys in
+    let total : length now ≡ length (members (map change_of xs ++ map change_of ys)) = ap length (q.are_members ∙ ap members split) in
+    let few : length (members (map change_of xs ++ map change_of ys)) ≤ 4096 = let fits = q.fits in omega arith in
+    no_fault_at (map change_of xs) left ys f back (rw are at is) few
+
+-- an input that has an output has no fault of its own
 pub no_first_fault : (text : List Change → List ℕ) (input output : List ℕ) (n : ℕ) (f : LineFault) → RunsTo text input output → IsFirstFault input n f → IsOutside (AtLine n f)
 no_first_fault text input output n f p q =
-    let read = rw q.lines at p.come_to.read in
-    let (xs, ys, all, front, back) = parted q.before q.left p.come_to.heard read in
-    let same : xs ≡ q.come_to.heard = one_heard q.before xs q.come_to.heard front q.come_to.read in
-    let held : q.held ≡ members (map change_of xs) = q.come_to.are_members ∙ ap (λ cs. members (map change_of cs)) (sym same) in
-    let split : map change_of p.come_to.heard ≡ map change_of xs ++ map change_of ys = ap (map change_of) all ∙ map-append change_of xs ys in
-    let total : length p.held ≡ length (members (map change_of xs ++ map change_of ys)) = ap length (p.come_to.are_members ∙ ap members split) in
-    let few : length (members (map change_of xs ++ map change_of ys)) ≤ 4096 = let fits = p.come_to.fits in omega arith in
-    outside_anywhere 0 n f (no_fault_at (map change_of xs) q.left ys f back (rw held at q.is) few)
+    outside_anywhere 0 n f (no_fault_before q.before q.left q.held p.held f q.come_to (subst (λ ls. ComeTo ls p.held) q.lines p.come_to) q.is)
 
 pub no_refusal : (text : List Change → List ℕ) (input output : List ℕ) (e : RunFault) → RunsTo text input output → IsRefused input e → IsOutside e
 no_refusal text input output (AtLine n f) p q = no_first_fault text input output n f p q

@@ -1,5 +1,6 @@
 -- Change lines, the members that they come to, and the first line at fault.
 use Rattle.std.specs.Prelude.{◌≡◌, ℕ, ◌+◌, ◌≤◌, Bool, true, false, List, [], ◌∷◌, ◌++◌, map, length, Option, Some, None, Result, Ok, Err}
+use Rattle.std.specs.List.{Contains}
 use Rattle.change_core.specs.declared.changes.Change.{Change}
 use Rattle.change_core.specs.declared.changes.Sourced.{Sourced}
 use Rattle.change_core.specs.Members.{greatest, members}
@@ -77,6 +78,11 @@ IsOutside (AtLine number ReadFailed) = Unit {0}
 IsOutside (AtLine number OutOfMemory) = Unit {0}
 IsOutside NoMemory = Unit {0}
 IsOutside CannotWrite = Unit {0}
+
+-- each line of one list is in the other, in any order and any number
+pub record HaveSameLines (lines others : List (List ℕ)) : Type 0 where
+  pub to : (line : List ℕ) → Contains lines line → Contains others line
+  pub from : (line : List ℕ) → Contains others line → Contains lines line
 
 -- what one turn took of the input and made of the members: a line and its change, or nothing at the end, or a fault
 abbrev pub Hears : List ℕ → List Change → Result Bool LineFault → Option (List ℕ) → List Change → Type 0

@@ -1,4 +1,6 @@
 use Rattle.ringpop_cli.proofs.Exact.{one_output, no_refusal}
+use Rattle.ringpop_cli.proofs.OneFirstFault.{one_first_fault}
+use Rattle.ringpop_cli.proofs.SameLines.{runs_to_same}
 use Rattle.ringpop_cli.proofs.laws.one_run.Goals as goal
 
 pub returns-clause-one_output : goal.returns-clause-one_output
@@ -6,3 +8,9 @@ returns-clause-one_output c = one_output
 
 pub returns-clause-no_fault : goal.returns-clause-no_fault
 returns-clause-no_fault c = no_refusal
+
+pub returns-clause-one_fault : goal.returns-clause-one_fault
+returns-clause-one_fault c = one_first_fault
+
+pub returns-clause-any_order : goal.returns-clause-any_order
+returns-clause-any_order c = runs_to_same

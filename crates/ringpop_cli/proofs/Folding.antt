@@ -5,9 +5,9 @@ use Rattle.std.specs.Io.KnownBytes.{Appends, Keeps}
 use Rattle.std.proofs.lemmas.List.{map-append}
 use Rattle.change_core.specs.declared.changes.Change.{Change}
 use Rattle.change_core.specs.declared.changes.Sourced.{Sourced}
-use Rattle.change_core.specs.Members.{members, digest_text}
+use Rattle.change_core.specs.Members.{members, digest_text, IsMemberList}
 use Rattle.change_core.specs.Digest.{digest_digits}
-use Rattle.change_core.proofs.Members.{members-append}
+use Rattle.change_core.proofs.Members.{members-append, IsMemberList-members}
 use Rattle.sha2.specs.Sha256.{sha256}
 use Rattle.wire_json.specs.Forms.{ChangeFault}
 use Rattle.wire_json.specs.Lines.{Faults, max_line}
@@ -16,11 +16,12 @@ use Rattle.wire_json.specs.declared.errors.WireError.{WireError}
 use Rattle.wire_json.specs.declared.errors.WireError.TheVariants.{LineTooLong, BadJson, NotObject, UnknownKind, MissingField, BadField, TooMany, Io, Memory}
 use Rattle.ringpop_cli.specs.declared.faults.LineFault.{LineFault}
 use Rattle.ringpop_cli.specs.declared.faults.LineFault.TheVariants.{Wire, ReadFailed, OutOfMemory}
-use Rattle.ringpop_cli.specs.declared.faults.RunFault.TheVariants.{AtLine, CannotWrite}
+use Rattle.ringpop_cli.specs.declared.faults.RunFault.{RunFault}
+use Rattle.ringpop_cli.specs.declared.faults.RunFault.TheVariants.{AtLine, NoMemory, CannotWrite}
 use Rattle.ringpop_cli.specs.Input.{lines_of}
 use Rattle.ringpop_cli.specs.Faults.{fault_of_wire}
 use Rattle.ringpop_cli.specs.Changes.{IsChangeLine, AreChangeLines, change_of, ComeTo, IsLineFault, IsFaultAt, IsRefused, Hears}
-use Rattle.ringpop_cli.specs.Runs.{RunsTo, Writes, Leaves}
+use Rattle.ringpop_cli.specs.Runs.{RunsTo, Writes, Leaves, LeavesPart}
 use Rattle.ringpop_cli.proofs.Lines.{lines_of-first, some_from_line}
 
 -- ---- one line
@@ -170,6 +171,23 @@ pub front_written : (text : List Change → List ℕ) (known old new : Option (L
     → output ≡ text held → AppendsFront old new output → Leaves text CannotWrite known old new
 front_written text None old new held output p e a = tt
 front_written text (Some input) old new held output p e a = (text held, RunsTo-text text input held p, rw e at a)
+
+-- the members that an input comes to are such a list
+held_members : (input : List ℕ) (held : List Change) → ComeTo (lines_of input) held × (length (lines_of input) ≤ 9007199254740991) → IsMemberList held
+held_members input held p = let c = p.0 in subst IsMemberList (sym c.are_members) (IsMemberList-members (map change_of c.heard))
+
+-- the same of an output that is the text of a member list
+pub written_by : (text : List Change → List ℕ) (known old new : Option (List ℕ)) (held : List Change) (output : List ℕ) → ComesTo known held
+    → (IsMemberList held → output ≡ text held) → Appends old new output → Writes text known old new
+written_by text None old new held output p e a = tt
+written_by text (Some input) old new held output p e a = written text (Some input) old new held output p (e (held_members input held p)) a
+
+pub left_by : (text : List Change → List ℕ) (known old new : Option (List ℕ)) (held : List Change) (output : List ℕ) (fault : RunFault) → ComesTo known held
+    → (IsMemberList held → output ≡ text held) → LeavesPart output fault old new → Leaves text fault known old new
+left_by text known old new held output (AtLine number fault) p e h = absurd h
+left_by text known old new held output NoMemory p e h = h
+left_by text None old new held output CannotWrite p e h = tt
+left_by text (Some input) old new held output CannotWrite p e h = front_written text (Some input) old new held output p (e (held_members input held p)) h
 
 pub Keeps-refl : (known : Option (List ℕ)) → Keeps known known
 Keeps-refl None = tt

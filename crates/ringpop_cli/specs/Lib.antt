@@ -3,3 +3,5 @@ pub mod Faults
 pub mod Changes
 pub mod Runs
 pub mod Fold
+pub mod Hash
+pub mod Owner

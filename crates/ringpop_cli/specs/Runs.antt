@@ -25,3 +25,9 @@ abbrev pub Leaves : (List Change → List ℕ) → RunFault → Option (List ℕ
 Leaves text (AtLine number fault) known old new = Keeps old new
 Leaves text NoMemory known old new = Keeps old new
 Leaves text CannotWrite known old new = IfSome known (λ input. (output : List ℕ) × RunsTo text input output × AppendsFront old new output)
+
+-- what a fault leaves of this output: nothing at a want of memory, a front of it where the writer failed
+abbrev pub LeavesPart : List ℕ → RunFault → Option (List ℕ) → Option (List ℕ) → Type 0
+LeavesPart output (AtLine number fault) old new = ⊥
+LeavesPart output NoMemory old new = Keeps old new
+LeavesPart output CannotWrite old new = AppendsFront old new output

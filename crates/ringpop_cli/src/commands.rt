@@ -1,16 +1,73 @@
 //! The command line, as `clap` reads it.
 
-use clap::Command;
+use clap::builder::ValueParser;
+use clap::{Arg, ArgAction, Command};
 use std::alloc::{AllocError, Global};
+
+/// How many owners are named.
+pub const COUNT: &str = "n";
+
+/// How many points a server has for each of its weight.
+pub const REPLICAS: &str = "replicas";
+
+/// Whether the hash is the sum of the bytes.
+pub const SUM: &str = "sum";
+
+/// The key whose owners are named.
+pub const KEY: &str = "key";
+
+/// The text that is hashed.
+pub const TEXT: &str = "text";
+
+/// An option with a whole number in a range.
+fn option<'a>(alloc: Global, name: &'a str, default: &'a str, least: u64, most: u64) -> Arg<'a> {
+    Arg::new(alloc, name)
+        .long(name)
+        .value_parser(ValueParser::unsigned(least, most))
+        .default_value(default)
+}
+
+/// A word that has to be given.
+fn word<'a>(alloc: Global, name: &'a str) -> Arg<'a> {
+    Arg::new(alloc, name).required(true)
+}
+
+fn fold_command<'a>(alloc: Global) -> Command<'a> {
+    Command::new(alloc, "fold").about(
+        "Reads change lines; prints their members' digest text and digest",
+    )
+}
+
+fn hash_command<'a>(alloc: Global) -> Result<Command<'a>, AllocError> {
+    Command::new(alloc, "hash")
+        .about("Prints the 16 hexadecimal digits of a text's hash")
+        .arg(word(alloc, TEXT))
+}
+
+fn owner_command<'a>(alloc: Global) -> Result<Command<'a>, AllocError> {
+    let count = option(alloc, COUNT, "1", 0, 4096).help("How many owners to name");
+    let replicas = option(alloc, REPLICAS, "100", 1, 1000).help(
+        "Points of a server for each of its weight",
+    );
+    let sum = Arg::new(alloc, SUM)
+        .long(SUM)
+        .action(ArgAction::SetTrue)
+        .help("Hash by the sum of the bytes");
+    Command::new(alloc, "owner")
+        .about("Reads change lines; prints the owners of a key among their members")
+        .arg(count)?
+        .arg(replicas)?
+        .arg(sum)?
+        .arg(word(alloc, KEY))
+}
 
 /// The subcommands and their words.
 pub fn ringpop_command<'a>(alloc: Global) -> Result<Command<'a>, AllocError> {
-    let fold = Command::new(alloc, "fold").about(
-        "Reads change lines, and prints what they come to and its digest",
-    );
     Command::new(alloc, "ringpop")
         .about(
-            "The members of a cluster, from change lines on standard input. With no command it is fold.",
+            "The members and the ring of a cluster, from change lines on standard input. With no command it is fold.",
         )
-        .subcommand(fold)
+        .subcommand(fold_command(alloc))?
+        .subcommand(hash_command(alloc)?)?
+        .subcommand(owner_command(alloc)?)
 }

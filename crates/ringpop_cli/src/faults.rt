@@ -5,6 +5,7 @@ ghost use Rattle.ringpop_cli.specs.declared.faults.RunFault.TheVariants.{NoMemor
 
 use change_core::ChangeError;
 use clap::error::ErrorKind;
+use hash_ring::RingError;
 use member_core::MemberError;
 use std::alloc::{AllocError, AllocFailed};
 use std::fmt;
@@ -84,6 +85,23 @@ impl From<ChangeError> for RunFault {
     ghost from_gives = { λ _ f. f ≡ NoMemory };
 
     fn from(_error: ChangeError) -> RunFault {
+        RunFault::NoMemory
+    }
+}
+
+/// What a ring of known replicas refuses is a want of memory.
+impl From<RingError> for RunFault {
+    ghost from_gives = { λ _ f. f ≡ NoMemory };
+
+    fn from(_error: RingError) -> RunFault {
+        RunFault::NoMemory
+    }
+}
+
+impl From<AllocError> for RunFault {
+    ghost from_gives = { λ _ f. f ≡ NoMemory };
+
+    fn from(_refused: AllocError) -> RunFault {
         RunFault::NoMemory
     }
 }

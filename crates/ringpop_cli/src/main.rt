@@ -4,8 +4,10 @@
 mod commands;
 mod faults;
 mod fold;
+mod hashes;
 mod laws;
 mod members;
+mod owners;
 #[cfg(test)]
 mod tests;
 mod words;
@@ -34,20 +36,28 @@ fn given_words(rt: &(impl Env + Alloc<A = Global>)) -> Result<Vec<String>, Fault
     Ok(words)
 }
 
-/// Folds standard input to standard output.
-fn fold_input(rt: &(impl Input + Print), alloc: Global) -> Result<(), RunFault> {
-    let mut reader = BufReader::new(alloc, rt.reader()).map_err(|_| RunFault::NoMemory)?;
-    let mut writer = BufWriter::new(alloc, io::writer(rt)).map_err(|_| RunFault::NoMemory)?;
-    fold::fold_run(alloc, &mut reader, &mut writer)
+/// Prints the hash of a text.
+fn print_hash(rt: &impl Print, alloc: Global, text: &str) -> Result<(), RunFault> {
+    let digits = hashes::hash_text(alloc, text)?;
+    println!(rt; "{digits}").map_err(|_| RunFault::CannotWrite)
 }
 
-/// Does what the words ask for.
+/// Runs what the words ask for over standard input and standard output.
+fn run_words(rt: &(impl Input + Print), alloc: Global, words: &Words<'_>) -> Result<(), RunFault> {
+    let mut reader = BufReader::new(alloc, rt.reader()).map_err(|_| RunFault::NoMemory)?;
+    let mut writer = BufWriter::new(alloc, io::writer(rt)).map_err(|_| RunFault::NoMemory)?;
+    match words {
+        Words::Fold => fold::fold_run(alloc, &mut reader, &mut writer),
+        Words::Hash(text) => print_hash(rt, alloc, text),
+        Words::Owner(words) => owners::owner_run(alloc, words, &mut reader, &mut writer),
+    }
+}
+
+/// Reads the words and does what they ask for.
 fn run(rt: &(impl Input + Print + Env + Alloc<A = Global>)) -> Result<(), Fault> {
     let given = given_words(rt)?;
-    match words::read_words(rt.alloc(), given.as_slice())? {
-        Words::Fold => fold_input(rt, rt.alloc())?,
-    }
-    Ok(())
+    let words = words::read_words(rt.alloc(), given.as_slice())?;
+    Ok(run_words(rt, rt.alloc(), &words)?)
 }
 
 fn main(rt: HostRuntime) -> ExitCode {

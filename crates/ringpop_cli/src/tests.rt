@@ -1,6 +1,8 @@
 use crate::faults::{Fault, LineFault, RunFault};
 use crate::fold::fold_run;
-use crate::words::{Words, read_words, words_not_text};
+use crate::hashes::hash_text;
+use crate::owners::owner_run;
+use crate::words::{OwnerWords, Words, read_words, words_not_text};
 use fakes::{Lines, Long, Many, Page};
 use std::alloc::Global;
 use std::io::{Read, Write};
@@ -27,6 +29,21 @@ const TOMBSTONE: &str =
 const LATER: &str =
     r#"{"address":"10.0.0.2:1","incarnationNumber":6,"source":"10.0.0.2:1","sourceIncarnationNumber":6,"status":"alive"}"#;
 
+const HEAVIEST: &str =
+    r#"{"address":"10.0.0.2:1","incarnationNumber":5,"source":"10.0.0.2:1","sourceIncarnationNumber":5,"status":"alive","weight":3}"#;
+
+const FAULTY: &str =
+    r#"{"address":"10.0.0.2:1","incarnationNumber":5,"source":"10.0.0.1:1","sourceIncarnationNumber":5,"status":"faulty"}"#;
+
+const FIRST: &str =
+    r#"{"address":"10.0.0.1:1","incarnationNumber":5,"source":"10.0.0.1:1","sourceIncarnationNumber":5,"status":"alive"}"#;
+
+const ELEVENTH: &str =
+    r#"{"address":"10.0.0.1:11","incarnationNumber":5,"source":"10.0.0.1:11","sourceIncarnationNumber":5,"status":"alive"}"#;
+
+const THIRD: &str =
+    r#"{"address":"10.0.0.3:1","incarnationNumber":5,"source":"10.0.0.3:1","sourceIncarnationNumber":5,"status":"alive"}"#;
+
 const LATER_FOLDED: &str =
     "10.0.0.2:1alive6\n71f2e2fce762716835393b50a95728bc73ddc10927921dee7639cf34388c0cf7\n";
 
@@ -38,8 +55,91 @@ const HEAVIER_FOLDED: &str =
 
 const NOTHING_FOLDED: &str = "\ne3b0c44298fc1c149afbf4c8996fb92427ae41e4649b934ca495991b7852b855\n";
 
+/// A second line, and what is said of it.
+const AT_FAULT: [(&str, &str); 20] = [
+    (r#"[]"#, "ringpop: line 2: not an object\n"),
+    (r#"7"#, "ringpop: line 2: not an object\n"),
+    (r#""#, "ringpop: line 2: not JSON\n"),
+    (
+        r#"{"address":"10.0.0.2:1","incarnationNumb"#,
+        "ringpop: line 2: not JSON\n",
+    ),
+    (
+        r#"{"incarnationNumber":5,"source":"10.0.0.2:1","sourceIncarnationNumber":5,"status":"alive"}"#,
+        "ringpop: line 2: missing field address\n",
+    ),
+    (
+        r#"{"address":"10.0.0.2:1","source":"10.0.0.2:1","sourceIncarnationNumber":5,"status":"alive"}"#,
+        "ringpop: line 2: missing field incarnationNumber\n",
+    ),
+    (
+        r#"{"address":"10.0.0.2:1","incarnationNumber":5,"sourceIncarnationNumber":5,"status":"alive"}"#,
+        "ringpop: line 2: missing field source\n",
+    ),
+    (
+        r#"{"address":"10.0.0.2:1","incarnationNumber":5,"source":"10.0.0.2:1","status":"alive"}"#,
+        "ringpop: line 2: missing field sourceIncarnationNumber\n",
+    ),
+    (
+        r#"{"address":"10.0.0.2:1","incarnationNumber":5,"source":"10.0.0.2:1","sourceIncarnationNumber":5}"#,
+        "ringpop: line 2: missing field status\n",
+    ),
+    (
+        r#"{"address":"10.0.0.01:1","incarnationNumber":5,"source":"10.0.0.2:1","sourceIncarnationNumber":5,"status":"alive"}"#,
+        "ringpop: line 2: bad field address\n",
+    ),
+    (
+        r#"{"address":"10.0.0.2:1","incarnationNumber":1.0,"source":"10.0.0.2:1","sourceIncarnationNumber":5,"status":"alive"}"#,
+        "ringpop: line 2: bad field incarnationNumber\n",
+    ),
+    (
+        r#"{"address":"10.0.0.2:1","incarnationNumber":9007199254740992,"source":"10.0.0.2:1","sourceIncarnationNumber":5,"status":"alive"}"#,
+        "ringpop: line 2: bad field incarnationNumber\n",
+    ),
+    (
+        r#"{"address":"10.0.0.2:1","incarnationNumber":5,"source":7,"sourceIncarnationNumber":5,"status":"alive"}"#,
+        "ringpop: line 2: bad field source\n",
+    ),
+    (
+        r#"{"address":"10.0.0.2:1","incarnationNumber":5,"source":"10.0.0.2:1","sourceIncarnationNumber":-1,"status":"alive"}"#,
+        "ringpop: line 2: bad field sourceIncarnationNumber\n",
+    ),
+    (
+        r#"{"address":"10.0.0.2:1","incarnationNumber":5,"source":"10.0.0.2:1","sourceIncarnationNumber":5,"status":"Alive"}"#,
+        "ringpop: line 2: bad field status\n",
+    ),
+    (
+        r#"{"address":"10.0.0.2:1","incarnationNumber":5,"source":"10.0.0.2:1","sourceIncarnationNumber":5,"status":"faulty","tombstone":1}"#,
+        "ringpop: line 2: bad field tombstone\n",
+    ),
+    (
+        r#"{"address":"10.0.0.2:1","incarnationNumber":5,"source":"10.0.0.2:1","sourceIncarnationNumber":5,"status":"alive","weight":0}"#,
+        "ringpop: line 2: bad field weight\n",
+    ),
+    (
+        r#"{"address":"10.0.0.2:1","incarnationNumber":5,"source":"10.0.0.2:1","sourceIncarnationNumber":5,"status":"alive","weight":9}"#,
+        "ringpop: line 2: bad field weight\n",
+    ),
+    (
+        r#"{"address":"10.0.0.2:1","incarnationNumber":5,"source":"10.0.0.2:1","sourceIncarnationNumber":5,"status":"alive","weight":1.0}"#,
+        "ringpop: line 2: bad field weight\n",
+    ),
+    (
+        r#"{"address":"10.0.0.2:1","incarnationNumber":5,"source":"10.0.0.2:1","sourceIncarnationNumber":5,"status":"alive","weight":"2"}"#,
+        "ringpop: line 2: bad field weight\n",
+    ),
+];
+
 /// No end of bytes, or of room.
 const ALL: usize = usize::MAX;
+
+/// Whether the fault is a want of memory.
+fn is_memory(fault: RunFault) -> bool {
+    matches!(
+        fault,
+        RunFault::NoMemory | RunFault::AtLine(_, LineFault::OutOfMemory)
+    )
+}
 
 /// Folds what the reader gives. After a refused growth nothing is written, and it is folded again.
 fn fold<R: Read + Copy>(
@@ -50,7 +150,7 @@ fn fold<R: Read + Copy>(
 ) -> Result<(), RunFault> {
     let (mut first, mut second) = (reader, reader);
     match fold_run(alloc, &mut first, page) {
-        Err(RunFault::NoMemory | RunFault::AtLine(_, LineFault::OutOfMemory)) => {
+        Err(fault) if is_memory(fault) => {
             assert_eq!(rt; page.text(), "");
             fold_run(alloc, &mut second, page)
         }
@@ -118,80 +218,7 @@ fn folds_in_any_order_and_number(rt: HostRuntime) {
 
 #[test]
 fn refuses_a_line_at_fault(rt: HostRuntime) {
-    let cases: [(&str, &str); 20] = [
-        (r#"[]"#, "ringpop: line 2: not an object\n"),
-        (r#"7"#, "ringpop: line 2: not an object\n"),
-        (r#""#, "ringpop: line 2: not JSON\n"),
-        (
-            r#"{"address":"10.0.0.2:1","incarnationNumb"#,
-            "ringpop: line 2: not JSON\n",
-        ),
-        (
-            r#"{"incarnationNumber":5,"source":"10.0.0.2:1","sourceIncarnationNumber":5,"status":"alive"}"#,
-            "ringpop: line 2: missing field address\n",
-        ),
-        (
-            r#"{"address":"10.0.0.2:1","source":"10.0.0.2:1","sourceIncarnationNumber":5,"status":"alive"}"#,
-            "ringpop: line 2: missing field incarnationNumber\n",
-        ),
-        (
-            r#"{"address":"10.0.0.2:1","incarnationNumber":5,"sourceIncarnationNumber":5,"status":"alive"}"#,
-            "ringpop: line 2: missing field source\n",
-        ),
-        (
-            r#"{"address":"10.0.0.2:1","incarnationNumber":5,"source":"10.0.0.2:1","status":"alive"}"#,
-            "ringpop: line 2: missing field sourceIncarnationNumber\n",
-        ),
-        (
-            r#"{"address":"10.0.0.2:1","incarnationNumber":5,"source":"10.0.0.2:1","sourceIncarnationNumber":5}"#,
-            "ringpop: line 2: missing field status\n",
-        ),
-        (
-            r#"{"address":"10.0.0.01:1","incarnationNumber":5,"source":"10.0.0.2:1","sourceIncarnationNumber":5,"status":"alive"}"#,
-            "ringpop: line 2: bad field address\n",
-        ),
-        (
-            r#"{"address":"10.0.0.2:1","incarnationNumber":1.0,"source":"10.0.0.2:1","sourceIncarnationNumber":5,"status":"alive"}"#,
-            "ringpop: line 2: bad field incarnationNumber\n",
-        ),
-        (
-            r#"{"address":"10.0.0.2:1","incarnationNumber":9007199254740992,"source":"10.0.0.2:1","sourceIncarnationNumber":5,"status":"alive"}"#,
-            "ringpop: line 2: bad field incarnationNumber\n",
-        ),
-        (
-            r#"{"address":"10.0.0.2:1","incarnationNumber":5,"source":7,"sourceIncarnationNumber":5,"status":"alive"}"#,
-            "ringpop: line 2: bad field source\n",
-        ),
-        (
-            r#"{"address":"10.0.0.2:1","incarnationNumber":5,"source":"10.0.0.2:1","sourceIncarnationNumber":-1,"status":"alive"}"#,
-            "ringpop: line 2: bad field sourceIncarnationNumber\n",
-        ),
-        (
-            r#"{"address":"10.0.0.2:1","incarnationNumber":5,"source":"10.0.0.2:1","sourceIncarnationNumber":5,"status":"Alive"}"#,
-            "ringpop: line 2: bad field status\n",
-        ),
-        (
-            r#"{"address":"10.0.0.2:1","incarnationNumber":5,"source":"10.0.0.2:1","sourceIncarnationNumber":5,"status":"faulty","tombstone":1}"#,
-            "ringpop: line 2: bad field tombstone\n",
-        ),
-        (
-            r#"{"address":"10.0.0.2:1","incarnationNumber":5,"source":"10.0.0.2:1","sourceIncarnationNumber":5,"status":"alive","weight":0}"#,
-            "ringpop: line 2: bad field weight\n",
-        ),
-        (
-            r#"{"address":"10.0.0.2:1","incarnationNumber":5,"source":"10.0.0.2:1","sourceIncarnationNumber":5,"status":"alive","weight":9}"#,
-            "ringpop: line 2: bad field weight\n",
-        ),
-        (
-            r#"{"address":"10.0.0.2:1","incarnationNumber":5,"source":"10.0.0.2:1","sourceIncarnationNumber":5,"status":"alive","weight":1.0}"#,
-            "ringpop: line 2: bad field weight\n",
-        ),
-        (
-            r#"{"address":"10.0.0.2:1","incarnationNumber":5,"source":"10.0.0.2:1","sourceIncarnationNumber":5,"status":"alive","weight":"2"}"#,
-            "ringpop: line 2: bad field weight\n",
-        ),
-    ];
-    for (line, text) in cases {
+    for (line, text) in AT_FAULT {
         refuses(&rt, rt.alloc(), Lines::new(&[ALIVE, line, "[]"], ALL), text);
     }
 }
@@ -276,8 +303,107 @@ fn tells_what_the_machine_refused(rt: HostRuntime) {
     }
 }
 
+/// Names owners. After a refused growth nothing is written, and they are named again.
+fn name_owners<R: Read + Copy>(
+    rt: &impl Abort,
+    alloc: Global,
+    words: &OwnerWords<'_>,
+    reader: R,
+    page: &mut Page,
+) -> Result<(), RunFault> {
+    let (mut first, mut second) = (reader, reader);
+    match owner_run(alloc, words, &mut first, page) {
+        Err(fault) if is_memory(fault) => {
+            assert_eq!(rt; page.text(), "");
+            owner_run(alloc, words, &mut second, page)
+        }
+        ended => ended,
+    }
+}
+
+#[test]
+fn names_the_owners_of_a_key(rt: HostRuntime) {
+    let each: &[&str] = &[THIRD, FIRST, ALIVE];
+    let heavy: &[&str] = &[THIRD, FIRST, HEAVIEST];
+    let light_again: &[&str] = &[HEAVIEST, LATER, FIRST, THIRD];
+    let faulty: &[&str] = &[FAULTY, FIRST, THIRD];
+    let cases: [(&[&str], usize, &str, &str); 13] = [
+        (each, 3, "zzzz1", "10.0.0.2:1\n10.0.0.3:1\n10.0.0.1:1\n"),
+        (each, 3, "zzzz2", "10.0.0.3:1\n10.0.0.1:1\n10.0.0.2:1\n"),
+        (each, 3, "zzzz3", "10.0.0.1:1\n10.0.0.2:1\n10.0.0.3:1\n"),
+        (each, 0, "zzzz1", ""),
+        (each, 1, "", "10.0.0.1:1\n"),
+        (each, 9, "", "10.0.0.1:1\n10.0.0.2:1\n10.0.0.3:1\n"),
+        (&[], 1, "zzzz1", ""),
+        (heavy, 3, "zzzz1", "10.0.0.2:1\n10.0.0.3:1\n10.0.0.1:1\n"),
+        (heavy, 3, "zzzz2", "10.0.0.2:1\n10.0.0.3:1\n10.0.0.1:1\n"),
+        (heavy, 3, "zzzz3", "10.0.0.2:1\n10.0.0.1:1\n10.0.0.3:1\n"),
+        (
+            light_again,
+            3,
+            "zzzz2",
+            "10.0.0.3:1\n10.0.0.1:1\n10.0.0.2:1\n",
+        ),
+        (
+            light_again,
+            3,
+            "zzzz3",
+            "10.0.0.1:1\n10.0.0.2:1\n10.0.0.3:1\n",
+        ),
+        (faulty, 9, "zzzz0", "10.0.0.1:1\n10.0.0.3:1\n"),
+    ];
+    for (i, (lines, count, key, text)) in cases.iter().enumerate() {
+        let words = OwnerWords {
+            count: *count,
+            replicas: 2,
+            sum: true,
+            key,
+        };
+        let mut page = Page::new(ALL);
+        let ended = name_owners(&rt, rt.alloc(), &words, Lines::new(lines, ALL), &mut page);
+        assert!(rt; ended.is_ok(), "case {i}");
+        assert_eq!(rt; page.text(), *text, "case {i}");
+    }
+}
+
+/// By SHA-256 the first point of one server is the key's own hash, and so is the eleventh of the other.
+#[test]
+fn names_the_lesser_of_two_at_the_key(rt: HostRuntime) {
+    let words = OwnerWords {
+        count: 2,
+        replicas: 100,
+        sum: false,
+        key: "10.0.0.1:110",
+    };
+    let whole = "10.0.0.1:1\n10.0.0.1:11\n";
+    for room in 0..=whole.len() {
+        let mut page = Page::new(room);
+        let lines = Lines::new(&[ELEVENTH, FIRST], ALL);
+        let ended = name_owners(&rt, rt.alloc(), &words, lines, &mut page);
+        let wanted = if room < whole.len() {
+            Err(RunFault::CannotWrite)
+        } else {
+            Ok(())
+        };
+        assert_eq!(rt; ended, wanted, "room {room}");
+        assert_eq!(rt; Some(page.as_slice()), whole.as_bytes().get(..room));
+    }
+}
+
+#[test]
+fn hashes_texts(rt: HostRuntime) -> Result<(), Fail> {
+    for (text, digits) in [("abc", "ba7816bf8f01cfea"), ("", "e3b0c44298fc1c14")] {
+        let written = match hash_text(rt.alloc(), text) {
+            Err(RunFault::NoMemory) => hash_text(rt.alloc(), text)?,
+            ended => ended?,
+        };
+        assert_eq!(rt; written.as_str(), digits);
+    }
+    Ok(())
+}
+
 /// What the words ask for, or the refusal. After a refused growth they are read again.
-fn read(rt: &impl Abort, alloc: Global, words: &[&str]) -> Result<Words, Fault> {
+fn read<'a>(rt: &impl Abort, alloc: Global, words: &'a [&'a str]) -> Result<Words<'a>, Fault> {
     match read_words(alloc, words) {
         Err(Fault::Run(fault)) => {
             assert_eq!(rt; fault, RunFault::NoMemory);
@@ -289,31 +415,94 @@ fn read(rt: &impl Abort, alloc: Global, words: &[&str]) -> Result<Words, Fault> 
 
 #[test]
 fn reads_the_words(rt: HostRuntime) {
-    let folds: [&[&str]; 3] = [&[], &["ringpop"], &["ringpop", "fold"]];
-    for words in folds {
-        let words = read(&rt, rt.alloc(), words);
-        assert!(rt; matches!(words, Ok(Words::Fold)));
-    }
-    let refused: [(&[&str], &str); 4] = [
+    let owner = OwnerWords {
+        count: 1,
+        replicas: 100,
+        sum: false,
+        key: "k",
+    };
+    let three = OwnerWords {
+        count: 3,
+        replicas: 1000,
+        sum: true,
+        key: "-k",
+    };
+    let cases: [(&[&str], Words<'_>); 7] = [
+        (&[], Words::Fold),
+        (&["ringpop"], Words::Fold),
+        (&["ringpop", "fold"], Words::Fold),
+        (&["ringpop", "hash", ""], Words::Hash("")),
+        (&["ringpop", "hash", "abc"], Words::Hash("abc")),
+        (&["ringpop", "owner", "k"], Words::Owner(owner)),
         (
-            &["ringpop", "fold", "x"],
-            "error: unexpected argument 'x' found\n",
+            &[
+                "ringpop",
+                "owner",
+                "--n",
+                "3",
+                "--replicas=1000",
+                "--sum",
+                "--",
+                "-k",
+            ],
+            Words::Owner(three),
         ),
-        (&["ringpop", ""], "error: unrecognized subcommand ''\n"),
-        (
-            &["ringpop", "sim"],
-            "error: unrecognized subcommand 'sim'\n",
-        ),
-        (&["ringpop", "--help"], "The members of a cluster"),
     ];
-    for (words, text) in refused {
-        let Err(fault) = read(&rt, rt.alloc(), words) else {
-            assert_eq!(rt; "words", text);
-            return;
-        };
-        assert_eq!(rt; fault.status(), 2);
+    for (words, wanted) in cases {
+        let words = read(&rt, rt.alloc(), words);
+        assert!(rt; matches!(words, Ok(words) if words == wanted));
+    }
+}
+
+/// Words, and how their refusal begins.
+const REFUSED_WORDS: [(&[&str], &str); 10] = [
+    (&["ringpop", ""], "error: unrecognized subcommand ''\n"),
+    (
+        &["ringpop", "sim"],
+        "error: unrecognized subcommand 'sim'\n",
+    ),
+    (
+        &["ringpop", "--help"],
+        "The members and the ring of a cluster",
+    ),
+    (
+        &["ringpop", "fold", "x"],
+        "error: unexpected argument 'x' found\n",
+    ),
+    (
+        &["ringpop", "hash"],
+        "error: the following required arguments were not provided:\n",
+    ),
+    (
+        &["ringpop", "owner"],
+        "error: the following required arguments were not provided:\n",
+    ),
+    (
+        &["ringpop", "owner", "k", "l"],
+        "error: unexpected argument 'l' found\n",
+    ),
+    (
+        &["ringpop", "owner", "--n", "4097", "k"],
+        "error: invalid value '4097' for '--n <n>'",
+    ),
+    (
+        &["ringpop", "owner", "--replicas", "0", "k"],
+        "error: invalid value '0' for '--replicas <replicas>'",
+    ),
+    (
+        &["ringpop", "owner", "--replicas", "1001", "k"],
+        "error: invalid value '1001' for '--replicas <replicas>'",
+    ),
+];
+
+#[test]
+fn refuses_words(rt: HostRuntime) {
+    for (words, text) in REFUSED_WORDS {
         let mut page = Page::new(ALL);
-        let _ = write!(page, "{fault}");
+        if let Err(fault) = read(&rt, rt.alloc(), words) {
+            assert_eq!(rt; fault.status(), 2);
+            let _ = write!(page, "{fault}");
+        }
         assert!(rt; page.text().starts_with(text), "{text}");
     }
 }

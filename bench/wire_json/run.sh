@@ -15,6 +15,8 @@ for crate in "$root/crates/change_core" "$root/crates/wire_json" "$here/wire_ben
         if [ -d "$crate/$part" ]; then cp -r "$crate/$part" "$work/crates/$(basename "$crate")/"; fi
     done
 done
+# A check reads each .rt and .antt file of the repository, so those of a benchmark bear another ending there.
+find "$work" \( -name '*.rt.txt' -o -name '*.antt.txt' \) | while read -r file; do mv "$file" "${file%.txt}"; done
 grep -E '^(change_core|wire_json):' "$root/crates.txt" > "$work/crates.txt"
 echo 'wire_bench: change_core wire_json anyhow' >> "$work/crates.txt"
 python3 "$here/ping.py" make "$work"

@@ -2,7 +2,7 @@
 use Rattle.std.proofs.Common.{◌≡◌, ◌≢◌, ◌⊎◌, ◌↔◌, ℕ, ◌+◌, ◌<◌, ◌≤◌, ◌^◌, Bool, true, false, not, eqb, ◌&&◌, cond, List, [], ◌∷◌, ◌++◌, map, Option, Some, None, length, take, drop, get_or, suc, arith, refl, inl, inr, sym, ◌∙◌, ap, subst, append_assoc, drop-cons}
 use Rattle.std.specs.List.{Contains, insert}
 use Rattle.std.specs.Prelude.{IsTrue, IsSomeAnd}
-use Rattle.std.proofs.lemmas.Bool.{cases_Bool, eqb-true, eq-eqb, false≢true}
+use Rattle.std.proofs.lemmas.Bool.{cases_Bool, eqb-true, eq-eqb, ne_eqb, false≢true}
 use Rattle.std.proofs.lemmas.List.{take-append-drop, append-nil}
 use Rattle.change_core.specs.declared.changes.Change.{Change}
 use Rattle.change_core.specs.Change.{Exceeds, exceeds, Overrides}
@@ -10,7 +10,7 @@ use Rattle.change_core.specs.Edits.{IsInserted, IsReplaced}
 use Rattle.change_core.specs.Members.{greatest, members, serving, alters, is_news, IsGreatest, IsMemberList, HaveSameChanges, change_text}
 use Rattle.change_core.specs.Refutation.{refutation, is_refuted, refutations, log_one}
 use Rattle.change_core.specs.Status.{rank, is_serving, IsServing}
-use Rattle.change_core.proofs.Precedence.{Exceeds-true, exceeds-true, exceeds-false, Exceeds-trans, same_from_neither}
+use Rattle.change_core.proofs.Precedence.{Exceeds-true, exceeds-true, exceeds-false, Exceeds-trans, same_from_rank, same_from_neither}
 use Rattle.change_core.proofs.Members.{None-greatest, unnamed-greatest, IsGreatest-greatest, greatest-IsGreatest, greatest-members, IsMemberList-members, members-IsMemberList, members-same, members-append, members-replaced, Contains-member_list}
 use Rattle.change_core.proofs.News.{members-no_news, members-inserted_at, gap_for, greatest-news}
 use Rattle.change_core.proofs.Serving.{serving-greatest, greatest-serving}
@@ -123,7 +123,44 @@ module _ (own : ℕ) (held given : Change) (about : held.address ≡ own) (refut
   pub Overrides-refutation_held : Overrides (refutation held given) held
   Overrides-refutation_held = (refl, Exceeds-trans (refutation held given) given held Exceeds-refutation (Exceeds-true given held given_exceeds))
 
--- the refutation is the greatest change about the node from then on
+both_true : (b c : Bool) → b ≡ true → c ≡ true → (b && c) ≡ true
+both_true true c t u = u
+both_true false c t u = absurd (false≢true t)
+
+-- which changes call for a refutation
+pub is_refuted-Overrides : (own : ℕ) (held given : Change) → held.address ≡ own → IsTrue (is_refuted own (Some held) given) ↔ (Overrides given held × (given.status ≢ held.status))
+is_refuted-Overrides own held given about = (to, from)
+  where
+    other_rank : Bool
+    other_rank = not (eqb (rank given.status) (rank held.status))
+
+    other_status : other_rank ≡ true → given.status ≡ held.status → ⊥
+    other_status t e = false≢true (sym (ap not (eq-eqb (rank given.status) (rank held.status) (ap rank e))) ∙ t)
+
+    to : is_refuted own (Some held) given ≡ true → Overrides given held × (given.status ≢ held.status)
+    to t = (
+      (given_about own held given about t ∙ sym about, Exceeds-true given held (given_exceeds own held given about t)),
+      other_status (second_true (exceeds given held) other_rank (second_true (eqb given.address own) _ t)),
+    )
+
+    from : Overrides given held × (given.status ≢ held.status) → is_refuted own (Some held) given ≡ true
+    from o = both_true (eqb given.address own) (exceeds given held && other_rank) (eq-eqb given.address own (o.0.0 ∙ about))
+        (both_true (exceeds given held) other_rank (exceeds-true given held o.0.1)
+        (ap not (ne_eqb (rank given.status) (rank held.status) (λ r. o.1 (same_from_rank given.status held.status r)))))
+
+-- a change that calls for none stands alone
+pub log_one-unanswered : (own : ℕ) (log : List Change) (given : Change) → (is_refuted own (greatest log own) given ≡ true → ⊥) → log_one own log given ≡ log ++ given ∷ []
+log_one-unanswered own log given n = ap (λ rs. log ++ given ∷ rs) (none (greatest log own) n)
+  where
+    without : (b : Bool) (c : Change) → (b ≡ true → ⊥) → cond b (c ∷ []) [] ≡ []
+    without true c m = absurd (m refl)
+    without false c m = refl
+
+    none : (o : Option Change) → (is_refuted own o given ≡ true → ⊥) → refutations own o given ≡ []
+    none None m = refl
+    none (Some held) m = without (is_refuted own (Some held) given) (refutation held given) m
+
+-- the refutation is the greatest change about the node directly after it
 pub greatest-log_one : (own : ℕ) (log : List Change) (held given : Change) → greatest log own ≡ Some held → is_refuted own (Some held) given ≡ true → greatest (log_one own log given) own ≡ Some (refutation held given)
 greatest-log_one own log held given e refuted =
     let g : IsGreatest log own held = IsGreatest-greatest log own held e in

@@ -1,22 +1,27 @@
 //! The laws of what this crate defines. Each is the contract of a function that does nothing, for every list of changes
-//! and every number; the calls of this crate and of those above promise their results in the same words.
+//! and every number; `limits` alone hands out the constants, and the orders compare. The calls of this crate and of those
+//! above promise their results in the same words.
 ghost use Rattle.std.specs.Prelude.{◌≡◌, ◌≢◌, ◌⊎◌, ◌↔◌, ℕ, ◌≤◌, List, [], ◌∷◌, ◌++◌, map, length, Some, None, IsTrue, IsSomeAnd};
 ghost use Rattle.std.specs.List.{Contains};
 ghost use Rattle.std.specs.List.Sorted.{IsStrictlyIncreasing};
 ghost use Rattle.std.specs.declared.cmp.Ordering.TheVariants.{Less};
 ghost use Rattle.change_core.specs.declared.changes.Change.{Change};
 ghost use Rattle.change_core.specs.declared.statuses.Status.{Status};
+ghost use Rattle.std.specs.Ordering.{nat_cmp};
 ghost use Rattle.change_core.specs.Address.{IsAddress, address_text};
+ghost use Rattle.change_core.specs.Ascending.{ascending};
 ghost use Rattle.change_core.specs.Change.{Overrides};
 ghost use Rattle.change_core.specs.Digest.{IsDigest, digest_digits};
 ghost use Rattle.change_core.specs.Edits.{IsInserted, IsReplaced};
 ghost use Rattle.change_core.specs.Members.{greatest, members, serving, is_news, IsNews, IsGreatest, IsMemberList, HaveSameChanges, address_of_change, change_text, digest_text};
-ghost use Rattle.change_core.specs.Numbers.{greatest_number, greatest_weight};
-ghost use Rattle.change_core.specs.Order.{change_cmp};
+ghost use Rattle.change_core.specs.Numbers.{greatest_number, greatest_weight, most_members};
+ghost use Rattle.change_core.specs.Order.{change_cmp, sourced_cmp};
 ghost use Rattle.change_core.specs.Refutation.{refutation, is_refuted, log_one};
 ghost use Rattle.change_core.specs.Status.{status_word, IsServing};
 
-use crate::changes::Change;
+use crate::changes::{Change, Sourced};
+use crate::numbers::{GREATEST_NUMBER, MOST_MEMBERS};
+use crate::weights::GREATEST_WEIGHT;
 use std::cmp::Ordering;
 
 /// Precedence is one strict total order of the changes about each address: of two that differ one overrides the other.
@@ -60,6 +65,12 @@ pub fn member_lists()
         → IsMemberList M → IsMemberList N → HaveSameChanges M N → M ≡ N }
 {}
 
+/// A list sorted with each number once has the numbers of the list, and they strictly increase.
+pub fn ascending_lists()
+    ensures members { (L : List ℕ) (a : ℕ) → Contains (ascending nat_cmp L) a ↔ Contains L a }
+    ensures increasing { (L : List ℕ) → IsStrictlyIncreasing (ascending nat_cmp L) }
+{}
+
 /// What a list comes to depends on the set of its changes alone: not on their order, their grouping or how often each
 /// stands there.
 pub fn merge()
@@ -97,8 +108,14 @@ pub fn serving_addresses()
     ensures increasing { (L : List Change) → IsStrictlyIncreasing (serving L) }
 {}
 
-/// A refutation overrides the change that it answers and the one that was held, and is what is held from then on.
+/// A change calls for a refutation where it is about the node itself, overrides what the node holds of itself and has
+/// another status. The refutation keeps the status and the weight that were held, overrides the change that it answers
+/// and the one that was held, and is what is held directly after it. A change that calls for none stands alone.
 pub fn refutation_holds()
+    ensures exactly { (own : ℕ) (held given : Change) → held.address ≡ own
+        → (IsTrue (is_refuted own (Some held) given) ↔ (Overrides given held × (given.status ≢ held.status))) }
+    ensures keeps { (held given : Change)
+        → ((refutation held given).status ≡ held.status) × ((refutation held given).weight ≡ held.weight) }
     ensures over_given { (own : ℕ) (held given : Change) → held.address ≡ own
         → IsTrue (is_refuted own (Some held) given) → Overrides (refutation held given) given }
     ensures over_held { (own : ℕ) (held given : Change) → held.address ≡ own
@@ -106,6 +123,8 @@ pub fn refutation_holds()
     ensures is_held { (own : ℕ) (L : List Change) (held given : Change) → greatest L own ≡ Some held
         → IsTrue (is_refuted own (Some held) given)
         → greatest (log_one own L given) own ≡ Some (refutation held given) }
+    ensures unanswered { (own : ℕ) (L : List Change) (given : Change)
+        → ¬ IsTrue (is_refuted own (greatest L own) given) → log_one own L given ≡ L ++ given ∷ [] }
 {}
 
 /// No two addresses, digests, statuses, changes or lists of changes have one text.
@@ -127,9 +146,26 @@ pub fn text_lengths()
     ensures digest { (x : List ℕ) → IsDigest x → length (digest_digits x) ≡ 64 }
 {}
 
+/// The limits of this crate's constants are those that contracts name: how many members there are at most, the greatest
+/// incarnation or moment, and the greatest weight.
+pub fn limits() -> (usize, u64, u8)
+    ensures members { result.0 ≡ most_members }
+    ensures number { result.1 ≡ greatest_number }
+    ensures weight { result.2 ≡ greatest_weight }
+{
+    (MOST_MEMBERS, GREATEST_NUMBER, GREATEST_WEIGHT)
+}
+
 /// Changes are sorted by address, then incarnation, then rank, then weight.
 pub fn change_order(one: &Change, other: &Change) -> Ordering
     ensures { result ≡ change_cmp one.now other.now }
+{
+    one.cmp(other)
+}
+
+/// Sourced changes are sorted by change, then source, then the source's incarnation.
+pub fn sourced_order(one: &Sourced, other: &Sourced) -> Ordering
+    ensures { result ≡ sourced_cmp one.now other.now }
 {
     one.cmp(other)
 }

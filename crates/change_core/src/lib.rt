@@ -16,7 +16,7 @@ mod weights;
 
 pub use addresses::Address;
 pub use changes::{Change, Entry, Sourced};
-pub use digests::{DIGEST_BYTES, Digest};
+pub use digests::Digest;
 pub use errors::ChangeError;
 pub use numbers::{GREATEST_NUMBER, Incarnation, MOST_MEMBERS, Moment};
 pub use statuses::Status;

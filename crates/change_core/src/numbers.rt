@@ -60,8 +60,8 @@ impl Incarnation {
     }
 }
 
-/// A count of milliseconds, 0 to 9,007,199,254,740,991, since a beginning that the caller chooses: no part of this project
-/// reads a clock of its own to make one. Contracts see the number.
+/// A count of milliseconds, 0 to 9,007,199,254,740,991, since a beginning that the caller chooses; this crate reads no
+/// clock. Contracts see the number.
 #[derive(Clone, Copy, Debug, PartialEq, Eq, PartialOrd, Ord, Hash)]
 pub struct Moment {
     number: u64,

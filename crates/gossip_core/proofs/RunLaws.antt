@@ -159,6 +159,6 @@ pub times_issued-put : (g : Dissemination) (s : Sourced) (es : List Event) → I
 times_issued-put g s es whole elsewhere =
     let a = s.change.address in
     let most = greatest_limit (with_news g s) es in
-    let some : 0 < g.limit = omega (arith, whole.limit_within.0) in
-    let unspent = IsLeft-from_AllBelow a g.limit (put_pending g.pending s) (AllBelow-put_pending g.limit g.pending s some whole.unspent) in
+    let some : 0 < g.limit = omega (arith, whole.bounded.limit_within.0) in
+    let unspent = IsLeft-from_AllBelow a g.limit (put_pending g.pending s) (AllBelow-put_pending g.limit g.pending s some whole.bounded.unspent) in
     omega (arith, times_issued-le a most (with_news g s) es (omega arith) unspent elsewhere, left-put most g.pending s whole.one_each)

@@ -1,5 +1,5 @@
 -- What contracts see of a `Gossip`, and what its calls make of it.
-use Rattle.std.specs.Prelude.{ℕ, ◌≤◌, List}
+use Rattle.std.specs.Prelude.{ℕ, ◌*◌, ◌≤◌, List}
 use Rattle.change_core.specs.declared.changes.Sourced.{Sourced}
 use Rattle.gossip_core.specs.declared.pending.Pending.{Pending}
 use Rattle.gossip_core.specs.Pending.{put_pending, counted, below, limit_for, OnePerAddress, AllBelow}
@@ -9,6 +9,14 @@ pub record Dissemination : Type 0 where
   pub factor : ℕ
   pub limit : ℕ
   pub pending : List Pending
+
+-- the greatest piggyback factor
+abbrev pub most_factor : ℕ
+most_factor = 1000
+
+-- the greatest limit: a number of members has at most 20 digits
+abbrev pub most_limit : ℕ
+most_limit = 20 * most_factor
 
 -- one more change is passed on
 abbrev pub with_news : Dissemination → Sourced → Dissemination
@@ -22,9 +30,13 @@ adjusted g n = let limit = limit_for g.factor n in record g { limit = limit; pen
 abbrev pub after_issue : Dissemination → ℕ → ℕ → Dissemination
 after_issue g target k = record g { pending = below g.limit (counted target k g.pending) }
 
--- what always holds: factor and limit are within their bounds, one change is pending for an address, and each has been issued less often than the limit
-pub record IsWhole (g : Dissemination) : Type 0 where
-  pub factor_within : (1 ≤ g.factor) × (g.factor ≤ 1000)
-  pub limit_within : (1 ≤ g.limit) × (g.limit ≤ 20000)
-  pub one_each : OnePerAddress g.pending
+-- factor and limit are within their bounds, and each change has been issued less often than the limit
+pub record IsBounded (g : Dissemination) : Type 0 where
+  pub factor_within : (1 ≤ g.factor) × (g.factor ≤ most_factor)
+  pub limit_within : (1 ≤ g.limit) × (g.limit ≤ most_limit)
   pub unspent : AllBelow g.limit g.pending
+
+-- what always holds: the bounds are kept, and one change is pending for an address
+pub record IsWhole (g : Dissemination) : Type 0 where
+  pub bounded : IsBounded g
+  pub one_each : OnePerAddress g.pending

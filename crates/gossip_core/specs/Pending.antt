@@ -1,6 +1,6 @@
 -- The pending list: the changes that a node still passes on, one for each address, in the order in which their addresses came.
--- SWIM (DSN 2002), section 4.1, has news ride on pings, each piece a multiple of log n times. The factor times the decimal digits of n is the rule
--- of ringpop-go's package swim. The order, the places that are kept and the number for each message are this project's own.
+-- The rule is this project's own, after SWIM (DSN 2002), section 4.1, where news rides on pings a multiple of log n times each,
+-- and after ringpop-go's package swim.
 use Rattle.std.specs.Prelude.{ℕ, ◌+◌, ◌-◌, ◌*◌, ◌==◌, ◌<◌, ◌≡◌, ◌≢◌, Bool, not, ◌&&◌, List, [], ◌∷◌, length, map, filter, take, nat_lt, if◌then◌else◌, All, AllPairs}
 use Rattle.std.specs.Int.Digits.{digits_of}
 use Rattle.std.specs.List.{list_any}
@@ -12,7 +12,7 @@ use Rattle.gossip_core.specs.declared.pending.Pending.{Pending}
 abbrev pub digit_count : ℕ → ℕ
 digit_count n = if n == 0 then 1 else length (digits_of 10 n)
 
--- how often a change is issued while n members serve
+-- how often a change is issued while n members serve: the factor times the decimal digits of n
 abbrev pub limit_for : ℕ → ℕ → ℕ
 limit_for factor n = factor * digit_count n
 
@@ -45,7 +45,7 @@ is_issued target k ps p = list_any (λ s. s.change.address == subject p) (issued
 abbrev pub once_more : Pending → Pending
 once_more p = record p { count = p.count + 1 }
 
--- the first k that may go to the target are issued once more
+-- the first k that may go to the target are issued once more. They are the issued ones, as the law `issued_count_one_more` says.
 abbrev pub counted : ℕ → ℕ → List Pending → List Pending
 counted target k [] = []
 counted target k (p ∷ ps) =

@@ -1,16 +1,16 @@
 ghost use Rattle.std.specs.Prelude.{◌≡◌, ◌≤◌, ◌↔◌, [], length, map, IfOk, IsOk, OnOk, OnErr, IsOkUnless};
-ghost use Rattle.gossip_core.specs.Dissemination.{Dissemination, with_news, adjusted, after_issue, IsWhole};
+ghost use Rattle.gossip_core.specs.Dissemination.{Dissemination, most_factor, with_news, adjusted, after_issue, IsWhole};
 ghost use Rattle.gossip_core.specs.Pending.{issued, limit_for, NoneAbout};
 
 use crate::errors::GossipError;
-use crate::pending::{self, Pending, PendingMap};
+use crate::pending::{self, PendingMap};
 use change_core::{Address, Sourced};
 use indexmap::IndexMap;
 use std::alloc::Global;
 use std::marker::Model;
 
 /// The greatest piggyback factor.
-const MAX_FACTOR: u32 = 1_000;
+pub const MOST_FACTOR: u32 = 1_000;
 
 /// The changes that a node passes on. Contracts see the factor, the limit and the list of pending changes.
 #[derive(Drop)]
@@ -36,13 +36,13 @@ impl Model for Gossip {
 impl Gossip {
     /// No pending changes, and the limit of one serving member. Allocates nothing.
     ///
-    /// The factor `piggyback` is from 1 to 1,000; any other is `BadFactor`.
+    /// The factor `piggyback` is from 1 to [`MOST_FACTOR`]; any other is `BadFactor`.
     pub fn new(alloc: Global, piggyback: u32) -> Result<Self, GossipError>
         ensures made { IfOk result (λ g. g ≡ record { factor = piggyback; limit = limit_for piggyback 1; pending = [] }) }
-        ensures within { IsOk result ↔ ((1 ≤ piggyback) × (piggyback ≤ 1000)) }
+        ensures within { IsOk result ↔ ((1 ≤ piggyback) × (piggyback ≤ most_factor)) }
         ensures refusal { IsOkUnless result GossipError.BadFactor }
     {
-        if piggyback == 0 || piggyback > MAX_FACTOR {
+        if piggyback == 0 || piggyback > MOST_FACTOR {
             return Err(GossipError::BadFactor);
         }
         Ok(Gossip {
@@ -62,15 +62,14 @@ impl Gossip {
         ensures refusal { IsOkUnless result GossipError.Memory }
         ensures growth { OnErr result (NoneAbout sourced.change.address self.old.pending) }
     {
-        let fresh = Pending { sourced, count: 0 };
-        pending::put_at(&mut self.pending, fresh.subject(), fresh)?;
+        pending::put(&mut self.pending, sourced)?;
         Ok(())
     }
 
     /// Sets the limit for `n` serving members, the factor times the decimal digits of `n`, and drops the changes that have
     /// been issued as often. Allocates nothing.
     ///
-    /// The rule is that of ringpop-go, package swim; that 0 has one digit is this project's choice.
+    /// The rule is this project's own, after ringpop-go, package swim.
     pub fn adjust(&mut self, n: usize)
         ensures { self.new ≡ adjusted self.old n }
     {

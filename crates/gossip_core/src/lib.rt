@@ -9,4 +9,4 @@ mod pending;
 mod tests;
 
 pub use errors::GossipError;
-pub use gossip::Gossip;
+pub use gossip::{Gossip, MOST_FACTOR};

@@ -1,6 +1,7 @@
 ghost use Rattle.std.specs.Prelude.{◌≡◌, ◌+◌, ◌-◌, ◌*◌, ◌<◌, ◌≤◌, ◌^◌, All, nat_lt, map, IfOk, OnOk, OnErr};
 ghost use Rattle.std.specs.List.{list_all};
 ghost use Rattle.indexmap.specs.IndexMap.{values};
+ghost use Rattle.gossip_core.specs.Dissemination.{most_factor, most_limit};
 ghost use Rattle.gossip_core.specs.Pending.{subject, put_pending, issued, counted, below, digit_count, limit_for, NoneAbout, IsByAddress};
 
 use change_core::{Address, Sourced};
@@ -16,7 +17,7 @@ pub struct Pending {
 
 impl Pending {
     /// Whom the change is about.
-    pub(crate) fn subject(&self) -> Address
+    fn subject(&self) -> Address
         ensures { result ≡ subject self.now }
     {
         self.sourced.change.address
@@ -37,21 +38,16 @@ pub(crate) fn all_of(alloc: Global, pending: &PendingMap) -> Result<Vec<Sourced>
     Ok(changes)
 }
 
-/// Puts a change under its address, in the place of the one before it or last.
-pub(crate) fn put_at(
-    pending: &mut PendingMap,
-    address: Address,
-    change: Pending,
-) -> Result<(), AllocError>
-    requires by_address { IsByAddress pending.old }
-    requires subject { subject change ≡ address }
-    requires unissued { change.count ≡ 0 }
-    ensures ok { OnOk result (values pending.new ≡ put_pending (values pending.old) change.sourced) }
-    ensures growth { OnErr result (NoneAbout address (values pending.old)) }
+/// Puts a change under its address, in the place of the one before it or last. It has not been issued.
+pub(crate) fn put(pending: &mut PendingMap, sourced: Sourced) -> Result<(), AllocError>
+    requires { IsByAddress pending.old }
+    ensures ok { OnOk result (values pending.new ≡ put_pending (values pending.old) sourced) }
+    ensures growth { OnErr result (NoneAbout sourced.change.address (values pending.old)) }
     ensures err { OnErr result (values pending.new ≡ values pending.old) }
     ensures by_address { IsByAddress pending.new }
 {
-    pending.insert(address, change)?;
+    let fresh = Pending { sourced, count: 0 };
+    pending.insert(fresh.subject(), fresh)?;
     Ok(())
 }
 
@@ -116,10 +112,10 @@ fn decimal_digits(n: usize) -> u32
 
 /// How often a change is issued while `n` members serve.
 pub(crate) fn limit_at(factor: u32, n: usize) -> u32
-    requires { factor ≤ 1000 }
+    requires { factor ≤ most_factor }
     ensures value { result ≡ limit_for factor n }
     ensures positive { 1 ≤ factor → 1 ≤ result }
-    ensures within { result ≤ 20000 }
+    ensures within { result ≤ most_limit }
 {
     factor * decimal_digits(n)
 }

@@ -8,8 +8,10 @@ invariant_of-self-2 c =
     let limit = c.self.inside.limit in
     let kept = c.self.invariant in
     record {
-      factor_within = kept.factor_within;
-      limit_within = kept.limit_within;
+      bounded = record {
+        factor_within = kept.bounded.factor_within;
+        limit_within = kept.bounded.limit_within;
+        unspent = subst (AllBelow limit) (sym c.drop_spent.ensures.below) (AllBelow-below limit _);
+      };
       by_address = c.drop_spent.ensures.by_address;
-      unspent = subst (AllBelow limit) (sym c.drop_spent.ensures.below) (AllBelow-below limit _);
     }

@@ -9,8 +9,6 @@ returns-clause-whole c =
     let m = c.self.inside.pending in
     let kept = c.self.invariant in
     subst IsWhole c.self.view_is record {
-      factor_within = kept.factor_within;
-      limit_within = kept.limit_within;
+      bounded = kept.bounded;
       one_each = OnePerAddress-from_keys (keys m) (values m) kept.by_address c.len.ensures.unique;
-      unspent = kept.unspent;
     }

@@ -3,6 +3,7 @@
 
 mod entries;
 mod errors;
+pub mod laws;
 mod memberships;
 mod tables;
 mod verdicts;

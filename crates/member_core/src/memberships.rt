@@ -76,6 +76,7 @@ impl Members {
         ensures ok { OnOk result (0 < self.new.room) }
         ensures kept { self.new ≡ record self.old { room = self.new.room } }
         ensures room { 0 < self.old.room → IsOk result }
+        ensures room_stays { self.old.room ≤ self.new.room }
         ensures err { OnErr result (self.new ≡ self.old) }
         ensures refusal { IsOkUnless result MemberError.Memory }
     {

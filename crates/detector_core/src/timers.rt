@@ -50,7 +50,7 @@ impl Model for Timers {
 impl Timers {
     /// No timers, and room for none yet.
     pub fn new(alloc: Global) -> Self
-        ensures { result.timers ≡ [] }
+        ensures { result ≡ record { timers = []; room = 0 } }
     {
         Timers {
             timers: Vec::new(alloc),
@@ -78,6 +78,7 @@ impl Timers {
         ensures timers { self.new.timers ≡ with_timer self.old.timers
             (record { address = address; incarnation = incarnation; next = next; deadline = deadline }) }
         ensures room { self.old.room ≤ self.new.room + 1 }
+        ensures replaced { HasTimer self.old.timers address → self.old.room ≤ self.new.room }
     {
         let timer = Timer {
             address,
@@ -93,11 +94,12 @@ impl Timers {
         }
     }
 
-    /// Ends the timer of an address, and answers whether it had one.
+    /// Ends the timer of an address, and answers whether it had one. Its room is free for another.
     pub fn clear(&mut self, address: Address) -> bool
         ensures timers { self.new.timers ≡ without_timer self.old.timers address }
         ensures found { IsTrue result ↔ HasTimer self.old.timers address }
         ensures room { self.old.room ≤ self.new.room }
+        ensures freed { IsTrue result → self.old.room + 1 ≤ self.new.room }
     {
         let place = place_of(&self.timers, address);
         let found = stands_at(&self.timers, place, address);

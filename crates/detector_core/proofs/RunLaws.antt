@@ -1,10 +1,11 @@
--- Two probers that agree: what one picks and asks the other does.
+-- Two probers that agree: what one picks, asks and answers the other does.
+use Rattle.std.specs.Option.{option_and_then}
 use Rattle.std.proofs.Common.{◌≡◌, ℕ, List, Some, None, Option, [], arith, refl, sym, ap, ◌∙◌, ◌+◌}
 use Rattle.detector_core.specs.Choices.{sample}
 use Rattle.detector_core.specs.Helpers.{others, unanswered}
 use Rattle.detector_core.specs.Order.{drawn_turn}
-use Rattle.detector_core.specs.Probing.{ProbeState, choices, helper_count}
-use Rattle.detector_core.specs.Picks.{Agree, IsPick, WasLost, WasAsked, PicksAreOne, LossesAreOne}
+use Rattle.detector_core.specs.Probing.{ProbeState, choices, Attempted, helper_count, would_say, left_running, running_target}
+use Rattle.detector_core.specs.Picks.{Agree, IsPick, WasLost, WasAsked, PicksAreOne, LossesAreOne, WordsAreOne, AcksAreOne}
 use Rattle.detector_core.specs.declared.prober.Lost.{Lost}
 use Rattle.detector_core.specs.declared.prober.Lost.TheVariants.{Ask, NoHelper}
 
@@ -62,3 +63,25 @@ losses_are_one pingable target s t s' t' (Ask helpers) (Ask more) agree one othe
         running = ap (λ s. s.running) one.left ∙ (λ j. Some (record { target = target; asked = unanswered (asked j) })) ∙ sym (ap (λ s. s.running) other.left);
       },
     )
+
+-- the prober with another's last number and running probe
+abbrev standing : ProbeState → ℕ → Option Attempted → ProbeState
+standing s last running = record s { last = last; running = running }
+
+pub words_are_one : WordsAreOne
+words_are_one number helper said s t agree = (
+  (λ j. would_say (standing s (agree.last j) (agree.running j)) number helper said),
+  λ o. record {
+    last = agree.last;
+    helpers = agree.helpers;
+    rest = agree.rest;
+    coming = agree.coming;
+    running = ap (λ r. option_and_then (left_running o helper said) r) agree.running;
+  },
+)
+
+pub acks_are_one : AcksAreOne
+acks_are_one number s t agree = (
+  (λ j. running_target (standing s (agree.last j) (agree.running j)) number),
+  record { last = agree.last; helpers = agree.helpers; rest = agree.rest; coming = agree.coming; running = refl },
+)

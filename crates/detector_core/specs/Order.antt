@@ -1,5 +1,6 @@
--- The order in which members are probed (SWIM, section 4.3): a random order of which the rest is not yet picked, and
--- how long a member may have to wait in it.
+-- The order in which members are probed (SWIM, section 4.3): a random order, of which the rest is what stands after the
+-- last pick, and how long a member may have to wait in it. A member that was passed over has had its turn: if it may be
+-- pinged again it waits for the next order.
 use Rattle.std.specs.Prelude.{◌≡◌, ℕ, ◌+◌, ◌-◌, ◌<◌, ◌⊎◌, ◌≢◌, Bool, nat_eq, List, [], ◌∷◌, ◌++◌, length, filter, if◌then◌else◌, Contains, AllPairs, IsPermutation, Option, Some, None}
 use Rattle.std.specs.List.{list_any, position_or_len}
 use Rattle.rand_core.specs.Stream.{Stream}

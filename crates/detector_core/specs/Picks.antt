@@ -6,10 +6,12 @@ use Rattle.detector_core.specs.declared.prober.Probe.{Probe}
 use Rattle.detector_core.specs.declared.prober.Running.{Running}
 use Rattle.detector_core.specs.declared.prober.Lost.{Lost}
 use Rattle.detector_core.specs.declared.prober.Lost.TheVariants.{Ask, NoHelper}
+use Rattle.detector_core.specs.declared.asked.Said.{Said}
+use Rattle.detector_core.specs.declared.asked.Outcome.{Outcome}
 use Rattle.detector_core.specs.Helpers.{first_waiting, others, unanswered, IsSample}
 use Rattle.detector_core.specs.Choices.{sample}
 use Rattle.detector_core.specs.Order.{AllDifferent, bound, IsTurn, AllNearer, drawn_turn}
-use Rattle.detector_core.specs.Probing.{ProbeState, choices, helper_count}
+use Rattle.detector_core.specs.Probing.{ProbeState, choices, helper_count, would_say, after_saying, running_target}
 
 -- the probe has the next number, its target is a pingable member in turn, as the choices give it, and every other
 -- pingable member comes nearer
@@ -65,7 +67,7 @@ HoldsEach =
 abbrev pub BoundIsLow : Type 0
 BoundIsLow = (pingable rest : List ℕ) (a : ℕ) → AllDifferent rest → Contains pingable a → bound pingable rest a ≤ 2 * length pingable - 2
 
--- two probers that stand at one place of one run: all is equal, and so are the random choices to come
+-- two probers are the same but for their generators, and the random choices to come are the same
 pub record Agree (s t : ProbeState) : Type 0 where
   pub last : s.last ≡ t.last
   pub helpers : s.helpers ≡ t.helpers
@@ -84,3 +86,15 @@ abbrev pub LossesAreOne : Type 0
 LossesAreOne =
     (pingable : List ℕ) (target : ℕ) (s t s' t' : ProbeState) (l m : Lost)
     → Agree s t → WasLost pingable target s l s' → WasLost pingable target t m t' → (l ≡ m) × Agree s' t'
+
+-- two probers that agree answer a helper's word alike, and agree once either has noted it
+abbrev pub WordsAreOne : Type 0
+WordsAreOne =
+    (number helper : ℕ) (said : Said) (s t : ProbeState)
+    → Agree s t → (would_say s number helper said ≡ would_say t number helper said) × ((o : Outcome) → Agree (after_saying s helper said o) (after_saying t helper said o))
+
+-- two probers that agree have the probe of a number alike, and agree once it has ended
+abbrev pub AcksAreOne : Type 0
+AcksAreOne =
+    (number : ℕ) (s t : ProbeState)
+    → Agree s t → (running_target s number ≡ running_target t number) × Agree (record s { running = None }) (record t { running = None })

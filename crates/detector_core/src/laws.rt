@@ -1,7 +1,7 @@
 //! Laws of the definitions: what callers may cite of a run of picks, of verdicts and of timers.
 ghost use Rattle.std.specs.Prelude.{◌≡◌, ℕ, List};
 ghost use Rattle.detector_core.specs.Helpers.{DecidesByWords};
-ghost use Rattle.detector_core.specs.Picks.{BoundIsLow, HoldsEach, LossesAreOne, PicksAreOne};
+ghost use Rattle.detector_core.specs.Picks.{AcksAreOne, BoundIsLow, HoldsEach, LossesAreOne, PicksAreOne, WordsAreOne};
 ghost use Rattle.detector_core.specs.Timers.{IsAscending, GivesLeastDue};
 ghost use Rattle.detector_core.specs.declared.timers.Timer.{Timer};
 
@@ -12,8 +12,8 @@ pub fn each_member_is_picked()
     ensures each { HoldsEach }
 {}
 
-/// A probe waits exactly while another helper is silent, and its target is suspect exactly if all have answered, none
-/// reached it, and one said so.
+/// A word `Reached` ends the probe. After any other word it waits exactly while another helper is silent; else it is suspect
+/// exactly if this or another helper said `NotReached`, and else inconclusive.
 pub fn helpers_decide()
     ensures { DecidesByWords }
 {}
@@ -24,9 +24,11 @@ pub fn least_address_is_due()
     ensures { (ts : List Timer) (now : ℕ) → IsAscending ts → GivesLeastDue ts now }
 {}
 
-/// Two probers of one seed that are handed the same pick the same targets and ask the same helpers: a run is a function
-/// of its inputs.
+/// Two probers that agree answer a pick and a loss alike where no memory is refused, and a helper's word and an ack alike
+/// always, and agree afterwards. Two new ones of one seed agree.
 pub fn a_run_follows_from_its_inputs()
     ensures picks { PicksAreOne }
     ensures losses { LossesAreOne }
+    ensures words { WordsAreOne }
+    ensures acks { AcksAreOne }
 {}

@@ -9,8 +9,8 @@ use rand_pcg::Pcg32;
 use std::alloc::{AllocError, Global};
 use std::marker::Model;
 
-/// The current random order of members (SWIM, section 4.3: round-robin probe target selection). Contracts see the rest,
-/// those not yet picked.
+/// The current random order of members (SWIM, section 4.3: round-robin probe target selection). Contracts see the rest:
+/// what stands after the last pick. A member that was passed over has had its turn.
 #[derive(Drop)]
 pub(crate) struct Order {
     members: Vec<Address>,

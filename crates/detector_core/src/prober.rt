@@ -48,7 +48,7 @@ struct Attempt {
 
 /// What picks targets and follows one probe at a time (SWIM, sections 3.1 and 4.3). Contracts see the last number used,
 /// which is the running probe's, how many helpers are asked, the rest of the current order, the generator of random choices,
-/// and the running probe. So the run of a prober is a function of its seed and of what it is handed.
+/// and the running probe.
 #[derive(Drop)]
 pub struct Prober {
     rng: Pcg32,
@@ -98,9 +98,10 @@ impl Prober {
     }
 
     /// Begins a probe of the next member in turn. Members that may not be pinged are passed over, and when the order is
-    /// used up a new random one is made of those that may be pinged now (SWIM, section 4.3). The answer is None, which
-    /// changes nothing, exactly where nobody may be pinged. `Busy`: a probe runs. `Spent`: the last number is 2^53 - 1.
-    /// `Memory`: a new order found no room. A refusal changes nothing.
+    /// used up a new random one is made of those that may be pinged now (SWIM, section 4.3); one that comes meanwhile waits
+    /// for it (own). The answer is None, which changes nothing, exactly where nobody may be pinged and no refusal applies.
+    /// `Busy`: a probe runs. `Spent`: the last number is 2^53 - 1. `Memory`: a new order found no room. A refusal changes
+    /// nothing.
     pub fn next_target(&mut self, pingable: &[Address]) -> Result<Option<Probe>, DetectorError>
         requires { IsStrictlyIncreasing pingable.now }
         ensures busy { IsErrOf result DetectorError.Busy ↔ IsSome self.old.running }
@@ -183,6 +184,7 @@ impl Prober {
             self.running = None;
             return Ok(Lost::NoHelper);
         }
+        // Choices are drawn from a copy, so that a refusal leaves the generator as it was.
         let mut rng = self.rng.clone().unwrap();
         let chosen = helpers::choose(self.alloc, &mut rng, pingable, target, self.helpers)?;
         let asked = helpers::unanswered(self.alloc, &chosen)?;
@@ -239,9 +241,9 @@ impl Prober {
     }
 
     /// Notes what a helper said of the target, and answers what became of the probe: reached at once; when all have
-    /// answered without that, suspect if one did not reach it (SWIM, section 4.2), and inconclusive if all failed (own).
-    /// Every outcome but `Waiting` ends the probe. `StaleProbe`: it is not the running probe. `NotAsked`: this helper was
-    /// not asked, or has answered.
+    /// answered without that, suspect (SWIM, section 4.2) if one said that it did not reach it, inconclusive if all failed
+    /// (both own). Every outcome but `Waiting` ends the probe. `StaleProbe`: it is not the running probe. `NotAsked`: this
+    /// helper was not asked, or has answered.
     pub fn helper_said(
         &mut self,
         number: u64,

@@ -77,11 +77,12 @@ fn lose(
     }
 }
 
-/// Sets a timer to faulty. Where the growth is refused nothing has changed, and the next try goes on.
+/// Starts a timer. Where the growth is refused nothing has changed, and the next try goes on.
 fn start(
     rt: &impl Abort,
     timers: &mut Timers,
     number: u8,
+    next: Status,
     deadline: u64,
 ) -> Result<(), DetectorError> {
     let one = Incarnation::new(1).expect(rt, "an incarnation");
@@ -91,7 +92,7 @@ fn start(
         assert_eq!(rt; (timers.len(), timers.due(last)), before);
         timers.reserve_one()?;
     }
-    timers.set(node(rt, number), one, Status::Faulty, deadline);
+    timers.set(node(rt, number), one, next, deadline);
     Ok(())
 }
 
@@ -125,6 +126,18 @@ fn picks_follow_from_the_seed(rt: HostRuntime) -> Result<(), Fail> {
         assert_picks(&rt, &mut prober, &three(&rt), &of_three)?;
         assert_picks(&rt, &mut prober, &four(&rt), &of_four)?;
         assert_picks(&rt, &mut prober, &pair(&rt), &of_pair)?;
+    }
+    Ok(())
+}
+
+// Each row is one order of the three; both are picked whole before another is made.
+#[test]
+fn two_rounds_hold_each_member(rt: HostRuntime) -> Result<(), Fail> {
+    for (seed, orders) in [(7, [[3, 4, 2], [4, 3, 2]]), (1, [[4, 2, 3], [2, 4, 3]])] {
+        let mut prober = Prober::new(rt.alloc(), seed, 2, 0);
+        for order in &orders {
+            assert_picks(&rt, &mut prober, &three(&rt), order)?;
+        }
     }
     Ok(())
 }
@@ -223,6 +236,11 @@ fn helpers_decide(rt: HostRuntime) -> Result<(), Fail> {
         let Lost::Ask(helpers) = lose(&rt, &mut prober, probe.number, &pingable)? else {
             return Err(Fail::from("nobody to ask"));
         };
+        assert_eq!(rt; helpers.as_slice().len(), 3);
+        for member in &pingable {
+            let asked = helpers.as_slice().iter().any(|helper| helper == member);
+            assert_eq!(rt; asked, *member != probe.target);
+        }
         let mut outcome = Outcome::Waiting;
         for (helper, said) in helpers.as_slice().iter().zip(words.iter()) {
             if outcome == Outcome::Waiting {
@@ -242,6 +260,10 @@ fn a_helper_answers_once(rt: HostRuntime) -> Result<(), Fail> {
     let pingable = three(&rt);
     let mut prober = Prober::new(rt.alloc(), 7, 16, 0);
     let probe = pick(&rt, &mut prober, &pingable)?.ok_or("nobody to probe")?;
+    assert_eq!(rt;
+        prober.would_say(1, node(&rt, 2), Said::Failed),
+        Err(DetectorError::NotAsked)
+    );
     let Lost::Ask(helpers) = lose(&rt, &mut prober, probe.number, &pingable)? else {
         return Err(Fail::from("nobody to ask"));
     };
@@ -249,8 +271,13 @@ fn a_helper_answers_once(rt: HostRuntime) -> Result<(), Fail> {
     let running = prober.running().ok_or("no probe runs")?;
     assert_eq!(rt; running.waiting, helpers.as_slice().iter().copied().min());
     let helper = running.waiting.ok_or("nobody is waited for")?;
-    for wanted in [Ok(Outcome::Waiting), Err(DetectorError::NotAsked)] {
-        assert_eq!(rt; prober.helper_said(1, helper, Said::Failed), wanted);
+    assert_eq!(rt; prober.target_of(2), None);
+    for (number, wanted) in [
+        (2, Err(DetectorError::StaleProbe)),
+        (1, Ok(Outcome::Waiting)),
+        (1, Err(DetectorError::NotAsked)),
+    ] {
+        assert_eq!(rt; prober.helper_said(number, helper, Said::Failed), wanted);
     }
     assert!(rt; matches!(prober.lost(1, &pingable), Err(DetectorError::StaleProbe)));
     Ok(())
@@ -259,9 +286,9 @@ fn a_helper_answers_once(rt: HostRuntime) -> Result<(), Fail> {
 #[test]
 fn timers_run_out_at_their_deadlines(rt: HostRuntime) -> Result<(), Fail> {
     let mut timers = Timers::new(rt.alloc());
-    start(&rt, &mut timers, 2, 20)?;
-    start(&rt, &mut timers, 3, 10)?;
-    start(&rt, &mut timers, 4, GREATEST_NUMBER + 1)?;
+    start(&rt, &mut timers, 2, Status::Faulty, 20)?;
+    start(&rt, &mut timers, 3, Status::Faulty, 10)?;
+    start(&rt, &mut timers, 4, Status::Faulty, GREATEST_NUMBER + 1)?;
     for (now, wanted) in [
         (9, None),
         (10, Some(3)),
@@ -285,5 +312,32 @@ fn timers_run_out_at_their_deadlines(rt: HostRuntime) -> Result<(), Fail> {
     timers.clear(node(&rt, 3));
     assert_eq!(rt; timers.due(moment(&rt, GREATEST_NUMBER)), None);
     assert_eq!(rt; timers.len(), 1);
+    Ok(())
+}
+
+#[test]
+fn a_timer_is_replaced(rt: HostRuntime) -> Result<(), Fail> {
+    let address = node(&rt, 2);
+    let incarnation = Incarnation::new(1).ok_or("an incarnation")?;
+    let mut timers = Timers::new(rt.alloc());
+    for (next, before, deadline) in [
+        (Status::Faulty, 4_999, 5_000),
+        (Status::Tombstone, 86_404_999, 86_405_000),
+    ] {
+        start(&rt, &mut timers, 2, next, deadline)?;
+        assert_eq!(rt; timers.len(), 1);
+        let due = Due {
+            address,
+            incarnation,
+            next,
+        };
+        for (now, wanted) in [(before, None), (deadline, Some(due))] {
+            assert_eq!(rt; timers.due(moment(&rt, now)), wanted, "at {now}");
+        }
+    }
+    let mut cleared = Timers::new(rt.alloc());
+    start(&rt, &mut cleared, 2, Status::Faulty, 5_000)?;
+    cleared.clear(address);
+    assert_eq!(rt; cleared.due(moment(&rt, 5_000)), None);
     Ok(())
 }

@@ -4,9 +4,8 @@ use Rattle.std.proofs.Common.{◌≡◌, ℕ, List, Some, None, Option, [], arit
 use Rattle.detector_core.specs.Choices.{sample}
 use Rattle.detector_core.specs.Helpers.{others, unanswered}
 use Rattle.detector_core.specs.Order.{drawn_turn}
-use Rattle.detector_core.specs.Probing.{ProbeState, choices, Attempted, helper_count, would_say, left_running, running_target}
-use Rattle.detector_core.specs.Picks.{Agree, IsPick, WasLost, WasAsked, PicksAreOne, LossesAreOne, WordsAreOne, AcksAreOne}
-use Rattle.detector_core.specs.declared.prober.Lost.{Lost}
+use Rattle.detector_core.specs.Probing.{ProbeState, choices, Attempted, would_say, left_running, running_target}
+use Rattle.detector_core.specs.Picks.{PicksAreOne, LossesAreOne, WordsAreOne, AcksAreOne}
 use Rattle.detector_core.specs.declared.prober.Lost.TheVariants.{Ask, NoHelper}
 
 abbrev target_or : ℕ → Option (ℕ × List ℕ) → ℕ

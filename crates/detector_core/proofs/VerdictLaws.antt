@@ -1,14 +1,13 @@
 -- The verdict on a probe, in the words of its helpers.
-use Rattle.std.proofs.Common.{◌≡◌, ◌≢◌, ℕ, ◌==◌, ◌&&◌, ◌||◌, ◌⊎◌, ◌↔◌, inl, inr, Bool, true, false, cond, List, [], ◌∷◌, map, Option, Some, None, is_none, refl, sym, ap, ◌∙◌, subst, Contains, true≢false, eqb-true, ne_eqb}
+use Rattle.std.proofs.Common.{◌≡◌, ◌≢◌, ℕ, ◌==◌, ◌&&◌, ◌||◌, ◌⊎◌, inl, inr, Bool, true, false, cond, List, [], ◌∷◌, map, Option, Some, None, is_none, refl, sym, ap, ◌∙◌, Contains, true≢false, ne_eqb}
 use Rattle.std.proofs.lemmas.Bool.{eqb-false}
 use Rattle.std.proofs.lemmas.List.Folds.{Any-from_list_any, list_any-from_Any}
 use Rattle.std.specs.List.{list_any}
 use Rattle.detector_core.specs.declared.asked.Asked.{Asked}
 use Rattle.detector_core.specs.declared.asked.Said.{Said}
 use Rattle.detector_core.specs.declared.asked.Said.TheVariants as said
-use Rattle.detector_core.specs.declared.asked.Outcome.{Outcome}
 use Rattle.detector_core.specs.declared.asked.Outcome.TheVariants as outcomes
-use Rattle.detector_core.specs.Helpers.{noted, waits, missed, is_reached, is_not_reached, outcome_after, AnotherIsSilent, AnotherMissed, IsVerdict, DecidesByWords}
+use Rattle.detector_core.specs.Helpers.{noted, waits, missed, is_not_reached, AnotherIsSilent, AnotherMissed, IsVerdict, DecidesByWords}
 
 -- another helper, whose word passes a test
 record Another (t : Option Said → Bool) (asked : List Asked) (helper : ℕ) : Type 0 where

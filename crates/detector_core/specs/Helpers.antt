@@ -1,11 +1,12 @@
 -- Helpers of a lost probe (SWIM, section 3.1): what each said, and what becomes of the probe.
-use Rattle.std.specs.Prelude.{ℕ, ◌==◌, ◌&&◌, ◌≡◌, ◌≢◌, ◌↔◌, ◌⊎◌, not, length, All, AllPairs, Contains, filter, min, Bool, true, false, List, map, is_none, Option, Some, None, if◌then◌else◌}
+use Rattle.std.specs.Prelude.{ℕ, ◌==◌, ◌&&◌, ◌≡◌, ◌≢◌, ◌↔◌, ◌⊎◌, not, length, All, Contains, filter, min, Bool, true, false, List, map, is_none, Option, Some, None, if◌then◌else◌}
 use Rattle.std.specs.List.{list_any, reduce}
 use Rattle.detector_core.specs.declared.asked.Asked.{Asked}
 use Rattle.detector_core.specs.declared.asked.Said.{Said}
 use Rattle.detector_core.specs.declared.asked.Said.TheVariants as said
 use Rattle.detector_core.specs.declared.asked.Outcome.{Outcome}
 use Rattle.detector_core.specs.declared.asked.Outcome.TheVariants as outcomes
+use Rattle.detector_core.specs.Order.{AllDifferent}
 
 -- one that was asked, with what this helper said
 abbrev pub noted : ℕ → Said → Asked → Asked
@@ -58,7 +59,7 @@ others pingable target = filter (λ a. not (a == target)) pingable
 pub record IsSample (members : List ℕ) (count : ℕ) (chosen : List ℕ) : Type 0 where
   pub as_many : length chosen ≡ count
   pub within : All (Contains members) chosen
-  pub different : AllPairs (λ a b. a ≢ b) chosen
+  pub different : AllDifferent chosen
 
 -- helpers who have not answered
 abbrev pub unanswered : List ℕ → List Asked

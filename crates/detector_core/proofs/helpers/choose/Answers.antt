@@ -1,5 +1,5 @@
 use Rattle.std.proofs.Common.{◌∙◌, take, subst, sym, IsPermutation}
-use Rattle.detector_core.specs.Choices.{choices_of, sample, new_order}
+use Rattle.detector_core.specs.Choices.{choices_of, sample}
 use Rattle.detector_core.specs.Helpers.{others, IsSample}
 use Rattle.detector_core.proofs.SampleLemmas.{IsSample-take}
 use Rattle.detector_core.proofs.helpers.choose.Goals as goal

@@ -1,4 +1,4 @@
-use Rattle.std.proofs.Common.{inr, sym}
+use Rattle.std.proofs.Common.{inr}
 use Rattle.detector_core.specs.Choices.{choices_of}
 use Rattle.detector_core.proofs.OrderLemmas.{some_begins, IsNewOrder-first, IsNextIn-result, drawn_turn-next, drawn_turn-new}
 use Rattle.detector_core.proofs.order.pick.Goals as goal

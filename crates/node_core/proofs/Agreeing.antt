@@ -1,0 +1,42 @@
+-- Nodes whose logs hold the same changes agree.
+use Rattle.std.proofs.Common.{◌≡◌, ℕ, List, refl, sym, ◌∙◌, ap, map}
+use Rattle.std.specs.Prelude.{filter}
+use Rattle.change_core.specs.declared.changes.Change.{Change}
+use Rattle.change_core.specs.Members.{members, digest_text, HaveSameChanges}
+use Rattle.change_core.specs.Status.{is_serving}
+use Rattle.change_core.proofs.Members.{members-same, members-append, members-members}
+use Rattle.hash_ring.specs.declared.Server.{Server}
+use Rattle.hash_ring.specs.Points.{owners, points}
+use Rattle.node_core.specs.Agreement.{AgreeOnAll, IsNodeOf, Agree, NodesAgree}
+use Rattle.node_core.specs.Node.{Seen, server_of, servers_of}
+
+-- lists with the same members have the same servers
+servers-same : (L K : List Change) → members L ≡ members K → servers_of L ≡ servers_of K
+servers-same L K e = ap (λ (M : List Change). map server_of (filter (λ c. is_serving c.status) M)) e
+
+pub agree_on_all : (L K : List Change) → HaveSameChanges L K → AgreeOnAll L K
+agree_on_all L K h =
+    let e : members L ≡ members K = members-same L K h in
+    record {
+      members_same = e;
+      owners_same = λ hash replicas key. ap (λ (s : List Server). owners hash replicas s key) (servers-same L K e);
+      points_same = λ hash replicas. ap (points hash replicas) (servers-same L K e);
+    }
+
+pub nodes_agree : {H : Type 0} (hash_of : H → List ℕ → ℕ) → NodesAgree hash_of
+nodes_agree {H} hash_of a b L K of_a of_b same hash replicas =
+    let on_all = agree_on_all L K same in
+    let members_same : a.node.members ≡ b.node.members = of_a.members_are ∙ on_all.members_same ∙ sym of_b.members_are in
+    let hashes : hash_of a.node.hash ≡ hash_of b.node.hash = ap hash_of hash in
+    record {
+      members_same = members_same;
+      text_same = ap digest_text members_same;
+      owners_same = λ key.
+          ap (λ (f : List ℕ → ℕ). owners f a.node.config.replicas (servers_of a.node.members) key) hashes
+          ∙ ap (λ (r : ℕ). owners (hash_of b.node.hash) r (servers_of a.node.members) key) replicas
+          ∙ ap (λ (M : List Change). owners (hash_of b.node.hash) b.node.config.replicas (servers_of M) key) members_same;
+      points_same = of_a.points_are ∙ on_all.points_same (hash_of a.node.hash) a.node.config.replicas
+          ∙ ap (λ (f : List ℕ → ℕ). points f a.node.config.replicas (servers_of K)) hashes
+          ∙ ap (λ (r : ℕ). points (hash_of b.node.hash) r (servers_of K)) replicas
+          ∙ sym of_b.points_are;
+    }

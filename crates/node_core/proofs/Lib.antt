@@ -1,0 +1,15 @@
+pub mod Greatest
+pub mod Log
+pub mod Listed
+pub mod Synchronising
+pub mod Following
+pub mod Probed
+pub mod Sound
+pub mod Steps
+pub mod World
+pub mod Apart
+pub mod Timed
+pub mod Kept
+pub mod Configured
+pub mod Invariant
+pub mod Agreeing

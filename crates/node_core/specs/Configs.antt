@@ -1,0 +1,30 @@
+-- Which configurations a node can be made with.
+use Rattle.std.specs.Prelude.{◌≡◌, ℕ, ◌≤◌, ◌&&◌, nat_le, Bool, cond, Option, Some, None}
+use Rattle.change_core.specs.Numbers.{greatest_number, most_members}
+use Rattle.node_core.specs.declared.configs.Config.{Config}
+use Rattle.node_core.specs.declared.configs.ConfigField.{ConfigField}
+use Rattle.node_core.specs.declared.configs.ConfigField.TheVariants.{Replicas, MaxMembers, SuspectMs, FaultyMs, Helpers, Piggyback, PerMessage}
+
+abbrev pub is_within : ℕ → ℕ → ℕ → Bool
+is_within least most n = nat_le least n && nat_le n most
+
+-- the first field that is out of its range
+abbrev pub bad_field : Config → Option ConfigField
+bad_field c =
+    cond (is_within 1 1000 c.replicas)
+    (cond (is_within 1 most_members c.max_members)
+    (cond (is_within 1 greatest_number c.suspect_ms)
+    (cond (is_within 1 greatest_number c.faulty_ms)
+    (cond (is_within 0 16 c.helpers)
+    (cond (is_within 1 1000 c.piggyback)
+    (cond (is_within 1 most_members c.per_message) None (Some PerMessage))
+    (Some Piggyback))
+    (Some Helpers))
+    (Some FaultyMs))
+    (Some SuspectMs))
+    (Some MaxMembers))
+    (Some Replicas)
+
+-- each field is in its range
+abbrev pub IsConfig : Config → Type 0
+IsConfig c = bad_field c ≡ None

@@ -1,0 +1,15 @@
+pub mod Configs
+pub mod Node
+pub mod Log
+pub mod Messages
+pub mod Taking
+pub mod Receiving
+pub mod Asserting
+pub mod Expiring
+pub mod Probes
+pub mod Step
+pub mod Run
+pub mod Agreement
+pub mod Synchronisation
+pub mod Invariant
+pub mod World

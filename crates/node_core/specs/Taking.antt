@@ -1,0 +1,74 @@
+-- What a node does with changes that it is given: which alter an entry, which are refuted, and where a batch stops.
+use Rattle.std.specs.Prelude.{◌≡◌, ℕ, ◌==◌, ◌&&◌, Bool, cond, Option, Some, None, Result, Ok, Err, List, [], ◌∷◌, length, map, take, slice_get, is_none}
+use Rattle.change_core.specs.declared.changes.Change.{Change}
+use Rattle.change_core.specs.declared.changes.Sourced.{Sourced}
+use Rattle.change_core.specs.Members.{greatest, alters}
+use Rattle.change_core.specs.Numbers.{greatest_number}
+use Rattle.change_core.specs.Refutation.{is_refuted, refutation}
+use Rattle.node_core.specs.declared.events.Taken.{Taken}
+use Rattle.node_core.specs.declared.events.Stopped.{Stopped}
+use Rattle.node_core.specs.declared.events.StopCause.{StopCause}
+use Rattle.node_core.specs.declared.events.StopCause.TheVariants.{Exhausted, Full, Memory}
+use Rattle.node_core.specs.Log.{applied, refuted}
+use Rattle.node_core.specs.Node.{Node, altered, asserted_by, at_moment, own_change}
+
+abbrev pub change_of : Sourced → Change
+change_of s = s.change
+
+-- the alteration that a given change makes: the node's refutation, the change itself, or none
+abbrev pub alteration : {H : Type 0} → Node H → Sourced → Option Sourced
+alteration node s =
+    cond (is_refuted node.own (greatest node.members node.own) s.change)
+    (Some (asserted_by node.own (refutation (own_change node) s.change)))
+    (cond (alters (greatest node.members s.change.address) s.change) (Some s) None)
+
+abbrev pub altered_by : {H : Type 0} → Node H → Option Sourced → Node H
+altered_by node None = node
+altered_by node (Some s) = altered node s
+
+-- the node once one given change is taken
+abbrev pub took : {H : Type 0} → Node H → Sourced → Node H
+took node s = altered_by node (alteration node s)
+
+-- the node once these are taken, one after another
+abbrev pub took_all : {H : Type 0} → Node H → List Sourced → Node H
+took_all node [] = node
+took_all node (s ∷ ss) = took_all (took node s) ss
+
+-- what a given change is refused for: it calls for a refutation past the greatest incarnation, or for an entry past the greatest number of them
+abbrev pub refusal : {H : Type 0} → Node H → Change → Option StopCause
+refusal node c =
+    cond (is_refuted node.own (greatest node.members node.own) c && (c.incarnation == greatest_number))
+    (Some Exhausted)
+    (cond (is_none (greatest node.members c.address) && (length node.members == node.config.max_members)) (Some Full) None)
+
+-- none of these is refused, taken one after another
+abbrev pub NoneRefused : {H : Type 0} → Node H → List Sourced → Type 0
+NoneRefused node [] = Unit {0}
+NoneRefused node (s ∷ ss) = (refusal node s.change ≡ None) × NoneRefused (took node s) ss
+
+-- a batch may stop here for this cause: want of memory may stop where the change is not refused and alters an entry
+abbrev pub StopsFor : {H : Type 0} → Node H → Sourced → StopCause → Type 0
+StopsFor node s Exhausted = refusal node s.change ≡ Some Exhausted
+StopsFor node s Full = refusal node s.change ≡ Some Full
+StopsFor node s Memory = (refusal node s.change ≡ None) × (is_none (alteration node s) ≡ Bool.false)
+
+-- every change of the batch is taken
+pub record TakesAll {H : Type 0} (old : Node H) (given : List Sourced) (taken : Taken) (new : Node H) : Type 0 where
+  pub none_refused : NoneRefused old given
+  pub applied_is : taken.applied ≡ applied old.own old.members (map change_of given)
+  pub refuted_is : taken.refuted ≡ refuted old.own old.members (map change_of given)
+  pub new_is : new ≡ took_all old given
+
+-- the first ones are taken, and the next stops the batch
+pub record TakesFirst {H : Type 0} (old : Node H) (given : List Sourced) (stopped : Stopped) (new : Node H) : Type 0 where
+  pub next : Sourced
+  pub next_is : slice_get given stopped.taken ≡ Some next
+  pub none_refused : NoneRefused old (take stopped.taken given)
+  pub stops : StopsFor (took_all old (take stopped.taken given)) next stopped.cause
+  pub new_is : new ≡ took_all old (take stopped.taken given)
+
+-- a batch is taken whole, or up to the change that stops it, from the moment that it is handed
+abbrev pub TakeStep : {H : Type 0} → Node H → List Sourced → ℕ → Result Taken Stopped → Node H → Type 0
+TakeStep old given moment (Ok taken) new = TakesAll (at_moment old moment) given taken new
+TakeStep old given moment (Err stopped) new = TakesFirst (at_moment old moment) given stopped new

@@ -1,0 +1,121 @@
+use crate::errors::NodeError;
+use crate::lists::{ChangeList, KeyBytes};
+use change_core::{Address, Change, Digest, Entry, Moment};
+use detector_core::{Addresses, Probe, Running, Said};
+use wire_json::{Changes, Message, Text};
+
+/// How many changes altered an entry, and how many of these were refuted.
+#[derive(Clone, Copy, Debug, PartialEq, Eq)]
+pub struct Taken {
+    pub applied: usize,
+    pub refuted: usize,
+}
+
+/// Why a batch of changes stopped.
+#[derive(Clone, Copy, Debug, PartialEq, Eq)]
+pub enum StopCause {
+    /// The next change calls for a refutation, and no incarnation is left for it.
+    Exhausted,
+    /// The next change is about an unknown address, and as many members are held as may be.
+    Full,
+    /// A growth was refused.
+    Memory,
+}
+
+/// A batch that stopped: its first `taken` changes were taken, and no other.
+#[derive(Clone, Copy, Debug, PartialEq, Eq)]
+pub struct Stopped {
+    pub taken: usize,
+    pub cause: StopCause,
+}
+
+/// What a message that was received came to.
+#[derive(Debug, Drop)]
+pub enum Received {
+    /// Its changes are taken, and it wants no answer.
+    Done(Taken),
+    /// Its changes are taken, and this is the answer.
+    Answer(Taken, Message),
+    /// Its changes are taken, and the answer found no memory.
+    NoAnswer(Taken),
+    /// The taking of its changes stopped, and no answer is made.
+    Stopped(Stopped),
+    /// It is no message of the membership, and nothing is taken.
+    NotGossip,
+}
+
+/// What becomes of a probe that was lost.
+#[derive(Debug, Drop)]
+pub enum NodeLost {
+    /// These members are to be asked to ping the target.
+    Ask(Addresses),
+    /// Nobody could be asked: the target is suspect, by this change where it was held as alive.
+    Suspect(Option<Change>),
+}
+
+/// What a helper's word comes to.
+#[derive(Clone, Copy, Debug, PartialEq, Eq)]
+pub enum NodeOutcome {
+    /// Another helper has not answered.
+    Waiting,
+    /// The target was reached.
+    Reached,
+    /// The target is suspect, by this change where it was held as alive.
+    Suspect(Option<Change>),
+    /// Every helper failed.
+    Inconclusive,
+}
+
+/// A call of a node, with its arguments.
+#[derive(Debug, Drop)]
+pub enum Event {
+    Take(Changes, Moment),
+    Receive(Message, Moment),
+    JoinMessage,
+    PingTo(Address),
+    PingReqTo(Address, Address),
+    PingReqAckTo(Address, Address, bool),
+    Leave,
+    Rejoin,
+    Expire(Moment),
+    Probe,
+    Acked(u64),
+    Lost(u64, Moment),
+    HelperSaid(u64, Address, Said, Moment),
+    Running,
+    Own,
+    Member(Address),
+    Len,
+    Owner(KeyBytes),
+    Owners(KeyBytes, usize),
+    Members,
+    DigestText,
+    Digest,
+}
+
+/// What a call answered: a variant for each variant of `Event`, under its name.
+#[derive(Debug, Drop)]
+pub enum Reply {
+    Take(Result<Taken, Stopped>),
+    Receive(Received),
+    JoinMessage(Result<Message, NodeError>),
+    PingTo(Result<Message, NodeError>),
+    PingReqTo(Result<Message, NodeError>),
+    PingReqAckTo(Result<Message, NodeError>),
+    Leave(Result<Change, NodeError>),
+    Rejoin(Result<Change, NodeError>),
+    Expire(Result<Option<Change>, NodeError>),
+    Probe(Result<Option<Probe>, NodeError>),
+    Acked(Result<(), NodeError>),
+    Lost(Result<NodeLost, NodeError>),
+    HelperSaid(Result<NodeOutcome, NodeError>),
+    Running(Option<Running>),
+    Own(Change),
+    Member(Option<Entry>),
+    Len(usize),
+    Owner(Option<Address>),
+    Owners(Result<Addresses, NodeError>),
+    Members(Result<ChangeList, NodeError>),
+    DigestText(Result<Text, NodeError>),
+    Digest(Result<Digest, NodeError>),
+}

@@ -1,0 +1,48 @@
+//! Laws over the definitions, each the contract of a function that does nothing.
+ghost use Rattle.std.specs.Prelude.{◌≡◌, ◌++◌, List, ℕ};
+ghost use Rattle.change_core.specs.declared.changes.Change.{Change};
+ghost use Rattle.change_core.specs.Members.{members, HaveSameChanges};
+ghost use Rattle.node_core.specs.Agreement.{AgreeOnAll, NodesAgree};
+ghost use Rattle.node_core.specs.Configs.{IsConfig};
+ghost use Rattle.node_core.specs.Invariant.{CallsKeepIt, IsNode};
+ghost use Rattle.node_core.specs.Run.{MembersAreLog};
+ghost use Rattle.node_core.specs.Synchronisation.{TakesGreatest};
+ghost use Rattle.node_core.specs.World.{WorldsAreTrue, newborn};
+
+use crate::configs::Config;
+use hash_ring::PointHash;
+
+/// Lists that hold the same changes, in any order, grouping and repetition, come to the same members, owners and points.
+pub fn merge()
+    ensures same { (L K : List Change) → HaveSameChanges L K → AgreeOnAll L K }
+    ensures grouped { (L K : List Change) → members (members L ++ K) ≡ members (L ++ K) }
+{}
+
+/// Nodes whose logs hold the same changes hold the same members, name the same owners of every key, and have the same ring,
+/// if they have one hash and one number of replica points; all else of them may differ.
+pub fn agreement<H: PointHash>()
+    ensures { NodesAgree H.hash_of }
+{}
+
+/// A batch that is taken whole, as another node's whole membership, leaves the greatest of both; of itself the taker holds its
+/// refutation where it made one.
+pub fn synchronisation()
+    ensures { (own : ℕ) (log given : List Change) → TakesGreatest own log given }
+{}
+
+/// After any calls of a node, its members are those of its log.
+pub fn node_run<H: PointHash>()
+    ensures { MembersAreLog H.hash_of }
+{}
+
+/// A node begins with its invariant, and every call keeps it.
+pub fn node_invariant<H: PointHash>()
+    ensures begins { (hash : H) (config : Config) (own incarnation moment : ℕ) → IsConfig config → IsNode (newborn hash config own incarnation moment) }
+    ensures keeps { CallsKeepIt H.hash_of }
+{}
+
+/// After any events of nodes and messages, every entry that a node or a message holds is one that its address asserted, or rests
+/// on one.
+pub fn world<H: PointHash>()
+    ensures { WorldsAreTrue H.hash_of }
+{}

@@ -1,0 +1,13 @@
+//! The node of one thread: what it holds, and what each call does and answers.
+#![tactic(auto)]
+
+mod configs;
+mod errors;
+mod events;
+pub mod laws;
+mod lists;
+
+pub use configs::{Config, ConfigField};
+pub use errors::NodeError;
+pub use events::{Event, NodeLost, NodeOutcome, Received, Reply, StopCause, Stopped, Taken};
+pub use lists::{ChangeList, KeyBytes};

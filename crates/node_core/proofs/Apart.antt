@@ -8,7 +8,7 @@ use Rattle.change_core.specs.declared.changes.Sourced.{Sourced}
 use Rattle.change_core.specs.Ascending.{In}
 use Rattle.change_core.proofs.Order.{in_filter}
 use Rattle.gossip_core.specs.declared.pending.Pending.{Pending}
-use Rattle.gossip_core.specs.Pending.{put, fresh, counted, once_more, may_go_to, subject, OnePerAddress}
+use Rattle.gossip_core.specs.Pending.{put_pending, fresh, counted, once_more, may_go_to, subject, OnePerAddress}
 use Rattle.node_core.proofs.Listed.{In-put, In-counted}
 
 -- no two are about one address
@@ -45,11 +45,11 @@ apart-filter test (p ∷ ps) h = by_test (test p) (apart-filter test ps h.1)
     by_test true again = (λ q k. h.0 q (in_filter test q ps k).0, again)
     by_test false again = again
 
-pub apart-put : (ps : List Pending) (s : Sourced) → AreApart ps → AreApart (put ps s)
+pub apart-put : (ps : List Pending) (s : Sourced) → AreApart ps → AreApart (put_pending ps s)
 apart-put [] s h = (λ q k. absurd k, tt)
 apart-put (p ∷ ps) s h = by_address (eqb s.change.address (subject p)) refl (apart-put ps s h.1)
   where
-    by_address : (b : Bool) → eqb s.change.address (subject p) ≡ b → AreApart (put ps s) → AreApart (cond b (fresh s ∷ ps) (p ∷ put ps s))
+    by_address : (b : Bool) → eqb s.change.address (subject p) ≡ b → AreApart (put_pending ps s) → AreApart (cond b (fresh s ∷ ps) (p ∷ put_pending ps s))
     by_address true e again = (λ q k j. h.0 q k (j ∙ eqb-true s.change.address (subject p) e), h.1)
     by_address false e again = (
       λ q k j. elim (In-put ps s q k) [
@@ -72,13 +72,13 @@ apart-counted target k (p ∷ ps) h =
     by_turn false again after = (away k, after)
 
 -- what is pending after a put is the new one, or about another
-pub put-cases : (ps : List Pending) (s : Sourced) (p : Pending) → AreApart ps → In p (put ps s) → (p ≡ fresh s) ⊎ (In p ps × (subject p ≢ s.change.address))
+pub put-cases : (ps : List Pending) (s : Sourced) (p : Pending) → AreApart ps → In p (put_pending ps s) → (p ≡ fresh s) ⊎ (In p ps × (subject p ≢ s.change.address))
 put-cases [] s p h (inl e) = inl e
 put-cases [] s p h (inr k) = absurd k
 put-cases (q ∷ ps) s p h k = by_address (eqb s.change.address (subject q)) refl (λ l. put-cases ps s p h.1 l) k
   where
-    by_address : (b : Bool) → eqb s.change.address (subject q) ≡ b → (In p (put ps s) → (p ≡ fresh s) ⊎ (In p ps × (subject p ≢ s.change.address)))
-        → In p (cond b (fresh s ∷ ps) (q ∷ put ps s)) → (p ≡ fresh s) ⊎ (In p (q ∷ ps) × (subject p ≢ s.change.address))
+    by_address : (b : Bool) → eqb s.change.address (subject q) ≡ b → (In p (put_pending ps s) → (p ≡ fresh s) ⊎ (In p ps × (subject p ≢ s.change.address)))
+        → In p (cond b (fresh s ∷ ps) (q ∷ put_pending ps s)) → (p ≡ fresh s) ⊎ (In p (q ∷ ps) × (subject p ≢ s.change.address))
     by_address true e again (inl same) = inl same
     by_address true e again (inr l) = inr (inr l, λ j. h.0 p l (j ∙ eqb-true s.change.address (subject q) e))
     by_address false e again (inl same) = inr (inl same, λ j. eqb-false s.change.address (subject q) e (sym (ap subject (sym same) ∙ j)))

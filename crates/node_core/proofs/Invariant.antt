@@ -17,6 +17,7 @@ use Rattle.change_core.proofs.News.{length-members_known, length-members_new}
 use Rattle.change_core.proofs.Order.{in_filter}
 use Rattle.change_core.proofs.Precedence.{Exceeds-true, exceeds-true, same_from_rank}
 use Rattle.detector_core.specs.Probing.{ProbeState}
+use Rattle.rand_pcg.specs.Lcg.{Lcg}
 use Rattle.gossip_core.specs.declared.pending.Pending.{Pending}
 use Rattle.gossip_core.specs.Pending.{counted, fresh, limit_for, subject}
 use Rattle.wire_json.specs.declared.messages.Message.{Message}
@@ -336,7 +337,7 @@ module _ {H : Type 0} (old : Node H) (kept : IsNode old) where
       is_kept _ new step.3
       (probing_kept (at_moment old moment) (at_kept old kept moment) new.probing
       (others-lost old.own old.probing kept.others (pingable old) step.0 helpers new.probing (unasked_other old.own old.probing kept.others number step.0 step.1) step.2)
-      (ap (λ (s : ProbeState). s.helpers) step.2.2))
+      (ap (λ (s : ProbeState). s.helpers) step.2.left))
   step_kept hash_of (call.Lost number moment) (answer.Lost (Ok (lost.Suspect change))) new step =
       suspects_kept step.0 moment change new (unasked_other old.own old.probing kept.others number step.0 step.1) step.3
   step_kept hash_of (call.Lost number moment) (answer.Lost (Err error.StaleProbe)) new step = is_kept old new step.1 kept
@@ -365,8 +366,8 @@ pub calls_keep_it : {H : Type 0} (hash_of : H → List ℕ → ℕ) → CallsKee
 calls_keep_it hash_of old new event reply kept step = step_kept old kept hash_of event reply new step
 
 -- a node that begins meets the invariant
-pub newborn_kept : {H : Type 0} (hash : H) (config : Config) (own incarnation moment : ℕ) → IsConfig config → IsNode (newborn hash config own incarnation moment)
-newborn_kept hash config own incarnation moment configured = record {
+pub newborn_kept : {H : Type 0} (hash : H) (config : Config) (own incarnation moment : ℕ) (generator : Lcg) → IsConfig config → IsNode (newborn hash config own incarnation moment generator)
+newborn_kept hash config own incarnation moment generator configured = record {
   one_each = (tt, tt);
   few = (limits_within config configured).members;
   held = (birth own incarnation config.weight);

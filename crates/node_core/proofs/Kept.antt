@@ -10,7 +10,7 @@ use Rattle.change_core.proofs.Order.{in_filter}
 use Rattle.detector_core.specs.declared.timers.Timer.{Timer}
 use Rattle.detector_core.specs.Timers.{with_timer, without_timer}
 use Rattle.gossip_core.specs.declared.pending.Pending.{Pending}
-use Rattle.gossip_core.specs.Pending.{put, subject, limit_for}
+use Rattle.gossip_core.specs.Pending.{put_pending, subject, limit_for}
 use Rattle.node_core.specs.Expiring.{timer_of}
 use Rattle.node_core.specs.Invariant.{purpose, purpose_of, IsNode}
 use Rattle.node_core.specs.Node.{Node, altered, asserts, is_timed, next_status, wait_for, timers_with, members_after}
@@ -78,12 +78,12 @@ module _ {H : Type 0} (node : Node H) (kept : IsNode node) (s : Sourced) where
         held = held;
         held_is = held_is;
         held_stays = held_stays;
-        current = λ p h. elim (put-cases node.gossip.pending s p apart (In-below _ (put node.gossip.pending s) p h)) [
+        current = λ p h. elim (put-cases node.gossip.pending s p apart (In-below _ (put_pending node.gossip.pending s) p h)) [
           | inl e ↦ subst (λ (q : Pending). greatest (members_after node s.change) (subject q) ≡ Some q.sourced.change) (sym e) (greatest_here new)
           | inr k ↦ greatest_there (subject p) (λ j. k.1 (sym j)) ∙ kept.current p k.0
         ];
-        apart = OnePerAddress-from_apart _ (apart-filter _ (put node.gossip.pending s) (apart-put node.gossip.pending s apart));
-        unspent = λ p h. ltb-true p.count _ (in_filter (λ (q : Pending). nat_lt q.count (limit_for node.gossip.factor (length (serving (members_after node s.change))))) p (put node.gossip.pending s) h).1;
+        apart = OnePerAddress-from_apart _ (apart-filter _ (put_pending node.gossip.pending s) (apart-put node.gossip.pending s apart));
+        unspent = λ p h. ltb-true p.count _ (in_filter (λ (q : Pending). nat_lt q.count (limit_for node.gossip.factor (length (serving (members_after node s.change))))) p (put_pending node.gossip.pending s) h).1;
         limit_is = refl;
         timed = λ a. elim (cases_eq s.change.address a) [
           | inl e ↦ subst (λ (x : ℕ). option_map purpose_of (timer_of (timers_with node.own node.config node.moment node.timers s.change) x) ≡ purpose node.own (greatest (members_after node s.change) x)) e

@@ -10,7 +10,7 @@ use Rattle.change_core.specs.Members.{greatest, members, addresses, IsMemberList
 use Rattle.change_core.proofs.Members.{Contains-nil, Contains-cons_cases, IsGreatest-greatest, members-IsMemberList}
 use Rattle.change_core.proofs.Order.{in_filter}
 use Rattle.gossip_core.specs.declared.pending.Pending.{Pending}
-use Rattle.gossip_core.specs.Pending.{put, fresh, below, counted, once_more, may_go_to, issued, subject}
+use Rattle.gossip_core.specs.Pending.{put_pending, fresh, below, counted, once_more, may_go_to, issued, subject}
 
 pub In-take : {X : Type 0} (n : ℕ) (x : X) (xs : List X) → In x (take n xs) → In x xs
 In-take zero x xs h = absurd h
@@ -63,11 +63,11 @@ greatest-member M c one h =
     subst (λ (a : ℕ). greatest M a ≡ Some c) (sym (address-greatest M r.0 c r.1)) r.1
 
 -- what is pending after a change was put
-pub In-put : (ps : List Pending) (s : Sourced) (p : Pending) → In p (put ps s) → (p ≡ fresh s) ⊎ In p ps
+pub In-put : (ps : List Pending) (s : Sourced) (p : Pending) → In p (put_pending ps s) → (p ≡ fresh s) ⊎ In p ps
 In-put [] s p h = h
 In-put (q ∷ ps) s p h = by_address (eqb s.change.address (subject q)) (λ k. In-put ps s p k) h
   where
-    by_address : (b : Bool) → (In p (put ps s) → (p ≡ fresh s) ⊎ In p ps) → In p (cond b (fresh s ∷ ps) (q ∷ put ps s)) → (p ≡ fresh s) ⊎ In p (q ∷ ps)
+    by_address : (b : Bool) → (In p (put_pending ps s) → (p ≡ fresh s) ⊎ In p ps) → In p (cond b (fresh s ∷ ps) (q ∷ put_pending ps s)) → (p ≡ fresh s) ⊎ In p (q ∷ ps)
     by_address true again (inl e) = inl e
     by_address true again (inr k) = inr (inr k)
     by_address false again (inl e) = inr (inl e)

@@ -39,7 +39,7 @@ module _ (own : ℕ) (s : ProbeState) (others : IsOfOther own s) where
 
   pub others-lost : (pingable : List ℕ) (target : ℕ) (helpers : List ℕ) (new : ProbeState) → target ≢ own → WasLost pingable target s (Ask helpers) new → IsOfOther own new
   others-lost pingable target helpers new other lost p e k =
-      let running : Some (record { target = target; asked = _ }) ≡ Some p = sym (ap (λ (x : ProbeState). x.running) lost.2) ∙ e in
+      let running : Some (record { target = target; asked = _ }) ≡ Some p = sym (ap (λ (x : ProbeState). x.running) lost.left) ∙ e in
       let same : target ≡ p.target = cc in other (same ∙ k)
 
   pub others-waiting : (helper : ℕ) (said : Said) → IsOfOther own (after_saying s helper said outcome.Waiting)

@@ -16,7 +16,7 @@ use Rattle.change_core.specs.Refutation.{is_refuted, refutation, refutations, lo
 use Rattle.detector_core.specs.Probing.{Attempted}
 use Rattle.node_core.proofs.Synchronising.{Exceeds-refutation}
 use Rattle.node_core.specs.Node.{Node, altered, asserted_by, or_birth, own_change, asserts}
-use Rattle.gossip_core.specs.Pending.{put, below}
+use Rattle.gossip_core.specs.Pending.{put_pending, below}
 use Rattle.node_core.specs.Taking.{alteration, altered_by, took, took_all, change_of}
 use Rattle.node_core.specs.World.{grounds, IsGrounded, IsAssertedAt, last_about, later, refuted_in}
 use Rattle.node_core.proofs.Listed.{In-members, In-put, In-below}
@@ -133,7 +133,7 @@ module _ {H : Type 0} (A : List Change) (node : Node H) (sound : IsSound A node)
       | inl k ↦ more (grounds c) (sound.grounded c k)
       | inr k ↦ of_one c k
     ];
-    news = λ p h. elim (In-put node.gossip.pending s p (In-below _ (put node.gossip.pending s) p h)) [
+    news = λ p h. elim (In-put node.gossip.pending s p (In-below _ (put_pending node.gossip.pending s) p h)) [
       | inl e ↦ subst (λ (x : Pending). IsTold A' x.sourced) (sym e) news
       | inr k ↦ news-more A A' p.sourced more (sound.news p k)
     ];

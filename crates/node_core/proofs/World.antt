@@ -8,6 +8,7 @@ use Rattle.change_core.proofs.Members.{members-IsMemberList}
 use Rattle.node_core.specs.declared.configs.Config.{Config}
 use Rattle.node_core.specs.declared.events.Event.{Event}
 use Rattle.node_core.specs.declared.events.Reply.{Reply}
+use Rattle.rand_pcg.specs.Lcg.{Lcg}
 use Rattle.gossip_core.specs.declared.pending.Pending.{Pending}
 use Rattle.wire_json.specs.declared.messages.Message.{Message}
 use Rattle.node_core.specs.Node.{Node, birth, asserted_by, asserts}
@@ -58,10 +59,10 @@ placed_sound {H} w own node B ms sound about s mine made = record {
     by_absence a false t e d h k =
         elim (in_append d w.asserted B h) [ inl j ↦ sound.absent a e d j k | inr j ↦ eqb-false a own t (sym k ∙ mine d j) ]
 
-module _ {H : Type 0} (A : List Change) (hash : H) (config : Config) (own incarnation moment : ℕ)
+module _ {H : Type 0} (A : List Change) (hash : H) (config : Config) (own incarnation moment : ℕ) (generator : Lcg)
     (past : (c : Change) → In c A → c.address ≡ own → c.incarnation < incarnation) (asserting : (d : Change) → In d A → asserts d.status ≡ true) where
   -- a node that begins past all that its address has asserted
-  newborn_sound : IsSound (A ++ birth own incarnation config.weight ∷ []) (newborn hash config own incarnation moment)
+  newborn_sound : IsSound (A ++ birth own incarnation config.weight ∷ []) (newborn hash config own incarnation moment generator)
   newborn_sound = record {
     settled = members-IsMemberList (birth own incarnation config.weight ∷ []) (tt, tt);
     held = birth own incarnation config.weight;
@@ -85,11 +86,11 @@ module _ {H : Type 0} (A : List Change) (hash : H) (config : Config) (own incarn
       of_pending p (inl e) = subst (λ (x : Pending). IsTold (A ++ birth own incarnation config.weight ∷ []) x.sourced) (sym e) (record { grounded = here; source = (birth own incarnation config.weight, here, refl, refl) })
       of_pending p (inr k) = absurd k
 
-begins_sound : {H : Type 0} (w : World H) (hash : H) (config : Config) (own incarnation moment : ℕ) → IsSoundWorld w
-    → ((c : Change) → In c w.asserted → c.address ≡ own → c.incarnation < incarnation) → IsSoundWorld (begins w hash config own incarnation moment)
-begins_sound {H} w hash config own incarnation moment sound past =
-    let s = placed_sound w own (newborn hash config own incarnation moment) (birth own incarnation config.weight ∷ []) [] sound refl
-    (newborn_sound w.asserted hash config own incarnation moment past sound.asserting) (λ d h. of_one d h) (λ m h. absurd h) in
+begins_sound : {H : Type 0} (w : World H) (hash : H) (config : Config) (own incarnation moment : ℕ) (generator : Lcg) → IsSoundWorld w
+    → ((c : Change) → In c w.asserted → c.address ≡ own → c.incarnation < incarnation) → IsSoundWorld (begins w hash config own incarnation moment generator)
+begins_sound {H} w hash config own incarnation moment generator sound past =
+    let s = placed_sound w own (newborn hash config own incarnation moment generator) (birth own incarnation config.weight ∷ []) [] sound refl
+    (newborn_sound w.asserted hash config own incarnation moment generator past sound.asserting) (λ d h. of_one d h) (λ m h. absurd h) in
     record { there = s.there; absent = s.absent; told = λ m h. told-more w.asserted (birth own incarnation config.weight ∷ []) m (sound.told m h); asserting = s.asserting }
   where
     of_one : (d : Change) → In d (birth own incarnation config.weight ∷ []) → d.address ≡ own
@@ -111,9 +112,9 @@ module _ {H : Type 0} (hash_of : H → List ℕ → ℕ) where
       s.made
 
   happens_sound : (w : World H) (e : WorldEvent H) → IsSoundWorld w → MayHappen hash_of w e → IsSoundWorld (happens w e)
-  happens_sound w (Starts hash config own incarnation moment) sound may =
-      begins_sound w hash config own incarnation moment sound (λ c h k. absurd (sound.absent own may c h k))
-  happens_sound w (Restarts hash config own incarnation moment) sound may = begins_sound w hash config own incarnation moment sound may
+  happens_sound w (Starts hash config own incarnation moment generator) sound may =
+      begins_sound w hash config own incarnation moment generator sound (λ c h k. absurd (sound.absent own may c h k))
+  happens_sound w (Restarts hash config own incarnation moment generator) sound may = begins_sound w hash config own incarnation moment generator sound may
   happens_sound w (Calls own event reply after) sound may =
       subst (λ (o : Option (Node H)). IsSoundWorld (called w o own event reply after)) (sym may.1) (calls_sound w own event reply after may.0 sound may.1 may.2 may.3)
 

@@ -3,7 +3,8 @@ use Rattle.std.specs.Prelude.{◌≡◌, ℕ, List}
 use Rattle.change_core.specs.declared.changes.Change.{Change}
 use Rattle.change_core.specs.Members.{members, digest_text, HaveSameChanges}
 use Rattle.hash_ring.specs.Points.{owners, points}
-use Rattle.node_core.specs.Node.{Seen, servers_of}
+use Rattle.hash_ring.specs.Serving.{servers_of}
+use Rattle.node_core.specs.Node.{Seen}
 
 -- the same members, the same servers in order for every key, and the same points, for every hash and number of replicas
 pub record AgreeOnAll (L K : List Change) : Type 0 where

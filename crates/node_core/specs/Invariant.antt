@@ -13,7 +13,8 @@ use Rattle.node_core.specs.declared.events.Event.{Event}
 use Rattle.node_core.specs.declared.events.Reply.{Reply}
 use Rattle.node_core.specs.Configs.{IsConfig}
 use Rattle.node_core.specs.Expiring.{timer_of}
-use Rattle.node_core.specs.Node.{Node, Seen, asserts, is_timed, next_status, servers_of}
+use Rattle.hash_ring.specs.Serving.{servers_of}
+use Rattle.node_core.specs.Node.{Node, Seen, asserts, is_timed, next_status}
 use Rattle.node_core.specs.Step.{NodeStep}
 
 -- what a timer is set for

@@ -6,9 +6,10 @@ use Rattle.change_core.specs.declared.changes.Change.{Change}
 use Rattle.change_core.specs.declared.changes.Sourced.{Sourced}
 use Rattle.change_core.specs.declared.digests.Digest.{Digest}
 use Rattle.change_core.specs.Members.{digest_text}
-use Rattle.gossip_core.specs.Pending.{issued, counted, below}
+use Rattle.gossip_core.specs.Dissemination.{after_issue}
+use Rattle.gossip_core.specs.Pending.{issued}
 use Rattle.wire_json.specs.declared.messages.Message.{Message}
-use Rattle.wire_json.specs.declared.messages.Gossip.{Gossip}
+use Rattle.wire_json.specs.declared.messages.News.{News}
 use Rattle.wire_json.specs.declared.messages.Content.{Content}
 use Rattle.wire_json.specs.declared.messages.Content.TheVariants.{Join, Joined, Ping, Ack, PingReq, PingReqAck, Forward, Reply, NotOwner, Refused}
 use Rattle.node_core.specs.Node.{Node, own_change, said_by}
@@ -25,7 +26,7 @@ abbrev pub says : {H : Type 0} → Node H → Content → Message
 says node content = record { source = node.own; source_incarnation = (own_change node).incarnation; content = content }
 
 -- the digest of the node's members, and these changes
-abbrev pub news_of : {H : Type 0} → Node H → List Sourced → Gossip
+abbrev pub news_of : {H : Type 0} → Node H → List Sourced → News
 news_of node changes = record { checksum = digest_of node.members; changes = changes }
 
 -- the whole membership, each entry with the node as its source
@@ -38,8 +39,7 @@ piggyback node target = issued target node.config.per_message node.gossip.pendin
 
 -- the node once that message is made
 abbrev pub told : {H : Type 0} → Node H → ℕ → Node H
-told node target =
-    record node { gossip = record node.gossip { pending = below node.gossip.limit (counted target node.config.per_message node.gossip.pending) } }
+told node target = record node { gossip = after_issue node.gossip target node.config.per_message }
 
 -- the changes that a message carries
 abbrev pub carried : Content → List Sourced

@@ -1,17 +1,15 @@
 -- What contracts see of a node, and what one alteration makes of it.
-use Rattle.std.specs.Prelude.{◌≡◌, ℕ, ◌+◌, ◌==◌, ◌&&◌, Bool, true, false, not, cond, max, Option, Some, None, List, [], ◌∷◌, ◌++◌, length, map, filter}
+use Rattle.std.specs.Prelude.{◌≡◌, ℕ, ◌+◌, ◌==◌, ◌&&◌, Bool, true, false, not, cond, max, Option, Some, None, List, [], ◌∷◌, ◌++◌, length, filter}
 use Rattle.change_core.specs.declared.changes.Change.{Change}
 use Rattle.change_core.specs.declared.changes.Sourced.{Sourced}
 use Rattle.change_core.specs.declared.statuses.Status.{Status}
 use Rattle.change_core.specs.declared.statuses.Status.TheVariants.{Alive, Suspect, Faulty, Leave, Tombstone}
 use Rattle.change_core.specs.Members.{greatest, members, serving}
-use Rattle.change_core.specs.Status.{is_serving}
 use Rattle.detector_core.specs.declared.timers.Timer.{Timer}
 use Rattle.detector_core.specs.Probing.{ProbeState}
 use Rattle.detector_core.specs.Timers.{with_timer, without_timer}
-use Rattle.gossip_core.specs.Pending.{Dissemination, put, below, limit_for}
-use Rattle.hash_ring.specs.declared.Point.{Point}
-use Rattle.hash_ring.specs.declared.Server.{Server}
+use Rattle.gossip_core.specs.Dissemination.{Dissemination, with_news, adjusted}
+use Rattle.hash_ring.specs.declared.points.Point.{Point}
 use Rattle.node_core.specs.declared.configs.Config.{Config}
 
 -- a node: H is the type of its hash
@@ -96,14 +94,6 @@ timers_with own config moment timers c =
     (with_timer timers (record { address = c.address; incarnation = c.incarnation; next = next_status c.status; deadline = moment + wait_for config c.status }))
     (without_timer timers c.address)
 
--- one more change is passed on
-abbrev pub with_news : Dissemination → Sourced → Dissemination
-with_news g s = record g { pending = put g.pending s }
-
--- n members serve: the limit is theirs, and what has reached it goes
-abbrev pub adjusted : Dissemination → ℕ → Dissemination
-adjusted g n = record g { limit = limit_for g.factor n; pending = below (limit_for g.factor n) g.pending }
-
 -- the members with one change more
 abbrev pub members_after : {H : Type 0} → Node H → Change → List Change
 members_after node c = members (node.members ++ c ∷ [])
@@ -120,10 +110,3 @@ altered node s =
 -- the serving members but the node itself, ascending
 abbrev pub pingable : {H : Type 0} → Node H → List ℕ
 pingable node = filter (λ a. not (a == node.own)) (serving node.members)
-
-abbrev pub server_of : Change → Server
-server_of c = record { address = c.address; weight = c.weight }
-
--- the serving members of a list of changes, as servers of a ring, ascending
-abbrev pub servers_of : List Change → List Server
-servers_of cs = map server_of (filter (λ c. is_serving c.status) (members cs))

@@ -13,7 +13,8 @@ use Rattle.node_core.specs.declared.events.Reply.TheVariants as answer
 use Rattle.node_core.specs.Asserting.{LeaveStep, RejoinStep}
 use Rattle.node_core.specs.Expiring.{ExpireStep}
 use Rattle.node_core.specs.Messages.{digest_of, join_by, ping_by, ping_req_by, ping_req_ack_by, told}
-use Rattle.node_core.specs.Node.{Node, own_change, servers_of}
+use Rattle.hash_ring.specs.Serving.{servers_of}
+use Rattle.node_core.specs.Node.{Node, own_change}
 use Rattle.node_core.specs.Probes.{ProbeStep, AckedStep, LostStep, HelperStep}
 use Rattle.node_core.specs.Receiving.{ReceiveStep, MakeStep}
 use Rattle.node_core.specs.Taking.{TakeStep}

@@ -6,6 +6,7 @@ use Rattle.change_core.specs.declared.statuses.Status.TheVariants.{Alive}
 use Rattle.change_core.specs.Ascending.{In}
 use Rattle.change_core.specs.Members.{greatest}
 use Rattle.change_core.specs.Refutation.{refutations, log_one}
+use Rattle.rand_pcg.specs.Lcg.{Lcg}
 use Rattle.gossip_core.specs.declared.pending.Pending.{Pending}
 use Rattle.gossip_core.specs.Pending.{fresh, limit_for}
 use Rattle.wire_json.specs.declared.messages.Message.{Message}
@@ -21,8 +22,8 @@ use Rattle.node_core.specs.Run.{given_in}
 use Rattle.node_core.specs.Step.{NodeStep}
 
 -- what a node begins as
-abbrev pub newborn : {H : Type 0} → H → Config → ℕ → ℕ → ℕ → Node H
-newborn hash config own incarnation moment = record {
+abbrev pub newborn : {H : Type 0} → H → Config → ℕ → ℕ → ℕ → Lcg → Node H
+newborn hash config own incarnation moment generator = record {
   own = own;
   hash = hash;
   config = config;
@@ -30,7 +31,7 @@ newborn hash config own incarnation moment = record {
   gossip = record { factor = config.piggyback; limit = limit_for config.piggyback 1; pending = fresh (asserted_by own (birth own incarnation config.weight)) ∷ [] };
   timers = [];
   moment = moment;
-  probing = record { last = 0; helpers = config.helpers; rest = []; running = None };
+  probing = record { last = 0; helpers = config.helpers; rest = []; generator = generator; running = None };
 }
 
 -- the refutations that stand in a log for these given changes
@@ -64,17 +65,17 @@ pub record World (H : Type 0) : Type 0 where
 
 -- what may happen: a node starts, starts again, or is called. A message that comes is a call of `receive`, and one that never does is lost
 pub data WorldEvent (H : Type 0) : Type 0 where
-  Starts : (hash : H) (config : Config) (own incarnation moment : ℕ) → WorldEvent H
-  Restarts : (hash : H) (config : Config) (own incarnation moment : ℕ) → WorldEvent H
+  Starts : (hash : H) (config : Config) (own incarnation moment : ℕ) (generator : Lcg) → WorldEvent H
+  Restarts : (hash : H) (config : Config) (own incarnation moment : ℕ) (generator : Lcg) → WorldEvent H
   Calls : (own : ℕ) (event : Event) (reply : Reply) (after : Node H) → WorldEvent H
 
 -- the nodes with this one at its address
 abbrev pub placed_at : {H : Type 0} → ℕ → Node H → (ℕ → Option (Node H)) → ℕ → Option (Node H)
 placed_at own node nodes a = cond (a == own) (Some node) (nodes a)
 
-abbrev pub begins : {H : Type 0} → World H → H → Config → ℕ → ℕ → ℕ → World H
-begins w hash config own incarnation moment = record {
-  nodes = placed_at own (newborn hash config own incarnation moment) w.nodes;
+abbrev pub begins : {H : Type 0} → World H → H → Config → ℕ → ℕ → ℕ → Lcg → World H
+begins w hash config own incarnation moment generator = record {
+  nodes = placed_at own (newborn hash config own incarnation moment generator) w.nodes;
   messages = w.messages;
   asserted = w.asserted ++ birth own incarnation config.weight ∷ [];
 }
@@ -89,8 +90,8 @@ called w (Some before) own event reply after = record {
 }
 
 abbrev pub happens : {H : Type 0} → World H → WorldEvent H → World H
-happens w (Starts hash config own incarnation moment) = begins w hash config own incarnation moment
-happens w (Restarts hash config own incarnation moment) = begins w hash config own incarnation moment
+happens w (Starts hash config own incarnation moment generator) = begins w hash config own incarnation moment generator
+happens w (Restarts hash config own incarnation moment generator) = begins w hash config own incarnation moment generator
 happens w (Calls own event reply after) = called w (w.nodes own) own event reply after
 
 -- what comes to a node is a message that was made; nothing is taken that no message brought
@@ -101,8 +102,8 @@ Comes messages event = Unit {0}
 
 -- this may happen now: a start where there is no node, a restart past all that its address has asserted, a step of a node that is there
 abbrev pub MayHappen : {H : Type 0} → (H → List ℕ → ℕ) → World H → WorldEvent H → Type 0
-MayHappen hash_of w (Starts hash config own incarnation moment) = w.nodes own ≡ None
-MayHappen hash_of w (Restarts hash config own incarnation moment) = (c : Change) → In c w.asserted → c.address ≡ own → c.incarnation < incarnation
+MayHappen hash_of w (Starts hash config own incarnation moment generator) = w.nodes own ≡ None
+MayHappen hash_of w (Restarts hash config own incarnation moment generator) = (c : Change) → In c w.asserted → c.address ≡ own → c.incarnation < incarnation
 MayHappen {H} hash_of w (Calls own event reply after) =
     (before : Node H) × (w.nodes own ≡ Some before) × Comes w.messages event × NodeStep hash_of before event reply after
 

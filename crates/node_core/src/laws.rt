@@ -2,6 +2,7 @@
 ghost use Rattle.std.specs.Prelude.{◌≡◌, ◌++◌, List, ℕ};
 ghost use Rattle.change_core.specs.declared.changes.Change.{Change};
 ghost use Rattle.change_core.specs.Members.{members, HaveSameChanges};
+ghost use Rattle.rand_pcg.specs.Lcg.{Lcg};
 ghost use Rattle.node_core.specs.Agreement.{AgreeOnAll, NodesAgree};
 ghost use Rattle.node_core.specs.Configs.{IsConfig};
 ghost use Rattle.node_core.specs.Invariant.{CallsKeepIt, IsNode};
@@ -37,7 +38,8 @@ pub fn node_run<H: PointHash>()
 
 /// A node begins with its invariant, and every call keeps it.
 pub fn node_invariant<H: PointHash>()
-    ensures begins { (hash : H) (config : Config) (own incarnation moment : ℕ) → IsConfig config → IsNode (newborn hash config own incarnation moment) }
+    ensures begins { (hash : H) (config : Config) (own incarnation moment : ℕ) (generator : Lcg)
+        → IsConfig config → IsNode (newborn hash config own incarnation moment generator) }
     ensures keeps { CallsKeepIt H.hash_of }
 {}
 

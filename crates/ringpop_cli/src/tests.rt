@@ -325,7 +325,7 @@ fn name_owners<R: Read + Copy>(
 fn names_the_owners_of_a_key(rt: HostRuntime) {
     let each: &[&str] = &[THIRD, FIRST, ALIVE];
     let heavy: &[&str] = &[THIRD, FIRST, HEAVIEST];
-    let light_again: &[&str] = &[HEAVIEST, LATER, FIRST, THIRD];
+    let lighter: &[&str] = &[HEAVIEST, LATER, FIRST, THIRD];
     let faulty: &[&str] = &[FAULTY, FIRST, THIRD];
     let cases: [(&[&str], usize, &str, &str); 13] = [
         (each, 3, "zzzz1", "10.0.0.2:1\n10.0.0.3:1\n10.0.0.1:1\n"),
@@ -338,18 +338,8 @@ fn names_the_owners_of_a_key(rt: HostRuntime) {
         (heavy, 3, "zzzz1", "10.0.0.2:1\n10.0.0.3:1\n10.0.0.1:1\n"),
         (heavy, 3, "zzzz2", "10.0.0.2:1\n10.0.0.3:1\n10.0.0.1:1\n"),
         (heavy, 3, "zzzz3", "10.0.0.2:1\n10.0.0.1:1\n10.0.0.3:1\n"),
-        (
-            light_again,
-            3,
-            "zzzz2",
-            "10.0.0.3:1\n10.0.0.1:1\n10.0.0.2:1\n",
-        ),
-        (
-            light_again,
-            3,
-            "zzzz3",
-            "10.0.0.1:1\n10.0.0.2:1\n10.0.0.3:1\n",
-        ),
+        (lighter, 3, "zzzz2", "10.0.0.3:1\n10.0.0.1:1\n10.0.0.2:1\n"),
+        (lighter, 3, "zzzz3", "10.0.0.1:1\n10.0.0.2:1\n10.0.0.3:1\n"),
         (faulty, 9, "zzzz0", "10.0.0.1:1\n10.0.0.3:1\n"),
     ];
     for (i, (lines, count, key, text)) in cases.iter().enumerate() {

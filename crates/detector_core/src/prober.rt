@@ -194,7 +194,7 @@ impl Prober {
     }
 
     /// The target of the probe of this number, if it runs and no helper was asked.
-    fn unasked_target(&self, number: u64) -> Option<Address>
+    pub fn unasked_target(&self, number: u64) -> Option<Address>
         ensures { result ≡ unasked_target self.now number }
     {
         match &self.running {

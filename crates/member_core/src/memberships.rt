@@ -149,6 +149,15 @@ impl Members {
         self.entries.len()
     }
 
+    /// The members, ascending by address, lent. It takes no memory.
+    pub fn as_slice(&self) -> &[Change]
+        ensures list { result.now ≡ self.now.members }
+        ensures valid { IsMembership self.now.own self.now.members self.now.max }
+    {
+        let _ = &self.own;
+        self.entries.as_slice()
+    }
+
     /// The members, ascending by address.
     ///
     /// Errors: `Memory`.

@@ -22,6 +22,11 @@ fn weight(number: u8) -> Result<Weight, Fail> {
     Ok(Weight::new(number).ok_or("a weight")?)
 }
 
+// What is seen of a ring beside its room.
+fn seen<H: PointHash>(ring: &Ring<H>, server: Address) -> (usize, Option<Weight>, Option<Address>) {
+    (ring.len(), ring.weight(server), ring.owner(b"key"))
+}
+
 // Makes room for a server, at the second try where the first was refused. A refusal leaves the ring as it was.
 fn reserve<H: PointHash>(
     rt: &impl Abort,
@@ -31,9 +36,9 @@ fn reserve<H: PointHash>(
 ) -> Result<(), Fail>
     ensures { IsOk result → HasRoom ring.new (record { address = server; weight = weight }) }
 {
-    let before = (ring.len(), ring.weight(server), ring.owner(b"key"));
+    let before = seen(ring, server);
     if ring.reserve_for(server, weight) == Err(RingError::Memory) {
-        assert!(rt; (ring.len(), ring.weight(server), ring.owner(b"key")) == before);
+        assert!(rt; seen(ring, server) == before);
     }
     ring.reserve_for(server, weight)?;
     Ok(())
@@ -66,17 +71,33 @@ fn filled<H: PointHash>(
     Ok(ring)
 }
 
+// The owners of a key, at the second try where the first was refused. A refusal leaves the ring as it was.
 fn owners<H: PointHash>(
     rt: &impl Abort,
     ring: &Ring<H>,
     key: &[u8],
     count: usize,
 ) -> Result<Vec<Address>, Fail> {
+    let server = address(A)?;
+    let before = seen(ring, server);
     match ring.owners(key, count) {
         Ok(named) => Ok(named),
         Err(refused) => {
-            assert!(rt; refused == RingError::Memory);
+            assert!(rt; refused == RingError::Memory && seen(ring, server) == before);
             Ok(ring.owners(key, count)?)
+        }
+    }
+}
+
+// A copy, at the second try where the first was refused. A refusal leaves the ring as it was.
+fn copy<H: PointHash>(rt: &impl Abort, ring: &Ring<H>) -> Result<Ring<H>, Fail> {
+    let server = address(A)?;
+    let before = seen(ring, server);
+    match ring.copy() {
+        Ok(copy) => Ok(copy),
+        Err(refused) => {
+            assert!(rt; refused == RingError::Memory && seen(ring, server) == before);
+            Ok(ring.copy()?)
         }
     }
 }
@@ -152,10 +173,7 @@ fn a_lighter_server_needs_no_room(rt: HostRuntime) -> Result<(), Fail> {
 fn a_copy_stays_as_it_was(rt: HostRuntime) -> Result<(), Fail> {
     let server = address(B)?;
     let mut ring = filled(&rt, rt.alloc(), SumHash, 2, &[A, B, C])?;
-    let copy = match ring.copy() {
-        Ok(copy) => copy,
-        Err(_) => ring.copy()?,
-    };
+    let copy = copy(&rt, &ring)?;
     assert!(rt; ring.contains(server) && ring.remove(server));
     assert!(rt; !ring.contains(server) && !ring.remove(server));
     check_rows(&rt, &ring, &[("zzzz0", 1, &[A]), ("zzzz1", 1, &[C])])?;
@@ -227,10 +245,14 @@ fn an_edit_hashes_its_own_points_alone(rt: HostRuntime) -> Result<(), Fail> {
     assert_eq!(rt; calls.load(Ordering::SeqCst), before.wrapping_add(70));
     ring.owner(b"key");
     assert_eq!(rt; calls.load(Ordering::SeqCst), before.wrapping_add(71));
-    let copied = ring.copy().is_ok();
+    let again_there = match ring.copy() {
+        Ok(copy) => copy,
+        Err(_) => ring.copy()?,
+    };
+    assert!(rt; again_there.len() == 1 && again_there.weight(server) == Weight::new(2));
     ring.remove(server);
     assert_eq!(rt; calls.load(Ordering::SeqCst), before.wrapping_add(71));
-    assert!(rt; added && !again && lighter && (copied || ring.len() == 0));
+    assert!(rt; added && !again && lighter && ring.len() == 0);
     Ok(())
 }
 
@@ -245,11 +267,23 @@ fn draw(state: &mut u64, bound: u64) -> u64
     (*state >> 33) % bound
 }
 
+// The ports of servers whose texts run into one another.
+const PORTS: [u16; 6] = [1, 11, 2, 12, 110, 21];
+
+// The weights of the servers of these ports, as they should be in a ring: kept beside it, by the edits alone.
+type Weights = [Option<Weight>; 6];
+
+// The weight that the server of an address should have.
+fn weight_beside(weights: &Weights, server: Address) -> Option<Weight> {
+    let place = PORTS.iter().position(|port| *port == server.port())?;
+    *weights.get(place)?
+}
+
 // Whether the owners of a key are all servers, by their distance and then by address.
-fn are_nearest<H: PointHash>(ring: &Ring<H>, hash: H, key: &[u8], named: &[Address]) -> bool {
+fn are_nearest<H: PointHash>(weights: &Weights, hash: H, key: &[u8], named: &[Address]) -> bool {
     let mut last = None;
     for server in named {
-        let Some(weight) = ring.weight(*server) else {
+        let Some(weight) = weight_beside(weights, *server) else {
             return false;
         };
         let here = Some((distance(hash, 3, *server, weight, key), *server));
@@ -258,10 +292,11 @@ fn are_nearest<H: PointHash>(ring: &Ring<H>, hash: H, key: &[u8], named: &[Addre
         }
         last = here;
     }
-    named.len() == ring.len()
+    named.len() == weights.iter().filter(|weight| weight.is_some()).count()
 }
 
-// Twenty edits of a ring over servers whose texts run into one another, and ten keys after each.
+// Twenty edits of a ring, and ten keys after each. By `SumHash` the points lie from 535 to 690, and the keys from 488 to
+// 743, so before them, among them, at them and past them.
 fn check_edits<H: PointHash>(
     rt: &impl Abort,
     alloc: Global,
@@ -270,23 +305,23 @@ fn check_edits<H: PointHash>(
 ) -> Result<(), Fail> {
     let mut state = seed;
     let mut ring = Ring::new(alloc, hash, 3)?;
+    let mut weights: Weights = [None; 6];
     for _ in 0..20 {
-        let port = [1, 11, 2, 12, 110, 21][(draw(&mut state, 6)) as usize];
-        let server = Address::new(0x0a00_0001, port).ok_or("a port")?;
+        let place = draw(&mut state, 6) as usize;
+        let server = Address::new(0x0a00_0001, PORTS[place]).ok_or("a port")?;
         if draw(&mut state, 4) == 0 {
             ring.remove(server);
+            weights[place] = None;
         } else {
             let weight = weight(1 + draw(&mut state, 8) as u8)?;
             reserve(rt, &mut ring, server, weight)?;
             ring.add(server, weight);
+            weights[place] = Some(weight);
         }
         for _ in 0..10 {
-            let key = [
-                b'0' + draw(&mut state, 10) as u8,
-                draw(&mut state, 256) as u8,
-            ];
+            let key = [b'z', b'z', b'z', b'z', draw(&mut state, 256) as u8];
             let named = owners(rt, &ring, &key, 9)?;
-            assert!(rt; are_nearest(&ring, hash, &key, &named));
+            assert!(rt; are_nearest(&weights, hash, &key, &named));
             assert!(rt; ring.owner(&key) == named.first().copied());
         }
     }
@@ -297,4 +332,28 @@ fn check_edits<H: PointHash>(
 fn owners_are_the_servers_by_distance(rt: HostRuntime) -> Result<(), Fail> {
     check_edits(&rt, rt.alloc(), SumHash, 1)?;
     check_edits(&rt, rt.alloc(), Sha256Hash, 2)
+}
+
+#[test]
+fn many_owners(rt: HostRuntime) -> Result<(), Fail> {
+    let mut ring = Ring::new(rt.alloc(), Sha256Hash, 3)?;
+    for port in 1..=40 {
+        let server = Address::new(0x0a00_0001, port).ok_or("a port")?;
+        reserve(&rt, &mut ring, server, weight(1)?)?;
+        ring.add(server, weight(1)?);
+    }
+    for (count, wanted) in [(0, 0), (39, 39), (40, 40), (4096, 40)] {
+        let named = owners(&rt, &ring, b"key", count)?;
+        assert_eq!(rt; named.len(), wanted);
+        let mut last = None;
+        for server in &named {
+            let here = Some((
+                distance(Sha256Hash, 3, *server, weight(1)?, b"key"),
+                *server,
+            ));
+            assert!(rt; last < here);
+            last = here;
+        }
+    }
+    Ok(())
 }

@@ -3,6 +3,7 @@ use Rattle.std.proofs.Common.{◌≡◌, ℕ, ◌+◌, ◌*◌, ◌^◌, ◌<◌
 use Rattle.std.specs.List.{filter, flat_map}
 use Rattle.std.specs.List.Sorted.{IsNonDecreasingBy, IsPartitionPoint}
 use Rattle.std.proofs.lemmas.List.{get_or-take, get_or-drop}
+use Rattle.std.proofs.lemmas.List.FromFn.{map-range_with_len_more}
 use Rattle.std.proofs.lemmas.Bool.{cases_order, ltb-true, ltb-false}
 use Rattle.change_core.specs.declared.addresses.Address.{Address}
 use Rattle.change_core.specs.Address.{address_text}
@@ -85,7 +86,9 @@ filter_small p ps small = λ q h. small q (in_filter p q ps h).0
 -- one more point of a server
 pub points_of_more : (hash : List ℕ → ℕ) (server : Address) (n h : ℕ) (old ps new : List Point) (text : List ℕ) → text ≡ address_text server → h ≡ hash (text ++ number_text n) → ps ≡ old ++ points_of hash n server → new ≡ ps ++ record { hash = h; server = server } ∷ [] → new ≡ old ++ points_of hash (n + 1) server
 points_of_more hash server n h old ps new text t e f g =
-    rw add-one (g ∙ (λ i. f i ++ record { hash = (e ∙ ap (λ z. hash (z ++ number_text n)) t) i; server = server } ∷ []) ∙ append_assoc old (points_of hash n server) (record { hash = point hash server n; server = server } ∷ []))
+    let more = map-range_with_len_more (λ i. record { hash = point hash server i; server = server }) 0 n n (omega arith) in
+    g ∙ (λ i. f i ++ record { hash = (e ∙ ap (λ z. hash (z ++ number_text n)) t) i; server = server } ∷ [])
+    ∙ (append_assoc old (points_of hash n server) (record { hash = point hash server n; server = server } ∷ []) ∙ ap (λ ps. old ++ ps) (sym more))
 
 pub small_more : (ps : List Point) (p : Point) (new : List Point) → new ≡ ps ++ p ∷ [] → p.hash < 2 ^ 64 → AreSmall ps → AreSmall new
 small_more ps p new e h small = λ q k. elim (in_append q ps (p ∷ []) (subst (In q) e k)) [

@@ -3,7 +3,7 @@ use Rattle.std.proofs.Common.{◌≡◌, ℕ, zero, suc, ◌+◌, ◌*◌, ◌-�
 use Rattle.std.specs.List.{filter}
 use Rattle.std.specs.declared.cmp.Ordering.{Ordering}
 use Rattle.std.specs.declared.cmp.Ordering.TheVariants.{Less}
-use Rattle.std.proofs.lemmas.Bool.{ltb-true}
+use Rattle.std.proofs.lemmas.Bool.{ltb-true, lt-ltb}
 use Rattle.change_core.specs.declared.addresses.Address.{Address}
 use Rattle.change_core.specs.Ascending.{ascending, In, IsAscending, IsExact}
 use Rattle.change_core.proofs.Order.{not_below_itself, not_both, ascending_ascends, in_ascending, filter_in, filter_ascends}
@@ -132,3 +132,21 @@ rooms key hash replicas servers ps fresh s ring some (inr room) = by_test (nat_l
         let fewer = length-filter_le (λ (x : Server). not (is_same x.address s.address)) servers.items in
         let kept = length-filter_le (λ (p : Point). not (is_same p.server s.address)) ps.items in
         (omega (arith, low, fewer, servers.ok.0), (λ made f l. omega (arith, l, kept, h, ps.ok.0, ps.ok.1)), omega (arith, h))
+
+-- ---- fewer servers and points leave no less room
+
+room_le : (fewer servers room space less points rest place spare : ℕ) → fewer ≤ servers → room ≡ space → less ≤ points → rest ≡ place → cond (ltb servers space) (min (place - points) spare) 0 ≤ cond (ltb fewer room) (min (rest - less) spare) 0
+room_le fewer servers room space less points rest place spare f e l d =
+    test_cases _ (ltb servers space)
+    (λ t. let low : fewer < room = omega (arith, ltb-true servers space t) in rw (t, lt-ltb fewer room low) (omega arith))
+    (λ t. rw t (omega arith))
+
+pub room_kept : {H : Type 0} (key : H) (replicas : ℕ) (servers others : Vec Server) (ps rest fresh : Vec Point) → length others.items ≤ length servers.items → vec_capacity others ≡ vec_capacity servers → length rest.items ≤ length ps.items → vec_capacity rest ≡ vec_capacity ps → (ring_model key replicas servers ps fresh).room ≤ (ring_model key replicas others rest fresh).room
+room_kept key replicas servers others ps rest fresh f e l d =
+    room_le (vec_len others) (vec_len servers) (vec_capacity others) (vec_capacity servers) (vec_len rest) (vec_len ps) (vec_capacity rest) (vec_capacity ps) (vec_capacity fresh) (omega (arith, f, others.ok.0, servers.ok.0)) e (omega (arith, l, rest.ok.0, ps.ok.0)) d
+
+pub fewer_servers : (a : Address) (servers others : List Server) → others ≡ without a servers → length others ≤ length servers
+fewer_servers a servers others e = omega (arith, ap length e, length-filter_le (λ (s : Server). not (is_same s.address a)) servers)
+
+pub fewer_points : (a : Address) (ps rest : List Point) → rest ≡ filter (λ (p : Point). not (is_same p.server a)) ps → length rest ≤ length ps
+fewer_points a ps rest e = omega (arith, ap length e, length-filter_le (λ (p : Point). not (is_same p.server a)) ps)

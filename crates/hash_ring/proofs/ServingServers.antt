@@ -1,24 +1,29 @@
--- How one change more alters the servers that the members are.
+-- The servers that the members are, and how one change more alters them.
 use Rattle.std.proofs.Common.{◌≡◌, ℕ, ◌<◌, Bool, true, false, not, List, [], ◌∷◌, ◌++◌, Some, map, refl, ap, sym, ◌∙◌, subst, inl, inr}
 use Rattle.std.specs.List.{filter}
 use Rattle.std.specs.declared.cmp.Ordering.TheVariants.{Less}
 use Rattle.std.proofs.lemmas.Bool.{lt-ltb}
+use Rattle.std.proofs.lemmas.Simd.{map-map}
 use Rattle.change_core.specs.declared.changes.Change.{Change}
 use Rattle.change_core.specs.Ascending.{In, IsAscending}
-use Rattle.change_core.specs.Members.{members, greatest, is_news, address_of_change, AllAbove, IsMemberList}
+use Rattle.change_core.specs.Members.{members, greatest, serving, is_news, address_of_change, AllAbove, IsMemberList}
 use Rattle.change_core.specs.Status.{is_serving}
 use Rattle.change_core.proofs.Members.{IsGreatest-greatest, greatest-members, Contains-member_list, IsMemberList-members}
 use Rattle.change_core.proofs.News.{members-no_news, greatest-news, greatest-others}
 use Rattle.change_core.proofs.Order.{in_put, put_new, put_old, put_ascends, same_ascending, in_filter, filter_in, filter_ascends}
 use Rattle.change_core.proofs.Serving.{IsMemberList-filter}
 use Rattle.hash_ring.specs.declared.servers.Server.{Server}
-use Rattle.hash_ring.specs.Servers.{is_same, server_cmp, with_server, without}
+use Rattle.hash_ring.specs.Servers.{is_same, address_of_server, addresses_of, server_cmp, with_server, without, weight_of, EachOnce}
 use Rattle.hash_ring.specs.Serving.{server_of, servers_of}
 use Rattle.hash_ring.proofs.Firsts.{same_is, test_cases}
 use Rattle.hash_ring.proofs.FreshPoints.{in_of_contains, contains_of_in}
 use Rattle.hash_ring.proofs.Lists.{in_map, map_in}
 use Rattle.hash_ring.proofs.PointOrder.{server_exact}
-use Rattle.hash_ring.proofs.Weights.{in_without, not_same}
+use Rattle.hash_ring.proofs.Weights.{in_without, not_same, weight_of_in}
+
+-- they are the addresses that serve
+pub addresses_of-servers_of : (cs : List Change) → addresses_of (servers_of cs) ≡ serving cs
+addresses_of-servers_of cs = map-map address_of_server server_of (filter (λ (c : Change). is_serving c.status) (members cs))
 
 -- a server is a member that serves
 server_is : (cs : List Change) (s : Server) → In s (servers_of cs) → (c : Change) × (greatest cs s.address ≡ Some c) × (is_serving c.status ≡ true) × (s ≡ server_of c)
@@ -32,6 +37,20 @@ is_server : (cs : List Change) (a : ℕ) (c : Change) → greatest cs a ≡ Some
 is_server cs a c e s =
     let g = IsGreatest-greatest (members cs) a c (greatest-members cs a ∙ e) in
     map_in server_of c (filter (λ (d : Change). is_serving d.status) (members cs)) (filter_in (λ (d : Change). is_serving d.status) c (members cs) (in_of_contains c (members cs) g.listed) s)
+
+-- each has its member's weight
+once_served : (cs : List Change) → EachOnce (servers_of cs)
+once_served cs = λ s t h k e.
+    let v = server_is cs s h in
+    let w = server_is cs t k in
+    let held : Some v.0 ≡ Some w.0 = sym v.1 ∙ (ap (greatest cs) e ∙ w.1) in
+    let same : v.0 ≡ w.0 = cc held in
+    v.3 ∙ (ap server_of same ∙ sym w.3)
+
+pub weight_of-servers_of : (cs : List Change) (a : ℕ) (c : Change) → greatest cs a ≡ Some c → is_serving c.status ≡ true → weight_of a (servers_of cs) ≡ Some c.weight
+weight_of-servers_of cs a c e s =
+    let g = IsGreatest-greatest cs a c e in
+    subst (λ b. weight_of b (servers_of cs) ≡ Some c.weight) g.about (weight_of_in (servers_of cs) (once_served cs) (server_of c) (is_server cs a c e s))
 
 -- they ascend
 above_in : (a : ℕ) (cs : List Change) → AllAbove a (map address_of_change cs) → (c : Change) → In c cs → a < c.address

@@ -1,6 +1,6 @@
 -- Walking the points from a key on, around, names the owners in order.
 use Rattle.std.proofs.Common.{◌≡◌, ℕ, zero, suc, ◌+◌, ◌*◌, ◌-◌, ◌^◌, ◌<◌, ◌≤◌, cond, List, [], ◌∷◌, ◌++◌, map, refl, ap, sym, ◌∙◌, subst, inl, inr, arith}
-use Rattle.std.specs.List.{flat_map}
+use Rattle.std.specs.List.{flat_map, range_with_len}
 use Rattle.std.specs.declared.cmp.Ordering.TheVariants.{Less}
 use Rattle.std.proofs.lemmas.List.{map-append}
 use Rattle.std.proofs.lemmas.Bool.{cases_order}
@@ -10,7 +10,7 @@ use Rattle.hash_ring.specs.declared.points.Point.{Point}
 use Rattle.hash_ring.specs.declared.servers.Server.{Server}
 use Rattle.hash_ring.specs.Servers.{address_of_server, addresses_of, shares, EachOnce}
 use Rattle.hash_ring.specs.Points.{point_cmp, clockwise, point, owners, points_of, points_by, points, least}
-use Rattle.hash_ring.proofs.Lists.{in_map, map_in, in_flat_map, flat_map_in}
+use Rattle.hash_ring.proofs.Lists.{in_map, map_in, in_flat_map, flat_map_in, in_range, range_in}
 use Rattle.hash_ring.proofs.Weights.{positive_product, shares_in}
 use Rattle.change_core.specs.Ascending.{ascending, In, IsAscending}
 use Rattle.change_core.proofs.Order.{in_append, in_append_left, in_append_right, ascends_append, ascends_front, ascends_back, in_ascending, ascending_in, ascending_ascends, ascending_is}
@@ -24,22 +24,12 @@ module _ (hash : List ℕ → ℕ) where
   point_at server i = record { hash = point hash server i; server = server }
 
   pub in_points_of : (n : ℕ) (server : Address) (q : Point) → In q (points_of hash n server) → (i : ℕ) × (i < n) × (q ≡ point_at server i)
-  in_points_of zero server q h = absurd h
-  in_points_of (suc n) server q h =
-      elim (in_append q (points_of hash n server) (point_at server n ∷ []) h) [
-        | inl k ↦ let m = in_points_of n server q k in (m.0, omega (arith, m.1), m.2)
-        | inr (inl e) ↦ (n, omega arith, e)
-        | inr (inr k) ↦ absurd k
-      ]
+  in_points_of n server q h =
+      let m = in_map (point_at server) q (range_with_len 0 n) h in
+      (m.0, omega (arith, (in_range 0 n m.0 m.1).1), m.2)
 
   pub points_of_in : (n : ℕ) (server : Address) (i : ℕ) → i < n → In (point_at server i) (points_of hash n server)
-  points_of_in zero server i h = absurd (omega arith)
-  points_of_in (suc n) server i h =
-      elim (cases_order i n) [
-        | inl e ↦ in_append_right (point_at server i) (points_of hash n server) (point_at server n ∷ []) (inl (ap (point_at server) e))
-        | inr (inl k) ↦ in_append_left (point_at server i) (points_of hash n server) (point_at server n ∷ []) (points_of_in n server i k)
-        | inr (inr k) ↦ absurd (omega arith)
-      ]
+  points_of_in n server i h = map_in (point_at server) i (range_with_len 0 n) (range_in 0 n i (omega arith) (omega arith))
 
   pub in_points : (replicas : ℕ) (servers : List Server) (q : Point) → In q (points hash replicas servers) → (s : Server) × In s servers × (q.server ≡ s.address) × ((i : ℕ) × (i < replicas * s.weight) × (q ≡ point_at q.server i))
   in_points replicas servers q h =

@@ -1,6 +1,8 @@
 -- The points of servers, and the owners of a key. No ring is in it. A hash is a function from bytes to numbers.
-use Rattle.std.specs.Prelude.{◌≡◌, ◌⊎◌, ◌≤◌, ℕ, zero, suc, ◌+◌, ◌*◌, ◌-◌, ◌%◌, ◌^◌, ◌<◌, List, [], ◌∷◌, ◌++◌, min, Option}
-use Rattle.std.specs.List.{Contains, flat_map, slice_get}
+-- A server's points on a circle, and a key's owner the first of them clockwise: ringpop-go, package hashring. That ties go to the lesser
+-- address, and that the next owners are the servers by distance, is own.
+use Rattle.std.specs.Prelude.{◌≡◌, ◌⊎◌, ◌≤◌, ℕ, zero, suc, ◌+◌, ◌*◌, ◌-◌, ◌%◌, ◌^◌, ◌<◌, List, ◌++◌, map, min, Option}
+use Rattle.std.specs.List.{Contains, flat_map, range_with_len, slice_get}
 use Rattle.std.specs.Ordering.{nat_cmp, ordering_then}
 use Rattle.std.specs.declared.cmp.Ordering.{Ordering}
 use Rattle.change_core.specs.declared.addresses.Address.{Address}
@@ -11,10 +13,11 @@ use Rattle.hash_ring.specs.declared.points.Point.{Point}
 use Rattle.hash_ring.specs.declared.servers.Server.{Server}
 use Rattle.hash_ring.specs.Servers.{shares, addresses_of}
 
--- the greatest number of points that a server has for each of its weight
+-- the greatest number of points that a server has for each of its weight (own)
 abbrev pub most_replicas : ℕ
 most_replicas = 1000
 
+-- from 1 to that number
 abbrev pub IsReplicas : ℕ → Type 0
 IsReplicas r = (1 ≤ r) × (r ≤ most_replicas)
 
@@ -32,7 +35,7 @@ least f zero = 2 ^ 64 - 1
 least f (suc n) = min (least f n) (f n)
 
 module _ (hash : List ℕ → ℕ) where
-  -- the hash of the server's text followed by i in decimal
+  -- the hash of the server's text followed by i in decimal (ringpop-go, package hashring)
   abbrev pub point : Address → ℕ → ℕ
   point server i = hash (address_text server ++ number_text i)
 
@@ -58,8 +61,7 @@ module _ (hash : List ℕ → ℕ) where
 
   -- the first n points of a server
   abbrev pub points_of : ℕ → Address → List Point
-  points_of zero server = []
-  points_of (suc n) server = points_of n server ++ record { hash = point server n; server = server } ∷ []
+  points_of n server = map (λ i. record { hash = point server i; server = server }) (range_with_len 0 n)
 
   -- the points of a server by its weight
   abbrev pub points_by : ℕ → Server → List Point
@@ -72,6 +74,32 @@ module _ (hash : List ℕ → ℕ) where
 -- their hashes fit in 64 bits
 abbrev pub AreSmall : List Point → Type 0
 AreSmall ps = (p : Point) → In p ps → p.hash < 2 ^ 64
+
+-- a way from a key up to one of a server's first n points, and none of them has a shorter one
+pub record IsLeastWay (hash : List ℕ → ℕ) (n : ℕ) (server : Address) (key : List ℕ) (way : ℕ) : Type 0 where
+  pub index : ℕ
+  pub counted : index < n
+  pub reached : way ≡ clockwise (hash key) (point hash server index)
+  pub least : (i : ℕ) → i < n → way ≤ clockwise (hash key) (point hash server i)
+
+-- p is one of the points that a server of the list has by its weight
+pub record IsPointAmong (hash : List ℕ → ℕ) (replicas : ℕ) (servers : List Server) (p : Point) : Type 0 where
+  pub server : Server
+  pub listed : Contains servers server
+  pub index : ℕ
+  pub counted : index < replicas * server.weight
+  pub its_hash : p.hash ≡ point hash server.address index
+  pub its_server : p.server ≡ server.address
+
+-- a is nearer to the key than b, or as near and of the lesser address
+abbrev pub IsBefore : (List ℕ → ℕ) → ℕ → List Server → List ℕ → Address → Address → Type 0
+IsBefore hash replicas servers key a b =
+    (distance_among hash replicas servers key a < distance_among hash replicas servers key b)
+    ⊎ ((distance_among hash replicas servers key a ≡ distance_among hash replicas servers key b) × (a < b))
+
+-- p has the lesser hash, or the same one and the lesser address
+abbrev pub IsPointBefore : Point → Point → Type 0
+IsPointBefore p q = (p.hash < q.hash) ⊎ ((p.hash ≡ q.hash) × (p.server < q.server))
 
 -- no server is nearer to the key, and none as near has a lesser address
 pub record IsNearest (hash : List ℕ → ℕ) (replicas : ℕ) (servers : List Server) (key : List ℕ) (a : Address) : Type 0 where

@@ -1,9 +1,16 @@
-//! Laws of the owners of keys.
-ghost use Rattle.std.specs.Prelude.{◌≡◌, ◌⊎◌, ℕ, None, Some, List};
+//! Laws of points, distances and owners. Each is the contract of a function that does nothing, for every hash, all servers
+//! and every key.
+ghost use Rattle.std.specs.Prelude.{◌≡◌, ◌⊎◌, ◌↔◌, ℕ, ◌+◌, ◌%◌, ◌^◌, ◌<◌, None, Some, List, slice_get};
+ghost use Rattle.std.specs.List.{Contains};
 ghost use Rattle.change_core.specs.declared.addresses.Address.{Address};
-ghost use Rattle.hash_ring.specs.Points.{owner, owners};
+ghost use Rattle.change_core.specs.declared.changes.Change.{Change};
+ghost use Rattle.change_core.specs.Members.{greatest, serving};
+ghost use Rattle.change_core.specs.Status.{IsServing};
+ghost use Rattle.hash_ring.specs.Points.{clockwise, distance, owner, owners, points, IsLeastWay, IsBefore, IsPointAmong, IsPointBefore};
 ghost use Rattle.hash_ring.specs.Consistency.{others};
-ghost use Rattle.hash_ring.specs.Servers.{weight_of, with_server, without};
+ghost use Rattle.hash_ring.specs.Servers.{addresses_of, weight_of, with_server, without};
+ghost use Rattle.hash_ring.specs.Serving.{servers_of};
+ghost use Rattle.hash_ring.specs.declared.points.Point.{Point};
 ghost use Rattle.hash_ring.specs.declared.servers.Server.{Server};
 
 /// Consistent hashing, for any hash. Where a server joins, the owner of each key stays or becomes that server;
@@ -23,4 +30,43 @@ pub fn consistency()
     ensures leave_order { (hash : List ℕ → ℕ) (replicas : ℕ) (servers : List Server) (a : Address) (key : List ℕ)
         → owners hash replicas (without a servers) key
         ≡ others a (owners hash replicas servers key) }
+{}
+
+/// The way from one number up to another leads there, going round at 2^64. The distance of a server with n points is
+/// the way to one of them, no way to another is shorter, and no other number is such.
+pub fn distances()
+    ensures leads { (from to : ℕ) → from < 2 ^ 64 → to < 2 ^ 64
+        → ((from + clockwise from to) % 2 ^ 64 ≡ to) × (clockwise from to < 2 ^ 64) }
+    ensures least { (hash : List ℕ → ℕ) (n : ℕ) (server : Address) (key : List ℕ) → 0 < n
+        → IsLeastWay hash n server key (distance hash n server key) }
+    ensures only { (hash : List ℕ → ℕ) (n way : ℕ) (server : Address) (key : List ℕ)
+        → IsLeastWay hash n server key way → way ≡ distance hash n server key }
+{}
+
+/// The owners of a key are exactly the servers. Of two of them the nearer comes first, and of two as near that of the
+/// lesser address; so each stands once.
+pub fn owners_by_distance()
+    ensures exactly { (hash : List ℕ → ℕ) (replicas : ℕ) (servers : List Server) (key : List ℕ) (a : Address)
+        → Contains (owners hash replicas servers key) a ↔ Contains (addresses_of servers) a }
+    ensures in_order { (hash : List ℕ → ℕ) (replicas : ℕ) (servers : List Server) (key : List ℕ) (i j : ℕ) (a b : Address)
+        → i < j → slice_get (owners hash replicas servers key) i ≡ Some a
+        → slice_get (owners hash replicas servers key) j ≡ Some b
+        → IsBefore hash replicas servers key a b }
+{}
+
+/// The points are exactly those that each server has by its weight. They ascend by hash and then by address, so each
+/// stands once.
+pub fn points_of_servers()
+    ensures exactly { (hash : List ℕ → ℕ) (replicas : ℕ) (servers : List Server) (p : Point)
+        → Contains (points hash replicas servers) p ↔ IsPointAmong hash replicas servers p }
+    ensures in_order { (hash : List ℕ → ℕ) (replicas : ℕ) (servers : List Server) (i j : ℕ) (p q : Point)
+        → i < j → slice_get (points hash replicas servers) i ≡ Some p
+        → slice_get (points hash replicas servers) j ≡ Some q → IsPointBefore p q }
+{}
+
+/// The servers that members are have the addresses that serve, in the same order, and each has its member's weight.
+pub fn serving_servers()
+    ensures addresses { (L : List Change) → addresses_of (servers_of L) ≡ serving L }
+    ensures weights { (L : List Change) (a : Address) (c : Change) → greatest L a ≡ Some c
+        → IsServing c.status → weight_of a (servers_of L) ≡ Some c.weight }
 {}

@@ -13,9 +13,8 @@ mod text;
 
 pub use errors::RingError;
 pub use hash::{PointHash, Sha256Hash, SumHash};
-pub use points::{MOST_REPLICAS, Point, distance};
+pub use points::{MOST_REPLICAS, distance};
 pub use ring::Ring;
-pub use servers::Server;
 
 #[cfg(test)]
 mod tests;

@@ -98,9 +98,7 @@ fn push_points<H: PointHash>(points: &mut Vec<Point>, hash: H, server: Address, 
             hash: point_hash(hash, &mut text, index),
             server,
         };
-        let Ok(()) = points.push(point) else {
-            unreachable!()
-        };
+        points.push_reserved(point);
     }
 }
 

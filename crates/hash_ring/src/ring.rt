@@ -1,5 +1,5 @@
 // The ring, kept by edits.
-ghost use Rattle.std.specs.Prelude.{◌≡◌, ℕ, List, ◌+◌, ◌-◌, ◌*◌, ◌^◌, ◌<◌, ◌≤◌, ◌↔◌, [], ◌∷◌, ◌++◌, length, take, drop, not, is_some, IsOk, IfOk, IfSome, IfNone, OnOk, IsOkUnless, vec_len, vec_capacity};
+ghost use Rattle.std.specs.Prelude.{◌≡◌, ℕ, List, ◌+◌, ◌-◌, ◌*◌, ◌^◌, ◌<◌, ◌≤◌, ◌↔◌, [], ◌∷◌, ◌++◌, length, take, drop, not, false, is_some, IsOk, IfOk, IfSome, IfNone, OnOk, IsOkUnless, vec_len, vec_capacity};
 ghost use Rattle.hash_ring.specs.Points.{IsReplicas, IsNearest, owner, owners};
 ghost use Rattle.hash_ring.specs.Servers.{has_weight, weight_of, with_server, without};
 ghost use Rattle.hash_ring.specs.declared.servers.Server.{Server};
@@ -103,12 +103,13 @@ impl<H: PointHash> Ring<H> {
     }
 
     /// Adds a server and its points, in the place of those that it had with another weight, and answers whether
-    /// anything changed. It wants room to have been made, or the server there with at least this weight, and
-    /// takes no memory.
+    /// anything changed: not where the server is there with this very weight. It wants room to have been made, or
+    /// the server there with at least this weight, and takes no memory.
     pub fn add(&mut self, address: Address, weight: Weight) -> bool
         requires { HasRoom self.old (record { address = address; weight = weight }) }
         ensures ring { self.new ≡ ring_of self.old.hash (H.hash_of self.old.hash) self.old.replicas (with_server (record { address = address; weight = weight }) self.old.servers) self.new.room }
         ensures added { result ≡ not (has_weight weight (weight_of address self.old.servers)) }
+        ensures unchanged { result ≡ false → self.new ≡ self.old }
     {
         if self.weight(address) == Some(weight) {
             return false;
@@ -123,10 +124,12 @@ impl<H: PointHash> Ring<H> {
         true
     }
 
-    /// Removes a server and its points, and answers whether it was there.
+    /// Removes a server and its points, and answers whether it was there. The room does not shrink, and no memory
+    /// is taken.
     pub fn remove(&mut self, address: Address) -> bool
         ensures ring { self.new ≡ ring_of self.old.hash (H.hash_of self.old.hash) self.old.replicas (without address self.old.servers) self.new.room }
         ensures removed { result ≡ is_some (weight_of address self.old.servers) }
+        ensures room { self.old.room ≤ self.new.room }
     {
         take_out(&mut self.servers, &mut self.points, address)
     }
@@ -151,8 +154,8 @@ impl<H: PointHash> Ring<H> {
         let start = first_at(&self.points, self.hash.hash(key));
         let count = count.min(self.servers.len());
         let mut named = Vec::with_capacity(*self.servers.allocator(), count)?;
-        name_servers(&self.points[start..], count, &mut named)?;
-        name_servers(&self.points[..start], count, &mut named)?;
+        name_servers(&self.points[start..], count, &mut named);
+        name_servers(&self.points[..start], count, &mut named);
         Ok(named)
     }
 

@@ -1,11 +1,10 @@
 // Searching the points for a hash, and walking on from there.
-ghost use Rattle.std.specs.Prelude.{◌≡◌, ℕ, ◌+◌, ◌-◌, ◌<◌, ◌≤◌, ◌⊎◌, [], ◌++◌, length, take, drop, OnOk, IsOkUnless, slice_get};
+ghost use Rattle.std.specs.Prelude.{◌≡◌, ℕ, ◌+◌, ◌-◌, ◌<◌, ◌≤◌, ◌⊎◌, [], ◌++◌, length, take, drop, slice_get, vec_capacity};
 ghost use Rattle.change_core.specs.Ascending.{In, IsAscending};
 ghost use Rattle.hash_ring.specs.Points.{point_cmp};
 ghost use Rattle.hash_ring.specs.Steps.{IsBelow, IsFrom, firsts};
 ghost use Rattle.hash_ring.specs.declared.points.Point.{Point};
 
-use crate::errors::RingError;
 use crate::points::Point;
 use change_core::Address;
 
@@ -98,24 +97,20 @@ pub(crate) fn first_server(points: &[Point], start: usize) -> Option<Address>
     Some(point.server)
 }
 
-/// Adds the points' servers that are not named yet, up to a count.
-pub(crate) fn name_servers(
-    points: &[Point],
-    count: usize,
-    named: &mut Vec<Address>,
-) -> Result<(), RingError>
-    requires { length named.old.items ≤ count }
-    ensures named { OnOk result (named.new.items ≡ take count (named.old.items ++ firsts named.old.items points.now)) }
+/// Adds the points' servers that are not named yet, up to a count. With room this takes no memory.
+pub(crate) fn name_servers(points: &[Point], count: usize, named: &mut Vec<Address>)
+    requires few { length named.old.items ≤ count }
+    requires room { count ≤ vec_capacity named.old }
+    ensures named { named.new.items ≡ take count (named.old.items ++ firsts named.old.items points.now) }
     ensures len { length named.new.items ≤ count }
-    ensures refusal { IsOkUnless result RingError.Memory }
+    ensures capacity { vec_capacity named.new ≡ vec_capacity named.old }
 {
     for point in points {
         if named.len() >= count {
             break;
         }
         if !named.contains(&point.server) {
-            named.push(point.server)?;
+            named.push_reserved(point.server);
         }
     }
-    Ok(())
 }

@@ -1,6 +1,6 @@
 -- What a verdict tells of its change, and what a commit leaves of a membership.
 use Rattle.std.proofs.Common.{◌≡◌, ℕ, ◌+◌, ◌<◌, Bool, true, false, eqb, ltb, ◌&&◌, List, [], ◌∷◌, ◌++◌, Some, None, IsTrue, length, inl, inr, arith, refl, sym, ◌∙◌, ap, subst}
-use Rattle.std.specs.Option.{is_none}
+use Rattle.std.specs.Option.{IsSome, is_none, is_some}
 use Rattle.std.proofs.lemmas.Bool.{cases_Bool, eqb-true, eqb-false}
 use Rattle.std.proofs.lemmas.List.Elements.{Contains-push}
 use Rattle.change_core.specs.declared.changes.Change.{Change}
@@ -43,7 +43,7 @@ IsMembership-put own c cs after max m fits its_own e =
     })
 
 -- about the node itself a change is news where it exceeds the node's own entry
-is_news-own : (m : Membership) (c : Change) → IsMembership m.own m.members m.max → c.address ≡ m.own.address → is_news m.members c ≡ exceeds c m.own
+pub is_news-own : (m : Membership) (c : Change) → IsMembership m.own m.members m.max → c.address ≡ m.own.address → is_news m.members c ≡ exceeds c m.own
 is_news-own m c stands same = ap (λ o. alters o c) (ap (greatest m.members) same ∙ stands.holds_itself)
 
 -- a refutation exceeds what it refutes, and the entry before it
@@ -87,6 +87,9 @@ module _ (m : Membership) (given next : Change) (stands : IsMembership m.own m.m
 
   next_exceeds : Exceeds next m.own
   next_exceeds = elim given_exceeds [ inl l ↦ inl (omega (arith, next_incarnation, l)) | inr p ↦ inl (omega (arith, next_incarnation, p.0)) ]
+
+  pub known-refuted : IsSome (greatest m.members next.address)
+  known-refuted = ap is_some held
 
   next_news : is_news m.members next ≡ true
   next_news = is_news-own m next stands next_address ∙ exceeds-true next m.own next_exceeds
@@ -266,6 +269,10 @@ speaks m given = elim (cases_Bool (eqb given.address m.own.address)) [
     | inr old ↦ simp (another, old) tt
   ]
 ]
+
+-- a change that is taken is the one that was judged
+pub given-taken : (m : Membership) (given c : Change) → judged m given ≡ Take c → given ≡ c
+given-taken m given c answer = subst (Speaks given) answer (speaks m given)
 
 -- what `judge` answered may be committed, where it alters an entry and there is room
 pub CanCommit-judged : (m : Membership) (given : Change) (v : Verdict) → judged m given ≡ v → Alters v → (greatest m.members given.address ≡ None → 0 < m.room) → CanCommit m v

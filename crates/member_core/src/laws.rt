@@ -1,9 +1,10 @@
 //! The laws of verdicts. Each is the contract of a function that does nothing, for every membership and every change.
-ghost use Rattle.std.specs.Prelude.{◌≡◌, ◌↔◌, false};
+ghost use Rattle.std.specs.Prelude.{◌≡◌, ◌≢◌, ◌↔◌, ◌<◌, ◌≤◌, false, IsTrue, None, Some, length};
 ghost use Rattle.change_core.specs.declared.changes.Change.{Change};
-ghost use Rattle.change_core.specs.Members.{members, is_news};
-ghost use Rattle.change_core.specs.Refutation.{log_one};
-ghost use Rattle.member_core.specs.declared.verdicts.Verdict.TheVariants.{Old};
+ghost use Rattle.change_core.specs.Members.{greatest, members, is_news};
+ghost use Rattle.change_core.specs.Numbers.{greatest_number};
+ghost use Rattle.change_core.specs.Refutation.{refutation, is_refuted, log_one};
+ghost use Rattle.member_core.specs.declared.verdicts.Verdict.TheVariants.{Old, Take, Refute, Exhausted, Full};
 ghost use Rattle.member_core.specs.Membership.{Membership, IsMembership, judged};
 
 /// A change is old exactly where it is no news to the members. The log with an old change comes to the same members.
@@ -12,4 +13,22 @@ pub fn old_changes()
         → (judged m c ≡ Old) ↔ (is_news m.members c ≡ false) }
     ensures logged { (m : Membership) (c : Change) → IsMembership m.own m.members m.max
         → judged m c ≡ Old → members (log_one m.own.address m.members c) ≡ m.members }
+{}
+
+/// Any other change is refuted where it calls for a refutation, and exhausted where no incarnation is left for that. Of the
+/// rest it is full for an unknown address where no more members may be, and taken else. A verdict speaks of the change that
+/// was given.
+pub fn verdicts()
+    ensures full { (m : Membership) (c : Change) → IsMembership m.own m.members m.max
+        → (judged m c ≡ Full) ↔ ((c.address ≢ m.own.address) × (greatest m.members c.address ≡ None) × (length m.members ≡ m.max)) }
+    ensures exhausted { (m : Membership) (c : Change) → IsMembership m.own m.members m.max
+        → c.incarnation ≤ greatest_number
+        → (judged m c ≡ Exhausted) ↔ (IsTrue (is_refuted m.own.address (Some m.own) c) × (c.incarnation ≡ greatest_number)) }
+    ensures refuted { (m : Membership) (c given next : Change) → IsMembership m.own m.members m.max
+        → (judged m c ≡ Refute given next) ↔ ((given ≡ c) × (next ≡ refutation m.own c)
+        × IsTrue (is_refuted m.own.address (Some m.own) c) × (c.incarnation < greatest_number)) }
+    ensures taken { (m : Membership) (c given : Change) → IsMembership m.own m.members m.max
+        → (judged m c ≡ Take given) ↔ ((given ≡ c) × IsTrue (is_news m.members c)
+        × (is_refuted m.own.address (Some m.own) c ≡ false)
+        × (greatest m.members c.address ≡ None → length m.members < m.max)) }
 {}

@@ -1,4 +1,4 @@
-ghost use Rattle.std.specs.Prelude.{List, ◌≡◌, ◌≤◌, ◌<◌, ◌↔◌, ◌∷◌, ◌++◌, [], length, map, IfOk, IsOk, OnOk, OnErr, IsOkUnless, IsErrOf, option_map, string_bytes};
+ghost use Rattle.std.specs.Prelude.{List, ◌≡◌, ◌≤◌, ◌<◌, ◌↔◌, ◌∷◌, ◌++◌, [], length, map, IfOk, IsOk, IsSome, OnOk, OnErr, IsOkUnless, IsErrOf, option_map, string_bytes};
 ghost use Rattle.change_core.specs.Change.{entry_of};
 ghost use Rattle.change_core.specs.Members.{greatest, members, digest_text};
 ghost use Rattle.change_core.specs.Numbers.{most_members};
@@ -93,6 +93,9 @@ impl Members {
         // The members are those of a log with the given change, and directly after it its refutation.
         ensures logged { (given : Change) → judged self.old given ≡ verdict
             → self.new.members ≡ members (log_one self.old.own.address self.old.members given) }
+        // What is known takes no room.
+        ensures room { (given : Change) → judged self.old given ≡ verdict
+            → IsSome (greatest self.old.members given.address) → self.new.room ≡ self.old.room }
     {
         let _ = &self.own;
         match verdict {
@@ -103,10 +106,11 @@ impl Members {
     }
 
     /// Puts in what the node asserts of itself, to leave or to come back: about itself, overriding its entry,
-    /// alive or leave. It takes no memory.
+    /// alive or leave. It takes no memory, and no room.
     pub fn commit_own(&mut self, change: Change)
         requires { IsOwnAssertion self.old.own change }
         ensures value { self.new ≡ after_put self.old change (change ∷ []) self.new.room }
+        ensures room { self.new.room ≡ self.old.room }
         ensures valid { IsMembership self.new.own self.new.members self.new.max }
     {
         let _ = &self.own;
@@ -116,6 +120,7 @@ impl Members {
     fn put(&mut self, change: &Change)
         requires { CanPut self.old change.now }
         ensures value { self.new ≡ after_put self.old (own_after self.old.own change.now) (change.now ∷ []) self.new.room }
+        ensures room { IsSome (greatest self.old.members change.now.address) → self.new.room ≡ self.old.room }
         ensures valid { IsMembership self.new.own self.new.members self.new.max }
     {
         self.own = own_after(&self.own, change);

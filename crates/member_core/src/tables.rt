@@ -57,6 +57,7 @@ impl MemberTable {
         ensures full { IsErrOf result MemberError.Full ↔
             ((greatest self.old.members change.address ≡ None) × (length self.old.members ≡ self.old.max)) }
         ensures known { IsSome (greatest self.old.members change.address) → IsOk result }
+        ensures memory { IsErrOf result MemberError.Memory → greatest self.old.members change.address ≡ None }
         ensures others { IsErrOf result MemberError.BadLimit → ⊥ }
         ensures err { OnErr result (self.new ≡ self.old) }
     {
@@ -78,6 +79,7 @@ impl MemberTable {
         self.entries.len()
     }
 
+    /// Whether no member is held: not a change was taken.
     pub fn is_empty(&self) -> bool
         ensures { IsTrue result ↔ (self.now.members ≡ []) }
     {

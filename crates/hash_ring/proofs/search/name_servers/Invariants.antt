@@ -1,4 +1,4 @@
-use Rattle.std.proofs.Common.{◌≡◌, ◌≤◌, ◌++◌, length, take, drop}
+use Rattle.std.proofs.Common.{◌≡◌, ◌≤◌, ◌++◌, length, take, drop, vec_capacity}
 use Rattle.hash_ring.specs.Steps.{firsts}
 use Rattle.hash_ring.proofs.search.name_servers.Given as goal
 
@@ -7,4 +7,5 @@ abbrev pub invariant-loop-point : goal.invariant-loop-point
 invariant-loop-point l = record {
   named : take l.count (l.named.items ++ firsts l.named.items (drop l.point-index l.points)) ≡ take l.count (l.fn.named.items ++ firsts l.fn.named.items l.points);
   len : length l.named.items ≤ l.count;
+  capacity : vec_capacity l.named ≡ vec_capacity l.fn.named;
 }

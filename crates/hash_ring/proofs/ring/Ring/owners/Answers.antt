@@ -17,6 +17,6 @@ returns-clause-named g c =
     rw (← c.self.view_is)
     (named_around count start c.deref.result.now c.deref-2.result.now c.deref-3.result.now c.in_ok-named.named.items c.name_servers.new.named.items _
     c.in_ok-named.ensures.items (c.deref-2.ensures.value ∙ sym c.deref.ensures.value) (c.deref-3.ensures.value ∙ sym c.deref.ensures.value)
-    c.in_ok-name_servers.ensures.named c.in_ok-name_servers-2.ensures.named
+    c.name_servers.ensures.named c.name_servers-2.ensures.named
     ∙ ap (take count) same
     ∙ owners_enough (g.H.PointHash.hash_of c.self.inside.hash) c.self.inside.replicas c.self.inside.servers.items c.args.key.now c.args.count count fewer)

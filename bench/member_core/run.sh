@@ -1,5 +1,5 @@
 #!/usr/bin/env bash
-# Takes, judgements, digest texts and digests of 100, 1,000 and 4,096 members, in nanoseconds a call, and sha256sum over the bytes
+# Takes, judgements of a node that holds them all, digest texts and digests of 100, 1,000 and 4,096 members, in nanoseconds a call, and sha256sum over the bytes
 # of the largest text. The same table in Python stands beside it. Wants rt, python3 and sha256sum. It works on a copy, so nothing is left in the repository.
 set -euo pipefail
 here=$(cd "$(dirname "$0")" && pwd)

@@ -1,5 +1,5 @@
 #!/usr/bin/env bash
-# Rings of 10, 100, 1,000 and 4,096 servers of 100 points by SHA-256: builds in milliseconds, owners and three owners in nanoseconds a
+# Rings of 10, 100, 1,000 and 4,096 servers of 100 points by SHA-256: builds in micro- or milliseconds, owners and three owners in nanoseconds a
 # call, adds and removes in microseconds. Beside them, one after another: a sorted vector in Rust by the soft SHA-256 of the crate sha2,
 # groupcache in Go, uhashring in Python and libmemcached's ketama in C. Wants rt; of the others it says so where one is not there:
 # cargo with the crate sha2 0.10, go with groupcache (on Debian golang-github-golang-groupcache-dev, else in GOPATH), a python3 with

@@ -97,6 +97,7 @@ impl Members {
         ensures room { (given : Change) → judged self.old given ≡ verdict
             → IsSome (greatest self.old.members given.address) → self.new.room ≡ self.old.room }
     {
+        // The proof knows the type's invariant where a field is read.
         let _ = &self.own;
         match verdict {
             Verdict::Take(change) => self.put(&change),
@@ -113,6 +114,7 @@ impl Members {
         ensures room { self.new.room ≡ self.old.room }
         ensures valid { IsMembership self.new.own self.new.members self.new.max }
     {
+        // The proof knows the type's invariant where a field is read.
         let _ = &self.own;
         self.put(&change);
     }
@@ -150,7 +152,6 @@ impl Members {
         ensures count { result ≡ length self.now.members }
         ensures valid { IsMembership self.now.own self.now.members self.now.max }
     {
-        let _ = &self.own;
         self.entries.len()
     }
 
@@ -159,7 +160,6 @@ impl Members {
         ensures list { result.now ≡ self.now.members }
         ensures valid { IsMembership self.now.own self.now.members self.now.max }
     {
-        let _ = &self.own;
         self.entries.as_slice()
     }
 

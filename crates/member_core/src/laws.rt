@@ -15,9 +15,9 @@ pub fn old_changes()
         → judged m c ≡ Old → members (log_one m.own.address m.members c) ≡ m.members }
 {}
 
-/// Any other change is refuted where it calls for a refutation, and exhausted where no incarnation is left for that. Of the
-/// rest it is full for an unknown address where no more members may be, and taken else. A verdict speaks of the change that
-/// was given.
+/// When each other verdict comes. A change that calls for a refutation is refuted by it, or is exhausted where its incarnation is
+/// the greatest. It is full for an address that is unknown and not the node's own where there are as many members as there may
+/// be. Any other news is taken. A verdict speaks of the change that was given.
 pub fn verdicts()
     ensures full { (m : Membership) (c : Change) → IsMembership m.own m.members m.max
         → (judged m c ≡ Full) ↔ ((c.address ≢ m.own.address) × (greatest m.members c.address ≡ None) × (length m.members ≡ m.max)) }

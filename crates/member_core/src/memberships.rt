@@ -196,6 +196,18 @@ impl Members {
         self.entries.digest()
     }
 
+    /// The same, and it is kept: until a change is put in, neither this call nor `digest` makes it anew or asks for
+    /// memory.
+    ///
+    /// Errors: `Memory`, for the text.
+    pub fn keep_digest(&mut self) -> Result<Digest, MemberError>
+        ensures digest { IfOk result (λ d. d.bytes ≡ sha256 (digest_text self.old.members)) }
+        ensures same { self.new ≡ self.old }
+        ensures refusal { IsOkUnless result MemberError.Memory }
+    {
+        self.entries.keep_digest()
+    }
+
     /// The members, ascending by address, each with the node itself as source, at its incarnation: a full
     /// synchronisation (ringpop-go, package swim).
     ///

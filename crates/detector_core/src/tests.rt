@@ -206,6 +206,25 @@ fn numbers_run_out(rt: HostRuntime) -> Result<(), Fail> {
     Ok(())
 }
 
+/// What the helpers' words come to, told in the order of asking until they decide. Each answer is foretold.
+fn hear(
+    rt: &impl Abort,
+    prober: &mut Prober,
+    number: u64,
+    helpers: &[Address],
+    words: &[Said],
+) -> Result<Outcome, DetectorError> {
+    let mut outcome = Outcome::Waiting;
+    for (helper, said) in helpers.iter().zip(words.iter()) {
+        if outcome == Outcome::Waiting {
+            let foretold = prober.would_say(number, *helper, *said);
+            outcome = prober.helper_said(number, *helper, *said)?;
+            assert_eq!(rt; foretold, Ok(outcome));
+        }
+    }
+    Ok(outcome)
+}
+
 #[test]
 fn helpers_decide(rt: HostRuntime) -> Result<(), Fail> {
     let pingable = four(&rt);
@@ -241,14 +260,7 @@ fn helpers_decide(rt: HostRuntime) -> Result<(), Fail> {
             let asked = helpers.as_slice().iter().any(|helper| helper == member);
             assert_eq!(rt; asked, *member != probe.target);
         }
-        let mut outcome = Outcome::Waiting;
-        for (helper, said) in helpers.as_slice().iter().zip(words.iter()) {
-            if outcome == Outcome::Waiting {
-                let foretold = prober.would_say(probe.number, *helper, *said);
-                outcome = prober.helper_said(probe.number, *helper, *said)?;
-                assert_eq!(rt; foretold, Ok(outcome));
-            }
-        }
+        let outcome = hear(&rt, &mut prober, probe.number, helpers.as_slice(), &words)?;
         assert_eq!(rt; outcome, wanted, "after {words:?}");
         assert_eq!(rt; prober.running(), None);
     }

@@ -1,18 +1,12 @@
 -- An input has one output at most, and one that has an output has no fault of its own.
-use Rattle.std.proofs.Common.{◌≡◌, ℕ, ◌≤◌, List, [], ◌∷◌, ◌++◌, map, length, Option, Some, None, refl, sym, ap, subst, ◌∙◌, append_assoc, append-nil, inl, inr, arith}
-use Rattle.std.specs.Prelude.{codes}
+use Rattle.std.proofs.Common.{◌≡◌, ℕ, ◌≤◌, List, [], ◌∷◌, ◌++◌, map, length, Option, Some, None, refl, sym, ap, subst, ◌∙◌, append_assoc, append-nil, arith}
 use Rattle.std.proofs.lemmas.List.{map-append}
 use Rattle.change_core.specs.declared.changes.Change.{Change}
 use Rattle.change_core.specs.declared.changes.Sourced.{Sourced}
 use Rattle.change_core.specs.Members.{greatest, members}
 use Rattle.change_core.proofs.Members.{greatest-members}
 use Rattle.change_core.proofs.News.{length-members_known, length-members_new}
-use Rattle.serde_json.specs.Data.{Data, null, boolean, number, string, array, object}
-use Rattle.serde_json.specs.Find.{get}
-use Rattle.wire_json.specs.Forms.{ChangeForm, ChangeFault}
-use Rattle.wire_json.specs.Lines.{IsObject, Faults}
-use Rattle.wire_json.specs.declared.errors.WireError.{WireError}
-use Rattle.wire_json.proofs.Uniqueness.{one_read, one_change, sound_change}
+use Rattle.wire_json.proofs.Uniqueness.{one_line_change, sound_line}
 use Rattle.ringpop_cli.specs.declared.faults.LineFault.{LineFault}
 use Rattle.ringpop_cli.specs.declared.faults.LineFault.TheVariants.{Wire, TooManyMembers, ReadFailed, OutOfMemory}
 use Rattle.ringpop_cli.specs.declared.faults.RunFault.{RunFault}
@@ -20,34 +14,6 @@ use Rattle.ringpop_cli.specs.declared.faults.RunFault.TheVariants.{AtLine, NoMem
 use Rattle.ringpop_cli.specs.Input.{lines_of}
 use Rattle.ringpop_cli.specs.Changes.{IsChangeLine, AreChangeLines, change_of, ComeTo, IsLineFault, IsFaultAt, IsFirstFault, IsRefused, IsTooMany, IsOutside}
 use Rattle.ringpop_cli.specs.Runs.{RunsTo}
-
--- ---- one line
-
-pub one_line_change : (line : List ℕ) (c d : Sourced) → IsChangeLine line c → IsChangeLine line d → c ≡ d
-one_line_change line c d p q =
-    let same : p.0 ≡ q.0 = one_read line p.0 q.0 p.1 q.1 in
-    one_change q.0 c d (subst (λ (v : Data). ChangeForm v c) same p.2) q.2
-
--- a value with a member is an object
-object_of : (v d : Data) (k : List ℕ) → get k v ≡ Some d → IsObject v
-object_of null d k e = absurd (cc)
-object_of (boolean b) d k e = absurd (cc)
-object_of (number n) d k e = absurd (cc)
-object_of (string s) d k e = absurd (cc)
-object_of (array ds) d k e = absurd (cc)
-object_of (object ms) d k e = refl
-
--- a line that is a change has no fault
-pub sound_line : (line : List ℕ) (c : Sourced) (e : WireError) → IsChangeLine line c → Faults ChangeFault line e → ⊥
-sound_line line c e p (inl (inl long)) = let w = p.1.within in absurd (omega (arith, long.1))
-sound_line line c e p (inl (inr (inl bad))) = bad.2 p.0 p.1
-sound_line line c e p (inl (inr (inr other))) =
-    let same : p.0 ≡ other.1 = one_read line p.0 other.1 p.1 other.2 in
-    let form = subst (λ (v : Data). ChangeForm v c) same p.2 in
-    other.3 (object_of other.1 _ (codes "address") form.address.0)
-sound_line line c e p (inr fault) =
-    let same : p.0 ≡ fault.0 = one_read line p.0 fault.0 p.1 fault.1 in
-    sound_change fault.0 c e (subst (λ (v : Data). ChangeForm v c) same p.2) fault.2.1
 
 -- ---- all lines
 

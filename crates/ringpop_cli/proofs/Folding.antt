@@ -192,8 +192,3 @@ left_by text (Some input) old new held output CannotWrite p e h = front_written 
 pub Keeps-refl : (known : Option (List ℕ)) → Keeps known known
 Keeps-refl None = tt
 Keeps-refl (Some xs) = refl
-
--- a front of a part in front is a front of the whole
-pub front_more : (a b : Option (List ℕ)) (xs ys : List ℕ) → AppendsFront a b xs → AppendsFront a b (xs ++ ys)
-front_more None b xs ys p = tt
-front_more (Some o) b xs ys p = (p.0, p.1 ++ ys, ap (λ s. s ++ ys) p.2 ∙ append_assoc p.0 p.1 ys, p.3)

@@ -7,7 +7,8 @@ use Rattle.ringpop_cli.specs.declared.faults.LineFault.{LineFault}
 use Rattle.ringpop_cli.specs.declared.faults.LineFault.TheVariants.{Wire, TooManyMembers, ReadFailed, OutOfMemory}
 use Rattle.ringpop_cli.specs.declared.faults.RunFault.TheVariants.{AtLine}
 use Rattle.ringpop_cli.specs.Changes.{ComeTo, IsFaultAt, IsFirstFault, IsOutside}
-use Rattle.ringpop_cli.proofs.Exact.{sound_line, one_come_to, no_fault_before, outside_anywhere}
+use Rattle.wire_json.proofs.Uniqueness.{sound_line}
+use Rattle.ringpop_cli.proofs.Exact.{one_come_to, no_fault_before, outside_anywhere}
 
 -- two ways to part a list: at one place, or one front stands before the other
 fronts : (as' bs cs ds : List (List ℕ)) → as' ++ bs ≡ cs ++ ds

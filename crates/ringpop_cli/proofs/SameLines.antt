@@ -9,7 +9,7 @@ use Rattle.change_core.proofs.Members.{members-same}
 use Rattle.ringpop_cli.specs.Input.{lines_of}
 use Rattle.ringpop_cli.specs.Changes.{IsChangeLine, AreChangeLines, change_of, ComeTo, HaveSameLines}
 use Rattle.ringpop_cli.specs.Runs.{RunsTo}
-use Rattle.ringpop_cli.proofs.Exact.{one_line_change}
+use Rattle.wire_json.proofs.Uniqueness.{one_line_change}
 use Rattle.ringpop_cli.proofs.Listed.{none, here, there, first_or_later}
 
 -- a line among change lines is a change among theirs

@@ -19,11 +19,12 @@ use Rattle.wire_json.specs.declared.messages.News.{News}
 use Rattle.wire_json.specs.declared.messages.Content.{Content}
 use Rattle.wire_json.specs.declared.messages.Content.TheVariants.{Join, Joined, Ping, Ack, PingReq, PingReqAck, Forward, Reply, NotOwner, Refused}
 use Rattle.wire_json.specs.Fields.{name}
-use Rattle.wire_json.specs.Forms.{IsChange, change_object, change_data}
+use Rattle.wire_json.specs.Forms.{IsChange, change_data}
 use Rattle.wire_json.specs.Limits.{most_change_bytes}
 use Rattle.wire_json.specs.Lines.{max_line}
 use Rattle.wire_json.specs.Messages.{kind_of, news_members, content_members, message_data, CarriesNews, IsNewsRecord, IsContent, IsMessage}
 use Rattle.wire_json.specs.Words.{kind_word}
+use Rattle.wire_json.proofs.Encoding.{change_object}
 use Rattle.wire_json.proofs.Lengths.{length-members_text, items_short, sizes, written_short, quoted-plain, quoted_short, quoted_name, quoted_status, kind_short, address_plain}
 
 number_short : (n : ℕ) → n ≤ greatest_number → length (decimal n) ≤ 16

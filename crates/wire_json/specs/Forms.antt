@@ -1,5 +1,5 @@
 -- What a JSON value stands for, member by member, and the first fault of a value that stands for nothing.
-use Rattle.std.specs.Prelude.{◌≡◌, ℕ, ◌≤◌, ◌++◌, nat_lt, ◌⊎◌, Bool, true, false, List, [], ◌∷◌, Option, Some, None, IsSome}
+use Rattle.std.specs.Prelude.{◌≡◌, ℕ, ◌≤◌, ◌++◌, nat_lt, ◌⊎◌, if◌then◌else◌, Bool, true, false, List, [], ◌∷◌, Option, Some, None, IsSome}
 use Rattle.serde_json.specs.Data.{Data, boolean, number, string, object, unsigned, Members, no_members, put}
 use Rattle.serde_json.specs.Find.{get}
 use Rattle.change_core.specs.Address.{IsAddress, address_text}
@@ -101,21 +101,20 @@ with_members (x ∷ xs) ms = with_members xs (put (name x.0) x.1 ms)
 abbrev pub written : List (Field × Data) → Data
 written xs = object (with_members xs no_members)
 
--- a weight is written where it is over 1
-abbrev pub weight_members : Bool → ℕ → List (Field × Data)
-weight_members true w = (field.Weight, number (unsigned w)) ∷ []
-weight_members false w = []
-
--- the change with the weight, or without it
-abbrev pub change_object : Bool → Sourced → Data
-change_object heavy c =
-    written ((field.Address, string (address_text c.change.address)) ∷ (field.IncarnationNumber, number (unsigned c.change.incarnation))
+-- what is written for each change; a tombstone is written by its own word (own)
+abbrev pub plain_members : Sourced → List (Field × Data)
+plain_members c =
+    (field.Address, string (address_text c.change.address)) ∷ (field.IncarnationNumber, number (unsigned c.change.incarnation))
     ∷ (field.Source, string (address_text c.source)) ∷ (field.SourceIncarnationNumber, number (unsigned c.source_incarnation))
-    ∷ (field.Status, string (status_word c.change.status)) ∷ weight_members heavy c.change.weight)
+    ∷ (field.Status, string (status_word c.change.status)) ∷ []
 
--- what is written for the change; a tombstone is written by its own word (own)
+-- a weight is written where it is over 1
+abbrev pub weight_members : ℕ → List (Field × Data)
+weight_members w = if nat_lt 1 w then (field.Weight, number (unsigned w)) ∷ [] else []
+
+-- what is written for the change
 abbrev pub change_data : Sourced → Data
-change_data c = change_object (nat_lt 1 c.change.weight) c
+change_data c = written (plain_members c ++ weight_members c.change.weight)
 
 -- ---- the first fault of a change
 

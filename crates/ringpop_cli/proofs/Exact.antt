@@ -4,6 +4,7 @@ use Rattle.std.proofs.lemmas.List.{map-append}
 use Rattle.change_core.specs.declared.changes.Change.{Change}
 use Rattle.change_core.specs.declared.changes.Sourced.{Sourced}
 use Rattle.change_core.specs.Members.{greatest, members}
+use Rattle.change_core.specs.Numbers.{most_members}
 use Rattle.change_core.proofs.Members.{greatest-members}
 use Rattle.change_core.proofs.News.{length-members_known, length-members_new}
 use Rattle.wire_json.proofs.Uniqueness.{one_line_change, sound_line}
@@ -62,7 +63,7 @@ no_fewer cs (d ∷ ds) =
     omega (arith, no_fewer_one cs d, rw same at more)
 
 -- where a change was one too many, all that come to members are too many
-too_many : (cs : List Change) (c : Change) (ds : List Change) → IsTooMany (members cs) c → length (members (cs ++ c ∷ ds)) ≤ 4096 → ⊥
+too_many : (cs : List Change) (c : Change) (ds : List Change) → IsTooMany (members cs) c → length (members (cs ++ c ∷ ds)) ≤ most_members → ⊥
 too_many cs c ds t few =
     let unknown : greatest cs c.address ≡ None = sym (greatest-members cs c.address) ∙ t.unknown in
     let more = no_fewer (cs ++ c ∷ []) ds in
@@ -72,7 +73,7 @@ too_many cs c ds t few =
     omega (arith, length-members_new cs c unknown, counted)
 
 no_line_fault : (cs : List Change) (line : List ℕ) (c : Sourced) (ds : List Change) (f : LineFault) → IsChangeLine line c → IsLineFault (members cs) line f
-    → length (members (cs ++ c.change ∷ ds)) ≤ 4096 → IsOutside (AtLine 0 f)
+    → length (members (cs ++ c.change ∷ ds)) ≤ most_members → IsOutside (AtLine 0 f)
 no_line_fault cs line c ds (Wire e) p f few = absurd (sound_line line c e p f)
 no_line_fault cs line c ds TooManyMembers p f few =
     let same : f.0 ≡ c = one_line_change line f.0 c f.1 p in
@@ -82,7 +83,7 @@ no_line_fault cs line c ds ReadFailed p f few = tt
 no_line_fault cs line c ds OutOfMemory p f few = tt
 
 no_fault_at : (cs : List Change) (left : List (List ℕ)) (ys : List Sourced) (f : LineFault) → AreChangeLines left ys → IsFaultAt (members cs) left f
-    → length (members (cs ++ map change_of ys)) ≤ 4096 → IsOutside (AtLine 0 f)
+    → length (members (cs ++ map change_of ys)) ≤ most_members → IsOutside (AtLine 0 f)
 no_fault_at cs [] ys (Wire e) p h few = absurd h
 no_fault_at cs [] ys TooManyMembers p h few = absurd h
 no_fault_at cs [] ys ReadFailed p h few = tt
@@ -105,7 +106,7 @@ no_fault_before before left held now f p q is =
     let are : held ≡ members (map change_of xs) = p.are_members ∙ ap (λ cs. members (map change_of cs)) (sym same) in
     let split : map change_of q.heard ≡ map change_of xs ++ map change_of ys = ap (map change_of) all ∙ map-append change_of xs ys in
     let total : length now ≡ length (members (map change_of xs ++ map change_of ys)) = ap length (q.are_members ∙ ap members split) in
-    let few : length (members (map change_of xs ++ map change_of ys)) ≤ 4096 = let fits = q.fits in omega arith in
+    let few : length (members (map change_of xs ++ map change_of ys)) ≤ most_members = let fits = q.fits in omega arith in
     no_fault_at (map change_of xs) left ys f back (rw are at is) few
 
 -- an input that has an output has no fault of its own

@@ -1,12 +1,15 @@
 -- Change lines, the members that they come to, and the first line at fault.
-use Rattle.std.specs.Prelude.{◌≡◌, ℕ, ◌+◌, ◌≤◌, Bool, true, false, List, [], ◌∷◌, ◌++◌, map, length, Option, Some, None, Result, Ok, Err}
-use Rattle.std.specs.List.{Contains}
+use Rattle.std.specs.Prelude.{◌≡◌, ◌≢◌, ℕ, ◌+◌, ◌≤◌, ◌⊎◌, Bool, true, false, List, [], ◌∷◌, ◌++◌, map, length, Option, Some, None, Result, Ok, Err, Vec}
+use Rattle.std.specs.Global.{Global}
+use Rattle.std.specs.List.{AllZip, Contains}
 use Rattle.change_core.specs.declared.changes.Change.{Change}
 use Rattle.change_core.specs.declared.changes.Sourced.{Sourced}
 use Rattle.change_core.specs.Members.{greatest, members}
-use Rattle.change_core.specs.Numbers.{most_members}
+use Rattle.change_core.specs.Numbers.{greatest_number, most_members}
 use Rattle.wire_json.specs.Forms.{ChangeForm, ChangeFault}
 use Rattle.wire_json.specs.Lines.{IsLine, Faults}
+use Rattle.wire_json.specs.declared.errors.WireError.{WireError}
+use Rattle.wire_json.specs.declared.errors.WireError.TheVariants.{Memory}
 use Rattle.ringpop_cli.specs.declared.faults.LineFault.{LineFault}
 use Rattle.ringpop_cli.specs.declared.faults.LineFault.TheVariants.{Wire, TooManyMembers, ReadFailed, OutOfMemory}
 use Rattle.ringpop_cli.specs.declared.faults.RunFault.{RunFault}
@@ -19,10 +22,7 @@ IsChangeLine line c = IsLine (λ v. ChangeForm v c) line
 
 -- each line is the change at its place
 abbrev pub AreChangeLines : List (List ℕ) → List Sourced → Type 0
-AreChangeLines [] [] = Unit {0}
-AreChangeLines [] (c ∷ cs) = ⊥
-AreChangeLines (line ∷ lines) [] = ⊥
-AreChangeLines (line ∷ lines) (c ∷ cs) = IsChangeLine line c × AreChangeLines lines cs
+AreChangeLines = AllZip IsChangeLine
 
 abbrev pub change_of : Sourced → Change
 change_of c = c.change
@@ -39,37 +39,6 @@ pub record IsTooMany (held : List Change) (c : Change) : Type 0 where
   pub unknown : greatest held c.address ≡ None
   pub full : length held ≡ most_members
 
--- what is wrong with a line that comes where these are held; a want of memory and a failed read say nothing of it
-abbrev pub IsLineFault : List Change → List ℕ → LineFault → Type 0
-IsLineFault held line (Wire e) = Faults ChangeFault line e
-IsLineFault held line TooManyMembers = (c : Sourced) × IsChangeLine line c × IsTooMany held c.change
-IsLineFault held line ReadFailed = Unit {0}
-IsLineFault held line OutOfMemory = Unit {0}
-
--- what is wrong with the first of the lines that are left; a want of memory or a failed read can come where none is
-abbrev pub IsFaultAt : List Change → List (List ℕ) → LineFault → Type 0
-IsFaultAt held (line ∷ lines) fault = IsLineFault held line fault
-IsFaultAt held [] (Wire e) = ⊥
-IsFaultAt held [] TooManyMembers = ⊥
-IsFaultAt held [] ReadFailed = Unit {0}
-IsFaultAt held [] OutOfMemory = Unit {0}
-
--- the first line at fault: its number from 1, and what is wrong with it after those before it
-pub record IsFirstFault (input : List ℕ) (number : ℕ) (fault : LineFault) : Type 0 where
-  pub before : List (List ℕ)
-  pub left : List (List ℕ)
-  pub held : List Change
-  pub lines : lines_of input ≡ before ++ left
-  pub come_to : ComeTo before held
-  pub place : number ≡ length before + 1
-  pub is : IsFaultAt held left fault
-
--- why nothing is written for the input; a want of memory outside the lines says nothing of it, nor does a failed write
-abbrev pub IsRefused : List ℕ → RunFault → Type 0
-IsRefused input (AtLine number fault) = IsFirstFault input number fault
-IsRefused input NoMemory = Unit {0}
-IsRefused input CannotWrite = Unit {0}
-
 -- a fault that the input has no part in
 abbrev pub IsOutside : RunFault → Type 0
 IsOutside (AtLine number (Wire e)) = ⊥
@@ -78,6 +47,46 @@ IsOutside (AtLine number ReadFailed) = Unit {0}
 IsOutside (AtLine number OutOfMemory) = Unit {0}
 IsOutside NoMemory = Unit {0}
 IsOutside CannotWrite = Unit {0}
+
+-- what is wrong with a line that comes where these are held; a want of memory and a failed read say nothing of its bytes
+abbrev pub IsLineFault : List Change → List ℕ → LineFault → Type 0
+IsLineFault held line (Wire e) = Faults ChangeFault line e
+IsLineFault held line TooManyMembers = (c : Sourced) × IsChangeLine line c × IsTooMany held c.change
+IsLineFault held line ReadFailed = Unit {0}
+IsLineFault held line OutOfMemory = Unit {0}
+
+-- what is wrong with the first of the lines that are left; where none is left a read can fail, and nothing else
+abbrev pub IsFaultAt : List Change → List (List ℕ) → LineFault → Type 0
+IsFaultAt held (line ∷ lines) fault = IsLineFault held line fault
+IsFaultAt held [] (Wire e) = ⊥
+IsFaultAt held [] TooManyMembers = ⊥
+IsFaultAt held [] ReadFailed = Unit {0}
+IsFaultAt held [] OutOfMemory = ⊥
+
+-- the fault of the line with this number is of the machine, or the line is one that is counted
+abbrev pub IsCounted : ℕ → LineFault → Type 0
+IsCounted number fault = IsOutside (AtLine number fault) ⊎ (number ≤ greatest_number)
+
+-- the first line at fault: its number from 1, and what is wrong with it after those before it, which come to members
+pub record IsFirstFault (input : List ℕ) (number : ℕ) (fault : LineFault) : Type 0 where
+  pub before : List (List ℕ)
+  pub left : List (List ℕ)
+  pub held : List Change
+  pub lines : lines_of input ≡ before ++ left
+  pub come_to : ComeTo before held
+  pub place : number ≡ length before + 1
+  pub is : IsFaultAt held left fault
+  pub counted : IsCounted number fault
+
+-- all lines of the input were heard: they come to these members, and are not too many to be counted
+abbrev pub IsHeard : List ℕ → List Change → Type 0
+IsHeard input held = ComeTo (lines_of input) held × (length (lines_of input) ≤ greatest_number)
+
+-- why not all is written for the input: its first line at fault, or, once all lines were heard, a want of memory or a failed write
+abbrev pub IsRefused : List ℕ → RunFault → Type 0
+IsRefused input (AtLine number fault) = IsFirstFault input number fault
+IsRefused input NoMemory = (held : List Change) × IsHeard input held
+IsRefused input CannotWrite = (held : List Change) × IsHeard input held
 
 -- each line of one list is in the other, in any order and any number
 pub record HaveSameLines (lines others : List (List ℕ)) : Type 0 where
@@ -90,3 +99,9 @@ Hears xs held (Ok false) new now = (xs ≡ []) × (now ≡ held)
 Hears xs held (Ok true) new now =
     (line rest : List ℕ) × (c : Sourced) × (new ≡ Some rest) × (lines_of xs ≡ line ∷ lines_of rest) × IsChangeLine line c × (now ≡ members (held ++ c.change ∷ []))
 Hears xs held (Err fault) new now = IsFaultAt held (lines_of xs) fault
+
+-- what is made of what was read where no line can be counted any more: at the end nothing, and else a fault of the machine
+abbrev pub EndsLines : Result (Option (Vec ℕ Global)) WireError → Result Bool LineFault → Type 0
+EndsLines (Ok None) now = now ≡ Ok false
+EndsLines (Ok (Some line)) now = now ≡ Err ReadFailed
+EndsLines (Err e) now = ((e ≢ Memory) × (now ≡ Err ReadFailed)) ⊎ ((e ≡ Memory) × (now ≡ Err OutOfMemory))

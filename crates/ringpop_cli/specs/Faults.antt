@@ -6,11 +6,8 @@ use Rattle.clap.specs.declared.error.kind.ErrorKind.{ErrorKind}
 use Rattle.clap.specs.declared.error.kind.ErrorKind.TheVariants.{OutOfMemory as no_room}
 use Rattle.wire_json.specs.declared.errors.WireError.{WireError}
 use Rattle.wire_json.specs.declared.errors.WireError.TheVariants.{Io, Memory}
-use Rattle.member_core.specs.declared.errors.MemberError.{MemberError}
-use Rattle.member_core.specs.declared.errors.MemberError.TheVariants.{BadLimit, Full}
-use Rattle.member_core.specs.declared.errors.MemberError.TheVariants as held
 use Rattle.ringpop_cli.specs.declared.faults.LineFault.{LineFault}
-use Rattle.ringpop_cli.specs.declared.faults.LineFault.TheVariants.{Wire, TooManyMembers, ReadFailed, OutOfMemory}
+use Rattle.ringpop_cli.specs.declared.faults.LineFault.TheVariants.{Wire, ReadFailed, OutOfMemory}
 use Rattle.ringpop_cli.specs.declared.faults.RunFault.TheVariants.{NoMemory}
 use Rattle.ringpop_cli.specs.declared.faults.Fault.{Fault}
 use Rattle.ringpop_cli.specs.declared.faults.Fault.TheVariants.{Usage, Run}
@@ -20,12 +17,6 @@ abbrev pub fault_of_wire : WireError → LineFault
 fault_of_wire Io = ReadFailed
 fault_of_wire Memory = OutOfMemory
 fault_of_wire e = Wire e
-
--- the table is full, or a growth was refused
-abbrev pub fault_of_table : MemberError → LineFault
-fault_of_table BadLimit = TooManyMembers
-fault_of_table Full = TooManyMembers
-fault_of_table held.Memory = OutOfMemory
 
 -- an error of the words is a refusal of them, unless a growth was refused
 abbrev pub fault_of_kind : ErrorKind → Error → Fault

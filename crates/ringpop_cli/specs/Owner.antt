@@ -1,17 +1,22 @@
 -- What `owner` writes.
 use Rattle.std.specs.Prelude.{ℕ, ◌%◌, ◌^◌, Bool, true, false, List, [], ◌∷◌, ◌++◌, sum, take}
 use Rattle.std.specs.List.{flat_map}
+use Rattle.std.specs.Int.{w64, from_be_bytes}
+use Rattle.sha2.specs.Sha256.{sha256}
 use Rattle.change_core.specs.declared.changes.Change.{Change}
 use Rattle.change_core.specs.Address.{address_text}
 use Rattle.hash_ring.specs.Points.{owners}
 use Rattle.hash_ring.specs.Serving.{servers_of}
-use Rattle.ringpop_cli.specs.Hash.{hash_number}
 
 -- an address and a newline
 abbrev pub owner_line : ℕ → List ℕ
 owner_line a = address_text a ++ 10 ∷ []
 
--- the sum of the bytes modulo 2^64, or the first eight bytes of the SHA-256
+-- the first eight bytes of the SHA-256 as a number, the high byte first
+abbrev pub hash_number : List ℕ → ℕ
+hash_number bytes = from_be_bytes w64 (take 8 (sha256 bytes))
+
+-- the sum of the bytes modulo 2^64, or that number
 abbrev pub hash_by : Bool → List ℕ → ℕ
 hash_by true = λ bytes. sum bytes % 2 ^ 64
 hash_by false = λ bytes. hash_number bytes

@@ -1,7 +1,9 @@
 //! The command line, as `clap` reads it.
 
+use change_core::MOST_MEMBERS;
 use clap::builder::ValueParser;
 use clap::{Arg, ArgAction, Command};
+use hash_ring::MOST_REPLICAS;
 use std::alloc::{AllocError, Global};
 
 /// How many owners are named.
@@ -45,8 +47,8 @@ fn hash_command<'a>(alloc: Global) -> Result<Command<'a>, AllocError> {
 }
 
 fn owner_command<'a>(alloc: Global) -> Result<Command<'a>, AllocError> {
-    let count = option(alloc, COUNT, "1", 0, 4096).help("How many owners to name");
-    let replicas = option(alloc, REPLICAS, "100", 1, 1000).help(
+    let count = option(alloc, COUNT, "1", 0, MOST_MEMBERS as u64).help("How many owners to name");
+    let replicas = option(alloc, REPLICAS, "100", 1, u64::from(MOST_REPLICAS)).help(
         "Points of a server for each of its weight",
     );
     let sum = Arg::new(alloc, SUM)

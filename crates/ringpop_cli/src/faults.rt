@@ -3,10 +3,7 @@ ghost use Rattle.std.specs.Prelude.{◌≡◌};
 ghost use Rattle.ringpop_cli.specs.declared.faults.Fault.TheVariants.{Run};
 ghost use Rattle.ringpop_cli.specs.declared.faults.RunFault.TheVariants.{NoMemory};
 
-use change_core::ChangeError;
 use clap::error::ErrorKind;
-use hash_ring::RingError;
-use member_core::MemberError;
 use std::alloc::{AllocError, AllocFailed};
 use std::fmt;
 use thiserror::Error;
@@ -54,47 +51,6 @@ impl From<WireError> for LineFault {
             WireError::Memory => LineFault::OutOfMemory,
             other => LineFault::Wire(other),
         }
-    }
-}
-
-/// What a table refuses of a change is a fault of the line; a change is never refused for a bad maximum.
-impl From<MemberError> for LineFault {
-    ghost use Rattle.ringpop_cli.specs.Faults.{fault_of_table};
-
-    ghost from_gives = { λ e f. f ≡ fault_of_table e };
-
-    fn from(error: MemberError) -> LineFault {
-        match error {
-            MemberError::BadLimit | MemberError::Full => LineFault::TooManyMembers,
-            MemberError::Memory => LineFault::OutOfMemory,
-        }
-    }
-}
-
-/// What a table refuses when its texts are made is a want of memory.
-impl From<MemberError> for RunFault {
-    ghost from_gives = { λ _ f. f ≡ NoMemory };
-
-    fn from(_error: MemberError) -> RunFault {
-        RunFault::NoMemory
-    }
-}
-
-/// What a digest refuses when its text is made is a want of memory.
-impl From<ChangeError> for RunFault {
-    ghost from_gives = { λ _ f. f ≡ NoMemory };
-
-    fn from(_error: ChangeError) -> RunFault {
-        RunFault::NoMemory
-    }
-}
-
-/// What a ring of known replicas refuses is a want of memory.
-impl From<RingError> for RunFault {
-    ghost from_gives = { λ _ f. f ≡ NoMemory };
-
-    fn from(_error: RingError) -> RunFault {
-        RunFault::NoMemory
     }
 }
 

@@ -1,32 +1,26 @@
 //! Change lines in, the digest text and the digest of their members out.
-ghost use Rattle.std.specs.Prelude.{◌≡◌, ◌∷◌, ◌++◌, [], IfErr, IfSome, OnOk, IsOkUnless};
-ghost use Rattle.std.specs.Io.KnownBytes.{Appends};
-ghost use Rattle.wire_json.specs.Input.{AppendsFront};
+ghost use Rattle.std.specs.Prelude.{◌≡◌, ◌∷◌, ◌++◌, [], IfOk, IfErr, IfSome, OnOk, IsOkUnless, string_bytes};
 ghost use Rattle.ringpop_cli.specs.Changes.{IsRefused};
 ghost use Rattle.ringpop_cli.specs.Runs.{Leaves, Writes};
 ghost use Rattle.ringpop_cli.specs.Fold.{fold_text};
 
 use crate::faults::RunFault;
 use crate::members::read_members;
+use crate::outputs::write_text;
+use member_core::MemberTable;
 use std::alloc::Global;
 use std::io::{Read, Write};
-use wire_json::write_line;
 
-/// Writes two lines.
-fn write_lines<W: Write>(writer: &mut W, first: &str, second: &str) -> Result<(), RunFault>
-    ensures ok { OnOk result (Appends (W.contents writer.old) (W.contents writer.new)
-        ((first.now ++ 10 ∷ []) ++ (second.now ++ 10 ∷ []))) }
-    ensures front { AppendsFront (W.contents writer.old) (W.contents writer.new)
-        ((first.now ++ 10 ∷ []) ++ (second.now ++ 10 ∷ [])) }
-    ensures err { IsOkUnless result RunFault.CannotWrite }
+/// The digest text and the digest, a line each; the last newline is left to the writing.
+fn folded(alloc: Global, table: &MemberTable) -> Result<String, RunFault>
+    ensures text { IfOk result (λ s. string_bytes s ++ 10 ∷ [] ≡ fold_text table.now.members) }
+    ensures refusal { IsOkUnless result RunFault.NoMemory }
 {
-    let Ok(()) = write_line(writer, first.as_bytes()) else {
-        return Err(RunFault::CannotWrite);
-    };
-    let Ok(()) = write_line(writer, second.as_bytes()) else {
-        return Err(RunFault::CannotWrite);
-    };
-    Ok(())
+    let digest = table.digest().map_err(|_| RunFault::NoMemory)?;
+    let digits = digest.text(alloc).map_err(|_| RunFault::NoMemory)?;
+    let mut text = table.digest_text().map_err(|_| RunFault::NoMemory)?;
+    write!(text, "\n{digits}")?;
+    Ok(text)
 }
 
 /// Reads change lines to the end, and writes the digest text of the members that they come to and its SHA-256, a line
@@ -43,7 +37,6 @@ pub fn fold_run<R: Read, W: Write>(
         (R.remaining reader.old) (W.contents writer.old) (W.contents writer.new)) }
 {
     let table = read_members(alloc, reader)?;
-    let text = table.digest_text()?;
-    let digest = table.digest()?.text(alloc)?;
-    write_lines(writer, text.as_str(), digest.as_str())
+    let text = folded(alloc, &table)?;
+    write_text(writer, text.as_str())
 }

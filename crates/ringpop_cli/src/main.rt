@@ -7,6 +7,7 @@ mod fold;
 mod hashes;
 mod laws;
 mod members;
+mod outputs;
 mod owners;
 #[cfg(test)]
 mod tests;
@@ -36,20 +37,19 @@ fn given_words(rt: &(impl Env + Alloc<A = Global>)) -> Result<Vec<String>, Fault
     Ok(words)
 }
 
-/// Prints the hash of a text.
-fn print_hash(rt: &impl Print, alloc: Global, text: &str) -> Result<(), RunFault> {
-    let digits = hashes::hash_text(alloc, text)?;
-    println!(rt; "{digits}").map_err(|_| RunFault::CannotWrite)
-}
-
 /// Runs what the words ask for over standard input and standard output.
 fn run_words(rt: &(impl Input + Print), alloc: Global, words: &Words<'_>) -> Result<(), RunFault> {
-    let mut reader = BufReader::new(alloc, rt.reader()).map_err(|_| RunFault::NoMemory)?;
     let mut writer = BufWriter::new(alloc, io::writer(rt)).map_err(|_| RunFault::NoMemory)?;
     match words {
-        Words::Fold => fold::fold_run(alloc, &mut reader, &mut writer),
-        Words::Hash(text) => print_hash(rt, alloc, text),
-        Words::Owner(words) => owners::owner_run(alloc, words, &mut reader, &mut writer),
+        Words::Fold => {
+            let mut reader = BufReader::new(alloc, rt.reader()).map_err(|_| RunFault::NoMemory)?;
+            fold::fold_run(alloc, &mut reader, &mut writer)
+        }
+        Words::Hash(text) => hashes::hash_run(alloc, text, &mut writer),
+        Words::Owner(words) => {
+            let mut reader = BufReader::new(alloc, rt.reader()).map_err(|_| RunFault::NoMemory)?;
+            owners::owner_run(alloc, words, &mut reader, &mut writer)
+        }
     }
 }
 

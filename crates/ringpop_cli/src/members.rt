@@ -3,15 +3,14 @@ ghost use Rattle.std.specs.Prelude.{◌≡◌, ◌≤◌, ◌++◌, ◌∷◌, [
 ghost use Rattle.change_core.specs.declared.changes.Sourced.{Sourced};
 ghost use Rattle.change_core.specs.Members.{members};
 ghost use Rattle.change_core.specs.Numbers.{greatest_number, most_members};
-ghost use Rattle.ringpop_cli.specs.Input.{lines_of};
-ghost use Rattle.ringpop_cli.specs.Changes.{ComeTo, Hears, IsChangeLine, IsLineFault, IsRefused};
+ghost use Rattle.ringpop_cli.specs.Changes.{EndsLines, Hears, IsChangeLine, IsCounted, IsHeard, IsLineFault, IsRefused};
 
 use crate::faults::{LineFault, RunFault};
 use change_core::{GREATEST_NUMBER, MOST_MEMBERS};
-use member_core::MemberTable;
+use member_core::{MemberError, MemberTable};
 use std::alloc::Global;
 use std::io::Read;
-use wire_json::{decode_change, read_line};
+use wire_json::{WireError, decode_change, read_line};
 
 /// Takes the change that a line is.
 fn take_line(alloc: Global, table: &mut MemberTable, line: &[u8]) -> Result<(), LineFault>
@@ -23,11 +22,27 @@ fn take_line(alloc: Global, table: &mut MemberTable, line: &[u8]) -> Result<(), 
     ensures max { table.new.max ≡ most_members }
 {
     let heard = decode_change(alloc, line)?;
-    table.take(heard.change)?;
-    Ok(())
+    match table.take(heard.change) {
+        Ok(_) => Ok(()),
+        Err(MemberError::Full) => Err(LineFault::TooManyMembers),
+        Err(MemberError::Memory) => Err(LineFault::OutOfMemory),
+        Err(MemberError::BadLimit) => unreachable!(),
+    }
 }
 
-/// Reads the line of this number and takes its change; false at the end of the input.
+/// What was read in place of a line that can't be counted: false at the end of the input, and a fault for any line.
+fn end_of_lines(read: Result<Option<Vec<u8>>, WireError>) -> Result<bool, LineFault>
+    ensures { EndsLines read result }
+{
+    match read {
+        Ok(None) => Ok(false),
+        Err(WireError::Memory) => Err(LineFault::OutOfMemory),
+        _ => Err(LineFault::ReadFailed),
+    }
+}
+
+/// Reads the line of this number and takes its change; false at the end of the input. A line that can't be counted is
+/// `ReadFailed`, whatever it is, or `OutOfMemory` where a growth is refused in reading it.
 fn hear<R: Read>(
     alloc: Global,
     reader: &mut R,
@@ -38,24 +53,26 @@ fn hear<R: Read>(
     ensures heard { IfSome (R.remaining reader.old)
         (λ xs. Hears xs table.old.members result (R.remaining reader.new) table.new.members) }
     ensures counted { IfOk result (λ more. more ≡ true → number ≤ greatest_number) }
+    ensures own { IfErr result (λ fault. IsCounted number fault) }
     ensures fits { IfOk result (λ more. more ≡ true → length table.new.members ≤ most_members) }
     ensures max { table.new.max ≡ most_members }
 {
-    let Some(line) = read_line(alloc, reader)? else {
+    let read = read_line(alloc, reader);
+    if number > GREATEST_NUMBER {
+        return end_of_lines(read);
+    }
+    let Some(line) = read? else {
         return Ok(false);
     };
-    if number > GREATEST_NUMBER {
-        return Err(LineFault::ReadFailed);
-    }
     take_line(alloc, table, line.as_slice())?;
     Ok(true)
 }
 
 /// The members that all change lines come to, or the first fault of a line. Lines are counted from 1 to
-/// 9007199254740991, and one more is not read.
+/// 9007199254740991; one more is `ReadFailed`, or `OutOfMemory` where a growth is refused in reading it.
 pub fn read_members<R: Read>(alloc: Global, reader: &mut R) -> Result<MemberTable, RunFault>
     ensures ok { IfOk result (λ table. IfSome (R.remaining reader.old) (λ input.
-        ComeTo (lines_of input) table.members × (length (lines_of input) ≤ greatest_number))) }
+        IsHeard input table.members)) }
     ensures err { IfErr result (λ fault. IfSome (R.remaining reader.old) (λ input. IsRefused input fault)) }
     ensures unwritten { IfErr result (λ fault. fault ≡ RunFault.CannotWrite → ⊥) }
 {

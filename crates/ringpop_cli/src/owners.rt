@@ -1,8 +1,9 @@
 //! Change lines in, the owners of a key among their members out.
-ghost use Rattle.std.specs.Prelude.{◌≡◌, ◌≤◌, ◌∷◌, ◌++◌, [], IfOk, IfErr, IfSome, OnOk, IsOkUnless, string_bytes};
+ghost use Rattle.std.specs.Prelude.{◌≡◌, ◌∷◌, ◌++◌, [], IfOk, IfErr, IfSome, OnOk, IsOkUnless, string_bytes};
 ghost use Rattle.std.specs.List.{flat_map};
 ghost use Rattle.std.specs.Io.KnownBytes.{Appends};
 ghost use Rattle.change_core.specs.Members.{IsMemberList};
+ghost use Rattle.hash_ring.specs.Points.{IsReplicas};
 ghost use Rattle.hash_ring.specs.Serving.{servers_of};
 ghost use Rattle.ringpop_cli.specs.Changes.{IsRefused};
 ghost use Rattle.ringpop_cli.specs.Runs.{Leaves, LeavesPart, Writes};
@@ -10,12 +11,12 @@ ghost use Rattle.ringpop_cli.specs.Owner.{hash_by, owner_line, owner_text};
 
 use crate::faults::RunFault;
 use crate::members::read_members;
+use crate::outputs::write_text;
 use crate::words::OwnerWords;
 use change_core::{Address, Change};
 use hash_ring::{PointHash, Ring, Sha256Hash, SumHash};
 use std::alloc::Global;
 use std::io::{Read, Write};
-use wire_json::write_line;
 
 /// The ring of the members that serve, by their weights.
 fn ring_of<H: PointHash>(
@@ -24,17 +25,19 @@ fn ring_of<H: PointHash>(
     replicas: u32,
     members: &[Change],
 ) -> Result<Ring<H>, RunFault>
-    requires some { 1 ≤ replicas }
-    requires few { replicas ≤ 1000 }
+    requires { IsReplicas replicas }
     ensures hash { IfOk result (λ ring. ring.hash ≡ hash) }
     ensures replicas { IfOk result (λ ring. ring.replicas ≡ replicas) }
     ensures servers { IfOk result (λ ring. IsMemberList members.now → ring.servers ≡ servers_of members.now) }
     ensures refusal { IsOkUnless result RunFault.NoMemory }
 {
-    let mut ring = Ring::new(alloc, hash, replicas)?;
+    let Ok(mut ring) = Ring::new(alloc, hash, replicas) else {
+        unreachable!()
+    };
     'members: for member in members {
         if member.status.serving() {
-            ring.reserve_for(member.address, member.weight)?;
+            ring.reserve_for(member.address, member.weight)
+                .map_err(|_| RunFault::NoMemory)?;
             ring.add(member.address, member.weight);
         }
     }
@@ -46,7 +49,7 @@ fn owners_text(alloc: Global, first: Address, others: &[Address]) -> Result<Stri
     ensures text { IfOk result (λ s. string_bytes s ++ 10 ∷ [] ≡ flat_map owner_line (first ∷ others.now)) }
     ensures refusal { IsOkUnless result RunFault.NoMemory }
 {
-    let mut text = first.text(alloc)?;
+    let mut text = first.text(alloc).map_err(|_| RunFault::NoMemory)?;
     'others: for other in others {
         write!(text, "\n{other}")?;
     }
@@ -63,10 +66,7 @@ fn write_owners<W: Write>(alloc: Global, writer: &mut W, owners: &[Address]) -> 
         return Ok(());
     };
     let text = owners_text(alloc, *first, others)?;
-    let Ok(()) = write_line(writer, text.as_bytes()) else {
-        return Err(RunFault::CannotWrite);
-    };
-    Ok(())
+    write_text(writer, text.as_str())
 }
 
 /// `owner_run` under a hash.
@@ -86,9 +86,11 @@ fn owner_run_by<H: PointHash, R: Read, W: Write>(
         (R.remaining reader.old) (W.contents writer.old) (W.contents writer.new)) }
 {
     let table = read_members(alloc, reader)?;
-    let members = table.list()?;
+    let members = table.list().map_err(|_| RunFault::NoMemory)?;
     let ring = ring_of(alloc, hash, words.replicas, members.as_slice())?;
-    let owners = ring.owners(words.key.as_bytes(), words.count)?;
+    let owners = ring
+        .owners(words.key.as_bytes(), words.count)
+        .map_err(|_| RunFault::NoMemory)?;
     write_owners(alloc, writer, owners.as_slice())
 }
 

@@ -1,12 +1,16 @@
 //! The words of the command line.
-ghost use Rattle.std.specs.Prelude.{◌≡◌, ◌≤◌, length, Ok, IfOk, IfErr};
+ghost use Rattle.std.specs.Prelude.{◌≡◌, ◌≤◌, length, Ok, IfOk, IfErr, IfSome};
+ghost use Rattle.change_core.specs.Numbers.{most_members};
 ghost use Rattle.clap.specs.Values.{kind_of};
+ghost use Rattle.hash_ring.specs.Points.{IsReplicas};
 ghost use Rattle.ringpop_cli.specs.Faults.{IsWordsFault};
 
 use crate::commands::{COUNT, KEY, REPLICAS, SUM, TEXT, ringpop_command};
 use crate::faults::Fault;
+use change_core::MOST_MEMBERS;
 use clap::ArgMatches;
 use clap::error::ErrorKind;
+use hash_ring::MOST_REPLICAS;
 use std::alloc::{AllocError, Global};
 use std::convert::AsStr;
 
@@ -32,32 +36,38 @@ pub struct OwnerWords<'a> {
     pub sum: bool,
     /// The key.
     pub key: &'a str,
-    pub ghost few: { count ≤ 4096 },
-    pub ghost some_replicas: { 1 ≤ replicas },
-    pub ghost few_replicas: { replicas ≤ 1000 },
+    pub ghost few: { count ≤ most_members },
+    pub ghost replicas_range: { IsReplicas replicas },
 }
 
-/// A number in its range. `clap` has tested the range and given the default, so no number is altered here.
-fn number(matches: &ArgMatches<'_>, id: &str, least: u64, most: u64) -> u64
-    requires { least ≤ most }
-    ensures least { least ≤ result }
-    ensures most { result ≤ most }
+/// A number, if it is there and in this range.
+fn number(matches: &ArgMatches<'_>, id: &str, least: u64, most: u64) -> Option<u64>
+    ensures { IfSome result (λ n. (least ≤ n) × (n ≤ most)) }
 {
-    let given = matches.get_one::<u64>(id).unwrap_or(least);
-    given.max(least).min(most)
+    let given = matches.get_one::<u64>(id)?;
+    (least <= given && given <= most).then_some(given)
 }
 
-/// A word that `clap` has found to be there.
-fn text<'a>(matches: &ArgMatches<'a>, id: &str) -> &'a str {
-    matches.get_str(id).unwrap_or("")
-}
-
-fn owner_words<'a>(matches: &ArgMatches<'a>) -> OwnerWords<'a> {
-    OwnerWords {
-        count: number(matches, COUNT, 0, 4096) as usize,
-        replicas: number(matches, REPLICAS, 1, 1000) as u32,
+/// The words of `owner`, if the key is there and each number is in its range.
+fn owner_words<'a>(matches: &ArgMatches<'a>) -> Option<OwnerWords<'a>> {
+    let count = number(matches, COUNT, 0, MOST_MEMBERS as u64)?;
+    let replicas = number(matches, REPLICAS, 1, u64::from(MOST_REPLICAS))?;
+    let key = matches.get_str(KEY)?;
+    Some(OwnerWords {
+        count: count as usize,
+        replicas: replicas as u32,
         sum: matches.get_flag(SUM),
-        key: text(matches, KEY),
+        key,
+    })
+}
+
+/// What the words that `clap` took ask for, if each is there and in its range.
+fn words_of<'a>(matches: &ArgMatches<'a>) -> Option<Words<'a>> {
+    match matches.subcommand() {
+        None | Some(("fold", _)) => Some(Words::Fold),
+        Some(("hash", inner)) => inner.get_str(TEXT).map(Words::Hash),
+        Some(("owner", inner)) => owner_words(inner).map(Words::Owner),
+        Some(_) => None,
     }
 }
 
@@ -71,26 +81,30 @@ pub fn read_words<'a, S: AsStr>(alloc: Global, words: &'a [S]) -> Result<Words<'
         return Ok(Words::Fold);
     }
     let matches = ringpop_command(alloc)?.try_get_matches_from(words)?;
-    match matches.subcommand() {
-        Some(("hash", inner)) => Ok(Words::Hash(text(inner, TEXT))),
-        Some(("owner", inner)) => Ok(Words::Owner(owner_words(inner))),
-        _ => Ok(Words::Fold),
+    // `clap` has tested the words, so that none of them is refused here.
+    words_of(&matches).ok_or_else(|| refusal(alloc, "a word is absent or not in its range"))
+}
+
+/// A refusal of the words in the form of `clap`'s, or a want of memory.
+fn refusal(alloc: Global, text: &str) -> Fault
+    ensures { IsWordsFault result }
+{
+    match invalid(alloc, text) {
+        Ok(error) => Fault::from(error),
+        Err(refused) => Fault::from(refused),
     }
 }
 
-fn not_text(alloc: Global) -> Result<clap::Error, AllocError>
+fn invalid(alloc: Global, text: &str) -> Result<clap::Error, AllocError>
     ensures { IfOk result (λ e. kind_of e ≡ ErrorKind.InvalidValue) }
 {
     let mut command = ringpop_command(alloc)?;
-    command.error(ErrorKind::InvalidValue, "the words are not UTF-8")
+    command.error(ErrorKind::InvalidValue, text)
 }
 
 /// The refusal of words that are not UTF-8, in the form of `clap`'s.
 pub fn words_not_text(alloc: Global) -> Fault
     ensures { IsWordsFault result }
 {
-    match not_text(alloc) {
-        Ok(error) => Fault::from(error),
-        Err(refused) => Fault::from(refused),
-    }
+    refusal(alloc, "the words are not UTF-8")
 }

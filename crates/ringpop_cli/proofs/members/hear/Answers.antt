@@ -1,5 +1,5 @@
 use Rattle.std.proofs.lemmas.Result.{err_from_is_err_and}
-use Rattle.ringpop_cli.proofs.Folding.{unread, bad_line, good_line}
+use Rattle.ringpop_cli.proofs.Folding.{unread, last_line, bad_line, good_line}
 use Rattle.ringpop_cli.proofs.members.hear.Goals as goal
 
 pub returns-in_err-line-clause-heard : goal.returns-in_err-line-clause-heard
@@ -16,4 +16,8 @@ returns-in_err-take_line-clause-heard g c =
 pub returns-clause-heard : goal.returns-clause-heard
 returns-clause-heard g c =
     let taken = rw c.as_slice.ensures.value at c.in_ok-take_line.ensures.ok in
-    good_line (g.R.Read.remaining c.args.reader.now) (g.R.Read.remaining c.read_line.new.reader) c.args.table.now.members c.take_line.new.table.members c.in-Some.line (rw c.in-Some.is at c.in_ok-line.ensures.taken) taken
+    good_line (g.R.Read.remaining c.args.reader.now) (g.R.Read.remaining c.read_line-read.new.reader) c.args.table.now.members c.take_line.new.table.members c.in-Some.line (rw c.in-Some.is at c.in_ok-line.ensures.taken) taken
+
+pub returns-then-number-gt-GREATEST_NUMBER-clause-heard : goal.returns-then-number-gt-GREATEST_NUMBER-clause-heard
+returns-then-number-gt-GREATEST_NUMBER-clause-heard g c =
+    last_line (g.R.Read.remaining c.args.reader.now) (g.R.Read.remaining c.read_line-read.new.reader) c.args.table.now.members c.read_line-read.result c.end_of_lines.result c.read_line-read.ensures.taken c.end_of_lines.ensures

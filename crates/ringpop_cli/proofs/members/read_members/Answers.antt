@@ -1,11 +1,12 @@
 use Rattle.std.proofs.Common.{◌≤◌, refl, arith}
+use Rattle.change_core.specs.Numbers.{greatest_number}
 use Rattle.ringpop_cli.proofs.Folding.{goes}
 use Rattle.ringpop_cli.proofs.members.read_members.Goals as goal
 
 pub lines-preserved : goal.lines-preserved
 lines-preserved g c =
     let test = c.in-Ok-true.field-0-test in
-    let few : c.lines.number ≤ 9007199254740991 = (rw test at c.in-Ok-true.ensures.counted) refl in
+    let few : c.lines.number ≤ greatest_number = (rw test at c.in-Ok-true.ensures.counted) refl in
     let fits = (rw test at c.in-Ok-true.ensures.fits) refl in
     record {
       counted = omega arith;

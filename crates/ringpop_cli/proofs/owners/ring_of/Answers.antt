@@ -1,18 +1,18 @@
-use Rattle.std.proofs.Common.{◌≡◌, true, ◌∙◌, ap, sym, take, length, arith}
+use Rattle.std.proofs.Common.{◌≡◌, true, ◌∙◌, ap, sym, take, arith}
 use Rattle.std.proofs.lemmas.List.{take_all}
 use Rattle.change_core.specs.Status.{is_serving}
 use Rattle.hash_ring.specs.Servers.{with_server}
 use Rattle.hash_ring.specs.Serving.{server_of}
 use Rattle.ringpop_cli.proofs.RingServers.{listed, listed-members, listed-added, listed-passed, is_serving-yes, is_serving-no}
 use Rattle.ringpop_cli.proofs.owners.ring_of.Goals as goal
-use Rattle.ringpop_cli.proofs.owners.ring_of.Goals.{then-serving+in_ok-reserve_for, else-serving}
+use Rattle.ringpop_cli.proofs.owners.ring_of.Goals.{then-serving+in_ok-map_err, else-serving}
 
 pub members-preserved : goal.members-preserved
 members-preserved g c =
     let all = c.args.members.now in
     let member = c.member-item.result in
     elim c.if-serving.branch [
-      | then-serving+in_ok-reserve_for w ↦
+      | then-serving+in_ok-map_err w ↦
           let serving : is_serving member.status ≡ true = is_serving-yes member.status (c.serving.ensures.0 w.if-serving.true) in
           rw (w.ring-is, w.add.ensures.ring, w.reserve_for.ensures.same) record {
             hash = c.members.invariant.hash;

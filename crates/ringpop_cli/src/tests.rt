@@ -1,9 +1,13 @@
+ghost use Rattle.std.specs.Prelude.{◌≤◌};
+ghost use Rattle.change_core.specs.Numbers.{most_members};
+ghost use Rattle.hash_ring.specs.Points.{IsReplicas};
+
 use crate::faults::{Fault, LineFault, RunFault};
 use crate::fold::fold_run;
-use crate::hashes::hash_text;
+use crate::hashes::{hash_run, hash_text};
 use crate::owners::owner_run;
 use crate::words::{OwnerWords, Words, read_words, words_not_text};
-use fakes::{Lines, Long, Many, Page};
+use fakes::{Lines, Long, Many, Page, Place};
 use std::alloc::Global;
 use std::io::{Read, Write};
 use std::process::Abort;
@@ -141,8 +145,16 @@ fn is_memory(fault: RunFault) -> bool {
     )
 }
 
+/// Whether a want of memory is told of the line that the reader has begun, or of none once it has given all.
+fn is_placed(fault: RunFault, reader: &impl Place) -> bool {
+    match fault {
+        RunFault::AtLine(number, _) => number == reader.begun(),
+        _ => reader.is_done(),
+    }
+}
+
 /// Folds what the reader gives. After a refused growth nothing is written, and it is folded again.
-fn fold<R: Read + Copy>(
+fn fold<R: Read + Place + Copy>(
     rt: &impl Abort,
     alloc: Global,
     reader: R,
@@ -151,6 +163,7 @@ fn fold<R: Read + Copy>(
     let (mut first, mut second) = (reader, reader);
     match fold_run(alloc, &mut first, page) {
         Err(fault) if is_memory(fault) => {
+            assert!(rt; is_placed(fault, &first));
             assert_eq!(rt; page.text(), "");
             fold_run(alloc, &mut second, page)
         }
@@ -158,12 +171,10 @@ fn fold<R: Read + Copy>(
     }
 }
 
-/// That folding what the reader gives writes nothing, and ends with this text and status 1.
-fn refuses<R: Read + Copy>(rt: &impl Abort, alloc: Global, reader: R, text: &str) {
-    let mut page = Page::new(ALL);
-    let Err(fault) = fold(rt, alloc, reader, &mut page) else {
-        assert_eq!(rt; page.text(), text);
-        return;
+/// That a run wrote nothing, and ended with this text and status 1.
+fn is_refused(rt: &impl Abort, ended: Result<(), RunFault>, page: &mut Page, text: &str) {
+    let Err(fault) = ended else {
+        panic!(rt; "not refused: {text}")
     };
     assert_eq!(rt; page.text(), "");
     let fault = Fault::from(fault);
@@ -171,6 +182,13 @@ fn refuses<R: Read + Copy>(rt: &impl Abort, alloc: Global, reader: R, text: &str
     let written = write!(page, "{fault}").is_ok();
     assert!(rt; written);
     assert_eq!(rt; page.text(), text);
+}
+
+/// That folding what the reader gives is refused with this text.
+fn refuses<R: Read + Place + Copy>(rt: &impl Abort, alloc: Global, reader: R, text: &str) {
+    let mut page = Page::new(ALL);
+    let ended = fold(rt, alloc, reader, &mut page);
+    is_refused(rt, ended, &mut page, text);
 }
 
 #[test]
@@ -284,6 +302,30 @@ fn writes_what_the_writer_takes(rt: HostRuntime) {
 }
 
 #[test]
+fn tells_of_a_failed_flush(rt: HostRuntime) {
+    let mut page = Page::without_flush();
+    let ended = fold(&rt, rt.alloc(), Lines::new(&[LATER], ALL), &mut page);
+    assert_eq!(rt; ended, Err(RunFault::CannotWrite));
+    assert_eq!(rt; page.text(), LATER_FOLDED);
+
+    let mut page = Page::without_flush();
+    let ended = name_owners(
+        &rt,
+        rt.alloc(),
+        &ONE_OWNER,
+        Lines::new(&[LATER], ALL),
+        &mut page,
+    );
+    assert_eq!(rt; ended, Err(RunFault::CannotWrite));
+    assert_eq!(rt; page.text(), "10.0.0.2:1\n");
+
+    let mut page = Page::without_flush();
+    let ended = write_hash(rt.alloc(), "abc", &mut page);
+    assert_eq!(rt; ended, Err(RunFault::CannotWrite));
+    assert_eq!(rt; page.text(), "ba7816bf8f01cfea\n");
+}
+
+#[test]
 fn tells_what_the_machine_refused(rt: HostRuntime) {
     let cases = [
         (RunFault::NoMemory, "ringpop: out of memory\n"),
@@ -303,8 +345,16 @@ fn tells_what_the_machine_refused(rt: HostRuntime) {
     }
 }
 
+/// The words for the one owner of a key.
+const ONE_OWNER: OwnerWords<'static> = OwnerWords {
+    count: 1,
+    replicas: 2,
+    sum: true,
+    key: "zzzz1",
+};
+
 /// Names owners. After a refused growth nothing is written, and they are named again.
-fn name_owners<R: Read + Copy>(
+fn name_owners<R: Read + Place + Copy>(
     rt: &impl Abort,
     alloc: Global,
     words: &OwnerWords<'_>,
@@ -314,6 +364,7 @@ fn name_owners<R: Read + Copy>(
     let (mut first, mut second) = (reader, reader);
     match owner_run(alloc, words, &mut first, page) {
         Err(fault) if is_memory(fault) => {
+            assert!(rt; is_placed(fault, &first));
             assert_eq!(rt; page.text(), "");
             owner_run(alloc, words, &mut second, page)
         }
@@ -356,6 +407,33 @@ fn names_the_owners_of_a_key(rt: HostRuntime) {
     }
 }
 
+#[test]
+fn names_no_owner_after_a_fault(rt: HostRuntime) {
+    let alloc = rt.alloc();
+    let mut page = Page::new(ALL);
+    let ended = name_owners(
+        &rt,
+        alloc,
+        &ONE_OWNER,
+        Lines::new(&[ALIVE, "[]"], ALL),
+        &mut page,
+    );
+    is_refused(&rt, ended, &mut page, "ringpop: line 2: not an object\n");
+
+    let mut page = Page::new(ALL);
+    let ended = name_owners(&rt, alloc, &ONE_OWNER, Many::new(4097), &mut page);
+    is_refused(
+        &rt,
+        ended,
+        &mut page,
+        "ringpop: line 4097: too many members\n",
+    );
+
+    let mut page = Page::new(ALL);
+    let ended = name_owners(&rt, alloc, &ONE_OWNER, Lines::new(&[ALIVE], 9), &mut page);
+    is_refused(&rt, ended, &mut page, "ringpop: line 1: read failed\n");
+}
+
 /// By SHA-256 the first point of one server is the key's own hash, and so is the eleventh of the other.
 #[test]
 fn names_the_lesser_of_two_at_the_key(rt: HostRuntime) {
@@ -388,6 +466,34 @@ fn hashes_texts(rt: HostRuntime) -> Result<(), Fail> {
     Ok(())
 }
 
+/// Writes a hash. After a refused growth nothing is written, and it is written again.
+fn write_hash(alloc: Global, text: &str, page: &mut Page) -> Result<(), RunFault> {
+    match hash_run(alloc, text, page) {
+        Err(RunFault::NoMemory) if page.text() == "" => hash_run(alloc, text, page),
+        ended => ended,
+    }
+}
+
+#[test]
+fn writes_hashes(rt: HostRuntime) {
+    let whole = "e3b0c44298fc1c14\n";
+    for room in 0..=whole.len() {
+        let mut page = Page::new(room);
+        let ended = write_hash(rt.alloc(), "", &mut page);
+        let wanted = if room == whole.len() {
+            Ok(())
+        } else {
+            Err(RunFault::CannotWrite)
+        };
+        assert_eq!(rt; ended, wanted, "room {room}");
+        assert_eq!(rt;
+            Some(page.as_slice()),
+            whole.as_bytes().get(..room),
+            "room {room}"
+        );
+    }
+}
+
 /// What the words ask for, or the refusal. After a refused growth they are read again.
 fn read<'a>(rt: &impl Abort, alloc: Global, words: &'a [&'a str]) -> Result<Words<'a>, Fault> {
     match read_words(alloc, words) {
@@ -399,27 +505,36 @@ fn read<'a>(rt: &impl Abort, alloc: Global, words: &'a [&'a str]) -> Result<Word
     }
 }
 
+/// The words of `owner` for so many owners, with so many points of a server.
+fn of_key(count: usize, replicas: u32, sum: bool, key: &str) -> Words<'_>
+    requires few { count ≤ most_members }
+    requires range { IsReplicas replicas }
+{
+    Words::Owner(OwnerWords {
+        count,
+        replicas,
+        sum,
+        key,
+    })
+}
+
 #[test]
 fn reads_the_words(rt: HostRuntime) {
-    let owner = OwnerWords {
-        count: 1,
-        replicas: 100,
-        sum: false,
-        key: "k",
-    };
-    let three = OwnerWords {
-        count: 3,
-        replicas: 1000,
-        sum: true,
-        key: "-k",
-    };
-    let cases: [(&[&str], Words<'_>); 7] = [
+    let cases: [(&[&str], Words<'_>); 9] = [
         (&[], Words::Fold),
         (&["ringpop"], Words::Fold),
         (&["ringpop", "fold"], Words::Fold),
         (&["ringpop", "hash", ""], Words::Hash("")),
         (&["ringpop", "hash", "abc"], Words::Hash("abc")),
-        (&["ringpop", "owner", "k"], Words::Owner(owner)),
+        (&["ringpop", "owner", "k"], of_key(1, 100, false, "k")),
+        (
+            &["ringpop", "owner", "--n", "0", "k"],
+            of_key(0, 100, false, "k"),
+        ),
+        (
+            &["ringpop", "owner", "--n=4096", "--replicas", "1", "k"],
+            of_key(4096, 1, false, "k"),
+        ),
         (
             &[
                 "ringpop",
@@ -431,7 +546,7 @@ fn reads_the_words(rt: HostRuntime) {
                 "--",
                 "-k",
             ],
-            Words::Owner(three),
+            of_key(3, 1000, true, "-k"),
         ),
     ];
     for (words, wanted) in cases {

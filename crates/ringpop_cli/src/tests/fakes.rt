@@ -5,12 +5,22 @@ use std::io::{ErrorKind, Read, Write};
 /// How many bytes a page holds.
 const PAGE: usize = 1024;
 
-/// A writer that fails once it has so many bytes.
+/// Where a reader of lines stands.
+pub trait Place {
+    /// How many lines it has begun.
+    fn begun(&self) -> u64;
+
+    /// Whether it has given all.
+    fn is_done(&self) -> bool;
+}
+
+/// A writer that fails once it has so many bytes, or when it is flushed.
 #[derive(Clone, Copy)]
 pub struct Page {
     bytes: [u8; PAGE],
     len: usize,
     room: usize,
+    can_flush: bool,
 }
 
 impl Page {
@@ -19,7 +29,15 @@ impl Page {
             bytes: [0; PAGE],
             len: 0,
             room,
+            can_flush: true,
         }
+    }
+
+    /// A page that takes all that fits, and fails at a flush.
+    pub fn without_flush() -> Page {
+        let mut page = Page::new(PAGE);
+        page.can_flush = false;
+        page
     }
 
     pub fn as_slice(&self) -> &[u8] {
@@ -47,7 +65,11 @@ impl Write for Page {
     }
 
     fn flush(&mut self) -> io::Result<()> {
-        Ok(())
+        if self.can_flush {
+            Ok(())
+        } else {
+            Err(io::Error::from(ErrorKind::Other))
+        }
     }
 }
 
@@ -68,6 +90,21 @@ impl<'a> Lines<'a> {
             place: 0,
             left,
         }
+    }
+}
+
+impl<'a> Place for Lines<'a> {
+    fn begun(&self) -> u64 {
+        let whole = self.line as u64;
+        if self.place > 0 {
+            whole.saturating_add(1)
+        } else {
+            whole
+        }
+    }
+
+    fn is_done(&self) -> bool {
+        self.lines.get(self.line).is_none()
     }
 }
 
@@ -98,6 +135,7 @@ impl<'a> Read for Lines<'a> {
 /// So many lines about distinct addresses.
 #[derive(Clone, Copy)]
 pub struct Many {
+    count: u32,
     left: u32,
     line: Page,
     place: usize,
@@ -106,6 +144,7 @@ pub struct Many {
 impl Many {
     pub fn new(count: u32) -> Many {
         Many {
+            count,
             left: count,
             line: Page::new(PAGE),
             place: 0,
@@ -121,6 +160,16 @@ impl Many {
             self.line,
             "{{\"address\":\"10.0.{high}.{low}:1\",\"incarnationNumber\":1,\"source\":\"10.0.0.1:1\",\"sourceIncarnationNumber\":1,\"status\":\"alive\"}}"
         )
+    }
+}
+
+impl Place for Many {
+    fn begun(&self) -> u64 {
+        u64::from(self.count.saturating_sub(self.left))
+    }
+
+    fn is_done(&self) -> bool {
+        self.left == 0 && self.place >= self.line.len
     }
 }
 
@@ -144,6 +193,16 @@ impl Read for Many {
 #[derive(Clone, Copy)]
 pub struct Long {
     pub left: usize,
+}
+
+impl Place for Long {
+    fn begun(&self) -> u64 {
+        1
+    }
+
+    fn is_done(&self) -> bool {
+        self.left == 0
+    }
 }
 
 impl Read for Long {

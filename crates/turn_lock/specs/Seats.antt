@@ -1,5 +1,5 @@
 -- What a pass's seat is at the steps between, and what the passes come to together. No contract that another crate reads cites these.
-use Rattle.std.specs.Prelude.{◌≡◌, ℕ, List, [], ◌∷◌, Some}
+use Rattle.std.specs.Prelude.{◌≡◌, ℕ, List, [], ◌∷◌, Some, All}
 use Rattle.atomic_table.specs.Seated.{TableId}
 use Rattle.turn_lock.specs.declared.kept.Turn.{Turn}
 use Rattle.turn_lock.specs.declared.lock.TurnLock.{TurnLock}
@@ -7,7 +7,7 @@ use Rattle.turn_lock.specs.declared.pass.Pass.{Pass}
 use Rattle.turn_lock.specs.declared.table.Known.{Known}
 use Rattle.turn_lock.specs.History.{GoesOn, entries_of}
 use Rattle.turn_lock.specs.Passes.{IsPassOf, opening_of, seen}
-use Rattle.turn_lock.specs.Rule.{known, outside, waiting, inside, ticket_of, Each, times, seen_in}
+use Rattle.turn_lock.specs.Rule.{known, outside, waiting, inside, ticket_of, times, seen_in}
 
 module _ {S E : Type 0} where
   -- the pass is this lock's, and holds this ticket
@@ -33,4 +33,4 @@ module _ {S E : Type 0} where
 
   -- the state stands for a history that goes on from what these passes have seen, and has entries of no other pass
   abbrev pub HasAll : (S → List (Turn E) → S → Type 0) → S → List (Known E) → S → Type 0
-  HasAll stands_for o ps state = (log : List (Turn E)) × stands_for o log state × Each (λ (p : Known E). GoesOn p.number log p.seen) ps × ((n : ℕ) → times n ps ≡ 0 → entries_of n log ≡ [])
+  HasAll stands_for o ps state = (log : List (Turn E)) × stands_for o log state × All (λ (p : Known E). GoesOn p.number log p.seen) ps × ((n : ℕ) → times n ps ≡ 0 → entries_of n log ≡ [])

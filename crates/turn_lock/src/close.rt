@@ -1,7 +1,7 @@
 //! How a lock is closed.
-ghost use Rattle.std.specs.Prelude.{◌≡◌, ◌≤◌, ◌↔◌, List, [], ◌∷◌, length, map, IfOk, IfErr, IsTrue};
-ghost use Rattle.std.specs.List.{All};
-ghost use Rattle.turn_lock.specs.Rule.{outside};
+ghost use Rattle.std.specs.Prelude.{◌≡◌, ◌<◌, ◌≤◌, ◌↔◌, ℕ, List, [], ◌∷◌, length, map, IfOk, IfErr, IsTrue, All, IsPermutation};
+ghost use Rattle.std.specs.List.{range_with_len};
+ghost use Rattle.turn_lock.specs.Rule.{outside, times};
 ghost use Rattle.turn_lock.specs.declared.kept.Turn.{Turn};
 ghost use Rattle.turn_lock.specs.Seats.{IsReady, part_of, HasAll};
 
@@ -50,6 +50,7 @@ fn take_out<S: Kept>(board: Board<S>, root: Place<S>) -> S
     requires root { (root.table_id ≡ board.shared.table_id) × (root.me.0 ≡ outside board.shared.key.opening.value root.me.0.parts root.me.0.used) × (board.shared.key.passes ≤ length root.me.0.parts) }
     ensures all { HasAll S.stands_for board.shared.key.opening.value root.me.0.parts result }
     ensures count { length root.me.0.parts ≡ board.shared.key.passes }
+    ensures once { (n : ℕ) → n < board.shared.key.passes → times n root.me.0.parts ≡ 1 }
 {
     let mut closed = board.close_with(root);
     let state = closed.take(STATE);
@@ -58,10 +59,11 @@ fn take_out<S: Kept>(board: Board<S>, root: Place<S>) -> S
 }
 
 impl<S: Kept> TurnLock<S> {
-    ghost use Rattle.turn_lock.specs.Passes.{passes_of, opening_of, AreOwn, Fits, IsWhole, RefusesToClose};
+    ghost use Rattle.turn_lock.specs.Passes.{passes_of, opening_of, number_of, AreOwn, Fits, IsWhole, RefusesToClose};
 
     /// Takes the state back. It stands for one history: each pass had seen a beginning of it, and it has the entries
-    /// of each pass, once and in their order, and no other. The passes may come in any order. Nothing grows here.
+    /// of each pass, once and in their order, and no other. The passes are all that were made, each once, in whatever
+    /// order. Nothing grows here.
     ///
     /// # Errors
     /// `ForeignPass` where some pass bears another lock's name, else `MissingPass` where there are fewer passes than
@@ -71,6 +73,7 @@ impl<S: Kept> TurnLock<S> {
         requires { All (Fits self) passes.items }
         ensures closed { IfOk result (λ s. (history : List (Turn S.Entry)) × S.stands_for (opening_of self) history s × IsWhole history passes.items) }
         ensures all { IfOk result (λ s. AreOwn self passes.items × (length passes.items ≡ passes_of self)) }
+        ensures numbers { IfOk result (λ s. IsPermutation (range_with_len 0 (passes_of self)) (map number_of passes.items)) }
         ensures back { IfErr result (λ r. (r.lock ≡ self) × (r.passes.items ≡ passes.items)) }
         ensures cause { IfErr result (λ r. RefusesToClose self passes.items r.cause) }
     {

@@ -50,7 +50,8 @@ pub enum CloseError {
 }
 
 /// A lock that was not closed, with the passes that were handed in.
-#[derive(Drop)]
+#[derive(Debug, Drop, Error)]
+#[error("{cause}")]
 pub struct CloseRefused<S: Kept> {
     pub lock: TurnLock<S>,
     pub passes: Vec<Pass<S>>,

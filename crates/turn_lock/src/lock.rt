@@ -11,7 +11,7 @@ use crate::table::{Board, SERVING, STATE, TICKET};
 use std::marker::Brand;
 use std::sync::Wait;
 use std::time::Duration;
-use std::{hint, thread};
+use std::{fmt, hint, thread};
 
 // A waiting thread looks this often without a pause, until then it lets other threads run between looks, and from
 // then on it sleeps between them.
@@ -35,7 +35,7 @@ pub struct TurnLock<S: Kept> {
 }
 
 impl<S: Kept> TurnLock<S> {
-    ghost use Rattle.turn_lock.specs.Passes.{opening_of, number_of, left_of, seen, Fits, Refuses, IsPassOf, IsOutside, IsInside, IsSamePass};
+    ghost use Rattle.turn_lock.specs.Passes.{opening_of, number_of, left_of, seen, calls_of, Fits, Refuses, IsPassOf, IsOutside, IsInside, IsSamePass};
     ghost use Rattle.turn_lock.specs.Seats.{IsWaiting, IsServed};
 
     pub(crate) fn of(name: u64, passes: u64, board: Board<S>) -> TurnLock<S>
@@ -131,6 +131,7 @@ impl<S: Kept> TurnLock<S> {
         requires { Fits self.now pass.old }
         ensures entered { IfOk result (λ s. IsInside self.now pass.new × IsSamePass pass.old pass.new × (left_of pass.new + 1 ≡ left_of pass.old)) }
         ensures seen { IfOk result (λ s. GoesOn (number_of pass.old) (seen pass.new) (seen pass.old)) }
+        ensures calls { IfOk result (λ s. calls_of pass.new ≡ calls_of pass.old) }
         ensures state { IfOk result (λ s. S.stands_for (opening_of self.now) (seen pass.new) s) }
         ensures refused { IfErr result (λ e. (pass.new ≡ pass.old) × Refuses self.now pass.old e) }
     {
@@ -154,6 +155,7 @@ impl<S: Kept> TurnLock<S> {
         requires state { S.stands_for (opening_of self.now) (seen pass.old ++ turn (number_of pass.old) entry ∷ []) state }
         ensures left { IsOutside self.now pass.new × IsSamePass pass.old pass.new × (left_of pass.new ≡ left_of pass.old) }
         ensures seen { seen pass.new ≡ seen pass.old ++ turn (number_of pass.old) entry ∷ [] }
+        ensures calls { calls_of pass.new ≡ calls_of pass.old ++ entry ∷ [] }
     {
         let empty = self
             .board
@@ -174,5 +176,14 @@ impl<S: Kept> TurnLock<S> {
         self.board
             .shared
             .fetch_add::<Give<J>>(&mut pass.seat, SERVING, 1);
+    }
+}
+
+impl<S: Kept> fmt::Debug for TurnLock<S> {
+    fn fmt<F: fmt::Write>(&self, f: &mut fmt::Formatter<F>) -> fmt::Result {
+        f.debug_struct("TurnLock")
+            .field("name", &self.name)
+            .field("passes", &self.passes)
+            .finish_non_exhaustive()
     }
 }

@@ -29,7 +29,7 @@ fn open<S: Kept + Drop>(
     ensures seat { IfOk result (λ r. (r.1.table_id ≡ r.0.shared.table_id) × (r.1.me ≡ (outside terms.now.opening.value (unused terms.now.passes) 0, []))) }
 {
     let mut slots = Vec::with_capacity(alloc, 1)?;
-    slots.push(Some(state))?;
+    slots.push_reserved(Some(state));
     match Table::new(alloc, &[0, 0], slots, terms) {
         Ok(made) => Ok(made),
         Err(_) => Err(AllocError),
@@ -55,19 +55,19 @@ fn deal<S: Kept>(
     let mut dealt = Vec::with_capacity(alloc, passes as usize)?;
     for number in 0..last {
         let seat = board.shared.split_seat::<Part>(&mut root);
-        dealt.push(Pass {
+        dealt.push_reserved(Pass {
             name,
             number: u64::from(number),
             left,
             seat,
-        })?;
+        });
     }
-    dealt.push(Pass {
+    dealt.push_reserved(Pass {
         name,
         number: u64::from(last),
         left,
         seat: root,
-    })?;
+    });
     Ok(dealt)
 }
 

@@ -7,7 +7,7 @@ use Rattle.turn_lock.specs.declared.pass.Pass.{Pass}
 use Rattle.turn_lock.specs.declared.table.Known.{Known}
 use Rattle.turn_lock.specs.History.{GoesOn, entries_of}
 use Rattle.turn_lock.specs.Passes.{IsPassOf, opening_of, seen}
-use Rattle.turn_lock.specs.Rule.{known, outside, waiting, inside, ticket_of, times, seen_in}
+use Rattle.turn_lock.specs.Rule.{known, outside, waiting, inside, ticket_of, times}
 
 module _ {S E : Type 0} where
   -- the pass is this lock's, and holds this ticket

@@ -13,13 +13,16 @@ use std::sync::Wait;
 use std::time::Duration;
 use std::{fmt, hint, thread};
 
-// A waiting thread looks this often without a pause, until then it lets other threads run between looks, and from
-// then on it sleeps between them.
+// A waiting thread looks this often with no more than a hint to the processor between looks.
 const SPINS: u32 = 64;
 
-const YIELDS: u32 = 512;
+// So often in all it looks before it naps, and lets other threads run between looks.
+const YIELDS: u32 = 4_096;
 
-// How long it sleeps at most, in microseconds. At worst it sees its turn so much later.
+// The same for the thread whose turn is the next one, since a turn that waits for a nap to end keeps all waiting.
+const NEXT_YIELDS: u32 = 65_536;
+
+// How long it naps at most, in microseconds. At worst it sees its turn so much later.
 const NAP: u64 = 100;
 
 /// Hands the state that it guards to one pass at a time, in the order in which the passes drew their tickets.
@@ -74,11 +77,13 @@ impl<S: Kept> TurnLock<S> {
         self.board.shared.load::<Look>(&mut pass.seat, SERVING)
     }
 
-    // What a waiting thread does after so many looks, the last of which found this ticket served.
-    fn pause<R: Wait>(&self, rt: &R, looks: u32, serving: u64) {
+    // What a thread that waits with this ticket does after so many looks, the last of which found that one served.
+    fn pause<R: Wait>(&self, rt: &R, looks: u32, serving: u64, ticket: u64) {
+        let is_next = serving.checked_add(1) == Some(ticket);
+        let yields = if is_next { NEXT_YIELDS } else { YIELDS };
         if looks < SPINS {
             hint::spin_loop();
-        } else if looks < YIELDS {
+        } else if looks < yields {
             thread::yield_now();
         } else {
             // It does not fall asleep if another ticket is served by now. Nobody wakes it: each `leave` would pay.
@@ -101,7 +106,7 @@ impl<S: Kept> TurnLock<S> {
             if serving == ticket {
                 return;
             }
-            self.pause(rt, looks, serving);
+            self.pause(rt, looks, serving, ticket);
             looks = looks.saturating_add(1);
         }
         unreachable!()

@@ -336,21 +336,19 @@ fn owners_are_the_servers_by_distance(rt: HostRuntime) -> Result<(), Fail> {
 
 #[test]
 fn many_owners(rt: HostRuntime) -> Result<(), Fail> {
+    let one = weight(1)?;
     let mut ring = Ring::new(rt.alloc(), Sha256Hash, 3)?;
     for port in 1..=40 {
         let server = Address::new(0x0a00_0001, port).ok_or("a port")?;
-        reserve(&rt, &mut ring, server, weight(1)?)?;
-        ring.add(server, weight(1)?);
+        reserve(&rt, &mut ring, server, one)?;
+        ring.add(server, one);
     }
     for (count, wanted) in [(0, 0), (39, 39), (40, 40), (4096, 40)] {
         let named = owners(&rt, &ring, b"key", count)?;
         assert_eq!(rt; named.len(), wanted);
         let mut last = None;
         for server in &named {
-            let here = Some((
-                distance(Sha256Hash, 3, *server, weight(1)?, b"key"),
-                *server,
-            ));
+            let here = Some((distance(Sha256Hash, 3, *server, one, b"key"), *server));
             assert!(rt; last < here);
             last = here;
         }

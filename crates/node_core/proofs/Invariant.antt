@@ -1,5 +1,5 @@
 -- Every call of a node keeps its invariant: the calls one by one.
-use Rattle.std.proofs.Common.{◌≡◌, ◌≢◌, ℕ, ◌+◌, ◌<◌, ◌≤◌, ◌&&◌, Bool, true, false, cond, not, eqb, List, [], ◌∷◌, ◌++◌, Option, Some, None, Result, Ok, Err, refl, sym, ◌∙◌, ap, subst, inl, inr, map, take, length, arith}
+use Rattle.std.proofs.Common.{◌≡◌, ◌≢◌, ℕ, ◌+◌, ◌<◌, ◌≤◌, ◌&&◌, Bool, true, false, cond, not, eqb, List, [], ◌∷◌, ◌++◌, Option, Some, None, Result, Ok, Err, refl, sym, ◌∙◌, ap, subst, inl, inr, map, take, length, arith, lit≤}
 use Rattle.std.specs.Prelude.{filter, nat_lt, is_none}
 use Rattle.std.proofs.lemmas.Bool.{eqb-true, eqb-false, eq-eqb, ltb-true, and_parts, false≢true, not-true, not-false}
 use Rattle.change_core.specs.declared.changes.Change.{Change}
@@ -40,7 +40,7 @@ use Rattle.node_core.specs.declared.events.Stopped.{Stopped}
 use Rattle.node_core.specs.Asserting.{leaving, rejoining}
 use Rattle.node_core.specs.Configs.{IsConfig}
 use Rattle.node_core.specs.Expiring.{is_due, is_reached, timer_of, due, expired}
-use Rattle.node_core.specs.Invariant.{IsNode, CallsKeepIt, Purpose, purpose}
+use Rattle.node_core.specs.Invariant.{IsNode, IsProbing, CallsKeepIt, Purpose, purpose}
 use Rattle.node_core.specs.Messages.{told}
 use Rattle.node_core.specs.Node.{Node, altered, asserted_by, asserts, at_moment, birth, has_deadline, is_timed, members_after, next_status, or_birth, own_change, pingable, said_by}
 use Rattle.node_core.specs.Probes.{ended, put_in, suspicion, suspicion_in, suspicion_of, Suspects}
@@ -52,7 +52,7 @@ use Rattle.node_core.proofs.Apart.{AreApart-from_each, OnePerAddress-from_apart,
 use Rattle.node_core.proofs.Configured.{limits_within}
 use Rattle.node_core.proofs.Kept.{altered_kept}
 use Rattle.node_core.proofs.Listed.{In-find, In-counted, In-below, address-greatest, greatest-member}
-use Rattle.node_core.proofs.Probed.{IsOfOther, running_other, unasked_other, others-lost, others-waiting, others-pick}
+use Rattle.node_core.proofs.Probed.{IsOfOther, running_other, unasked_other, others-lost, others-waiting, others-pick, probed-pick, probed-lost, probed-waiting}
 use Rattle.node_core.proofs.Synchronising.{Exceeds-refutation}
 
 -- a list of members with one change more fits, unless the change is about an unknown address and the list is full
@@ -86,6 +86,7 @@ module _ {H : Type 0} (node : Node H) (kept : IsNode node) where
     limit_is = kept.limit_is;
     timed = kept.timed;
     others = kept.others;
+    probed = kept.probed;
     configured = kept.configured;
     factor_is = kept.factor_is;
     helpers_is = kept.helpers_is;
@@ -104,13 +105,14 @@ module _ {H : Type 0} (node : Node H) (kept : IsNode node) where
     limit_is = kept.limit_is;
     timed = kept.timed;
     others = λ p e. cc;
+    probed = record { numbered = kept.probed.numbered; different = kept.probed.different; waited = λ p e. cc };
     configured = kept.configured;
     factor_is = kept.factor_is;
     helpers_is = kept.helpers_is;
   }
 
-  pub probing_kept : (probing : ProbeState) → IsOfOther node.own probing → probing.helpers ≡ node.probing.helpers → IsNode (record node { probing = probing })
-  probing_kept probing other same = record {
+  pub probing_kept : (probing : ProbeState) → IsOfOther node.own probing → IsProbing probing → probing.helpers ≡ node.probing.helpers → IsNode (record node { probing = probing })
+  probing_kept probing other probed same = record {
     one_each = kept.one_each;
     few = kept.few;
     held = kept.held;
@@ -122,6 +124,7 @@ module _ {H : Type 0} (node : Node H) (kept : IsNode node) where
     limit_is = kept.limit_is;
     timed = kept.timed;
     others = other;
+    probed = probed;
     configured = kept.configured;
     factor_is = kept.factor_is;
     helpers_is = same ∙ kept.helpers_is;
@@ -143,6 +146,7 @@ module _ {H : Type 0} (node : Node H) (kept : IsNode node) where
     limit_is = kept.limit_is;
     timed = kept.timed;
     others = kept.others;
+    probed = kept.probed;
     configured = kept.configured;
     factor_is = kept.factor_is;
     helpers_is = kept.helpers_is;
@@ -326,7 +330,7 @@ module _ {H : Type 0} (old : Node H) (kept : IsNode old) where
       is_kept _ new step.3 (expiry_kept (at_moment old moment) (at_kept old kept moment) old step.0 change step.1 step.2)
   step_kept hash_of (call.Expire moment) (answer.Expire (Err error.Memory)) new step = is_kept old new step.1 kept
   step_kept hash_of call.Probe (answer.Probe (Ok (Some pick))) new step =
-      is_kept _ new step.2 (probing_kept old kept new.probing (others-pick old pick new.probing step.1) (ap (λ (s : ProbeState). s.helpers) step.1.left))
+      is_kept _ new step.2 (probing_kept old kept new.probing (others-pick old pick new.probing step.1) (probed-pick (pingable old) old.probing pick new.probing step.1) (ap (λ (s : ProbeState). s.helpers) step.1.left))
   step_kept hash_of call.Probe (answer.Probe (Ok None)) new step = is_kept old new step.3 kept
   step_kept hash_of call.Probe (answer.Probe (Err error.Busy)) new step = is_kept old new step.1 kept
   step_kept hash_of call.Probe (answer.Probe (Err error.Spent)) new step = is_kept old new step.2 kept
@@ -337,13 +341,15 @@ module _ {H : Type 0} (old : Node H) (kept : IsNode old) where
       is_kept _ new step.3
       (probing_kept (at_moment old moment) (at_kept old kept moment) new.probing
       (others-lost old.own old.probing kept.others (pingable old) step.0 helpers new.probing (unasked_other old.own old.probing kept.others number step.0 step.1) step.2)
+      (probed-lost old.probing kept.probed (pingable old) step.0 helpers new.probing step.2)
       (ap (λ (s : ProbeState). s.helpers) step.2.left))
   step_kept hash_of (call.Lost number moment) (answer.Lost (Ok (lost.Suspect change))) new step =
       suspects_kept step.0 moment change new (unasked_other old.own old.probing kept.others number step.0 step.1) step.3
   step_kept hash_of (call.Lost number moment) (answer.Lost (Err error.StaleProbe)) new step = is_kept old new step.1 kept
   step_kept hash_of (call.Lost number moment) (answer.Lost (Err error.Memory)) new step = is_kept old new step.3 kept
   step_kept hash_of (call.HelperSaid number helper said moment) (answer.HelperSaid (Ok answered.Waiting)) new step =
-      is_kept _ new step.1 (probing_kept (at_moment old moment) (at_kept old kept moment) _ (others-waiting old.own old.probing kept.others helper said) refl)
+      is_kept _ new step.1 (probing_kept (at_moment old moment) (at_kept old kept moment) _ (others-waiting old.own old.probing kept.others helper said)
+      (probed-waiting old.probing kept.probed number helper said step.0) refl)
   step_kept hash_of (call.HelperSaid number helper said moment) (answer.HelperSaid (Ok answered.Reached)) new step = is_kept _ new step.1 (ended_kept (at_moment old moment) (at_kept old kept moment))
   step_kept hash_of (call.HelperSaid number helper said moment) (answer.HelperSaid (Ok (answered.Suspect change))) new step =
       suspects_kept step.0 moment change new (running_other old.own old.probing kept.others number step.0 step.2) step.3
@@ -379,6 +385,7 @@ newborn_kept hash config own incarnation moment generator configured = record {
   limit_is = ap (λ (s : List ℕ). limit_for config.piggyback (length s)) (sym servers);
   timed = λ a. of_birth a (eqb own a) refl;
   others = λ p e. cc;
+  probed = record { numbered = lit≤ tt; different = λ i j d p q. absurd (omega (arith, q)); waited = λ p e. cc };
   configured = configured;
   factor_is = refl;
   helpers_is = refl;

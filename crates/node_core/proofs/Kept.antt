@@ -91,6 +91,7 @@ module _ {H : Type 0} (node : Node H) (kept : IsNode node) (s : Sourced) where
           | inr h ↦ ap (option_map purpose_of) (timers_there a h) ∙ kept.timed a ∙ ap (purpose node.own) (sym (greatest_there a h))
         ];
         others = kept.others;
+        probed = kept.probed;
         configured = kept.configured;
         factor_is = kept.factor_is;
         helpers_is = kept.helpers_is;

@@ -1,11 +1,14 @@
 -- What holds of a node between any two calls.
-use Rattle.std.specs.Prelude.{◌≡◌, ◌≢◌, ℕ, ◌<◌, ◌≤◌, true, cond, Option, Some, None, List, length, option_map}
+use Rattle.std.specs.Prelude.{◌≡◌, ◌≢◌, ℕ, ◌<◌, ◌≤◌, true, cond, Option, Some, None, List, [], length, option_map}
 use Rattle.change_core.specs.declared.changes.Change.{Change}
 use Rattle.change_core.specs.declared.statuses.Status.{Status}
 use Rattle.change_core.specs.Ascending.{In}
 use Rattle.change_core.specs.Members.{greatest, serving, IsMemberList}
+use Rattle.change_core.specs.Numbers.{greatest_number}
 use Rattle.detector_core.specs.declared.timers.Timer.{Timer}
-use Rattle.detector_core.specs.Probing.{Attempted}
+use Rattle.detector_core.specs.Helpers.{first_waiting}
+use Rattle.detector_core.specs.Order.{AllDifferent}
+use Rattle.detector_core.specs.Probing.{Attempted, ProbeState}
 use Rattle.gossip_core.specs.declared.pending.Pending.{Pending}
 use Rattle.gossip_core.specs.Pending.{subject, limit_for, OnePerAddress}
 use Rattle.hash_ring.specs.Points.{points}
@@ -29,6 +32,13 @@ abbrev pub purpose : ℕ → Option Change → Option Purpose
 purpose own None = None
 purpose own (Some c) = cond (is_timed own c) (Some (c.incarnation, next_status c.status)) None
 
+-- what holds of the prober: its numbers have not run out unseen, nobody stands twice in the rest of the order, and a probe whose helpers
+-- have all answered has ended, so that one that runs and waits for nobody has asked nobody yet
+pub record IsProbing (probing : ProbeState) : Type 0 where
+  pub numbered : probing.last ≤ greatest_number
+  pub different : AllDifferent probing.rest
+  pub waited : (p : Attempted) → probing.running ≡ Some p → first_waiting p.asked ≡ None → p.asked ≡ []
+
 pub record IsNode {H : Type 0} (node : Node H) : Type 0 where
   -- one entry for each address, ascending, and no more than may be
   pub one_each : IsMemberList node.members
@@ -46,6 +56,7 @@ pub record IsNode {H : Type 0} (node : Node H) : Type 0 where
   pub timed : (a : ℕ) → option_map purpose_of (timer_of node.timers a) ≡ purpose node.own (greatest node.members a)
   -- a probe is of another
   pub others : (p : Attempted) → node.probing.running ≡ Some p → p.target ≢ node.own
+  pub probed : IsProbing node.probing
   -- the parts are as configured
   pub configured : IsConfig node.config
   pub factor_is : node.gossip.factor ≡ node.config.piggyback

@@ -7,8 +7,9 @@ use Rattle.change_core.specs.Status.{is_serving}
 use Rattle.change_core.proofs.Members.{members-same, members-append, members-members}
 use Rattle.hash_ring.specs.declared.servers.Server.{Server}
 use Rattle.hash_ring.specs.Points.{owners, points}
-use Rattle.node_core.specs.Agreement.{AgreeOnAll, IsNodeOf, Agree, NodesAgree}
+use Rattle.node_core.specs.Agreement.{AgreeOnAll, IsNodeOf, Agree, NodesAgree, NodesAnswerByLog}
 use Rattle.hash_ring.specs.Serving.{server_of, servers_of}
+use Rattle.node_core.specs.Messages.{digest_of}
 use Rattle.node_core.specs.Node.{Seen}
 
 -- lists with the same members have the same servers
@@ -32,6 +33,8 @@ nodes_agree {H} hash_of a b L K of_a of_b same hash replicas =
     record {
       members_same = members_same;
       text_same = ap digest_text members_same;
+      digest_same = ap digest_of members_same;
+      servers_same = ap servers_of members_same;
       owners_same = λ key.
           ap (λ (f : List ℕ → ℕ). owners f a.node.config.replicas (servers_of a.node.members) key) hashes
           ∙ ap (λ (r : ℕ). owners (hash_of b.node.hash) r (servers_of a.node.members) key) replicas
@@ -40,4 +43,14 @@ nodes_agree {H} hash_of a b L K of_a of_b same hash replicas =
           ∙ ap (λ (f : List ℕ → ℕ). points f a.node.config.replicas (servers_of K)) hashes
           ∙ ap (λ (r : ℕ). points (hash_of b.node.hash) r (servers_of K)) replicas
           ∙ sym of_b.points_are;
+    }
+
+pub nodes_answer_by_log : {H : Type 0} (hash_of : H → List ℕ → ℕ) → NodesAnswerByLog hash_of
+nodes_answer_by_log hash_of seen log of =
+    let servers_are : servers_of seen.node.members ≡ servers_of log = ap servers_of of.members_are ∙ servers-same (members log) log (members-members log) in
+    record {
+      text_is = ap digest_text of.members_are;
+      digest_is = ap digest_of of.members_are;
+      servers_are = servers_are;
+      owners_are = λ key. ap (λ (s : List Server). owners (hash_of seen.node.hash) seen.node.config.replicas s key) servers_are;
     }

@@ -2,6 +2,7 @@ pub mod Greatest
 pub mod Log
 pub mod Listed
 pub mod Synchronising
+pub mod Synchronised
 pub mod Following
 pub mod Probed
 pub mod Sound

@@ -55,16 +55,16 @@ log own start (event ∷ events) [] = start
 log own start (event ∷ events) (reply ∷ replies) = log own (log_step own start event reply) events replies
 
 -- from old, the node may give these replies to these calls, one after another, and go on to new
-abbrev pub Run : {H : Type 0} → (H → List ℕ → ℕ) → Node H → List Event → List Reply → Node H → Type 0
-Run hash_of old [] [] new = new ≡ old
-Run hash_of old [] (reply ∷ replies) new = ⊥
-Run hash_of old (event ∷ events) [] new = ⊥
-Run {H} hash_of old (event ∷ events) (reply ∷ replies) new =
-    (mid : Node H) × NodeStep hash_of old event reply mid × Run hash_of mid events replies new
+abbrev pub IsRun : {H : Type 0} → (H → List ℕ → ℕ) → Node H → List Event → List Reply → Node H → Type 0
+IsRun hash_of old [] [] new = new ≡ old
+IsRun hash_of old [] (reply ∷ replies) new = ⊥
+IsRun hash_of old (event ∷ events) [] new = ⊥
+IsRun {H} hash_of old (event ∷ events) (reply ∷ replies) new =
+    (mid : Node H) × NodeStep hash_of old event reply mid × IsRun hash_of mid events replies new
 
 -- a node's members are what its log comes to
 abbrev pub MembersAreLog : {H : Type 0} → (H → List ℕ → ℕ) → Type 0
 MembersAreLog {H} hash_of =
     (old new : Node H) (events : List Event) (replies : List Reply)
-    → members old.members ≡ old.members → Run hash_of old events replies new
+    → members old.members ≡ old.members → IsRun hash_of old events replies new
     → new.members ≡ members (log old.own old.members events replies)

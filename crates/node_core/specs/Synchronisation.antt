@@ -1,9 +1,14 @@
 -- What taking a batch whole leaves, as when it is another node's whole membership.
-use Rattle.std.specs.Prelude.{◌≡◌, ◌≢◌, ℕ, List, ◌++◌, Some}
+use Rattle.std.specs.Prelude.{◌≡◌, ◌≢◌, ℕ, ◌≤◌, List, ◌++◌, Some, Ok}
 use Rattle.change_core.specs.declared.changes.Change.{Change}
 use Rattle.change_core.specs.Members.{greatest, IsMemberList}
 use Rattle.change_core.specs.Refutation.{refutation}
+use Rattle.node_core.specs.declared.events.Taken.{Taken}
+use Rattle.node_core.specs.Invariant.{IsNode}
 use Rattle.node_core.specs.Log.{log_given, refuted}
+use Rattle.node_core.specs.Messages.{full_sync}
+use Rattle.node_core.specs.Node.{Node}
+use Rattle.node_core.specs.Taking.{TakeStep}
 
 -- of every other address the greatest of both; of itself too unless it refuted, and else its refutation of the change that it was given about itself
 pub record TakesGreatest (own : ℕ) (log given : List Change) : Type 0 where
@@ -11,3 +16,16 @@ pub record TakesGreatest (own : ℕ) (log given : List Change) : Type 0 where
   pub unrefuted : refuted own log given ≡ 0 → log_given own log given ≡ log ++ given
   pub of_itself : (held c : Change) → IsMemberList given → refuted own log given ≡ 1 → greatest log own ≡ Some held → greatest given own ≡ Some c
       → greatest (log_given own log given) own ≡ Some (refutation held c)
+
+-- what a node holds after it took all that another holds: of every other address the greatest of both memberships; of itself too where it refuted nothing, and else its
+-- refutation of what the other held of it
+pub record IsSynchronised {H : Type 0} (taker giver : Node H) (taken : Taken) (new : Node H) : Type 0 where
+  pub of_others : (a : ℕ) → a ≢ taker.own → greatest new.members a ≡ greatest (taker.members ++ giver.members) a
+  pub unrefuted : taken.refuted ≡ 0 → (a : ℕ) → greatest new.members a ≡ greatest (taker.members ++ giver.members) a
+  pub of_itself : (held c : Change) → taken.refuted ≡ 1 → greatest taker.members taker.own ≡ Some held → greatest giver.members taker.own ≡ Some c
+      → greatest new.members taker.own ≡ Some (refutation held c)
+
+abbrev pub NodesSynchronise : Type 0 → Type 0
+NodesSynchronise H =
+    (taker giver new : Node H) (moment : ℕ) (taken : Taken)
+    → IsNode taker → IsNode giver → TakeStep taker (full_sync giver) moment (Ok taken) new → IsSynchronised taker giver taken new

@@ -3,11 +3,11 @@ ghost use Rattle.std.specs.Prelude.{◌≡◌, ◌++◌, List, ℕ};
 ghost use Rattle.change_core.specs.declared.changes.Change.{Change};
 ghost use Rattle.change_core.specs.Members.{members, HaveSameChanges};
 ghost use Rattle.rand_pcg.specs.Lcg.{Lcg};
-ghost use Rattle.node_core.specs.Agreement.{AgreeOnAll, NodesAgree};
+ghost use Rattle.node_core.specs.Agreement.{AgreeOnAll, NodesAgree, NodesAnswerByLog};
 ghost use Rattle.node_core.specs.Configs.{IsConfig};
 ghost use Rattle.node_core.specs.Invariant.{CallsKeepIt, IsNode};
 ghost use Rattle.node_core.specs.Run.{MembersAreLog};
-ghost use Rattle.node_core.specs.Synchronisation.{TakesGreatest};
+ghost use Rattle.node_core.specs.Synchronisation.{NodesSynchronise, TakesGreatest};
 ghost use Rattle.node_core.specs.World.{WorldsAreTrue, newborn};
 
 use crate::configs::Config;
@@ -19,16 +19,19 @@ pub fn merge()
     ensures grouped { (L K : List Change) → members (members L ++ K) ≡ members (L ++ K) }
 {}
 
-/// Nodes whose logs hold the same changes hold the same members, name the same owners of every key, and have the same ring,
-/// if they have one hash and one number of replica points; all else of them may differ.
+/// Nodes whose logs hold the same changes hold the same members, with one text and digest, name the same owners of every key,
+/// and have the same ring, if they have one hash and one number of replica points; all else of them may differ. What each
+/// answers is what the definitions say of its log.
 pub fn agreement<H: PointHash>()
-    ensures { NodesAgree H.hash_of }
+    ensures agree { NodesAgree H.hash_of }
+    ensures by_log { NodesAnswerByLog H.hash_of }
 {}
 
-/// A batch that is taken whole, as another node's whole membership, leaves the greatest of both; of itself the taker holds its
-/// refutation where it made one.
-pub fn synchronisation()
-    ensures { (own : ℕ) (log given : List Change) → TakesGreatest own log given }
+/// A batch that is taken whole leaves the greatest of both; of itself the taker holds its refutation where it made one. So a node
+/// that takes another's whole membership holds of every other address the greatest of both memberships.
+pub fn synchronisation<H>()
+    ensures batch { (own : ℕ) (log given : List Change) → TakesGreatest own log given }
+    ensures nodes { NodesSynchronise H }
 {}
 
 /// After any calls of a node, its members are those of its log.

@@ -13,6 +13,7 @@ use Rattle.gossip_core.specs.declared.pending.Pending.{Pending}
 use Rattle.change_core.specs.Ascending.{In}
 use Rattle.change_core.proofs.Order.{in_append_left, in_append_right, in_append}
 use Rattle.change_core.specs.Refutation.{is_refuted, refutation, refutations, log_one}
+use Rattle.detector_core.specs.declared.timers.Timer.{Timer}
 use Rattle.detector_core.specs.Probing.{Attempted}
 use Rattle.node_core.proofs.Synchronising.{Exceeds-refutation}
 use Rattle.node_core.specs.Node.{Node, altered, asserted_by, or_birth, own_change, asserts}
@@ -21,6 +22,7 @@ use Rattle.node_core.specs.Taking.{alteration, altered_by, took, took_all, chang
 use Rattle.node_core.specs.World.{grounds, IsGrounded, IsAssertedAt, last_about, later, refuted_in}
 use Rattle.node_core.proofs.Listed.{In-members, In-put, In-below}
 use Rattle.node_core.proofs.Greatest.{Agree, greatest-append, greatest-members}
+use Rattle.node_core.proofs.Timed.{In-timers_with}
 use Rattle.node_core.proofs.Log.{IsSettled, agree-log_one, altered_by-own, took_members, members-twice}
 
 -- a change that is told: it is grounded, and its source's incarnation was asserted
@@ -39,6 +41,7 @@ pub record IsSound {H : Type 0} (A : List Change) (node : Node H) : Type 0 where
   pub grounded : (c : Change) → In c node.members → IsGrounded A c
   pub news : (p : Pending) → In p node.gossip.pending → IsTold A p.sourced
   pub others : (p : Attempted) → node.probing.running ≡ Some p → p.target ≢ node.own
+  pub timed : (t : Timer) → In t node.timers → IsAssertedAt A t.address t.incarnation
 
 -- A' has what A has
 abbrev pub Has : List Change → List Change → Type 0
@@ -138,6 +141,10 @@ module _ {H : Type 0} (A : List Change) (node : Node H) (sound : IsSound A node)
       | inr k ↦ news-more A A' p.sourced more (sound.news p k)
     ];
     others = sound.others;
+    timed = λ t h. elim (In-timers_with node.own node.config node.moment node.timers s.change t h) [
+      | inl k ↦ at-more A A' t.address t.incarnation more (sound.timed t k)
+      | inr e ↦ let at = at-grounded A' s.change news.grounded in (at.0, at.1, at.2 ∙ sym e.0, at.3 ∙ sym e.1)
+    ];
   }
     where
       of_one : (c : Change) → In c (s.change ∷ []) → IsGrounded A' c
@@ -192,6 +199,7 @@ sound-more {H} A B node sound apart asserting =
       grounded = λ c h. more (grounds c) (sound.grounded c h);
       news = λ p h. news-more A (A ++ B) p.sourced more (sound.news p h);
       others = sound.others;
+      timed = λ t h. at-more A (A ++ B) t.address t.incarnation more (sound.timed t h);
     }
 
 pub sound-nil : {H : Type 0} (A : List Change) (node : Node H) → IsSound A node → IsSound (A ++ []) node

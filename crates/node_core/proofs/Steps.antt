@@ -118,6 +118,7 @@ module _ {H : Type 0} (A : List Change) (node : Node H) (sound : IsSound A node)
         let r = In-counted target node.config.per_message node.gossip.pending p (In-below node.gossip.limit (counted target node.config.per_message node.gossip.pending) p h) in
         subst (λ (s : Sourced). IsTold A s) r.2 (sound.news r.0 r.1);
     others = sound.others;
+    timed = sound.timed;
   }
 
   pub at_sound : (moment : ℕ) → IsSound A (at_moment node moment)
@@ -131,6 +132,7 @@ module _ {H : Type 0} (A : List Change) (node : Node H) (sound : IsSound A node)
     grounded = sound.grounded;
     news = sound.news;
     others = sound.others;
+    timed = sound.timed;
   }
 
   pub ended_sound : IsSound A (ended node)
@@ -144,6 +146,7 @@ module _ {H : Type 0} (A : List Change) (node : Node H) (sound : IsSound A node)
     grounded = sound.grounded;
     news = sound.news;
     others = λ p e. cc;
+    timed = sound.timed;
   }
 
   pub probing_sound : (probing : ProbeState) → IsOfOther node.own probing → IsSound A (record node { probing = probing })
@@ -157,6 +160,7 @@ module _ {H : Type 0} (A : List Change) (node : Node H) (sound : IsSound A node)
     grounded = sound.grounded;
     news = sound.news;
     others = other;
+    timed = sound.timed;
   }
 
   -- a suspicion rests on what its entry rests on

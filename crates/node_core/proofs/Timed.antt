@@ -1,10 +1,15 @@
 -- The timer of an address, once another is set or cleared.
-use Rattle.std.proofs.Common.{◌≡◌, ◌≢◌, ℕ, Bool, true, false, cond, not, eqb, ltb, List, [], ◌∷◌, ◌++◌, Option, Some, None, refl, sym, ◌∙◌, ap, inl, inr, arith}
+use Rattle.std.proofs.Common.{◌≡◌, ◌≢◌, ℕ, ◌+◌, Bool, true, false, cond, not, eqb, ltb, List, [], ◌∷◌, ◌++◌, Option, Some, None, refl, sym, ◌∙◌, ap, inl, inr, arith, ◌⊎◌}
 use Rattle.std.specs.Prelude.{filter, nat_lt}
 use Rattle.std.proofs.lemmas.Bool.{eqb-true, eq-eqb, ne_eqb, lt-ltb, le-ltb, cases_order}
+use Rattle.change_core.specs.declared.changes.Change.{Change}
+use Rattle.change_core.specs.Ascending.{In}
+use Rattle.change_core.proofs.Order.{in_append, in_filter}
 use Rattle.detector_core.specs.declared.timers.Timer.{Timer}
 use Rattle.detector_core.specs.Timers.{with_timer, without_timer}
+use Rattle.node_core.specs.declared.configs.Config.{Config}
 use Rattle.node_core.specs.Expiring.{timer_of}
+use Rattle.node_core.specs.Node.{is_timed, next_status, timers_with, wait_for}
 
 abbrev or_else : Option Timer → Option Timer → Option Timer
 or_else None t = t
@@ -74,3 +79,25 @@ timer_of-with ts t a h =
             ∙ none-last (timer_of ts a)
       ]
     ]
+
+-- a timer that runs once another is set ran before, or is that one
+pub In-with_timer : (ts : List Timer) (set t : Timer) → In t (with_timer ts set) → In t ts ⊎ (t ≡ set)
+In-with_timer ts set t h = elim (in_append t (filter (λ u. nat_lt u.address set.address) ts) (set ∷ filter (λ u. nat_lt set.address u.address) ts) h) [
+  | inl k ↦ inl (in_filter (λ u. nat_lt u.address set.address) t ts k).0
+  | inr k ↦ of_back k
+]
+  where
+    of_back : In t (set ∷ filter (λ u. nat_lt set.address u.address) ts) → In t ts ⊎ (t ≡ set)
+    of_back (inl e) = inr e
+    of_back (inr k) = inl (in_filter (λ u. nat_lt set.address u.address) t ts k).0
+
+-- a timer that runs once there is a new entry ran before, or is of this entry
+pub In-timers_with : (own : ℕ) (config : Config) (moment : ℕ) (ts : List Timer) (c : Change) (t : Timer)
+    → In t (timers_with own config moment ts c) → In t ts ⊎ ((t.address ≡ c.address) × (t.incarnation ≡ c.incarnation))
+In-timers_with own config moment ts c t h = by_timed (is_timed own c) h
+  where
+    by_timed : (b : Bool)
+        → In t (cond b (with_timer ts (record { address = c.address; incarnation = c.incarnation; next = next_status c.status; deadline = moment + wait_for config c.status })) (without_timer ts c.address))
+        → In t ts ⊎ ((t.address ≡ c.address) × (t.incarnation ≡ c.incarnation))
+    by_timed true k = elim (In-with_timer ts _ t k) [ inl j ↦ inl j | inr e ↦ inr (ap (λ (u : Timer). u.address) e, ap (λ (u : Timer). u.incarnation) e) ]
+    by_timed false k = inl (in_filter (λ (u : Timer). not (eqb u.address c.address)) t ts k).0

@@ -73,6 +73,7 @@ module _ {H : Type 0} (A : List Change) (hash : H) (config : Config) (own incarn
     grounded = λ c h. subst (λ (x : Change). IsGrounded (A ++ birth own incarnation config.weight ∷ []) x) (sym (of_one c h)) here;
     news = λ p h. of_pending p h;
     others = λ p e. cc;
+    timed = λ t h. absurd h;
   }
     where
       of_one : (d : Change) → In d (birth own incarnation config.weight ∷ []) → d ≡ birth own incarnation config.weight
@@ -135,6 +136,8 @@ true_from_sound {H} w sound = record {
       record {
         entries = λ c h. record { incarnation = at-grounded w.asserted c (s.1.grounded c h); grounded = s.1.grounded c h };
         passed_on = λ p h. true_news w.asserted p.sourced (s.1.news p h);
+        timed = s.1.timed;
+        is_own = s.0;
         itself = subst (λ (x : ℕ). greatest node.members x ≡ last_about x w.asserted) s.0 (s.1.held_is ∙ sym s.1.last_is);
       };
   messages = λ m h. record { source = (sound.told m h).source; changes = λ s k. true_news w.asserted s ((sound.told m h).news s k) };

@@ -7,6 +7,7 @@ use Rattle.change_core.specs.Ascending.{In}
 use Rattle.change_core.specs.Members.{greatest}
 use Rattle.change_core.specs.Refutation.{refutations, log_one}
 use Rattle.rand_pcg.specs.Lcg.{Lcg}
+use Rattle.detector_core.specs.declared.timers.Timer.{Timer}
 use Rattle.gossip_core.specs.declared.pending.Pending.{Pending}
 use Rattle.gossip_core.specs.Pending.{fresh, limit_for}
 use Rattle.wire_json.specs.declared.messages.Message.{Message}
@@ -157,6 +158,8 @@ pub record IsTrueMessage (asserted : List Change) (message : Message) : Type 0 w
 pub record IsTrueNode {H : Type 0} (asserted : List Change) (a : ℕ) (node : Node H) : Type 0 where
   pub entries : (c : Change) → In c node.members → IsTrueEntry asserted c
   pub passed_on : (p : Pending) → In p node.gossip.pending → IsTrueNews asserted p.sourced
+  pub timed : (t : Timer) → In t node.timers → IsAssertedAt asserted t.address t.incarnation
+  pub is_own : node.own ≡ a
   pub itself : greatest node.members a ≡ last_about a asserted
 
 -- every node and every message of a world tells the truth

@@ -10,6 +10,7 @@ use Rattle.detector_core.specs.Probing.{ProbeState}
 use Rattle.detector_core.specs.Timers.{with_timer, without_timer}
 use Rattle.gossip_core.specs.Dissemination.{Dissemination, with_news, adjusted}
 use Rattle.hash_ring.specs.declared.points.Point.{Point}
+pub use Rattle.member_core.specs.Membership.{birth}
 use Rattle.node_core.specs.declared.configs.Config.{Config}
 
 -- a node: H is the type of its hash
@@ -35,10 +36,6 @@ asserts Suspect = false
 asserts Faulty = false
 asserts Leave = true
 asserts Tombstone = false
-
--- the change that a node begins with
-abbrev pub birth : ℕ → ℕ → ℕ → Change
-birth own incarnation weight = record { address = own; incarnation = incarnation; status = Alive; weight = weight }
 
 abbrev pub or_birth : ℕ → Option Change → Change
 or_birth own None = birth own 0 1

@@ -158,7 +158,7 @@ module _ {H : Type 0} (node : Node H) (kept : IsNode node) where
 
   -- and so does one that is not refused
   taken_fits : (c : Change) → refusal node c ≡ None → length (members_after node c) ≤ node.config.max_members
-  taken_fits c free = fits_with node.members node.config.max_members c kept.one_each kept.few (λ none full. by_refuted (is_refuted node.own (greatest node.members node.own) c && eqb c.incarnation greatest_number) none full free)
+  taken_fits c free = fits_with node.members node.config.max_members c kept.one_each kept.few (λ none full. by_refuted (is_refuted node.own (greatest node.members node.own) c && not (nat_lt c.incarnation greatest_number)) none full free)
     where
       by_refuted : (b : Bool) → greatest node.members c.address ≡ None → length node.members ≡ node.config.max_members
           → cond b (Some Exhausted) (cond (is_none (greatest node.members c.address) && eqb (length node.members) node.config.max_members) (Some Full) None) ≡ None → ⊥

@@ -14,3 +14,11 @@ pub mod Kept
 pub mod Configured
 pub mod Invariant
 pub mod Agreeing
+pub mod Agreed
+pub mod Beginning
+pub mod Alter
+pub mod Editing
+pub mod Judge
+pub mod Expiry
+pub mod Batch
+pub mod RunLoop

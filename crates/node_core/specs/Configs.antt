@@ -28,3 +28,16 @@ bad_field c =
 -- each field is in its range
 abbrev pub IsConfig : Config → Type 0
 IsConfig c = bad_field c ≡ None
+
+-- what serves most clusters
+abbrev pub standard : Config
+standard = record {
+  replicas = 100;
+  max_members = 4096;
+  suspect_ms = 5000;
+  faulty_ms = 86400000;
+  helpers = 3;
+  piggyback = 15;
+  per_message = 64;
+  weight = 1;
+}

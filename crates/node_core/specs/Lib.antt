@@ -1,5 +1,7 @@
 pub mod Configs
+pub mod Errors
 pub mod Node
+pub mod Edits
 pub mod Log
 pub mod Messages
 pub mod Taking
@@ -12,4 +14,5 @@ pub mod Run
 pub mod Agreement
 pub mod Synchronisation
 pub mod Invariant
+pub mod Parts
 pub mod World

@@ -1,5 +1,5 @@
 -- What a node does with changes that it is given: which alter an entry, which are refuted, and where a batch stops.
-use Rattle.std.specs.Prelude.{◌≡◌, ℕ, ◌==◌, ◌&&◌, Bool, cond, Option, Some, None, Result, Ok, Err, List, [], ◌∷◌, length, map, take, slice_get, is_none}
+use Rattle.std.specs.Prelude.{◌≡◌, ℕ, ◌==◌, ◌&&◌, Bool, not, nat_lt, cond, Option, Some, None, Result, Ok, Err, List, [], ◌∷◌, length, map, take, slice_get, is_none}
 use Rattle.change_core.specs.declared.changes.Change.{Change}
 use Rattle.change_core.specs.declared.changes.Sourced.{Sourced}
 use Rattle.change_core.specs.Members.{greatest, alters}
@@ -9,7 +9,9 @@ use Rattle.node_core.specs.declared.events.Taken.{Taken}
 use Rattle.node_core.specs.declared.events.Stopped.{Stopped}
 use Rattle.node_core.specs.declared.events.StopCause.{StopCause}
 use Rattle.node_core.specs.declared.events.StopCause.TheVariants.{Exhausted, Full, Memory}
-use Rattle.node_core.specs.Log.{applied, refuted}
+use Rattle.node_core.specs.declared.taking.Effect.{Effect}
+use Rattle.node_core.specs.declared.taking.Effect.TheVariants.{Unaltered, Applied, Refuted}
+use Rattle.node_core.specs.Log.{applied, one_if, refuted}
 use Rattle.node_core.specs.Node.{Node, altered, asserted_by, at_moment, own_change}
 
 abbrev pub change_of : Sourced → Change
@@ -35,10 +37,10 @@ abbrev pub took_all : {H : Type 0} → Node H → List Sourced → Node H
 took_all node [] = node
 took_all node (s ∷ ss) = took_all (took node s) ss
 
--- what a given change is refused for: it calls for a refutation past the greatest incarnation, or for an entry past the greatest number of them
+-- what a given change is refused for: it calls for a refutation and its incarnation is the greatest, or for an entry past the greatest number of them
 abbrev pub refusal : {H : Type 0} → Node H → Change → Option StopCause
 refusal node c =
-    cond (is_refuted node.own (greatest node.members node.own) c && (c.incarnation == greatest_number))
+    cond (is_refuted node.own (greatest node.members node.own) c && not (nat_lt c.incarnation greatest_number))
     (Some Exhausted)
     (cond (is_none (greatest node.members c.address) && (length node.members == node.config.max_members)) (Some Full) None)
 
@@ -72,3 +74,24 @@ pub record TakesFirst {H : Type 0} (old : Node H) (given : List Sourced) (stoppe
 abbrev pub TakeStep : {H : Type 0} → Node H → List Sourced → ℕ → Result Taken Stopped → Node H → Type 0
 TakeStep old given moment (Ok taken) new = TakesAll (at_moment old moment) given taken new
 TakeStep old given moment (Err stopped) new = TakesFirst (at_moment old moment) given stopped new
+
+-- what one given change that is taken does: nothing, an alteration, or a refutation
+abbrev pub altered_in : Effect → ℕ
+altered_in Unaltered = 0
+altered_in Applied = 1
+altered_in Refuted = 1
+
+abbrev pub refuted_by : Effect → ℕ
+refuted_by Unaltered = 0
+refuted_by Applied = 0
+refuted_by Refuted = 1
+
+pub record TakesOne {H : Type 0} (old : Node H) (s : Sourced) (effect : Effect) (new : Node H) : Type 0 where
+  pub none_refused : refusal old s.change ≡ None
+  pub applied_is : altered_in effect ≡ one_if (alters (greatest old.members s.change.address) s.change)
+  pub refuted_is : refuted_by effect ≡ one_if (is_refuted old.own (greatest old.members old.own) s.change)
+  pub new_is : new ≡ took old s
+
+pub record StopsOne {H : Type 0} (old : Node H) (s : Sourced) (cause : StopCause) (new : Node H) : Type 0 where
+  pub stops : StopsFor old s cause
+  pub same : new ≡ old

@@ -1,4 +1,9 @@
-use change_core::Weight;
+ghost use Rattle.std.specs.Prelude.{◌≡◌, IsTrue, ◌↔◌};
+ghost use Rattle.node_core.specs.Configs.{bad_field, standard};
+
+use change_core::{GREATEST_NUMBER, MOST_MEMBERS, Weight};
+use gossip_core::MOST_FACTOR;
+use hash_ring::MOST_REPLICAS;
 
 /// What a node is made with, beside its address and its hash.
 #[derive(Clone, Copy, Debug, PartialEq, Eq)]
@@ -34,4 +39,58 @@ pub enum ConfigField {
     Helpers,
     Piggyback,
     PerMessage,
+}
+
+/// How many helpers may be asked about a lost target at most.
+const MOST_HELPERS: usize = 16;
+
+impl Config {
+    /// What serves most clusters: 100 points of the ring for each unit of weight, up to 4,096 members, 5 seconds until a
+    /// suspect is faulty and a day until it is a tombstone, 3 helpers, 15 times passed on for each digit of the number of
+    /// serving members, 64 changes in a message, and the weight 1. All of them are this project's own.
+    pub fn standard() -> Self
+        ensures { result ≡ standard }
+    {
+        let Some(weight) = Weight::new(1) else {
+            unreachable!()
+        };
+        Config {
+            replicas: 100,
+            max_members: MOST_MEMBERS,
+            suspect_ms: 5_000,
+            faulty_ms: 86_400_000,
+            helpers: 3,
+            piggyback: 15,
+            per_message: 64,
+            weight,
+        }
+    }
+
+    /// The first field that is out of its range, in the order in which they stand.
+    pub(crate) fn bad_field(&self) -> Option<ConfigField>
+        ensures { result ≡ bad_field self.now }
+    {
+        if self.replicas < 1 || self.replicas > MOST_REPLICAS {
+            return Some(ConfigField::Replicas);
+        }
+        if self.max_members < 1 || self.max_members > MOST_MEMBERS {
+            return Some(ConfigField::MaxMembers);
+        }
+        if self.suspect_ms < 1 || self.suspect_ms > GREATEST_NUMBER {
+            return Some(ConfigField::SuspectMs);
+        }
+        if self.faulty_ms < 1 || self.faulty_ms > GREATEST_NUMBER {
+            return Some(ConfigField::FaultyMs);
+        }
+        if self.helpers > MOST_HELPERS {
+            return Some(ConfigField::Helpers);
+        }
+        if self.piggyback < 1 || self.piggyback > MOST_FACTOR {
+            return Some(ConfigField::Piggyback);
+        }
+        if self.per_message < 1 || self.per_message > MOST_MEMBERS {
+            return Some(ConfigField::PerMessage);
+        }
+        None
+    }
 }

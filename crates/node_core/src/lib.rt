@@ -2,12 +2,17 @@
 #![tactic(auto)]
 
 mod configs;
+mod edits;
 mod errors;
 mod events;
+mod expiring;
 pub mod laws;
 mod lists;
+mod node;
+mod taking;
 
 pub use configs::{Config, ConfigField};
 pub use errors::NodeError;
 pub use events::{Event, NodeLost, NodeOutcome, Received, Reply, StopCause, Stopped, Taken};
 pub use lists::{ChangeList, KeyBytes};
+pub use node::NodeState;

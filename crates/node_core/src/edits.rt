@@ -1,0 +1,202 @@
+//! One alteration, in every part or in none: each growth is made before the first part is edited.
+ghost use Rattle.std.specs.Prelude.{◌≡◌, ◌⊎◌, ◌<◌, ◌&&◌, not, [], ◌∷◌, ◌++◌, length, cond, true, false, None, Some, OnOk, OnErr, IsOkUnless};
+ghost use Rattle.std.specs.Option.{option_map_or};
+ghost use Rattle.change_core.specs.declared.changes.Change.{Change};
+ghost use Rattle.change_core.specs.Members.{greatest, members as members_of};
+ghost use Rattle.change_core.specs.Status.{is_serving};
+ghost use Rattle.detector_core.specs.Timers.{HasTimer};
+ghost use Rattle.gossip_core.specs.Dissemination.{with_news, adjusted};
+ghost use Rattle.hash_ring.specs.RingModel.{HasRoom, ring_of};
+ghost use Rattle.hash_ring.specs.Servers.{with_server, without};
+ghost use Rattle.hash_ring.specs.Serving.{server_of};
+ghost use Rattle.member_core.specs.Membership.{IsMembership};
+ghost use Rattle.node_core.specs.Configs.{IsConfig};
+ghost use Rattle.node_core.specs.Edits.{entry_in, IsTimed, MayEdit};
+ghost use Rattle.node_core.specs.Node.{has_deadline, is_timed, next_status, timers_with, wait_for};
+
+use crate::configs::Config;
+use crate::errors::NodeError;
+use change_core::{Address, Change, Entry, Moment, Sourced, Status};
+use detector_core::Timers;
+use gossip_core::Gossip;
+use hash_ring::{PointHash, Ring};
+use member_core::{Members, Verdict};
+
+/// What is put into the membership: what it says of a given change, or what the node asserts of itself.
+#[derive(Clone, Copy, Debug)]
+pub(crate) enum Edit {
+    Judged(Verdict),
+    Own(Change),
+}
+
+/// Puts in what an edit says. For an unknown address room was made.
+fn edit_members(members: &mut Members, edit: Edit)
+    requires valid { IsMembership members.old.own members.old.members members.old.max }
+    requires may { MayEdit members.old edit }
+    requires room { (c : Change) → entry_in edit ≡ Some c → greatest members.old.members c.address ≡ None → 0 < members.old.room }
+    ensures value { (c : Change) → entry_in edit ≡ Some c → members.new.members ≡ members_of (members.old.members ++ c ∷ []) }
+    ensures own { members.new.own.address ≡ members.old.own.address }
+    ensures max { members.new.max ≡ members.old.max }
+    ensures valid { IsMembership members.new.own members.new.members members.new.max }
+{
+    match edit {
+        Edit::Judged(verdict) => members.commit(verdict),
+        Edit::Own(change) => members.commit_own(change),
+    }
+}
+
+/// The ring has a member exactly where it serves.
+fn edit_ring<H: PointHash>(ring: &mut Ring<H>, change: &Change)
+    requires room { is_serving change.now.status ≡ true → HasRoom ring.old (server_of change.now) }
+    ensures { ring.new ≡ ring_of ring.old.hash (H.hash_of ring.old.hash) ring.old.replicas
+        (cond (is_serving change.now.status) (with_server (server_of change.now) ring.old.servers) (without change.now.address ring.old.servers)) ring.new.room }
+{
+    if change.status.serving() {
+        ring.add(change.address, change.weight);
+    } else {
+        ring.remove(change.address);
+    }
+}
+
+/// What an entry becomes, and after how many milliseconds.
+fn next_of(config: &Config, status: Status) -> Option<(Status, u64)>
+    ensures { result ≡ cond (has_deadline status) (Some (record { 0 = next_status status; 1 = wait_for config.now status })) None }
+{
+    match status {
+        Status::Suspect => Some((Status::Faulty, config.suspect_ms)),
+        Status::Faulty => Some((Status::Tombstone, config.faulty_ms)),
+        Status::Alive | Status::Leave | Status::Tombstone => None,
+    }
+}
+
+/// Whether entries of this status have a deadline.
+fn has_deadline(status: Status) -> bool
+    ensures { result ≡ has_deadline status }
+{
+    matches!(status, Status::Suspect | Status::Faulty)
+}
+
+/// Whether a timer is to be made for an entry: it has a deadline and is another's, and what is held had none.
+fn wants_timer(own: Address, change: &Change, held: Option<Entry>) -> bool
+    ensures { result ≡ (is_timed own change.now && not (option_map_or (λ e. has_deadline e.status) held false)) }
+{
+    let waits = match held {
+        Some(entry) => has_deadline(entry.status),
+        None => false,
+    };
+    has_deadline(change.status) && change.address != own && !waits
+}
+
+/// A timer runs exactly for another's suspect or faulty entry.
+fn edit_timers(timers: &mut Timers, own: Address, config: &Config, moment: Moment, change: &Change)
+    requires room { is_timed own change.now ≡ true → (0 < timers.old.room) ⊎ HasTimer timers.old.timers change.now.address }
+    requires configured { IsConfig config.now }
+    ensures { timers.new.timers ≡ timers_with own config.now moment timers.old.timers change.now }
+{
+    match next_of(config, change.status) {
+        Some((next, wait)) if change.address != own => {
+            timers.set(
+                change.address,
+                change.incarnation,
+                next,
+                moment.number() + wait,
+            );
+        }
+        _ => {
+            timers.clear(change.address);
+        }
+    }
+}
+
+/// Makes room for the timer of an entry, where it wants one.
+fn reserve_timer(
+    timers: &mut Timers,
+    own: Address,
+    change: &Change,
+    held: Option<Entry>,
+) -> Result<(), NodeError>
+    requires timed { is_timed own change.now ≡ true → option_map_or (λ e. has_deadline e.status) held false ≡ true
+        → HasTimer timers.old.timers change.now.address }
+    ensures timers { timers.new.timers ≡ timers.old.timers }
+    ensures room { OnOk result (is_timed own change.now ≡ true → (0 < timers.new.room) ⊎ HasTimer timers.new.timers change.now.address) }
+    ensures refusal { IsOkUnless result NodeError.Memory }
+{
+    if !wants_timer(own, change, held) {
+        return Ok(());
+    }
+    timers.reserve_one()?;
+    Ok(())
+}
+
+/// Makes room in each part that the news needs it in, and then makes the news pending: the last growth, and the first
+/// edit.
+fn make_room<H: PointHash>(
+    members: &mut Members,
+    ring: &mut Ring<H>,
+    gossip: &mut Gossip,
+    timers: &mut Timers,
+    news: &Sourced,
+) -> Result<(), NodeError>
+    requires timed { IsTimed members.old.own.address members.old.members timers.old.timers news.now.change.address }
+    ensures members { members.new ≡ record members.old { room = members.new.room } }
+    ensures ring { ring.new ≡ record ring.old { room = ring.new.room } }
+    ensures timers { timers.new.timers ≡ timers.old.timers }
+    ensures members_room { OnOk result (greatest members.old.members news.now.change.address ≡ None → 0 < members.new.room) }
+    ensures ring_room { OnOk result (is_serving news.now.change.status ≡ true → HasRoom ring.new (server_of news.now.change)) }
+    ensures timers_room { OnOk result (is_timed members.old.own.address news.now.change ≡ true
+        → (0 < timers.new.room) ⊎ HasTimer timers.new.timers news.now.change.address) }
+    ensures put { OnOk result (gossip.new ≡ with_news gossip.old news.now) }
+    ensures err { OnErr result (gossip.new ≡ gossip.old) }
+    ensures refusal { IsOkUnless result NodeError.Memory }
+{
+    let change = &news.change;
+    let own = members.own();
+    let held = members.get(change.address);
+    if held.is_none() {
+        members.reserve_one()?;
+    }
+    if change.status.serving() {
+        ring.reserve_for(change.address, change.weight)?;
+    }
+    reserve_timer(timers, own.address, change, held)?;
+    gossip.put(*news)?;
+    Ok(())
+}
+
+/// Makes one alteration in every part, or none in any. Only room may have been made then.
+pub(crate) fn alter_parts<H: PointHash>(
+    members: &mut Members,
+    ring: &mut Ring<H>,
+    gossip: &mut Gossip,
+    timers: &mut Timers,
+    config: &Config,
+    moment: Moment,
+    edit: Edit,
+    news: &Sourced,
+) -> Result<(), NodeError>
+    requires valid { IsMembership members.old.own members.old.members members.old.max }
+    requires may { MayEdit members.old edit }
+    requires entry { entry_in edit ≡ Some news.now.change }
+    requires timed { IsTimed members.old.own.address members.old.members timers.old.timers news.now.change.address }
+    requires configured { IsConfig config.now }
+    ensures ok_members { OnOk result (members.new.members ≡ members_of (members.old.members ++ news.now.change ∷ [])) }
+    ensures own { members.new.own.address ≡ members.old.own.address }
+    ensures max { members.new.max ≡ members.old.max }
+    ensures valid { OnOk result (IsMembership members.new.own members.new.members members.new.max) }
+    ensures ok_ring { OnOk result (ring.new ≡ ring_of ring.old.hash (H.hash_of ring.old.hash) ring.old.replicas
+        (cond (is_serving news.now.change.status) (with_server (server_of news.now.change) ring.old.servers) (without news.now.change.address ring.old.servers)) ring.new.room) }
+    ensures ok_timers { OnOk result (timers.new.timers ≡ timers_with members.old.own.address config.now moment timers.old.timers news.now.change) }
+    ensures ok_gossip { OnOk result (gossip.new ≡ adjusted (with_news gossip.old news.now) (length ring.new.servers)) }
+    ensures err_members { OnErr result (members.new ≡ record members.old { room = members.new.room }) }
+    ensures err_ring { OnErr result (ring.new ≡ record ring.old { room = ring.new.room }) }
+    ensures err_rest { OnErr result ((timers.new.timers ≡ timers.old.timers) × (gossip.new ≡ gossip.old)) }
+    ensures refusal { IsOkUnless result NodeError.Memory }
+{
+    make_room(members, ring, gossip, timers, news)?;
+    edit_members(members, edit);
+    edit_ring(ring, &news.change);
+    let own = members.own();
+    edit_timers(timers, own.address, config, moment, &news.change);
+    gossip.adjust(ring.len());
+    Ok(())
+}

@@ -1,0 +1,164 @@
+//! The node, over its parts.
+ghost use Rattle.std.specs.Prelude.{◌≡◌, ◌↔◌, Some, None, Err, length, option_map, IfOk, IfErr, OnOk, OnErr, IsOkUnless};
+ghost use Rattle.change_core.specs.Change.{entry_of};
+ghost use Rattle.change_core.specs.Members.{greatest};
+ghost use Rattle.detector_core.specs.Choices.{seeded};
+ghost use Rattle.node_core.specs.declared.configs.ConfigField.{ConfigField};
+ghost use Rattle.node_core.specs.Configs.{bad_field};
+ghost use Rattle.node_core.specs.Edits.{entry_in, membership_of, MayEdit};
+ghost use Rattle.node_core.specs.Invariant.{IsSeen};
+ghost use Rattle.node_core.specs.Node.{altered, asserted_by, own_change};
+ghost use Rattle.node_core.specs.Parts.{seen_of};
+ghost use Rattle.node_core.specs.World.{newborn};
+
+use crate::configs::Config;
+use crate::edits::{Edit, alter_parts};
+use crate::errors::NodeError;
+use change_core::{Address, Change, Entry, Incarnation, Moment, Sourced};
+use detector_core::{Prober, Timers};
+use gossip_core::Gossip;
+use hash_ring::{PointHash, Ring};
+use member_core::Members;
+use std::alloc::Global;
+use std::marker::Model;
+
+/// The node of one thread: the members as it holds them, the ring of those that serve, what it still passes on, the
+/// deadlines of others' suspect and faulty entries, and its probe (SWIM, DSN 2002; ringpop-go, package swim). It is
+/// handed each moment and reads no clock. Contracts see the node and the points of its ring.
+#[derive(Drop)]
+pub struct NodeState<H: PointHash> {
+    pub(crate) config: Config,
+    pub(crate) members: Members,
+    pub(crate) ring: Ring<H>,
+    pub(crate) gossip: Gossip,
+    pub(crate) timers: Timers,
+    pub(crate) prober: Prober,
+    pub(crate) moment: Moment,
+    pub(crate) alloc: Global,
+}
+
+impl<H: PointHash> Model for NodeState<H> {
+    ghost use Rattle.node_core.specs.Node.{Seen};
+    ghost use Rattle.node_core.specs.Parts.{AreParts, seen_in};
+
+    ghost Value = { Seen H };
+
+    ghost view = { λ a. seen_in (record {
+      config = a.config;
+      members = a.members;
+      ring = a.ring;
+      gossip = a.gossip;
+      timers = a.timers;
+      probing = a.prober;
+      moment = a.moment;
+    }) };
+
+    ghost invariant = { λ a. AreParts H.hash_of (record {
+      config = a.config;
+      members = a.members;
+      ring = a.ring;
+      gossip = a.gossip;
+      timers = a.timers;
+      probing = a.prober;
+      moment = a.moment;
+    }) };
+}
+
+impl<H: PointHash> NodeState<H> {
+    /// A node alone in its cluster, alive at this incarnation with the weight of the configuration. `seed` decides its
+    /// random choices, and `moment` is the first that it knows.
+    ///
+    /// Errors: `BadConfig` with the first field that is out of its range, before memory is asked for; `Memory`.
+    pub fn new(
+        alloc: Global,
+        config: Config,
+        hash: H,
+        own: Address,
+        incarnation: Incarnation,
+        seed: u64,
+        moment: Moment,
+    ) -> Result<Self, NodeError>
+        ensures newborn { IfOk result (λ n. n ≡ seen_of H.hash_of (newborn hash config own incarnation moment (seeded seed))) }
+        ensures bad_config { (field : ConfigField) → (result ≡ Err (NodeError.BadConfig field)) ↔ (bad_field config ≡ Some field) }
+        ensures refusal { IfErr result (λ e. bad_field config ≡ None → e ≡ NodeError.Memory) }
+    {
+        if let Some(field) = config.bad_field() {
+            return Err(NodeError::BadConfig(field));
+        }
+        let members = Members::new(alloc, own, incarnation, config.weight, config.max_members)?;
+        let mut ring = Ring::new(alloc, hash, config.replicas)?;
+        ring.reserve_for(own, config.weight)?;
+        ring.add(own, config.weight);
+        let mut gossip = Gossip::new(alloc, config.piggyback)?;
+        let birth = members.own();
+        gossip.put(asserted(&birth))?;
+        Ok(NodeState {
+            config,
+            members,
+            ring,
+            gossip,
+            timers: Timers::new(alloc),
+            prober: Prober::new(alloc, seed, config.helpers, 0),
+            moment,
+            alloc,
+        })
+    }
+
+    /// How many members the node holds, itself among them.
+    pub fn len(&self) -> usize
+        ensures count { result ≡ length self.now.node.members }
+        // What holds of a node between any two calls.
+        ensures whole { IsSeen H.hash_of self.now }
+    {
+        self.members.len()
+    }
+
+    /// What the node holds of itself, as a change.
+    pub fn own(&self) -> Change
+        ensures { result ≡ own_change self.now.node }
+    {
+        self.members.own()
+    }
+
+    /// What the node holds of an address.
+    pub fn member(&self, address: Address) -> Option<Entry>
+        ensures { result ≡ option_map entry_of (greatest self.now.node.members address) }
+    {
+        self.members.get(address)
+    }
+}
+
+impl<H: PointHash> NodeState<H> {
+    /// Makes one alteration in every part, or none in any.
+    pub(crate) fn alter(&mut self, edit: Edit, news: &Sourced) -> Result<(), NodeError>
+        requires may { MayEdit (membership_of self.old.node) edit }
+        requires entry { entry_in edit ≡ Some news.now.change }
+        ensures ok { OnOk result (self.new.node ≡ altered self.old.node news.now) }
+        ensures err { OnErr result (self.new ≡ self.old) }
+        ensures refusal { IsOkUnless result NodeError.Memory }
+    {
+        let config = self.config;
+        let moment = self.moment;
+        alter_parts(
+            &mut self.members,
+            &mut self.ring,
+            &mut self.gossip,
+            &mut self.timers,
+            &config,
+            moment,
+            edit,
+            news,
+        )
+    }
+}
+
+/// A change of the node's own entry, said by itself.
+pub(crate) fn asserted(change: &Change) -> Sourced
+    ensures { result ≡ asserted_by change.now.address change.now }
+{
+    Sourced {
+        change: *change,
+        source: change.address,
+        source_incarnation: change.incarnation,
+    }
+}

@@ -16,3 +16,4 @@ pub mod Synchronisation
 pub mod Invariant
 pub mod Parts
 pub mod World
+pub mod Viewing

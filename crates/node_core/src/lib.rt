@@ -10,9 +10,11 @@ pub mod laws;
 mod lists;
 mod node;
 mod taking;
+mod views;
 
 pub use configs::{Config, ConfigField};
 pub use errors::NodeError;
 pub use events::{Event, NodeLost, NodeOutcome, Received, Reply, StopCause, Stopped, Taken};
 pub use lists::{ChangeList, KeyBytes};
 pub use node::NodeState;
+pub use views::View;

@@ -143,7 +143,7 @@ module _ {H : Type 0} (hash_of : H → List ℕ → ℕ) (old : Node H) (settled
   Follows-step call.Probe (answer.Probe (Ok None)) new step = same new step.3
   Follows-step call.Probe (answer.Probe (Err error.Busy)) new step = same new step.1
   Follows-step call.Probe (answer.Probe (Err error.Spent)) new step = same new step.2
-  Follows-step call.Probe (answer.Probe (Err error.Memory)) new step = same new step.4
+  Follows-step call.Probe (answer.Probe (Err error.Memory)) new step = same new step.3
   Follows-step (call.Acked number) (answer.Acked (Ok done)) new step = Follows-kept old new (ended old) settled refl refl step.1
   Follows-step (call.Acked number) (answer.Acked (Err error.StaleProbe)) new step = same new step.1
   Follows-step (call.Lost number moment) (answer.Lost (Ok (lost.Ask helpers))) new step = Follows-kept old new _ settled refl refl step.3

@@ -334,7 +334,7 @@ module _ {H : Type 0} (old : Node H) (kept : IsNode old) where
   step_kept hash_of call.Probe (answer.Probe (Ok None)) new step = is_kept old new step.3 kept
   step_kept hash_of call.Probe (answer.Probe (Err error.Busy)) new step = is_kept old new step.1 kept
   step_kept hash_of call.Probe (answer.Probe (Err error.Spent)) new step = is_kept old new step.2 kept
-  step_kept hash_of call.Probe (answer.Probe (Err error.Memory)) new step = is_kept old new step.4 kept
+  step_kept hash_of call.Probe (answer.Probe (Err error.Memory)) new step = is_kept old new step.3 kept
   step_kept hash_of (call.Acked number) (answer.Acked (Ok done)) new step = is_kept _ new step.1 (ended_kept old kept)
   step_kept hash_of (call.Acked number) (answer.Acked (Err error.StaleProbe)) new step = is_kept old new step.1 kept
   step_kept hash_of (call.Lost number moment) (answer.Lost (Ok (lost.Ask helpers))) new step =

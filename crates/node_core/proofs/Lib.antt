@@ -22,3 +22,7 @@ pub mod Judge
 pub mod Expiry
 pub mod Batch
 pub mod RunLoop
+pub mod Pinging
+pub mod Issuing
+pub mod Suspecting
+pub mod Answering

@@ -379,7 +379,7 @@ module _ {H : Type 0} (A : List Change) (old : Node H) (sound : IsSound A old) w
   step_sound hash_of ms call.Probe (answer.Probe (Ok None)) new told comes step = quiet _ _ old new refl refl refl step.3 sound
   step_sound hash_of ms call.Probe (answer.Probe (Err error.Busy)) new told comes step = quiet _ _ old new refl refl refl step.1 sound
   step_sound hash_of ms call.Probe (answer.Probe (Err error.Spent)) new told comes step = quiet _ _ old new refl refl refl step.2 sound
-  step_sound hash_of ms call.Probe (answer.Probe (Err error.Memory)) new told comes step = quiet _ _ old new refl refl refl step.4 sound
+  step_sound hash_of ms call.Probe (answer.Probe (Err error.Memory)) new told comes step = quiet _ _ old new refl refl refl step.3 sound
   step_sound hash_of ms (call.Acked number) (answer.Acked (Ok done)) new told comes step = quiet _ _ _ new refl refl refl step.1 (ended_sound A old sound)
   step_sound hash_of ms (call.Acked number) (answer.Acked (Err error.StaleProbe)) new told comes step = quiet _ _ old new refl refl refl step.1 sound
   step_sound hash_of ms (call.Lost number moment) (answer.Lost (Ok (lost.Ask helpers))) new told comes step =

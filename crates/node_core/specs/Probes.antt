@@ -11,7 +11,6 @@ use Rattle.detector_core.specs.declared.asked.Said.{Said}
 use Rattle.detector_core.specs.declared.errors.DetectorError.TheVariants as detector
 use Rattle.detector_core.specs.declared.prober.Lost.TheVariants.{Ask}
 use Rattle.detector_core.specs.declared.prober.Probe.{Probe}
-use Rattle.detector_core.specs.Order.{near}
 use Rattle.detector_core.specs.Picks.{IsPick, WasLost}
 use Rattle.detector_core.specs.Probing.{running_target, unasked_target, helper_count, would_say, after_saying}
 use Rattle.node_core.specs.declared.errors.NodeError.{NodeError}
@@ -29,8 +28,7 @@ ProbeStep old (Ok (Some pick)) new =
 ProbeStep old (Ok None) new = (old.probing.running ≡ None) × (old.probing.last < greatest_number) × (pingable old ≡ []) × (new ≡ old)
 ProbeStep old (Err error.Busy) new = IsSome old.probing.running × (new ≡ old)
 ProbeStep old (Err error.Spent) new = (old.probing.running ≡ None) × (old.probing.last ≡ greatest_number) × (new ≡ old)
-ProbeStep old (Err error.Memory) new =
-    (old.probing.running ≡ None) × (old.probing.last < greatest_number) × (pingable old ≢ []) × (near (pingable old) old.probing.rest ≡ []) × (new ≡ old)
+ProbeStep old (Err error.Memory) new = (old.probing.running ≡ None) × (old.probing.last < greatest_number) × (pingable old ≢ []) × (new ≡ old)
 ProbeStep old (Err other) new = ⊥
 
 -- the node with no probe running

@@ -8,6 +8,8 @@ mod events;
 mod expiring;
 pub mod laws;
 mod lists;
+mod lookups;
+mod makers;
 mod node;
 mod taking;
 mod views;

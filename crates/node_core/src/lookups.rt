@@ -1,0 +1,79 @@
+//! What a node answers of its members and its ring. Nothing changes.
+ghost use Rattle.std.specs.Prelude.{◌≡◌, take, slice_get};
+ghost use Rattle.change_core.specs.Members.{digest_text};
+ghost use Rattle.detector_core.specs.Picks.{running_of};
+ghost use Rattle.node_core.specs.Messages.{digest_of};
+ghost use Rattle.node_core.specs.Step.{Answers, owners_by};
+ghost use Rattle.node_core.specs.Viewing.{view_of};
+
+use crate::errors::NodeError;
+use crate::lists::ChangeList;
+use crate::node::NodeState;
+use crate::views::View;
+use change_core::{Address, Digest};
+use detector_core::{Addresses, Running};
+use hash_ring::PointHash;
+use wire_json::Text;
+
+impl<H: PointHash> NodeState<H> {
+    /// The owner of a key: of the serving members the one nearest to it (ringpop-go, package hashring). None exactly where
+    /// none serves. It takes no memory and hashes the key alone.
+    pub fn owner(&self, key: &[u8]) -> Option<Address>
+        ensures { result ≡ slice_get (owners_by H.hash_of self.now.node key.now) 0 }
+    {
+        self.ring.owner(key)
+    }
+
+    /// The first `count` owners of a key, the owner first, or all serving members where there are fewer.
+    ///
+    /// Errors: `Memory`, for the list.
+    pub fn owners(&self, key: &[u8], count: usize) -> Result<Addresses, NodeError>
+        ensures { Answers (take count (owners_by H.hash_of self.now.node key.now)) result }
+    {
+        Ok(Addresses::from_vec(self.ring.owners(key, count)?))
+    }
+
+    /// The members, ascending by address.
+    ///
+    /// Errors: `Memory`, for the list.
+    pub fn members(&self) -> Result<ChangeList, NodeError>
+        ensures { Answers self.now.node.members result }
+    {
+        Ok(ChangeList::from_vec(self.members.list()?))
+    }
+
+    /// The members as one line of text, which no other member list has (own).
+    ///
+    /// Errors: `Memory`, for the text.
+    pub fn digest_text(&self) -> Result<Text, NodeError>
+        ensures { Answers (digest_text self.now.node.members) result }
+    {
+        Ok(Text::from_string(self.members.digest_text()?))
+    }
+
+    /// The SHA-256 of the digest text (FIPS 180-4).
+    ///
+    /// Errors: `Memory`, for the text.
+    pub fn digest(&self) -> Result<Digest, NodeError>
+        ensures { Answers (digest_of self.now.node.members) result }
+    {
+        Ok(self.members.digest()?)
+    }
+
+    /// A copy of the ring, which names the owners of keys as the node does now. The points are copied, and nothing is
+    /// hashed.
+    ///
+    /// Errors: `Memory`, for the copy.
+    pub fn view(&self) -> Result<View<H>, NodeError>
+        ensures { Answers (view_of self.now.node) result }
+    {
+        View::of(self.members.own().address, &self.ring)
+    }
+
+    /// The probe that runs, with the helper of least address that was asked and has not answered.
+    pub fn running(&self) -> Option<Running>
+        ensures { result ≡ running_of self.now.node.probing }
+    {
+        self.prober.running()
+    }
+}

@@ -11,6 +11,8 @@ mod lists;
 mod lookups;
 mod makers;
 mod node;
+mod pingable;
+mod probes;
 mod taking;
 mod views;
 

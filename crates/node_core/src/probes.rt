@@ -1,0 +1,203 @@
+//! A node's probes (SWIM, DSN 2002, section 3.1).
+ghost use Rattle.std.specs.Prelude.{◌≡◌, ◌≢◌, ◌<◌, ℕ, [], not, None, Some, Ok, Err, IfErr, IfOk, OnErr, OnOk, IsOk, IsSome, IsOkUnless, IsTrue};
+ghost use Rattle.std.specs.List.Sorted.{IsStrictlyIncreasing};
+ghost use Rattle.change_core.specs.Members.{greatest};
+ghost use Rattle.change_core.specs.Numbers.{greatest_number};
+ghost use Rattle.detector_core.specs.Probing.{after_saying, helper_count, unasked_target, would_say};
+ghost use Rattle.detector_core.specs.declared.asked.Outcome.{Outcome};
+ghost use Rattle.node_core.specs.Node.{at_moment, pingable};
+ghost use Rattle.node_core.specs.Probes.{AckedStep, HelperStep, LostStep, ProbeStep, put_in, suspicion, suspicion_in};
+
+use crate::errors::NodeError;
+use crate::events::{NodeLost, NodeOutcome};
+use crate::node::NodeState;
+use crate::pingable::{can_ask, list_pingable};
+use change_core::{Address, Change, Moment, Status};
+use detector_core::{Lost, Outcome, Probe, Said};
+use hash_ring::PointHash;
+use member_core::Members;
+
+impl<H: PointHash> NodeState<H> {
+    /// Begins a probe of the next member in turn, or answers None where nobody can be pinged (SWIM, section 4.3).
+    ///
+    /// Errors: `Busy`, a probe runs; `Spent`, no probe number is left; `Memory`, for the list of those that can be pinged
+    /// or for a new order of them. The node is then as before.
+    pub fn probe(&mut self) -> Result<Option<Probe>, NodeError>
+        ensures step { ProbeStep self.old.node result self.new.node }
+    {
+        self.may_probe()?;
+        let pingable = self.pingable()?;
+        self.pick(&pingable)
+    }
+
+    /// Ends a probe whose target was reached.
+    ///
+    /// Errors: `StaleProbe`, it is not the running one.
+    pub fn acked(&mut self, number: u64) -> Result<(), NodeError>
+        ensures step { AckedStep self.old.node number result self.new.node }
+    {
+        self.prober.acked(number)?;
+        Ok(())
+    }
+
+    /// Gives a probe up at a moment. Other members are to be asked about its target, as many as the configuration says or
+    /// all there are; where there are none the target is suspect at once (own).
+    ///
+    /// Errors: `StaleProbe`, it is not the running one, or helpers were asked already; `Memory`. The node is then as before.
+    pub fn lost(&mut self, number: u64, moment: Moment) -> Result<NodeLost, NodeError>
+        ensures step { LostStep self.old.node number moment result self.new.node }
+    {
+        let Some(target) = self.prober.unasked_target(number) else {
+            return Err(NodeError::StaleProbe);
+        };
+        if self.can_ask(target) {
+            return self.ask(number, moment);
+        }
+        let change = self.suspect(target, moment)?;
+        // With nobody to ask the prober ends the probe.
+        self.prober.lost(number, &[])?;
+        Ok(NodeLost::Suspect(change))
+    }
+
+    /// Notes at a moment what a helper said of a target. Where the verdict is that the target is suspect, it is held so.
+    ///
+    /// Errors: `StaleProbe`, it is not the running probe; `NotAsked`, this helper was not asked, or has answered; `Memory`,
+    /// for the suspicion. The node is then as before.
+    pub fn helper_said(
+        &mut self,
+        number: u64,
+        helper: Address,
+        said: Said,
+        moment: Moment,
+    ) -> Result<NodeOutcome, NodeError>
+        ensures step { HelperStep self.old.node number helper said moment result self.new.node }
+    {
+        match self.prober.would_say(number, helper, said)? {
+            Outcome::Waiting => {
+                self.note(number, helper, said, moment);
+                Ok(NodeOutcome::Waiting)
+            }
+            Outcome::Reached => {
+                self.note(number, helper, said, moment);
+                Ok(NodeOutcome::Reached)
+            }
+            Outcome::Inconclusive => {
+                self.note(number, helper, said, moment);
+                Ok(NodeOutcome::Inconclusive)
+            }
+            Outcome::Suspect => {
+                let Some(target) = self.prober.target_of(number) else {
+                    unreachable!()
+                };
+                let change = self.suspect(target, moment)?;
+                self.note(number, helper, said, moment);
+                Ok(NodeOutcome::Suspect(change))
+            }
+        }
+    }
+
+    /// Whether a probe may begin, were there anybody to ping. With nobody to ping the prober takes no memory, and answers
+    /// its other refusals alone.
+    fn may_probe(&mut self) -> Result<(), NodeError>
+        ensures free { OnOk result ((self.old.node.probing.running ≡ None) × (self.old.node.probing.last < greatest_number)) }
+        ensures refusal { IfErr result (λ e. ProbeStep self.old.node (Err e) self.old.node) }
+        ensures same { self.new ≡ self.old }
+    {
+        self.prober.next_target(&[])?;
+        Ok(())
+    }
+
+    /// Begins a probe of the next of those that can be pinged.
+    fn pick(&mut self, targets: &[Address]) -> Result<Option<Probe>, NodeError>
+        requires { targets.now ≡ pingable self.old.node }
+        ensures step { ProbeStep self.old.node result self.new.node }
+    {
+        Ok(self.prober.next_target(targets)?)
+    }
+
+    /// Asks helpers about the target of a lost probe.
+    fn ask(&mut self, number: u64, moment: Moment) -> Result<NodeLost, NodeError>
+        requires somebody { (target : ℕ) × (unasked_target self.old.node.probing number ≡ Some target)
+            × (0 < helper_count self.old.node.probing (pingable self.old.node) target) }
+        ensures step { LostStep self.old.node number moment result self.new.node }
+    {
+        let pingable = self.pingable()?;
+        match self.prober.lost(number, &pingable)? {
+            Lost::Ask(helpers) => {
+                self.advance(moment);
+                Ok(NodeLost::Ask(helpers))
+            }
+            Lost::NoHelper => unreachable!(),
+        }
+    }
+
+    /// Whether anyone may be asked about a target.
+    fn can_ask(&self, target: Address) -> bool
+        ensures some { IsTrue result → 0 < helper_count self.now.node.probing (pingable self.now.node) target }
+        ensures none { IsTrue (not result) → helper_count self.now.node.probing (pingable self.now.node) target ≡ 0 }
+    {
+        let own = self.members.own();
+        can_ask(
+            self.members.as_slice(),
+            own.address,
+            target,
+            self.config.helpers,
+        )
+    }
+
+    /// Tells the prober what a helper said, at a moment.
+    fn note(&mut self, number: u64, helper: Address, said: Said, moment: Moment)
+        requires { IsOk (would_say self.old.node.probing number helper said) }
+        ensures { (outcome : Outcome) → would_say self.old.node.probing number helper said ≡ Ok outcome
+            → self.new.node ≡ record (at_moment self.old.node moment) { probing = after_saying self.old.node.probing helper said outcome } }
+    {
+        self.advance(moment);
+        let Ok(_) = self.prober.helper_said(number, helper, said) else {
+            unreachable!()
+        };
+    }
+
+    /// Holds a target as suspect from a moment on, at its incarnation, where it is held as alive.
+    fn suspect(&mut self, target: Address, moment: Moment) -> Result<Option<Change>, NodeError>
+        requires other { target ≢ self.old.node.own }
+        ensures change { IfOk result (λ change. change ≡ suspicion self.old.node target) }
+        ensures put { IfOk result (λ change. self.new.node ≡ put_in (at_moment self.old.node moment) change) }
+        ensures err { OnErr result (self.new ≡ self.old) }
+        ensures growth { OnErr result (IsSome (suspicion self.old.node target)) }
+        ensures refusal { IsOkUnless result NodeError.Memory }
+    {
+        let Some(change) = suspicion_of(&self.members, target) else {
+            self.advance(moment);
+            return Ok(None);
+        };
+        self.say(&change, moment)?;
+        Ok(Some(change))
+    }
+
+    /// The serving members but the node itself, ascending.
+    fn pingable(&self) -> Result<Vec<Address>, NodeError>
+        ensures list { IfOk result (λ v. v.items ≡ pingable self.now.node) }
+        ensures rising { IfOk result (λ v. IsStrictlyIncreasing v.items) }
+        ensures growth { OnErr result (pingable self.now.node ≢ []) }
+        ensures refusal { IsOkUnless result NodeError.Memory }
+    {
+        let own = self.members.own();
+        list_pingable(self.alloc, self.members.as_slice(), own.address)
+    }
+}
+
+/// The suspicion of a member that is held as alive, at its incarnation.
+fn suspicion_of(members: &Members, target: Address) -> Option<Change>
+    ensures { result ≡ suspicion_in (greatest members.now.members target) }
+{
+    let held = members.get(target)?;
+    if held.status != Status::Alive {
+        return None;
+    }
+    Some(Change {
+        address: target,
+        incarnation: held.incarnation,
+        status: Status::Suspect,
+        weight: held.weight,
+    })
+}

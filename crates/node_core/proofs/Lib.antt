@@ -26,3 +26,4 @@ pub mod Pinging
 pub mod Issuing
 pub mod Suspecting
 pub mod Answering
+pub mod Receipts

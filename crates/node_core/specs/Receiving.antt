@@ -6,6 +6,8 @@ use Rattle.wire_json.specs.declared.messages.Content.TheVariants.{Join, Joined, 
 use Rattle.node_core.specs.declared.errors.NodeError.{NodeError}
 use Rattle.node_core.specs.declared.errors.NodeError.TheVariants as error
 use Rattle.node_core.specs.declared.events.Received.{Received}
+use Rattle.node_core.specs.declared.events.Stopped.{Stopped}
+use Rattle.node_core.specs.declared.events.Taken.{Taken}
 use Rattle.node_core.specs.declared.events.Received.TheVariants as received
 use Rattle.node_core.specs.Messages.{carried, joined_by, ack_by, told}
 use Rattle.node_core.specs.Node.{Node}
@@ -42,6 +44,16 @@ is_answered (Forward keys body) = false
 is_answered (Reply body) = false
 is_answered NotOwner = false
 is_answered (Refused reason) = false
+
+-- what a message comes to that wants no answer, by what became of its changes
+abbrev pub as_taken : Result Taken Stopped → Received
+as_taken (Ok taken) = received.Done taken
+as_taken (Err stopped) = received.Stopped stopped
+
+-- what a message comes to whose changes were taken, by its answer
+abbrev pub as_answered : Taken → Result Message NodeError → Received
+as_answered taken (Ok message) = received.Answer taken message
+as_answered taken (Err error) = received.NoAnswer taken
 
 abbrev pub ReceiveStep : {H : Type 0} → Node H → Message → ℕ → Received → Node H → Type 0
 ReceiveStep old message moment (received.Done taken) new =

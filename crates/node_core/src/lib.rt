@@ -13,6 +13,9 @@ mod makers;
 mod node;
 mod pingable;
 mod probes;
+mod receiving;
+mod replies;
+mod runs;
 mod taking;
 mod views;
 
@@ -21,4 +24,6 @@ pub use errors::NodeError;
 pub use events::{Event, NodeLost, NodeOutcome, Received, Reply, StopCause, Stopped, Taken};
 pub use lists::{ChangeList, KeyBytes};
 pub use node::NodeState;
+pub use replies::{Replies, Run, RunRefused};
+pub use runs::run;
 pub use views::View;

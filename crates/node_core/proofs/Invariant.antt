@@ -38,6 +38,7 @@ use Rattle.node_core.specs.declared.events.StopCause.TheVariants.{Exhausted, Ful
 use Rattle.node_core.specs.declared.events.Taken.{Taken}
 use Rattle.node_core.specs.declared.events.Stopped.{Stopped}
 use Rattle.node_core.specs.Asserting.{leaving, rejoining}
+use Rattle.node_core.specs.Calls.{OfEvent, OfView, WithReply, WithView, AllCallsKeepIt}
 use Rattle.node_core.specs.Configs.{IsConfig}
 use Rattle.node_core.specs.Expiring.{is_due, is_reached, timer_of, due, expired}
 use Rattle.node_core.specs.Invariant.{IsNode, IsProbing, CallsKeepIt, Purpose, purpose}
@@ -370,6 +371,11 @@ module _ {H : Type 0} (old : Node H) (kept : IsNode old) where
 
 pub calls_keep_it : {H : Type 0} (hash_of : H → List ℕ → ℕ) → CallsKeepIt hash_of
 calls_keep_it hash_of old new event reply kept step = step_kept old kept hash_of event reply new step
+
+pub all_calls_keep_it : {H : Type 0} (hash_of : H → List ℕ → ℕ) → AllCallsKeepIt hash_of
+all_calls_keep_it hash_of old new (OfEvent event) (WithReply reply) kept step = step_kept old kept hash_of event reply new step
+all_calls_keep_it hash_of old new OfView (WithView result) kept step = is_kept old kept old new step.1 kept
+all_calls_keep_it hash_of old new call answer kept step = elim step [ ]
 
 -- a node that begins meets the invariant
 pub newborn_kept : {H : Type 0} (hash : H) (config : Config) (own incarnation moment : ℕ) (generator : Lcg) → IsConfig config → IsNode (newborn hash config own incarnation moment generator)

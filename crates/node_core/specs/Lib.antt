@@ -17,3 +17,4 @@ pub mod Invariant
 pub mod Parts
 pub mod World
 pub mod Viewing
+pub mod Calls

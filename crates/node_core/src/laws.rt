@@ -4,6 +4,7 @@ ghost use Rattle.change_core.specs.declared.changes.Change.{Change};
 ghost use Rattle.change_core.specs.Members.{members, HaveSameChanges};
 ghost use Rattle.rand_pcg.specs.Lcg.{Lcg};
 ghost use Rattle.node_core.specs.Agreement.{AgreeOnAll, NodesAgree, NodesAnswerByLog};
+ghost use Rattle.node_core.specs.Calls.{AllCallsKeepIt};
 ghost use Rattle.node_core.specs.Configs.{IsConfig};
 ghost use Rattle.node_core.specs.Invariant.{CallsKeepIt, IsNode};
 ghost use Rattle.node_core.specs.Run.{MembersAreLog};
@@ -44,6 +45,8 @@ pub fn node_invariant<H: PointHash>()
     ensures begins { (hash : H) (config : Config) (own incarnation moment : ℕ) (generator : Lcg)
         → IsConfig config → IsNode (newborn hash config own incarnation moment generator) }
     ensures keeps { CallsKeepIt H.hash_of }
+    // And so does the making of a view.
+    ensures views { AllCallsKeepIt H.hash_of }
 {}
 
 /// After any events of nodes and messages, every entry that a node or a message holds is one that its address asserted, or rests

@@ -24,8 +24,8 @@ nodes_synchronise {H} taker giver new moment taken kept given_kept step =
     let given : map change_of (full_sync giver) ≡ giver.members = changes_said giver giver.members in
     let all : new.members ≡ members (log_given taker.own taker.members giver.members)
     = ap (λ (n : Node H). n.members) step.new_is
-        ∙ took_all_members (at_moment taker moment) (full_sync giver) (members-IsMemberList taker.members kept.one_each)
-        ∙ ap (λ (cs : List Change). members (log_given taker.own taker.members cs)) given in
+    ∙ took_all_members (at_moment taker moment) (full_sync giver) (members-IsMemberList taker.members kept.one_each)
+    ∙ ap (λ (cs : List Change). members (log_given taker.own taker.members cs)) given in
     let holds : (a : ℕ) → greatest new.members a ≡ greatest (log_given taker.own taker.members giver.members) a
     = λ a. ap (λ (M : List Change). greatest M a) all ∙ greatest-members (log_given taker.own taker.members giver.members) a in
     let count : taken.refuted ≡ refuted taker.own taker.members giver.members

@@ -1,7 +1,7 @@
 //! The messages that a node makes.
 ghost use Rattle.std.specs.Prelude.{◌≡◌, ◌≤◌, [], length, IfOk, OnOk, OnErr, IsOkUnless};
 ghost use Rattle.change_core.specs.Numbers.{most_members};
-ghost use Rattle.node_core.specs.Messages.{ack_by, full_sync, join_by, joined_by, news_of, piggyback, ping_by, ping_req_ack_by, ping_req_by, says, told};
+ghost use Rattle.node_core.specs.Messages.{ack_by, digest_of, full_sync, join_by, joined_by, news_of, piggyback, ping_by, ping_req_ack_by, ping_req_by, says, told};
 ghost use Rattle.node_core.specs.Node.{said_by};
 ghost use Rattle.node_core.specs.Receiving.{MakeStep};
 
@@ -80,7 +80,7 @@ impl<H: PointHash> NodeState<H> {
     pub(crate) fn ack(&mut self, source: Address, checksum: Digest) -> Result<Message, NodeError>
         ensures step { MakeStep self.old.node (ack_by self.old.node source checksum) (told self.old.node source) result self.new.node }
     {
-        let digest = self.digest()?;
+        let digest = self.checksum()?;
         let issued = self.issue_for(source)?;
         let changes = if issued.as_slice().is_empty() && checksum != digest {
             self.full_sync()?
@@ -124,9 +124,18 @@ impl<H: PointHash> NodeState<H> {
         ensures err { OnErr result (self.new ≡ self.old) }
         ensures refusal { IsOkUnless result NodeError.Memory }
     {
-        let checksum = self.digest()?;
+        let checksum = self.checksum()?;
         let changes = self.issue_for(target)?;
         Ok(News { checksum, changes })
+    }
+
+    /// The digest of the members, made anew only where they changed since it was made last.
+    fn checksum(&mut self) -> Result<Digest, NodeError>
+        ensures digest { IfOk result (λ d. d ≡ digest_of self.old.node.members) }
+        ensures same { self.new ≡ self.old }
+        ensures refusal { IsOkUnless result NodeError.Memory }
+    {
+        Ok(self.members.keep_digest()?)
     }
 
     /// Issues what is passed on to a target in one message.

@@ -1,11 +1,11 @@
 -- What callers cite of the pending list: one change for each address, none issued to its source, and facts that last.
-use Rattle.std.proofs.Common.{◌≡◌, ℕ, suc, ◌-◌, ◌≢◌, ◌==◌, ◌&&◌, Bool, true, false, not, nat_lt, cond, if◌then◌else◌, List, [], ◌∷◌, filter, take, refl, sym, ◌∙◌, All, AllPairs, arith, eqb-true}
+use Rattle.std.proofs.Common.{◌≡◌, ℕ, suc, ◌≢◌, ◌==◌, Bool, true, false, not, nat_lt, cond, if◌then◌else◌, List, [], ◌∷◌, filter, take, refl, sym, ◌∙◌, All, AllPairs, arith, eqb-true}
 use Rattle.std.proofs.lemmas.Bool.{eqb-false}
 use Rattle.std.proofs.lemmas.List.Elements.{All-cons, All-tail, All-nil, All-filter, All-take, All-map, All-weaker, filter_passes}
 use Rattle.std.proofs.lemmas.List.Kept.{AllPairs-cons, AllPairs-filter}
 use Rattle.change_core.specs.declared.changes.Sourced.{Sourced}
 use Rattle.gossip_core.specs.declared.pending.Pending.{Pending}
-use Rattle.gossip_core.specs.Pending.{subject, fresh, put_pending, may_go_to, issued, once_more, counted, below, OnePerAddress}
+use Rattle.gossip_core.specs.Pending.{subject, fresh, put_pending, may_go_to, issued, is_issued, once_more, counted, below, OnePerAddress}
 
 not_is : (b : Bool) → not b ≡ true → b ≡ false
 not_is true h = sym h
@@ -49,14 +49,9 @@ OnePerAddress-below limit ps one = AllPairs-filter (λ p q. subject p ≢ subjec
 
 -- a fact of the sourced changes lasts through `counted` and `below`
 pub All-counted : (Q : Sourced → Type 0) (t k : ℕ) (ps : List Pending) → All (λ p. Q p.sourced) ps → All (λ p. Q p.sourced) (counted t k ps)
-All-counted Q t k [] h = h
-All-counted Q t k (p ∷ ps) h =
-    let rest = All-tail (λ p. Q p.sourced) p ps h in
-    let first : Q p.sourced = h 0 p (omega arith) in
-    elim (nat_lt 0 k && may_go_to t p) as (λ b. All (λ p. Q p.sourced) (if b then once_more p ∷ counted t (k - 1) ps else p ∷ counted t k ps)) [
-      | true ↦ All-cons (λ p. Q p.sourced) (once_more p) (counted t (k - 1) ps) first (All-counted Q t (k - 1) ps rest)
-      | false ↦ All-cons (λ p. Q p.sourced) p (counted t k ps) first (All-counted Q t k ps rest)
-    ]
+All-counted Q t k ps h =
+    All-map (λ p. Q p.sourced) (λ p. if is_issued t k ps p then once_more p else p) ps
+    (All-weaker (λ p. Q p.sourced) (λ p. Q (if is_issued t k ps p then once_more p else p).sourced) (λ p q. elim (is_issued t k ps p) as (λ b. Q (if b then once_more p else p).sourced) [ true ↦ q | false ↦ q ]) ps h)
 
 pub All-below : (P : Pending → Type 0) (limit : ℕ) (ps : List Pending) → All P ps → All P (below limit ps)
 All-below P limit ps h = All-filter (λ p. nat_lt p.count limit) P ps h

@@ -15,7 +15,7 @@ use Rattle.std.specs.Map.{keys_of, values_of, lookup}
 use Rattle.indexmap.specs.IndexMap.{insert_entry, set_value_at}
 use Rattle.change_core.specs.declared.changes.Sourced.{Sourced}
 use Rattle.gossip_core.specs.declared.pending.Pending.{Pending}
-use Rattle.gossip_core.specs.Pending.{digit_count, subject, fresh, put_pending, may_go_to, issued, once_more, counted, below, NoneAbout, OnePerAddress, AllBelow}
+use Rattle.gossip_core.specs.Pending.{digit_count, subject, fresh, put_pending, may_go_to, issued, once_more, below, NoneAbout, OnePerAddress, AllBelow}
 
 -- the digits of a number between two powers of ten
 pub digit_count_between : (n k : ℕ) → 0 < n → 10 ^ k ≤ n → n < 10 * 10 ^ k → length (digits_of 10 n) ≡ k + 1
@@ -49,10 +49,16 @@ drop_at : {X : Type 0} (xs : List X) (i : ℕ) (x : X) → slice_get xs i ≡ So
 drop_at xs i x h =
     rw add-one (drop-cons xs i x (slice_get_within xs i x h) ∙ ap (λ y. y ∷ drop (suc i) xs) (get_or_from_slice_get xs i x x h))
 
+-- `counted` as the list is gone along, with k still to be issued
+abbrev pub counted_along : ℕ → ℕ → List Pending → List Pending
+counted_along t k [] = []
+counted_along t k (p ∷ ps) =
+    if nat_lt 0 k && may_go_to t p then once_more p ∷ counted_along t (k - 1) ps else p ∷ counted_along t k ps
+
 -- none is left to issue
-pub counted-none : (t : ℕ) (ps : List Pending) → counted t 0 ps ≡ ps
-counted-none t [] = refl
-counted-none t (p ∷ ps) = ap (λ l. p ∷ l) (counted-none t ps)
+pub counted_along-none : (t : ℕ) (ps : List Pending) → counted_along t 0 ps ≡ ps
+counted_along-none t [] = refl
+counted_along-none t (p ∷ ps) = ap (λ l. p ∷ l) (counted_along-none t ps)
 
 -- one more of the changes
 pub sourced-take_more : (xs : List Pending) (i : ℕ) (p : Pending) → slice_get xs i ≡ Some p → map (λ p. p.sourced) (take i xs) ++ p.sourced ∷ [] ≡ map (λ p. p.sourced) (take (i + 1) xs)
@@ -61,12 +67,12 @@ sourced-take_more xs i p at =
     sym (ap (map (λ p. p.sourced)) more ∙ map-append (λ p. p.sourced) (take i xs) (p ∷ []))
 
 -- the first is issued
-pub counted-cons_yes : (t k : ℕ) (p : Pending) (ps : List Pending) → 0 < k → may_go_to t p ≡ true → counted t k (p ∷ ps) ≡ once_more p ∷ counted t (k - 1) ps
-counted-cons_yes t k p ps some may = ap (λ b. if b then once_more p ∷ counted t (k - 1) ps else p ∷ counted t k ps) (λ j. lt-ltb 0 k some j && may j)
+pub counted_along-cons_yes : (t k : ℕ) (p : Pending) (ps : List Pending) → 0 < k → may_go_to t p ≡ true → counted_along t k (p ∷ ps) ≡ once_more p ∷ counted_along t (k - 1) ps
+counted_along-cons_yes t k p ps some may = ap (λ b. if b then once_more p ∷ counted_along t (k - 1) ps else p ∷ counted_along t k ps) (λ j. lt-ltb 0 k some j && may j)
 
 -- the first came from the target
-pub counted-cons_no : (t k : ℕ) (p : Pending) (ps : List Pending) → may_go_to t p ≡ false → counted t k (p ∷ ps) ≡ p ∷ counted t k ps
-counted-cons_no t k p ps may = ap (λ b. if b then once_more p ∷ counted t (k - 1) ps else p ∷ counted t k ps) (ap (λ b. nat_lt 0 k && b) may ∙ and-false (nat_lt 0 k))
+pub counted_along-cons_no : (t k : ℕ) (p : Pending) (ps : List Pending) → may_go_to t p ≡ false → counted_along t k (p ∷ ps) ≡ p ∷ counted_along t k ps
+counted_along-cons_no t k p ps may = ap (λ b. if b then once_more p ∷ counted_along t (k - 1) ps else p ∷ counted_along t k ps) (ap (λ b. nat_lt 0 k && b) may ∙ and-false (nat_lt 0 k))
 
 -- nothing is issued of nothing
 pub issued-nil : (t k : ℕ) → issued t k [] ≡ []
@@ -86,31 +92,31 @@ issued-cons_no t k p ps may = ap (λ b. map (λ p. p.sourced) (take k (cond b (p
 
 -- one more change that may go
 pub counted_yes : (t k i : ℕ) (xs : List Pending) (p : Pending) → i < length xs → slice_get xs i ≡ Some p → 0 < k → may_go_to t p ≡ true
-    → take i xs ++ counted t k (drop i xs) ≡ take (i + 1) (set xs i (once_more p)) ++ counted t (k - 1) (drop (i + 1) (set xs i (once_more p)))
+    → take i xs ++ counted_along t k (drop i xs) ≡ take (i + 1) (set xs i (once_more p)) ++ counted_along t (k - 1) (drop (i + 1) (set xs i (once_more p)))
 counted_yes t k i xs p within at some may =
     let rest = drop (i + 1) xs in
     let front : take (i + 1) (set xs i (once_more p)) ≡ take i xs ++ once_more p ∷ [] = take_more_set xs i (once_more p) within in
     let back : drop (i + 1) (set xs i (once_more p)) ≡ rest = drop-set-lt (i + 1) xs i (once_more p) (omega arith) in
-    let whole : counted t k (drop i xs) ≡ once_more p ∷ counted t (k - 1) rest = ap (counted t k) (drop_at xs i p at) ∙ counted-cons_yes t k p rest some may in
-    let joined = append_assoc (take i xs) (once_more p ∷ []) (counted t (k - 1) rest) in
-    let right : take (i + 1) (set xs i (once_more p)) ++ counted t (k - 1) (drop (i + 1) (set xs i (once_more p))) ≡ (take i xs ++ once_more p ∷ []) ++ counted t (k - 1) rest =
-    λ j. front j ++ counted t (k - 1) (back j) in
+    let whole : counted_along t k (drop i xs) ≡ once_more p ∷ counted_along t (k - 1) rest = ap (counted_along t k) (drop_at xs i p at) ∙ counted_along-cons_yes t k p rest some may in
+    let joined = append_assoc (take i xs) (once_more p ∷ []) (counted_along t (k - 1) rest) in
+    let right : take (i + 1) (set xs i (once_more p)) ++ counted_along t (k - 1) (drop (i + 1) (set xs i (once_more p))) ≡ (take i xs ++ once_more p ∷ []) ++ counted_along t (k - 1) rest =
+    λ j. front j ++ counted_along t (k - 1) (back j) in
     ap (λ l. take i xs ++ l) whole ∙ sym joined ∙ sym right
 
 -- one more change that stays as it is
 pub counted_no : (t k i : ℕ) (xs : List Pending) (p : Pending) → i < length xs → slice_get xs i ≡ Some p → may_go_to t p ≡ false
-    → take i xs ++ counted t k (drop i xs) ≡ take (i + 1) xs ++ counted t k (drop (i + 1) xs)
+    → take i xs ++ counted_along t k (drop i xs) ≡ take (i + 1) xs ++ counted_along t k (drop (i + 1) xs)
 counted_no t k i xs p within at may =
     let rest = drop (i + 1) xs in
     let front : take (i + 1) xs ≡ take i xs ++ p ∷ [] =
     take_more xs i p within ∙ ap (λ y. take i xs ++ y ∷ []) (get_or_from_slice_get xs i p p at) in
-    let whole : counted t k (drop i xs) ≡ p ∷ counted t k rest = ap (counted t k) (drop_at xs i p at) ∙ counted-cons_no t k p rest may in
-    let joined = append_assoc (take i xs) (p ∷ []) (counted t k rest) in
-    ap (λ l. take i xs ++ l) whole ∙ sym joined ∙ ap (λ l. l ++ counted t k rest) (sym front)
+    let whole : counted_along t k (drop i xs) ≡ p ∷ counted_along t k rest = ap (counted_along t k) (drop_at xs i p at) ∙ counted_along-cons_no t k p rest may in
+    let joined = append_assoc (take i xs) (p ∷ []) (counted_along t k rest) in
+    ap (λ l. take i xs ++ l) whole ∙ sym joined ∙ ap (λ l. l ++ counted_along t k rest) (sym front)
 
 -- the first i have been looked at, the changes in `given` were issued, and the rest is as it was
 pub record IsIssuing (t k : ℕ) (old : List Pending) (given : List Sourced) (i : ℕ) (now : List Pending) : Type 0 where
-  pub so_far : counted t k old ≡ take i now ++ counted t (k - length given) (drop i now)
+  pub so_far : counted_along t k old ≡ take i now ++ counted_along t (k - length given) (drop i now)
   pub issued_is : issued t k old ≡ given ++ issued t (k - length given) (drop i now)
   pub within : length given ≤ k
   pub behind : length given ≤ i
@@ -124,7 +130,7 @@ pub IsIssuing-none : (t k : ℕ) (old : List Pending) → All (λ p. p.count < 2
 IsIssuing-none t k old countable =
     let all_left : k ≡ k - length {A = Sourced} [] = omega arith in
     record {
-      so_far = ap (λ l. counted t l old) all_left;
+      so_far = ap (λ l. counted_along t l old) all_left;
       issued_is = ap (λ l. issued t l old) all_left;
       within = omega arith;
       behind = omega arith;
@@ -151,7 +157,7 @@ IsIssuing-yes t k old given i now p h at more may =
     let one : issued t (k - length given) (drop i now) ≡ p.sourced ∷ issued t ((k - length given) - 1) (drop (i + 1) now) =
     ap (issued t (k - length given)) (drop_at now i p at) ∙ issued-cons_yes t (k - length given) p (drop (i + 1) now) some may in
     record {
-      so_far = h.so_far ∙ counted_on ∙ ap (λ l. take (i + 1) (set now i (once_more p)) ++ counted t l (drop (i + 1) (set now i (once_more p)))) left;
+      so_far = h.so_far ∙ counted_on ∙ ap (λ l. take (i + 1) (set now i (once_more p)) ++ counted_along t l (drop (i + 1) (set now i (once_more p)))) left;
       issued_is = h.issued_is ∙ ap (λ l. given ++ l) one ∙ sym (append_assoc given (p.sourced ∷ []) (issued t ((k - length given) - 1) (drop (i + 1) now)))
           ∙ (λ j. (given ++ p.sourced ∷ []) ++ issued t (left j) (sym rest j));
       within = omega (arith, long, h.within, more);
@@ -176,17 +182,17 @@ IsIssuing-no t k old given i now p h at may =
 
 -- all have been looked at, or as many as may be have been issued
 pub IsIssuing-all : (t k : ℕ) (old : List Pending) (given : List Sourced) (i : ℕ) (now : List Pending) → IsIssuing t k old given i now → (length now ≤ i) ⊎ (length given ≡ k)
-    → (now ≡ counted t k old) × (given ≡ issued t k old)
+    → (now ≡ counted_along t k old) × (given ≡ issued t k old)
 IsIssuing-all t k old given i now h (inl all) =
     let none : drop i now ≡ [] = drop_all i now all in
     let whole : take i now ≡ now = take_all i now all in
     let none_issued : issued t (k - length given) (drop i now) ≡ [] = ap (issued t (k - length given)) none ∙ issued-nil t (k - length given) in (
-      sym (h.so_far ∙ ap (λ l. take i now ++ counted t (k - length given) l) none ∙ append-nil (take i now) ∙ whole),
+      sym (h.so_far ∙ ap (λ l. take i now ++ counted_along t (k - length given) l) none ∙ append-nil (take i now) ∙ whole),
       sym (h.issued_is ∙ ap (λ l. given ++ l) none_issued ∙ append-nil given),
     )
 IsIssuing-all t k old given i now h (inr full) =
     let none : k - length given ≡ 0 = omega (arith, full) in (
-      sym (h.so_far ∙ ap (λ l. take i now ++ counted t l (drop i now)) none ∙ ap (λ l. take i now ++ l) (counted-none t (drop i now)) ∙ take-append-drop i now),
+      sym (h.so_far ∙ ap (λ l. take i now ++ counted_along t l (drop i now)) none ∙ ap (λ l. take i now ++ l) (counted_along-none t (drop i now)) ∙ take-append-drop i now),
       sym (h.issued_is ∙ ap (λ l. given ++ issued t l (drop i now)) none ∙ append-nil given),
     )
 
@@ -226,11 +232,21 @@ by_address-filter test (e ∷ es) h =
     [ true ↦ λ j. here j ∷ by_address-filter test es there j | false ↦ by_address-filter test es there ]
 
 -- a count changes no subject
-pub subjects-counted : (t k : ℕ) (ps : List Pending) → map subject (counted t k ps) ≡ map subject ps
-subjects-counted t k [] = refl
-subjects-counted t k (p ∷ ps) =
-    elim (nat_lt 0 k && may_go_to t p) as (λ b. map subject (if b then once_more p ∷ counted t (k - 1) ps else p ∷ counted t k ps) ≡ subject p ∷ map subject ps)
-    [ true ↦ ap (λ l. subject p ∷ l) (subjects-counted t (k - 1) ps) | false ↦ ap (λ l. subject p ∷ l) (subjects-counted t k ps) ]
+pub subjects-counted_along : (t k : ℕ) (ps : List Pending) → map subject (counted_along t k ps) ≡ map subject ps
+subjects-counted_along t k [] = refl
+subjects-counted_along t k (p ∷ ps) =
+    elim (nat_lt 0 k && may_go_to t p) as (λ b. map subject (if b then once_more p ∷ counted_along t (k - 1) ps else p ∷ counted_along t k ps) ≡ subject p ∷ map subject ps)
+    [ true ↦ ap (λ l. subject p ∷ l) (subjects-counted_along t (k - 1) ps) | false ↦ ap (λ l. subject p ∷ l) (subjects-counted_along t k ps) ]
+
+-- so there is still one change for each address
+pub OnePerAddress-counted_along : (t k : ℕ) (ps : List Pending) → OnePerAddress ps → OnePerAddress (counted_along t k ps)
+OnePerAddress-counted_along t k ps one = λ i j d before within.
+    let now = counted_along t k ps in
+    let same = subjects-counted_along t k ps in
+    let long : length now ≡ length ps = sym (length-map now subject) ∙ (ap length same ∙ length-map ps subject) in
+    let at : (n : ℕ) → n < length now → subject (get_or now n d) ≡ subject (get_or ps n d) =
+    λ n lt. sym (get_or-map subject now n d 0 lt) ∙ (ap (λ l. get_or l n 0) same ∙ get_or-map subject ps n d 0 (omega arith)) in
+    λ e. one i j d before (omega arith) (sym (at i (omega arith)) ∙ (e ∙ at j within))
 
 -- what is kept below the limit is below the limit
 pub AllBelow-below : (limit : ℕ) (ps : List Pending) → AllBelow limit (below limit ps)

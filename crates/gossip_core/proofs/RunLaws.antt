@@ -9,7 +9,9 @@ use Rattle.gossip_core.specs.declared.pending.Pending.{Pending}
 use Rattle.gossip_core.specs.Dissemination.{Dissemination, with_news, IsWhole}
 use Rattle.gossip_core.specs.Pending.{subject, fresh, put_pending, may_go_to, issued, counted, below, limit_for, NoneAbout, OnePerAddress, AllBelow}
 use Rattle.gossip_core.specs.Runs.{Event, after, times_issued, greatest_limit, IsElsewhere}
-use Rattle.gossip_core.proofs.PendingLemmas.{counted-none, counted-cons_yes, counted-cons_no, issued-cons_yes, issued-cons_no, AllBelow-below, AllBelow-put_pending}
+use Rattle.gossip_core.proofs.PendingLemmas.{counted_along, counted_along-none, counted_along-cons_yes, counted_along-cons_no, issued-cons_yes, issued-cons_no, AllBelow-below, AllBelow-put_pending, OnePerAddress-counted_along}
+use Rattle.gossip_core.proofs.IssueLaws.{counted_along-is}
+use Rattle.gossip_core.proofs.PendingLaws.{OnePerAddress-put_pending, OnePerAddress-below}
 
 -- what the counts of the changes about a leave to `most`
 abbrev left_of : ℕ → ℕ → Pending → ℕ
@@ -28,31 +30,34 @@ abbrev number_about : ℕ → List Sourced → ℕ
 number_about a given = count_by (λ s. s.change.address == a) given
 
 -- each issue takes one of what is left
-left-counted : (a most t k : ℕ) (ps : List Pending) → IsLeft a most ps → number_about a (issued t k ps) + left a most (counted t k ps) ≡ left a most ps
-left-counted a most t zero ps h = let same = ap (left a most) (counted-none t ps) in omega (arith, same)
-left-counted a most t (suc k) [] h = refl
-left-counted a most t (suc k) (p ∷ ps) h =
+left-counted_along : (a most t k : ℕ) (ps : List Pending) → IsLeft a most ps → number_about a (issued t k ps) + left a most (counted_along t k ps) ≡ left a most ps
+left-counted_along a most t zero ps h = let same = ap (left a most) (counted_along-none t ps) in omega (arith, same)
+left-counted_along a most t (suc k) [] h = refl
+left-counted_along a most t (suc k) (p ∷ ps) h =
     let rest = All-tail (λ p. subject p ≡ a → p.count < most) p ps h in
-    by (may_go_to t p) refl (h 0 p (omega arith)) (left-counted a most t (suc k - 1) ps rest) (left-counted a most t (suc k) ps rest)
+    by (may_go_to t p) refl (h 0 p (omega arith)) (left-counted_along a most t (suc k - 1) ps rest) (left-counted_along a most t (suc k) ps rest)
   where
     taken : (b : Bool) → (subject p == a) ≡ b → (subject p ≡ a → p.count < most) → cond b 1 0 + cond b (most - (p.count + 1)) 0 ≡ cond b (most - p.count) 0
     taken true same less = let under : p.count < most = less (eqb-true (subject p) a same) in omega (arith, under)
     taken false same less = refl
 
     by : (b : Bool) → may_go_to t p ≡ b → (subject p ≡ a → p.count < most)
-        → number_about a (issued t (suc k - 1) ps) + left a most (counted t (suc k - 1) ps) ≡ left a most ps
-        → number_about a (issued t (suc k) ps) + left a most (counted t (suc k) ps) ≡ left a most ps
-        → number_about a (issued t (suc k) (p ∷ ps)) + left a most (counted t (suc k) (p ∷ ps)) ≡ left a most (p ∷ ps)
+        → number_about a (issued t (suc k - 1) ps) + left a most (counted_along t (suc k - 1) ps) ≡ left a most ps
+        → number_about a (issued t (suc k) ps) + left a most (counted_along t (suc k) ps) ≡ left a most ps
+        → number_about a (issued t (suc k) (p ∷ ps)) + left a most (counted_along t (suc k) (p ∷ ps)) ≡ left a most (p ∷ ps)
     by true may less fewer same =
         let given : number_about a (issued t (suc k) (p ∷ ps)) ≡ cond (subject p == a) 1 0 + number_about a (issued t (suc k - 1) ps) =
         ap (number_about a) (issued-cons_yes t (suc k) p ps (omega arith) may) ∙ sum_by-cons (λ s. cond (s.change.address == a) 1 0) p.sourced (issued t (suc k - 1) ps) in
-        let now : left a most (counted t (suc k) (p ∷ ps)) ≡ cond (subject p == a) (most - (p.count + 1)) 0 + left a most (counted t (suc k - 1) ps) =
-        ap (left a most) (counted-cons_yes t (suc k) p ps (omega arith) may) in
+        let now : left a most (counted_along t (suc k) (p ∷ ps)) ≡ cond (subject p == a) (most - (p.count + 1)) 0 + left a most (counted_along t (suc k - 1) ps) =
+        ap (left a most) (counted_along-cons_yes t (suc k) p ps (omega arith) may) in
         omega (arith, given, now, fewer, taken (subject p == a) refl less)
     by false may less fewer same =
         let given : number_about a (issued t (suc k) (p ∷ ps)) ≡ number_about a (issued t (suc k) ps) = ap (number_about a) (issued-cons_no t (suc k) p ps may) in
-        let now : left a most (counted t (suc k) (p ∷ ps)) ≡ left_of a most p + left a most (counted t (suc k) ps) = ap (left a most) (counted-cons_no t (suc k) p ps may) in
+        let now : left a most (counted_along t (suc k) (p ∷ ps)) ≡ left_of a most p + left a most (counted_along t (suc k) ps) = ap (left a most) (counted_along-cons_no t (suc k) p ps may) in
         omega (arith, given, now, same)
+
+left-counted : (a most t k : ℕ) (ps : List Pending) → OnePerAddress ps → IsLeft a most ps → number_about a (issued t k ps) + left a most (counted t k ps) ≡ left a most ps
+left-counted a most t k ps one h = subst (λ l. number_about a (issued t k ps) + left a most l ≡ left a most ps) (counted_along-is t k ps one) (left-counted_along a most t k ps h)
 
 -- what goes leaves nothing
 left-below : (a most limit : ℕ) (ps : List Pending) → left a most (below limit ps) ≤ left a most ps
@@ -132,26 +137,27 @@ IsLeft-le : (a limit most : ℕ) (ps : List Pending) → limit ≤ most → IsLe
 IsLeft-le a limit most ps le h = All-weaker (λ p. subject p ≡ a → p.count < limit) (λ p. subject p ≡ a → p.count < most) (λ p h e. let less = h e in omega (arith, le, less)) ps h
 
 -- no more is issued in a run than is left
-times_issued-le : (a most : ℕ) (g : Dissemination) (es : List Event) → greatest_limit g es ≤ most → IsLeft a g.limit g.pending → All (IsElsewhere a) es
+times_issued-le : (a most : ℕ) (g : Dissemination) (es : List Event) → greatest_limit g es ≤ most → OnePerAddress g.pending → IsLeft a g.limit g.pending → All (IsElsewhere a) es
     → times_issued a g es ≤ left a most g.pending
-times_issued-le a most g [] bound h elsewhere = omega arith
-times_issued-le a most g (e ∷ es) bound h elsewhere =
+times_issued-le a most g [] bound one h elsewhere = omega arith
+times_issued-le a most g (e ∷ es) bound one h elsewhere =
     let now : g.limit ≤ most = omega (arith, le-max_left g.limit (greatest_limit (after g e) es), bound) in
     let later : greatest_limit (after g e) es ≤ most = omega (arith, le-max_right g.limit (greatest_limit (after g e) es), bound) in
-    by e (elsewhere 0 e (omega arith)) now (λ k. times_issued-le a most (after g e) es later k (All-tail (IsElsewhere a) e es elsewhere))
+    by e (elsewhere 0 e (omega arith)) now (λ still k. times_issued-le a most (after g e) es later still k (All-tail (IsElsewhere a) e es elsewhere))
   where
-    by : (e : Event) → IsElsewhere a e → g.limit ≤ most → (IsLeft a (after g e).limit (after g e).pending → times_issued a (after g e) es ≤ left a most (after g e).pending)
+    by : (e : Event) → IsElsewhere a e → g.limit ≤ most → (OnePerAddress (after g e).pending → IsLeft a (after g e).limit (after g e).pending → times_issued a (after g e) es ≤ left a most (after g e).pending)
         → times_issued a g (e ∷ es) ≤ left a most g.pending
     by (Event.Puts s) other now rest =
-        let then_left = rest (IsLeft-put_other a g.limit g.pending s other h) in
+        let then_left = rest (OnePerAddress-put_pending g.pending s one) (IsLeft-put_other a g.limit g.pending s other h) in
         omega (arith, then_left, left-put_other a most g.pending s other)
     by (Event.Adjusts n) other now rest =
         let limit = limit_for g.factor n in
-        let then_left = rest (IsLeft-from_AllBelow a limit (below limit g.pending) (AllBelow-below limit g.pending)) in
+        let then_left = rest (OnePerAddress-below limit g.pending one) (IsLeft-from_AllBelow a limit (below limit g.pending) (AllBelow-below limit g.pending)) in
         omega (arith, then_left, left-below a most limit g.pending)
     by (Event.Issues t k) other now rest =
-        let then_left = rest (IsLeft-from_AllBelow a g.limit (below g.limit (counted t k g.pending)) (AllBelow-below g.limit (counted t k g.pending))) in
-        omega (arith, then_left, left-below a most g.limit (counted t k g.pending), left-counted a most t k g.pending (IsLeft-le a g.limit most g.pending now h))
+        let still = subst OnePerAddress (counted_along-is t k g.pending one) (OnePerAddress-counted_along t k g.pending one) in
+        let then_left = rest (OnePerAddress-below g.limit (counted t k g.pending) still) (IsLeft-from_AllBelow a g.limit (below g.limit (counted t k g.pending)) (AllBelow-below g.limit (counted t k g.pending))) in
+        omega (arith, then_left, left-below a most g.limit (counted t k g.pending), left-counted a most t k g.pending one (IsLeft-le a g.limit most g.pending now h))
 
 -- from a put on
 pub times_issued-put : (g : Dissemination) (s : Sourced) (es : List Event) → IsWhole g → All (IsElsewhere s.change.address) es
@@ -161,4 +167,4 @@ times_issued-put g s es whole elsewhere =
     let most = greatest_limit (with_news g s) es in
     let some : 0 < g.limit = omega (arith, whole.bounded.limit_within.0) in
     let unspent = IsLeft-from_AllBelow a g.limit (put_pending g.pending s) (AllBelow-put_pending g.limit g.pending s some whole.bounded.unspent) in
-    omega (arith, times_issued-le a most (with_news g s) es (omega arith) unspent elsewhere, left-put most g.pending s whole.one_each)
+    omega (arith, times_issued-le a most (with_news g s) es (omega arith) (OnePerAddress-put_pending g.pending s whole.one_each) unspent elsewhere, left-put most g.pending s whole.one_each)

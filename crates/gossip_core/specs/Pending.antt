@@ -1,7 +1,7 @@
 -- The pending list: the changes that a node still passes on, one for each address, in the order in which their addresses came.
 -- The rule is this project's own, after SWIM (DSN 2002), section 4.1, where news rides on pings a multiple of log n times each,
 -- and after ringpop-go's package swim.
-use Rattle.std.specs.Prelude.{ℕ, ◌+◌, ◌-◌, ◌*◌, ◌==◌, ◌<◌, ◌≡◌, ◌≢◌, Bool, not, ◌&&◌, List, [], ◌∷◌, length, map, filter, take, nat_lt, if◌then◌else◌, All, AllPairs}
+use Rattle.std.specs.Prelude.{ℕ, ◌+◌, ◌*◌, ◌==◌, ◌<◌, ◌≡◌, ◌≢◌, Bool, not, List, [], ◌∷◌, length, map, filter, take, nat_lt, if◌then◌else◌, All, AllPairs}
 use Rattle.std.specs.Int.Digits.{digits_of}
 use Rattle.std.specs.List.{list_any}
 use Rattle.indexmap.specs.IndexMap.{IndexMap, keys, values}
@@ -45,11 +45,9 @@ is_issued target k ps p = list_any (λ s. s.change.address == subject p) (issued
 abbrev pub once_more : Pending → Pending
 once_more p = record p { count = p.count + 1 }
 
--- the first k that may go to the target are issued once more. They are the issued ones, as the law `issued_count_one_more` says.
+-- each that is among the first k that may go to the target is issued once more, and each other one stays as it was
 abbrev pub counted : ℕ → ℕ → List Pending → List Pending
-counted target k [] = []
-counted target k (p ∷ ps) =
-    if nat_lt 0 k && may_go_to target p then once_more p ∷ counted target (k - 1) ps else p ∷ counted target k ps
+counted target k ps = map (λ p. if is_issued target k ps p then once_more p else p) ps
 
 -- those that have not reached the limit
 abbrev pub below : ℕ → List Pending → List Pending

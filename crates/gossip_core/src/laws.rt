@@ -1,15 +1,15 @@
 //! Laws of the pending list: what follows from its definitions for every list, with no code to run.
-ghost use Rattle.std.specs.Prelude.{◌≡◌, ◌≢◌, ◌≤◌, ℕ, List, All, map, if◌then◌else◌};
+ghost use Rattle.std.specs.Prelude.{◌≡◌, ◌≢◌, ◌≤◌, ◌+◌, ℕ, List, All, length, sum_by};
 ghost use Rattle.change_core.specs.declared.changes.Sourced.{Sourced};
 ghost use Rattle.gossip_core.specs.declared.pending.Pending.{Pending};
 ghost use Rattle.gossip_core.specs.Dissemination.{Dissemination, with_news, IsWhole};
-ghost use Rattle.gossip_core.specs.Pending.{issued, counted, once_more, is_issued, OnePerAddress};
+ghost use Rattle.gossip_core.specs.Pending.{issued, counted, OnePerAddress};
 ghost use Rattle.gossip_core.specs.Runs.{Event, times_issued, greatest_limit, IsElsewhere};
 
-/// The issued are those that count one more: each pending change that is issued counts one more, each other one stays as it was.
+/// The issued are those that count one more: the counts of all pending changes together grow by as many as are issued.
 pub fn issued_count_one_more()
     ensures { (target k : ℕ) (ps : List Pending) → OnePerAddress ps
-        → counted target k ps ≡ map (λ p. if is_issued target k ps p then once_more p else p) ps }
+        → sum_by (λ p. p.count) (counted target k ps) ≡ sum_by (λ p. p.count) ps + length (issued target k ps) }
 {}
 
 /// A change is never issued to the node that it came from.

@@ -2,8 +2,9 @@ use Rattle.std.proofs.Common.{◌≡◌, ◌∙◌, ◌++◌, ◌∷◌, [], ap,
 use Rattle.std.proofs.lemmas.Map.Entries.{length-values_of, length-keys_of}
 use Rattle.indexmap.specs.IndexMap.{keys, values}
 use Rattle.indexmap.proofs.CallerLemmas.{keys-with_value_at}
-use Rattle.gossip_core.specs.Pending.{subject, may_go_to, once_more, counted, issued}
-use Rattle.gossip_core.proofs.PendingLemmas.{IsIssuing-countable, IsIssuing-yes, IsIssuing-no, IsIssuing-all, subjects-counted, values_of-set_value_at}
+use Rattle.gossip_core.specs.Pending.{subject, may_go_to, once_more, issued}
+use Rattle.gossip_core.proofs.PendingLemmas.{counted_along, OnePerAddress-from_keys, IsIssuing-countable, IsIssuing-yes, IsIssuing-no, IsIssuing-all, subjects-counted_along, values_of-set_value_at}
+use Rattle.gossip_core.proofs.IssueLaws.{counted_along-is}
 use Rattle.gossip_core.proofs.pending.issue_first.Goals as goal
 use Rattle.gossip_core.proofs.pending.issue_first.Goals.{then-ne, else-ne, else-changes-test, then-changes-test+then-len-at_most}
 
@@ -37,8 +38,8 @@ changes-preserved c =
           rw (w.pending-is, w.changes-is) record { keys = inv.keys; roomy = inv.roomy; issuing = step }
     ]
 
--- what the loop leaves: the list is counted, and the issued are answered
-left : (c : goal.Left-changes) → (values c.changes.pending ≡ counted c.args.target c.args.at_most (values c.args.pending.now)) × (c.changes.changes.items ≡ issued c.args.target c.args.at_most (values c.args.pending.now))
+-- what the loop leaves: the list is counted_along, and the issued are answered
+left : (c : goal.Left-changes) → (values c.changes.pending ≡ counted_along c.args.target c.args.at_most (values c.args.pending.now)) × (c.changes.changes.items ≡ issued c.args.target c.args.at_most (values c.args.pending.now))
 left c =
     let now = values c.changes.pending in
     let given = c.changes.changes.items in
@@ -50,8 +51,10 @@ left c =
     ])
 
 pub returns-clause-counted : goal.returns-clause-counted
-returns-clause-counted c = (left c).0
+returns-clause-counted c =
+    let old = c.args.pending.now in
+    (left c).0 ∙ counted_along-is c.args.target c.args.at_most (values old) (OnePerAddress-from_keys (keys old) (values old) c.requires.by_address c.len.ensures.unique)
 
 pub returns-clause-by_address : goal.returns-clause-by_address
 returns-clause-by_address c =
-    ap (map subject) (left c).0 ∙ subjects-counted c.args.target c.args.at_most (values c.args.pending.now) ∙ c.requires.by_address ∙ sym c.changes.invariant.keys
+    ap (map subject) (left c).0 ∙ subjects-counted_along c.args.target c.args.at_most (values c.args.pending.now) ∙ c.requires.by_address ∙ sym c.changes.invariant.keys

@@ -1,6 +1,6 @@
 -- Pending changes that are about different addresses, by recursion, and how they stay so.
-use Rattle.std.proofs.Common.{◌≡◌, ◌≢◌, ℕ, zero, suc, ◌-◌, ◌<◌, ◌⊎◌, ◌&&◌, Bool, true, false, cond, eqb, List, [], ◌∷◌, refl, sym, ◌∙◌, ap, subst, inl, inr, length, get_or, arith}
-use Rattle.std.specs.Prelude.{filter, nat_lt, All}
+use Rattle.std.proofs.Common.{◌≡◌, ◌≢◌, ℕ, zero, suc, ◌<◌, ◌⊎◌, Bool, true, false, cond, eqb, List, [], ◌∷◌, map, refl, sym, ◌∙◌, ap, subst, inl, inr, length, get_or, arith}
+use Rattle.std.specs.Prelude.{filter, All}
 use Rattle.std.proofs.lemmas.Bool.{eqb-true, eqb-false}
 use Rattle.std.proofs.lemmas.List.Kept.{AllPairs-cons}
 use Rattle.std.proofs.lemmas.List.Elements.{All-nil, All-cons}
@@ -8,8 +8,8 @@ use Rattle.change_core.specs.declared.changes.Sourced.{Sourced}
 use Rattle.change_core.specs.Ascending.{In}
 use Rattle.change_core.proofs.Order.{in_filter}
 use Rattle.gossip_core.specs.declared.pending.Pending.{Pending}
-use Rattle.gossip_core.specs.Pending.{put_pending, fresh, counted, once_more, may_go_to, subject, OnePerAddress}
-use Rattle.node_core.proofs.Listed.{In-put, In-counted}
+use Rattle.gossip_core.specs.Pending.{put_pending, fresh, counted, once_more, is_issued, subject, OnePerAddress}
+use Rattle.node_core.proofs.Listed.{In-put, In-map}
 
 -- no two are about one address
 abbrev pub AreApart : List Pending → Type 0
@@ -59,17 +59,20 @@ apart-put (p ∷ ps) s h = by_address (eqb s.change.address (subject p)) refl (a
       again,
     )
 
-pub apart-counted : (target k : ℕ) (ps : List Pending) → AreApart ps → AreApart (counted target k ps)
-apart-counted target k [] h = h
-apart-counted target k (p ∷ ps) h =
-    by_turn (nat_lt 0 k && may_go_to target p) (apart-counted target (k - 1) ps h.1) (apart-counted target k ps h.1)
-  where
-    away : (n : ℕ) (q : Pending) → In q (counted target n ps) → subject q ≢ subject p
-    away n q l j = let r = In-counted target n ps q l in h.0 r.0 r.1 (ap (λ (s : Sourced). s.change.address) r.2 ∙ j)
+-- what changes no subject leaves them apart
+apart-map : (f : Pending → Pending) → ((p : Pending) → subject (f p) ≡ subject p) → (ps : List Pending) → AreApart ps → AreApart (map f ps)
+apart-map f same [] h = h
+apart-map f same (p ∷ ps) h = (
+  λ q l j. let r = In-map f q ps l in h.0 r.0 r.1 (sym (same r.0) ∙ (ap subject r.2 ∙ (j ∙ same p))),
+  apart-map f same ps h.1,
+)
 
-    by_turn : (b : Bool) → AreApart (counted target (k - 1) ps) → AreApart (counted target k ps) → AreApart (cond b (once_more p ∷ counted target (k - 1) ps) (p ∷ counted target k ps))
-    by_turn true again after = (away (k - 1), again)
-    by_turn false again after = (away k, after)
+pub apart-counted : (target k : ℕ) (ps : List Pending) → AreApart ps → AreApart (counted target k ps)
+apart-counted target k ps = apart-map (λ p. cond (is_issued target k ps p) (once_more p) p) (λ p. same (is_issued target k ps p) p) ps
+  where
+    same : (b : Bool) (p : Pending) → subject (cond b (once_more p) p) ≡ subject p
+    same true p = refl
+    same false p = refl
 
 -- what is pending after a put is the new one, or about another
 pub put-cases : (ps : List Pending) (s : Sourced) (p : Pending) → AreApart ps → In p (put_pending ps s) → (p ≡ fresh s) ⊎ (In p ps × (subject p ≢ s.change.address))

@@ -1,5 +1,5 @@
 -- What is in a list that is taken, mapped, found or put together.
-use Rattle.std.proofs.Common.{◌≡◌, ◌≢◌, ℕ, zero, suc, ◌-◌, ◌⊎◌, ◌&&◌, Bool, true, false, cond, eqb, List, [], ◌∷◌, ◌++◌, Option, Some, None, refl, sym, ◌∙◌, ap, subst, inl, inr, map, take}
+use Rattle.std.proofs.Common.{◌≡◌, ◌≢◌, ℕ, zero, suc, ◌⊎◌, Bool, true, false, cond, eqb, List, [], ◌∷◌, ◌++◌, Option, Some, None, refl, sym, ◌∙◌, ap, subst, inl, inr, map, take}
 use Rattle.std.specs.Prelude.{filter, nat_lt}
 use Rattle.std.specs.List.{filter_map, cons_option, find, Contains}
 use Rattle.std.proofs.lemmas.Bool.{eqb-true, eqb-false}
@@ -10,7 +10,7 @@ use Rattle.change_core.specs.Members.{greatest, members, addresses, IsMemberList
 use Rattle.change_core.proofs.Members.{Contains-nil, Contains-cons_cases, IsGreatest-greatest, members-IsMemberList}
 use Rattle.change_core.proofs.Order.{in_filter}
 use Rattle.gossip_core.specs.declared.pending.Pending.{Pending}
-use Rattle.gossip_core.specs.Pending.{put_pending, fresh, below, counted, once_more, may_go_to, issued, subject}
+use Rattle.gossip_core.specs.Pending.{put_pending, fresh, below, counted, once_more, may_go_to, issued, is_issued, subject}
 
 pub In-take : {X : Type 0} (n : ℕ) (x : X) (xs : List X) → In x (take n xs) → In x xs
 In-take zero x xs h = absurd h
@@ -75,16 +75,13 @@ In-put (q ∷ ps) s p h = by_address (eqb s.change.address (subject q)) (λ k. I
 
 -- what is pending after an issue was pending before
 pub In-counted : (target k : ℕ) (ps : List Pending) (p : Pending) → In p (counted target k ps) → (q : Pending) × In q ps × (q.sourced ≡ p.sourced)
-In-counted target k [] p h = absurd h
-In-counted target k (q ∷ ps) p h =
-    by_turn (nat_lt 0 k && may_go_to target q) (λ l. In-counted target (k - 1) ps p l) (λ l. In-counted target k ps p l) h
+In-counted target k ps p h =
+    let r = In-map (λ (q : Pending). cond (is_issued target k ps q) (once_more q) q) p ps h in
+    (r.0, r.1, same (is_issued target k ps r.0) r.0 ∙ ap (λ (q : Pending). q.sourced) r.2)
   where
-    by_turn : (b : Bool) → (In p (counted target (k - 1) ps) → (r : Pending) × In r ps × (r.sourced ≡ p.sourced))
-        → (In p (counted target k ps) → (r : Pending) × In r ps × (r.sourced ≡ p.sourced)) → In p (cond b (once_more q ∷ counted target (k - 1) ps) (q ∷ counted target k ps)) → (r : Pending) × In r (q ∷ ps) × (r.sourced ≡ p.sourced)
-    by_turn true again after (inl e) = (q, inl refl, sym (ap (λ (x : Pending). x.sourced) e))
-    by_turn true again after (inr l) = let r = again l in (r.0, inr r.1, r.2)
-    by_turn false again after (inl e) = (q, inl refl, sym (ap (λ (x : Pending). x.sourced) e))
-    by_turn false again after (inr l) = let r = after l in (r.0, inr r.1, r.2)
+    same : (b : Bool) (q : Pending) → q.sourced ≡ (cond b (once_more q) q).sourced
+    same true q = refl
+    same false q = refl
 
 pub In-issued : (target k : ℕ) (ps : List Pending) (s : Sourced) → In s (issued target k ps) → (p : Pending) × In p ps × (p.sourced ≡ s)
 In-issued target k ps s h =

@@ -1,10 +1,6 @@
 -- What the parts of a node answer is what the node answers, and what an answer leaves of them.
-use Rattle.std.proofs.Common.{◌≡◌, ℕ, ◌≤◌, List, [], length, map, Option, None, Some, Ok, refl, sym, ◌∙◌, ap, subst, arith}
+use Rattle.std.proofs.Common.{◌≡◌, ℕ, List, [], Option, None, Some, Ok, refl, sym, ◌∙◌, ap, subst}
 use Rattle.std.specs.Prelude.{MatchOption}
-use Rattle.std.proofs.lemmas.List.{length-map}
-use Rattle.change_core.specs.declared.changes.Change.{Change}
-use Rattle.change_core.specs.declared.changes.Sourced.{Sourced}
-use Rattle.change_core.specs.Numbers.{most_members}
 use Rattle.detector_core.specs.declared.asked.Outcome.{Outcome}
 use Rattle.detector_core.specs.declared.asked.Outcome.TheVariants as outcome
 use Rattle.detector_core.specs.declared.asked.Said.{Said}
@@ -14,9 +10,6 @@ use Rattle.detector_core.specs.Picks.{IsPick, WasLost}
 use Rattle.detector_core.specs.Probing.{ProbeState, after_saying, unasked_target, would_say}
 use Rattle.gossip_core.specs.Dissemination.{Dissemination, after_issue}
 use Rattle.gossip_core.specs.Pending.{issued}
-use Rattle.hash_ring.specs.Points.{owners}
-use Rattle.hash_ring.specs.RingModel.{RingModel}
-use Rattle.member_core.specs.Membership as membership
 use Rattle.node_core.specs.Invariant.{IsNode}
 use Rattle.node_core.specs.Node.{pingable}
 use Rattle.node_core.specs.Parts.{Parts, AreParts, node_of, seen_in}

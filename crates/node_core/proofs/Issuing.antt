@@ -1,22 +1,11 @@
 -- What a message to a target takes of the pending changes.
-use Rattle.std.proofs.Common.{◌≡◌, ℕ, ◌+◌, ◌<◌, ◌≤◌, ◌-◌, zero, suc, Bool, true, false, cond, List, [], ◌∷◌, length, map, take, min, refl, sym, ◌∙◌, ap, subst, inl, inr, arith}
-use Rattle.std.specs.List.{filter}
-use Rattle.std.specs.Prelude.{nat_lt}
+use Rattle.std.proofs.Common.{◌≡◌, ℕ, ◌<◌, ◌-◌, zero, suc, Bool, true, false, cond, List, [], ◌∷◌, refl, sym, ◌∙◌, ap, inl, inr, arith}
 use Rattle.std.proofs.lemmas.Bool.{lt-ltb}
-use Rattle.std.proofs.lemmas.List.{length-map, length-take}
 use Rattle.change_core.specs.Ascending.{In}
-use Rattle.change_core.specs.declared.changes.Sourced.{Sourced}
 use Rattle.gossip_core.specs.declared.pending.Pending.{Pending}
 use Rattle.gossip_core.specs.Dissemination.{Dissemination, after_issue}
 use Rattle.gossip_core.specs.Pending.{issued, counted, below, may_go_to}
 use Rattle.gossip_core.proofs.PendingLemmas.{counted-none, counted-cons_no, issued-cons_yes, issued-cons_no}
-
--- no more than were asked for
-pub length-issued : (target k : ℕ) (ps : List Pending) → length (issued target k ps) ≤ k
-length-issued target k ps =
-    let mapped = length-map (take k (filter (may_go_to target) ps)) (λ (p : Pending). p.sourced) in
-    let taken = length-take k (filter (may_go_to target) ps) in
-    omega (arith, mapped, taken)
 
 -- where nothing is issued nothing is counted
 counted-nothing : (target k : ℕ) (ps : List Pending) → issued target k ps ≡ [] → counted target k ps ≡ ps

@@ -1,9 +1,9 @@
 -- The members that a node pings, found in its member list.
-use Rattle.std.proofs.Common.{◌≡◌, ◌≢◌, ℕ, ◌+◌, ◌<◌, ◌≤◌, ◌&&◌, Bool, true, false, cond, not, eqb, List, [], ◌∷◌, ◌++◌, length, map, take, drop, min, refl, sym, ◌∙◌, ap, subst, get_or, length-append, arith}
-use Rattle.std.specs.List.{filter, count_by, list_any}
+use Rattle.std.proofs.Common.{◌≡◌, ℕ, ◌+◌, ◌<◌, ◌≤◌, ◌&&◌, Bool, true, false, cond, not, eqb, List, [], ◌∷◌, ◌++◌, length, map, take, drop, refl, sym, ◌∙◌, ap, get_or, length-append, arith}
+use Rattle.std.specs.List.{filter, count_by}
 use Rattle.std.specs.List.Sorted.{IsStrictlyIncreasing}
-use Rattle.std.proofs.lemmas.List.{length-map, map-append, take-append-drop, append-nil}
-use Rattle.std.proofs.lemmas.List.Elements.{filter_more, filter-append}
+use Rattle.std.proofs.lemmas.List.{length-map, take-append-drop}
+use Rattle.std.proofs.lemmas.List.Elements.{filter-append}
 use Rattle.std.proofs.lemmas.List.Filters.{length-filter_more}
 use Rattle.std.proofs.lemmas.List.Sums.{length-filter}
 use Rattle.change_core.specs.declared.changes.Change.{Change}
@@ -11,7 +11,6 @@ use Rattle.change_core.specs.Members.{serving, members, address_of_change, IsMem
 use Rattle.change_core.specs.Status.{is_serving}
 use Rattle.change_core.proofs.Increasing.{IsStrictlyIncreasing-serving_kept}
 use Rattle.change_core.proofs.Members.{members-IsMemberList}
-use Rattle.detector_core.proofs.SampleLemmas.{filter-list_any, filter-list_some}
 use Rattle.detector_core.specs.Helpers.{others}
 
 -- a serving change about another
@@ -71,21 +70,3 @@ module _ (own : ℕ) (M : List Change) (i : ℕ) (d : Change) (found : List ℕ)
       let sum : length (filter p M) ≡ length (filter p (take (i + 1) M)) + length (filter p (drop (i + 1) M)) = ap length parts ∙ length-append (filter p (take (i + 1) M)) (filter p (drop (i + 1) M)) in
       let one : length (filter p (take (i + 1) M)) ≡ length (filter p (take i M)) + 1 = length-filter_more p M i d within ∙ ap (λ (b : Bool). length (filter p (take i M)) + cond b 1 0) e in
       omega (arith, h.len_is, h.fits)
-
-  pub found_more : p c ≡ true → HasFound own M (i + 1) (found ++ c.address ∷ []) (len + 1) capacity
-  found_more e =
-      let more : filter p (take (i + 1) M) ≡ filter p (take i M) ++ c ∷ [] = filter_more p M i d within ∙ ap (λ (b : Bool). filter p (take i M) ++ cond b (c ∷ []) []) e in
-      record {
-        so_far = ap (λ (xs : List ℕ). xs ++ c.address ∷ []) h.so_far ∙ sym (ap (map address_of_change) more ∙ map-append address_of_change (filter p (take i M)) (c ∷ []));
-        len_is = let size : length (filter p (take (i + 1) M)) ≡ length (filter p (take i M)) + 1 = ap length more ∙ length-append (filter p (take i M)) (c ∷ []) in omega (arith, h.len_is);
-        fits = h.fits;
-      }
-
-  pub found_same : p c ≡ false → HasFound own M (i + 1) found len capacity
-  found_same e =
-      let same : filter p (take (i + 1) M) ≡ filter p (take i M) = filter_more p M i d within ∙ ap (λ (b : Bool). filter p (take i M) ++ cond b (c ∷ []) []) e ∙ append-nil (filter p (take i M)) in
-      record {
-        so_far = h.so_far ∙ sym (ap (map address_of_change) same);
-        len_is = h.len_is ∙ sym (ap length same);
-        fits = h.fits;
-      }

@@ -1,4 +1,4 @@
-use Rattle.std.proofs.Common.{◌≡◌, ◌==◌, ◌&&◌, ◌<◌, ◌∙◌, not, eqb, length, sym, arith}
+use Rattle.std.proofs.Common.{◌≡◌, ◌&&◌, ◌<◌, ◌∙◌, not, eqb, length, sym, arith}
 use Rattle.std.specs.List.{filter}
 use Rattle.change_core.specs.declared.changes.Change.{Change}
 use Rattle.detector_core.proofs.OrderLemmas.{not_is}

@@ -1,4 +1,4 @@
-use Rattle.std.proofs.Common.{◌≡◌, ℕ, sym, ◌∙◌, ap, subst}
+use Rattle.std.proofs.Common.{◌≡◌, sym, ◌∙◌, ap, subst}
 use Rattle.member_core.specs.declared.verdicts.Verdict.TheVariants.{Take}
 use Rattle.member_core.specs.Membership.{judged}
 use Rattle.node_core.specs.Edits.{membership_of}

@@ -1,21 +1,18 @@
 -- What a message to a target takes of the pending changes.
-use Rattle.std.proofs.Common.{◌≡◌, ℕ, ◌<◌, ◌-◌, zero, suc, Bool, true, false, cond, List, [], ◌∷◌, refl, sym, ◌∙◌, ap, inl, inr, arith}
+use Rattle.std.proofs.Common.{◌≡◌, ℕ, ◌<◌, Bool, cond, eqb, List, [], ◌∷◌, map, refl, ◌∙◌, ap, inl, inr}
+use Rattle.std.specs.List.{list_any}
 use Rattle.std.proofs.lemmas.Bool.{lt-ltb}
+use Rattle.std.proofs.lemmas.List.{map-id}
+use Rattle.change_core.specs.declared.changes.Sourced.{Sourced}
 use Rattle.change_core.specs.Ascending.{In}
 use Rattle.gossip_core.specs.declared.pending.Pending.{Pending}
 use Rattle.gossip_core.specs.Dissemination.{Dissemination, after_issue}
-use Rattle.gossip_core.specs.Pending.{issued, counted, below, may_go_to}
-use Rattle.gossip_core.proofs.PendingLemmas.{counted-none, counted-cons_no, issued-cons_yes, issued-cons_no}
+use Rattle.gossip_core.specs.Pending.{issued, counted, below, once_more, subject}
 
 -- where nothing is issued nothing is counted
 counted-nothing : (target k : ℕ) (ps : List Pending) → issued target k ps ≡ [] → counted target k ps ≡ ps
-counted-nothing target k [] e = refl
-counted-nothing target zero (p ∷ ps) e = counted-none target (p ∷ ps)
-counted-nothing target (suc k) (p ∷ ps) e = by_test (may_go_to target p) refl (counted-nothing target (suc k) ps)
-  where
-    by_test : (b : Bool) → may_go_to target p ≡ b → (issued target (suc k) ps ≡ [] → counted target (suc k) ps ≡ ps) → counted target (suc k) (p ∷ ps) ≡ p ∷ ps
-    by_test true may again = let one = issued-cons_yes target (suc k) p ps (omega arith) may in absurd (let none : p.sourced ∷ issued target (suc k - 1) ps ≡ [] = sym one ∙ e in cc)
-    by_test false may again = counted-cons_no target (suc k) p ps may ∙ ap (λ (qs : List Pending). p ∷ qs) (again (sym (issued-cons_no target (suc k) p ps may) ∙ e))
+counted-nothing target k ps e =
+    ap (λ (ss : List Sourced). map (λ (p : Pending). cond (list_any (λ (s : Sourced). eqb s.change.address (subject p)) ss) (once_more p) p) ps) e ∙ map-id ps
 
 -- where none has reached the limit all stay
 below-unspent : (limit : ℕ) (ps : List Pending) → ((p : Pending) → In p ps → p.count < limit) → below limit ps ≡ ps

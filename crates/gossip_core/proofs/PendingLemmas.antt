@@ -307,3 +307,10 @@ NoneAbout-from_lookup a (e ∷ es) kept none =
         → (lookup (nat_eq a) es ≡ None → NoneAbout a (values_of es)) → NoneAbout a (e.1 ∷ values_of es)
     by true same none here rest = absurd (true≢false (ap is_some none))
     by false same none here rest = All-cons (λ p. subject p ≢ a) e.1 (values_of es) (λ h. eqb-false a e.0 same (sym h ∙ here)) (rest none)
+
+-- all are below a limit that is no greater, so none goes
+pub below-unspent : (before limit : ℕ) (ps : List Pending) → before ≤ limit → AllBelow before ps → below limit ps ≡ ps
+below-unspent before limit [] le h = refl
+below-unspent before limit (p ∷ ps) le h =
+    ap (λ b. cond b (p ∷ below limit ps) (below limit ps)) (lt-ltb p.count limit (omega (arith, le, h 0 p (omega arith))))
+    ∙ ap (λ qs. p ∷ qs) (below-unspent before limit ps le (All-tail (λ p. p.count < before) p ps h))

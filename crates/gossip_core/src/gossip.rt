@@ -67,14 +67,15 @@ impl Gossip {
     }
 
     /// Sets the limit for `n` serving members, the factor times the decimal digits of `n`, and drops the changes that have
-    /// been issued as often. Allocates nothing.
+    /// been issued as often: none, where it does not fall. Allocates nothing.
     ///
     /// The rule is this project's own, after ringpop-go, package swim.
     pub fn adjust(&mut self, n: usize)
         ensures { self.new ≡ adjusted self.old n }
     {
+        let before = self.limit;
         self.limit = pending::limit_at(self.factor, n);
-        pending::drop_spent(&mut self.pending, self.limit);
+        pending::follow_limit(&mut self.pending, before, self.limit);
     }
 
     /// Issues to `target` the first `at_most` changes that did not come from it. Each counts once more, and one that has

@@ -2,7 +2,7 @@ ghost use Rattle.std.specs.Prelude.{◌≡◌, ◌+◌, ◌-◌, ◌*◌, ◌<�
 ghost use Rattle.std.specs.List.{list_all};
 ghost use Rattle.indexmap.specs.IndexMap.{values};
 ghost use Rattle.gossip_core.specs.Dissemination.{most_factor, most_limit};
-ghost use Rattle.gossip_core.specs.Pending.{subject, put_pending, issued, counted, below, digit_count, limit_for, NoneAbout, IsByAddress};
+ghost use Rattle.gossip_core.specs.Pending.{subject, put_pending, issued, counted, below, digit_count, limit_for, NoneAbout, AllBelow, IsByAddress};
 
 use change_core::{Address, Sourced};
 use indexmap::IndexMap;
@@ -100,6 +100,18 @@ pub(crate) fn drop_spent(pending: &mut PendingMap, limit: u32)
             ensures { (result ≡ nat_lt p.old.count limit) × (p.new ≡ p.old) }
         { p.count < limit },
     );
+}
+
+/// Drops the changes that have reached a new limit. All are below the one before it, so they are looked at only where it falls.
+pub(crate) fn follow_limit(pending: &mut PendingMap, before: u32, limit: u32)
+    requires by_address { IsByAddress pending.old }
+    requires unspent { AllBelow before (values pending.old) }
+    ensures below { values pending.new ≡ below limit (values pending.old) }
+    ensures by_address { IsByAddress pending.new }
+{
+    if limit < before {
+        drop_spent(pending, limit);
+    }
 }
 
 /// The number of decimal digits of `n`, where 0 has one.

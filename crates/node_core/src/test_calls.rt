@@ -1,0 +1,309 @@
+//! What the tests ask a node, one call in a function of its own, and the values that they ask with.
+use crate::*;
+use change_core::{Address, Change, Digest, Entry, Incarnation, Moment, Sourced, Status, Weight};
+use detector_core::{Addresses, Probe, Running, Said};
+use hash_ring::{PointHash, SumHash};
+use std::alloc::Global;
+use std::process::Abort;
+use wire_json::{Message, Text};
+
+pub(crate) fn address(rt: &impl Abort, text: &str) -> Address {
+    Address::parse(text).ok().expect(rt, "an address")
+}
+
+pub(crate) fn incarnation(rt: &impl Abort, number: u64) -> Incarnation {
+    Incarnation::new(number).expect(rt, "an incarnation")
+}
+
+pub(crate) fn moment(rt: &impl Abort, number: u64) -> Moment {
+    Moment::new(number).expect(rt, "a moment")
+}
+
+/// A change with weight 1.
+pub(crate) fn change(rt: &impl Abort, text: &str, number: u64, status: Status) -> Change {
+    Change {
+        address: address(rt, text),
+        incarnation: incarnation(rt, number),
+        status,
+        weight: Weight::new(1).expect(rt, "a weight"),
+    }
+}
+
+/// A change that this source said at this incarnation.
+pub(crate) fn said(rt: &impl Abort, source: &str, at: u64, change: &Change) -> Sourced {
+    Sourced {
+        change: *change,
+        source: address(rt, source),
+        source_incarnation: incarnation(rt, at),
+    }
+}
+
+/// A change that its own address said.
+pub(crate) fn news(rt: &impl Abort, text: &str, number: u64, status: Status) -> Sourced {
+    said(rt, text, number, &change(rt, text, number, status))
+}
+
+/// The standard configuration, with two points for each unit of weight and this many members.
+pub(crate) fn config(max_members: usize) -> Config {
+    let mut config = Config::standard();
+    config.replicas = 2;
+    config.max_members = max_members;
+    config
+}
+
+/// A node at moment 0.
+pub(crate) fn try_node<H: PointHash>(
+    alloc: Global,
+    hash: H,
+    config: Config,
+    born: &Change,
+    moment: Moment,
+) -> Result<NodeState<H>, NodeError> {
+    NodeState::new(
+        alloc,
+        config,
+        hash,
+        born.address,
+        born.incarnation,
+        1,
+        moment,
+    )
+}
+
+/// A node at moment 0. Where a growth is refused it is made again.
+pub(crate) fn node<H: PointHash>(
+    rt: &impl Abort,
+    alloc: Global,
+    hash: H,
+    text: &str,
+    number: u64,
+    max: usize,
+) -> NodeState<H> {
+    let born = change(rt, text, number, Status::Alive);
+    let first = try_node(alloc, hash, config(max), &born, moment(rt, 0));
+    if let Ok(node) = first {
+        return node;
+    }
+    let again = try_node(alloc, hash, config(max), &born, moment(rt, 0));
+    again.ok().expect(rt, "a node")
+}
+
+/// What a node holds of itself and of another, and of how many.
+pub(crate) fn held<H: PointHash>(
+    node: &NodeState<H>,
+    address: Address,
+) -> (Change, usize, Option<Entry>) {
+    (node.own(), node.len(), node.member(address))
+}
+
+/// Takes one change.
+pub(crate) fn try_take<H: PointHash>(
+    node: &mut NodeState<H>,
+    given: &Sourced,
+    moment: Moment,
+) -> Result<Taken, Stopped> {
+    node.take(&[*given], moment)
+}
+
+/// Takes one change. Where a growth is refused the node is as before, and the next try goes on.
+pub(crate) fn take<H: PointHash>(
+    rt: &impl Abort,
+    node: &mut NodeState<H>,
+    given: &Sourced,
+    now: u64,
+) -> Result<Taken, Stopped> {
+    let address = given.change.address;
+    let before = held(node, address);
+    let answer = try_take(node, given, moment(rt, now));
+    let refused = Stopped {
+        taken: 0,
+        cause: StopCause::Memory,
+    };
+    if answer != Err(refused) {
+        return answer;
+    }
+    assert!(rt; held(node, address) == before);
+    try_take(node, given, moment(rt, now))
+}
+
+/// Takes one change, which is not refused.
+pub(crate) fn hear<H: PointHash>(
+    rt: &impl Abort,
+    node: &mut NodeState<H>,
+    given: &Sourced,
+    now: u64,
+) {
+    let answer = take(rt, node, given, now);
+    assert!(rt; answer.is_ok());
+}
+
+/// Lets the first deadline that is past run out.
+pub(crate) fn try_expire<H: PointHash>(
+    node: &mut NodeState<H>,
+    moment: Moment,
+) -> Result<Option<Change>, NodeError> {
+    node.expire(moment)
+}
+
+/// Asks again where a growth was refused.
+pub(crate) fn expire<H: PointHash>(
+    rt: &impl Abort,
+    node: &mut NodeState<H>,
+    now: u64,
+) -> Result<Option<Change>, NodeError> {
+    let answer = try_expire(node, moment(rt, now));
+    if answer == Err(NodeError::Memory) {
+        return try_expire(node, moment(rt, now));
+    }
+    answer
+}
+
+/// Takes three changes as one batch.
+pub(crate) fn take_batch<H: PointHash>(
+    node: &mut NodeState<H>,
+    given: &[Sourced; 3],
+    moment: Moment,
+) -> Result<Taken, Stopped> {
+    node.take(given, moment)
+}
+
+pub(crate) fn leave(node: &mut NodeState<SumHash>) -> Result<Change, NodeError> {
+    node.leave()
+}
+
+pub(crate) fn rejoin(node: &mut NodeState<SumHash>) -> Result<Change, NodeError> {
+    node.rejoin()
+}
+
+pub(crate) fn own<H: PointHash>(node: &NodeState<H>) -> Change {
+    node.own()
+}
+
+pub(crate) fn owner<H: PointHash>(node: &NodeState<H>, key: &str) -> Option<Address> {
+    node.owner(key.as_bytes())
+}
+
+pub(crate) fn view<H: PointHash>(node: &NodeState<H>) -> Result<View<H>, NodeError> {
+    node.view()
+}
+
+pub(crate) fn view_owner<H: PointHash>(view: &View<H>, key: &str) -> Option<Address> {
+    view.owner(key.as_bytes())
+}
+
+pub(crate) fn receive<H: PointHash>(
+    node: &mut NodeState<H>,
+    message: &Message,
+    moment: Moment,
+) -> Received {
+    node.receive(message, moment)
+}
+
+pub(crate) fn digest<H: PointHash>(node: &NodeState<H>) -> Result<Digest, NodeError> {
+    node.digest()
+}
+
+/// The node's text for its digest.
+pub(crate) fn digest_text(node: &NodeState<SumHash>) -> Result<Text, NodeError> {
+    node.digest_text()
+}
+
+pub(crate) fn try_owners<H: PointHash>(
+    node: &NodeState<H>,
+    key: &str,
+    n: usize,
+) -> Result<Addresses, NodeError> {
+    node.owners(key.as_bytes(), n)
+}
+
+pub(crate) fn try_probe(node: &mut NodeState<SumHash>) -> Result<Option<Probe>, NodeError> {
+    node.probe()
+}
+
+pub(crate) fn acked(node: &mut NodeState<SumHash>, number: u64) -> Result<(), NodeError> {
+    node.acked(number)
+}
+
+pub(crate) fn lost(
+    node: &mut NodeState<SumHash>,
+    number: u64,
+    moment: Moment,
+) -> Result<NodeLost, NodeError> {
+    node.lost(number, moment)
+}
+
+pub(crate) fn helper_said(
+    node: &mut NodeState<SumHash>,
+    number: u64,
+    helper: Address,
+    said: Said,
+    moment: Moment,
+) -> Result<NodeOutcome, NodeError> {
+    node.helper_said(number, helper, said, moment)
+}
+
+pub(crate) fn running(node: &NodeState<SumHash>) -> Option<Running> {
+    node.running()
+}
+
+pub(crate) fn join_message(node: &NodeState<SumHash>) -> Result<Message, NodeError> {
+    node.join_message()
+}
+
+pub(crate) fn ping_to(
+    node: &mut NodeState<SumHash>,
+    target: Address,
+) -> Result<Message, NodeError> {
+    node.ping_to(target)
+}
+
+pub(crate) fn ping_req_to(
+    node: &mut NodeState<SumHash>,
+    helper: Address,
+    target: Address,
+) -> Result<Message, NodeError> {
+    node.ping_req_to(helper, target)
+}
+
+pub(crate) fn ping_req_ack_to(
+    node: &mut NodeState<SumHash>,
+    source: Address,
+    target: Address,
+    reached: bool,
+) -> Result<Message, NodeError> {
+    node.ping_req_ack_to(source, target, reached)
+}
+
+pub(crate) fn members(node: &NodeState<SumHash>) -> Result<ChangeList, NodeError> {
+    node.members()
+}
+
+pub(crate) fn view_owners<H: PointHash>(
+    view: &View<H>,
+    key: &str,
+    count: usize,
+) -> Result<Addresses, NodeError> {
+    view.owners(key.as_bytes(), count)
+}
+
+pub(crate) fn view_own<H: PointHash>(view: &View<H>) -> Address {
+    view.own()
+}
+
+/// Whether a node names these owners of a key, in this order.
+pub(crate) fn names<H: PointHash>(
+    rt: &impl Abort,
+    node: &NodeState<H>,
+    key: &str,
+    owners: &[&str],
+) -> bool {
+    let Ok(named) = try_owners(node, key, owners.len()) else {
+        return false;
+    };
+    for (place, text) in owners.iter().enumerate() {
+        if named.as_slice().get(place) != Some(&address(rt, text)) {
+            return false;
+        }
+    }
+    true
+}

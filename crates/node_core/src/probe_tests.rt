@@ -42,9 +42,9 @@ fn among<H: PointHash>(rt: &impl Abort, alloc: Global, hash: H, others: usize) -
 
 /// A probe that begins; no other may.
 fn begin(rt: &impl Abort, node: &mut NodeState<SumHash>) -> Result<Probe, Fail> {
-    let probe = try_probe(node)?.ok_or("a target")?;
-    assert!(rt; try_probe(node).err() == Some(NodeError::Busy));
-    Ok(probe)
+    let begun = probe(node)?.ok_or("a target")?;
+    assert!(rt; probe(node).err() == Some(NodeError::Busy));
+    Ok(begun)
 }
 
 /// The helpers that are asked about a lost target.
@@ -134,7 +134,7 @@ fn a_lone_target_is_suspect_at_once(rt: HostRuntime) -> Result<(), Fail> {
 #[test]
 fn an_ack_ends_a_probe(rt: HostRuntime) -> Result<(), Fail> {
     let mut alone = among(&rt, rt.alloc(), SumHash, 0);
-    assert!(rt; try_probe(&mut alone)?.is_none());
+    assert!(rt; probe(&mut alone)?.is_none());
     let mut node = among(&rt, rt.alloc(), SumHash, 2);
     for number in 1..4 {
         let probe = begin(&rt, &mut node)?;

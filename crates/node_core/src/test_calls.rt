@@ -51,26 +51,17 @@ pub(crate) fn config(max_members: usize) -> Config {
     config
 }
 
-/// A node at moment 0.
-pub(crate) fn try_node<H: PointHash>(
-    alloc: Global,
-    hash: H,
-    config: Config,
-    born: &Change,
-    moment: Moment,
-) -> Result<NodeState<H>, NodeError> {
-    NodeState::new(
-        alloc,
-        config,
-        hash,
-        born.address,
-        born.incarnation,
-        1,
-        moment,
-    )
+/// Asks again where a growth was refused.
+fn again<T: Drop, F: FnMut() -> Result<T, NodeError>>(mut ask: F) -> Result<T, NodeError>
+    requires { F.IsAlwaysCallable ask }
+{
+    match ask() {
+        Err(NodeError::Memory) => ask(),
+        answer => answer,
+    }
 }
 
-/// A node at moment 0. Where a growth is refused it is made again.
+/// A node at moment 0.
 pub(crate) fn node<H: PointHash>(
     rt: &impl Abort,
     alloc: Global,
@@ -79,13 +70,11 @@ pub(crate) fn node<H: PointHash>(
     number: u64,
     max: usize,
 ) -> NodeState<H> {
-    let born = change(rt, text, number, Status::Alive);
-    let first = try_node(alloc, hash, config(max), &born, moment(rt, 0));
-    if let Ok(node) = first {
-        return node;
-    }
-    let again = try_node(alloc, hash, config(max), &born, moment(rt, 0));
-    again.ok().expect(rt, "a node")
+    let own = address(rt, text);
+    let born = incarnation(rt, number);
+    let start = moment(rt, 0);
+    let made = again(|| NodeState::new(alloc, config(max), hash, own, born, 1, start));
+    made.ok().expect(rt, "a node")
 }
 
 /// What a node holds of itself and of another, and of how many.
@@ -138,24 +127,11 @@ pub(crate) fn hear<H: PointHash>(
 }
 
 /// Lets the first deadline that is past run out.
-pub(crate) fn try_expire<H: PointHash>(
+pub(crate) fn expire<H: PointHash>(
     node: &mut NodeState<H>,
     moment: Moment,
 ) -> Result<Option<Change>, NodeError> {
-    node.expire(moment)
-}
-
-/// Asks again where a growth was refused.
-pub(crate) fn expire<H: PointHash>(
-    rt: &impl Abort,
-    node: &mut NodeState<H>,
-    now: u64,
-) -> Result<Option<Change>, NodeError> {
-    let answer = try_expire(node, moment(rt, now));
-    if answer == Err(NodeError::Memory) {
-        return try_expire(node, moment(rt, now));
-    }
-    answer
+    again(|| node.expire(moment))
 }
 
 /// Takes three changes as one batch.
@@ -168,11 +144,11 @@ pub(crate) fn take_batch<H: PointHash>(
 }
 
 pub(crate) fn leave(node: &mut NodeState<SumHash>) -> Result<Change, NodeError> {
-    node.leave()
+    again(|| node.leave())
 }
 
 pub(crate) fn rejoin(node: &mut NodeState<SumHash>) -> Result<Change, NodeError> {
-    node.rejoin()
+    again(|| node.rejoin())
 }
 
 pub(crate) fn own<H: PointHash>(node: &NodeState<H>) -> Change {
@@ -184,14 +160,14 @@ pub(crate) fn owner<H: PointHash>(node: &NodeState<H>, key: &str) -> Option<Addr
 }
 
 pub(crate) fn view<H: PointHash>(node: &NodeState<H>) -> Result<View<H>, NodeError> {
-    node.view()
+    again(|| node.view())
 }
 
 pub(crate) fn view_owner<H: PointHash>(view: &View<H>, key: &str) -> Option<Address> {
     view.owner(key.as_bytes())
 }
 
-pub(crate) fn receive<H: PointHash>(
+fn try_receive<H: PointHash>(
     node: &mut NodeState<H>,
     message: &Message,
     moment: Moment,
@@ -199,25 +175,37 @@ pub(crate) fn receive<H: PointHash>(
     node.receive(message, moment)
 }
 
+/// Receives a message, and again where the answer found no memory.
+pub(crate) fn receive<H: PointHash>(
+    node: &mut NodeState<H>,
+    message: &Message,
+    moment: Moment,
+) -> Received {
+    match try_receive(node, message, moment) {
+        Received::NoAnswer(_) => try_receive(node, message, moment),
+        received => received,
+    }
+}
+
 pub(crate) fn digest<H: PointHash>(node: &NodeState<H>) -> Result<Digest, NodeError> {
-    node.digest()
+    again(|| node.digest())
 }
 
 /// The node's text for its digest.
 pub(crate) fn digest_text(node: &NodeState<SumHash>) -> Result<Text, NodeError> {
-    node.digest_text()
+    again(|| node.digest_text())
 }
 
-pub(crate) fn try_owners<H: PointHash>(
+pub(crate) fn owners<H: PointHash>(
     node: &NodeState<H>,
     key: &str,
     n: usize,
 ) -> Result<Addresses, NodeError> {
-    node.owners(key.as_bytes(), n)
+    again(|| node.owners(key.as_bytes(), n))
 }
 
-pub(crate) fn try_probe(node: &mut NodeState<SumHash>) -> Result<Option<Probe>, NodeError> {
-    node.probe()
+pub(crate) fn probe(node: &mut NodeState<SumHash>) -> Result<Option<Probe>, NodeError> {
+    again(|| node.probe())
 }
 
 pub(crate) fn acked(node: &mut NodeState<SumHash>, number: u64) -> Result<(), NodeError> {
@@ -229,7 +217,7 @@ pub(crate) fn lost(
     number: u64,
     moment: Moment,
 ) -> Result<NodeLost, NodeError> {
-    node.lost(number, moment)
+    again(|| node.lost(number, moment))
 }
 
 pub(crate) fn helper_said(
@@ -239,7 +227,7 @@ pub(crate) fn helper_said(
     said: Said,
     moment: Moment,
 ) -> Result<NodeOutcome, NodeError> {
-    node.helper_said(number, helper, said, moment)
+    again(|| node.helper_said(number, helper, said, moment))
 }
 
 pub(crate) fn running(node: &NodeState<SumHash>) -> Option<Running> {
@@ -247,14 +235,14 @@ pub(crate) fn running(node: &NodeState<SumHash>) -> Option<Running> {
 }
 
 pub(crate) fn join_message(node: &NodeState<SumHash>) -> Result<Message, NodeError> {
-    node.join_message()
+    again(|| node.join_message())
 }
 
 pub(crate) fn ping_to(
     node: &mut NodeState<SumHash>,
     target: Address,
 ) -> Result<Message, NodeError> {
-    node.ping_to(target)
+    again(|| node.ping_to(target))
 }
 
 pub(crate) fn ping_req_to(
@@ -262,7 +250,7 @@ pub(crate) fn ping_req_to(
     helper: Address,
     target: Address,
 ) -> Result<Message, NodeError> {
-    node.ping_req_to(helper, target)
+    again(|| node.ping_req_to(helper, target))
 }
 
 pub(crate) fn ping_req_ack_to(
@@ -271,11 +259,11 @@ pub(crate) fn ping_req_ack_to(
     target: Address,
     reached: bool,
 ) -> Result<Message, NodeError> {
-    node.ping_req_ack_to(source, target, reached)
+    again(|| node.ping_req_ack_to(source, target, reached))
 }
 
 pub(crate) fn members(node: &NodeState<SumHash>) -> Result<ChangeList, NodeError> {
-    node.members()
+    again(|| node.members())
 }
 
 pub(crate) fn view_owners<H: PointHash>(
@@ -283,7 +271,7 @@ pub(crate) fn view_owners<H: PointHash>(
     key: &str,
     count: usize,
 ) -> Result<Addresses, NodeError> {
-    view.owners(key.as_bytes(), count)
+    again(|| view.owners(key.as_bytes(), count))
 }
 
 pub(crate) fn view_own<H: PointHash>(view: &View<H>) -> Address {
@@ -295,12 +283,12 @@ pub(crate) fn names<H: PointHash>(
     rt: &impl Abort,
     node: &NodeState<H>,
     key: &str,
-    owners: &[&str],
+    texts: &[&str],
 ) -> bool {
-    let Ok(named) = try_owners(node, key, owners.len()) else {
+    let Ok(named) = owners(node, key, texts.len()) else {
         return false;
     };
-    for (place, text) in owners.iter().enumerate() {
+    for (place, text) in texts.iter().enumerate() {
         if named.as_slice().get(place) != Some(&address(rt, text)) {
             return false;
         }

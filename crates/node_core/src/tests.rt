@@ -96,12 +96,12 @@ fn entries_run_out_in_turn(rt: HostRuntime) {
         (LIMIT, None),
     ];
     for (now, wanted) in rows {
-        assert!(rt; expire(&rt, &mut first, now) == Ok(wanted));
+        assert!(rt; expire(&mut first, moment(&rt, now)) == Ok(wanted));
     }
     let mut second = node(&rt, rt.alloc(), SumHash, A, 7, 4096);
     hear(&rt, &mut second, &news(&rt, B, 1, Status::Suspect), 0);
     hear(&rt, &mut second, &news(&rt, B, 2, Status::Alive), 100);
-    assert!(rt; expire(&rt, &mut second, 5_000) == Ok(None));
+    assert!(rt; expire(&mut second, moment(&rt, 5_000)) == Ok(None));
 }
 
 #[test]
@@ -127,7 +127,7 @@ fn a_refused_growth_leaves_the_changes_before_it(rt: HostRuntime) {
     for key in ["", "zzzz0", "zzzz1", "zzzz2"] {
         assert!(rt; owner(&first, key) == owner(&second, key));
     }
-    assert!(rt; expire(&rt, &mut first, 5_000) == expire(&rt, &mut second, 5_000));
+    assert!(rt; expire(&mut first, moment(&rt, 5_000)) == expire(&mut second, moment(&rt, 5_000)));
 }
 
 /// The i-th of twenty changes: about 10.0.0.2 to 10.0.0.5, with each incarnation and status in turn.
@@ -255,20 +255,32 @@ fn synchronises_where_it_has_nothing_to_say(rt: HostRuntime) {
     }
 }
 
-#[test]
-fn a_run_answers_each_call(rt: HostRuntime) {
-    let start = node(&rt, rt.alloc(), SumHash, A, 7, 4096);
-    let given = [news(&rt, B, 1, Status::Suspect)];
-    let changes = Changes::from_slice(rt.alloc(), &given)
-        .ok()
-        .expect(&rt, "changes");
+/// What a node answers that hears a suspicion of another, lets it run out, leaves, and counts. None where it found no memory
+/// for what it heard.
+fn answers(rt: &impl Abort, alloc: Global) -> Option<Run<SumHash>> {
+    let start = node(rt, alloc, SumHash, A, 7, 4096);
+    let given = [news(rt, B, 1, Status::Suspect)];
+    let changes = Changes::from_slice(alloc, &given).ok()?;
     let events = [
-        Event::Take(changes, moment(&rt, 3)),
-        Event::Expire(moment(&rt, 5_003)),
+        Event::Take(changes, moment(rt, 3)),
+        Event::Expire(moment(rt, 5_003)),
         Event::Leave,
         Event::Len,
     ];
-    let finished = run(rt.alloc(), start, &events).ok().expect(&rt, "a run");
+    let finished = run(alloc, start, &events).ok()?;
+    let heard = matches!(
+        finished.replies.as_slice().first(),
+        Some(Reply::Take(Ok(_)))
+    );
+    if heard { Some(finished) } else { None }
+}
+
+#[test]
+fn a_run_answers_each_call(rt: HostRuntime) {
+    let first = answers(&rt, rt.alloc());
+    let finished = first
+        .or_else(|| answers(&rt, rt.alloc()))
+        .expect(&rt, "a run");
     let replies = finished.replies.as_slice();
     assert!(rt; replies.len() == 4);
     assert!(rt; matches!(replies.get(1), Some(Reply::Expire(Ok(Some(_))))));

@@ -1,0 +1,3 @@
+pub mod RouteLemmas
+pub mod DecidedLaws
+pub mod ScheduleLaws

@@ -1,0 +1,4 @@
+pub mod Routes
+pub mod Attempts
+pub mod Decided
+pub mod Schedule

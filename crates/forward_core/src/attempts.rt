@@ -1,0 +1,150 @@
+//! A request on its way: when it may be sent, to whom, and when it is given up.
+ghost use Rattle.std.specs.Prelude.{◌≡◌, ◌<◌, ◌≤◌, MatchOption};
+ghost use Rattle.forward_core.specs.Attempts.{IsAttempt, IsDue, IsOpen, most_sends, started, ReadyStep, FailedStep};
+
+use crate::errors::ForwardError;
+use crate::routes::Route;
+use crate::routing::route_keys;
+use change_core::{Address, Moment};
+use hash_ring::PointHash;
+use node_core::View;
+use std::marker::Model;
+use wire_json::Keys;
+
+/// How often an attempt is sent at most (own).
+pub const MOST_SENDS: u32 = 4;
+
+/// How many milliseconds an attempt rests after its first, second and third failure (own).
+const PAUSES: [u64; 3] = [3_000, 6_000, 12_000];
+
+/// What is to be done with an attempt now.
+#[derive(Clone, Copy, Debug, PartialEq, Eq)]
+pub enum Step {
+    /// It rests until the moment of this number, which may lie past the greatest moment and is then never reached.
+    Wait(u64),
+    /// It is handled by this node.
+    Here,
+    /// It is sent to the node of this address.
+    Send(Address),
+}
+
+/// How an attempt stands.
+#[derive(Clone, Copy, Debug, PartialEq, Eq)]
+enum Stage {
+    /// It has not been sent.
+    New,
+    /// It was sent, and that send has not failed.
+    InFlight,
+    /// Its last send failed, and it rests until the moment of this number.
+    Resting(u64),
+    /// Its last send failed, and none is left.
+    Spent,
+}
+
+/// A request that is sent until a send is answered or none is left, each time to whom owns its keys by then. It is
+/// handed each moment and reads no clock. Contracts see its keys, how often it was sent, and how it stands.
+#[derive(Debug, Drop)]
+pub struct Attempt {
+    keys: Keys,
+    sends: u32,
+    stage: Stage,
+}
+
+impl Model for Attempt {
+    ghost use Rattle.forward_core.specs.Attempts.{AttemptState, IsAttempt};
+
+    ghost Value = { AttemptState };
+
+    ghost view = { λ a. record { keys = a.keys; sends = a.sends; stage = a.stage } };
+
+    ghost invariant = { λ a. IsAttempt a.sends a.stage };
+}
+
+impl Attempt {
+    /// An attempt for the request of these keys, not sent yet. It takes no memory.
+    pub fn start(keys: Keys) -> Self
+        ensures { result ≡ started keys }
+    {
+        Attempt {
+            keys,
+            sends: 0,
+            stage: Stage::New,
+        }
+    }
+
+    /// What is to be done now, by the view handed in: the owner is looked up anew each time. `Wait` exactly where the
+    /// attempt rests still, which it does for 3,000, 6,000 and 12,000 milliseconds after its first, second and third
+    /// failure. `Send` counts one send and puts it in flight; any other answer changes nothing.
+    ///
+    /// Errors, in this order, each before any `Wait`: `RetriesSpent` once the fourth send has failed; `InFlight` while a
+    /// send is; `Diverged` where two of the keys have different owners; `Nobody` where no member serves.
+    pub fn ready<H: PointHash>(&mut self, view: &View<H>, now: Moment) -> Result<Step, ForwardError>
+        ensures { ReadyStep H.hash_of view.now now self.old result self.new }
+    {
+        match self.stage {
+            Stage::Spent => return Err(ForwardError::RetriesSpent),
+            Stage::InFlight => return Err(ForwardError::InFlight),
+            Stage::New | Stage::Resting(_) => {}
+        }
+        let route = route_keys(view, &self.keys)?;
+        if matches!(route, Route::Nobody) {
+            return Err(ForwardError::Nobody);
+        }
+        if let Some(until) = self.rest(now) {
+            return Ok(Step::Wait(until));
+        }
+        let Route::To(owner) = route else {
+            return Ok(Step::Here);
+        };
+        self.sends += 1;
+        self.stage = Stage::InFlight;
+        Ok(Step::Send(owner))
+    }
+
+    /// Until when it rests, if it still does at this moment.
+    fn rest(&self, now: Moment) -> Option<u64>
+        ensures { MatchOption result (IsOpen self.now.stage → IsDue self.now.stage now)
+            (λ until. (self.now.stage ≡ Stage.Resting until) × (now < until)) }
+    {
+        match self.stage {
+            Stage::Resting(until) if now.number() < until => Some(until),
+            _ => None,
+        }
+    }
+
+    /// Notes that the send in flight failed at this moment: the attempt rests from then on, or is spent.
+    ///
+    /// Errors: `NotInFlight` where no send is, which changes nothing; `RetriesSpent` at the fourth failure, which ends
+    /// the attempt.
+    pub fn failed(&mut self, now: Moment) -> Result<(), ForwardError>
+        ensures { FailedStep now self.old result self.new }
+    {
+        if self.stage != Stage::InFlight {
+            return Err(ForwardError::NotInFlight);
+        }
+        if self.sends == MOST_SENDS {
+            self.stage = Stage::Spent;
+            return Err(ForwardError::RetriesSpent);
+        }
+        let pause = PAUSES[self.sends as usize - 1];
+        self.stage = Stage::Resting(now.number() + pause);
+        Ok(())
+    }
+
+    /// How often it was sent, from 0 to 4.
+    pub fn sends(&self) -> u32
+        ensures count { result ≡ self.now.sends }
+        ensures within { result ≤ most_sends }
+        // What holds of an attempt between any two calls.
+        ensures whole { IsAttempt self.now.sends self.now.stage }
+    {
+        self.sends
+    }
+
+    /// Its keys.
+    pub fn keys(&self) -> &Keys
+        ensures { result.now ≡ self.now.keys }
+    {
+        &self.keys
+    }
+}

@@ -1,0 +1,21 @@
+use thiserror::Error;
+
+/// Why a call of this crate was refused. None of them is want of memory: the crate takes none.
+#[derive(Clone, Copy, Debug, PartialEq, Eq, Error)]
+pub enum ForwardError {
+    /// Two of the keys have different owners.
+    #[error("the keys have different owners")]
+    Diverged,
+    /// No member serves.
+    #[error("nobody serves")]
+    Nobody,
+    /// The last send that the schedule allows has failed.
+    #[error("no retry is left")]
+    RetriesSpent,
+    /// A send has neither been answered nor failed.
+    #[error("a send is in flight")]
+    InFlight,
+    /// No send is in flight.
+    #[error("no send is in flight")]
+    NotInFlight,
+}

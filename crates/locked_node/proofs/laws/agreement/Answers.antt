@@ -1,0 +1,7 @@
+use Rattle.node_core.proofs.Agreeing.{nodes_agree}
+use Rattle.locked_node.specs.Agreement.{log_closed}
+use Rattle.locked_node.proofs.laws.agreement.Goals as goal
+
+pub returns : goal.returns
+returns g c = λ x y xs ys a b p q same hash replicas.
+    nodes_agree g.H.PointHash.hash_of a b (log_closed x xs a p) (log_closed y ys b q) p.is_log q.is_log same hash replicas

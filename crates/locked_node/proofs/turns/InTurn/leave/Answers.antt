@@ -1,0 +1,17 @@
+use Rattle.std.proofs.Common.{[]}
+use contract.BorrowLft.{⊑_meet, ⊑_static}
+use Rattle.locked_node.proofs.turns.InTurn.leave.Goals as goal
+
+pub leave-requires : goal.leave-requires
+leave-requires g c κs within =
+    let L = g.row.H.lives in
+    let lock = κs.1.1.0 in
+    let pass = κs.1.1.1.0 in
+    let one = ⊑_meet lock L [] within.0 (⊑_static lock) in
+    let two = ⊑_meet pass L [] within.1 (⊑_static pass) in (
+      ⊑_meet lock _ _ one (⊑_meet lock _ _ (⊑_meet lock _ _ one (⊑_meet lock _ _ (⊑_meet lock _ _ one one) (⊑_static lock))) (⊑_static lock)),
+      (
+        ⊑_meet pass _ _ two (⊑_meet pass _ _ (⊑_meet pass _ _ two (⊑_static pass)) (⊑_static pass)),
+        (c.requires.1.1.1.0, c.requires.1.1.1.1),
+      ),
+    )

@@ -1,0 +1,49 @@
+-- What threads did to a node: its calls, in the order of their turns. Own.
+use Rattle.std.specs.Prelude.{◌≡◌, ℕ, Option, Some, None, List, [], ◌∷◌}
+use Rattle.std.specs.List.{filter_map}
+use Rattle.change_core.specs.declared.changes.Change.{Change}
+use Rattle.node_core.specs.declared.events.Event.{Event}
+use Rattle.node_core.specs.declared.events.Reply.{Reply}
+use Rattle.node_core.specs.Calls.{Call, OfEvent, OfView, Answer, WithReply, WithView, CallStep}
+use Rattle.node_core.specs.Invariant.{IsSeen}
+use Rattle.node_core.specs.Node.{Node, Seen}
+use Rattle.node_core.specs.Run.{log}
+use Rattle.turn_lock.specs.declared.kept.Turn.{Turn}
+
+-- one call: what was asked, what was answered, and the node after it
+pub record CallEntry (H : Type 0) : Type 0 where
+  pub call : Call
+  pub answer : Answer H
+  pub after : Node H
+
+abbrev pub entry_of : {H : Type 0} → Call → Answer H → Node H → CallEntry H
+entry_of call answer after = record { call = call; answer = answer; after = after }
+
+-- the calls of all passes, in the order of their turns, each with the number of its pass
+abbrev pub History : Type 0 → Type 0
+History H = List (Turn (CallEntry H))
+
+-- each call is a step of the node from the one before it, and the last leaves this node
+abbrev pub LegalHistory : {H : Type 0} → (H → List ℕ → ℕ) → Node H → History H → Node H → Type 0
+LegalHistory hash_of opening [] last = last ≡ opening
+LegalHistory hash_of opening (t ∷ ts) last =
+    CallStep hash_of opening t.entry.call t.entry.answer t.entry.after × LegalHistory hash_of t.entry.after ts last
+
+-- the node stands for a history that is legal from the opening, which was as a node is between any two calls
+abbrev pub StandsFor : {H : Type 0} → (H → List ℕ → ℕ) → Seen H → History H → Seen H → Type 0
+StandsFor hash_of opening history now = IsSeen hash_of opening × LegalHistory hash_of opening.node history now.node
+
+abbrev pub event_in : Call → Option Event
+event_in (OfEvent event) = Some event
+event_in OfView = None
+
+abbrev pub reply_in : {H : Type 0} → Answer H → Option Reply
+reply_in (WithReply reply) = Some reply
+reply_in (WithView result) = None
+
+-- the log of a node that began so, after a history: what the calls put in, in their order; a view puts nothing in
+abbrev pub log_of : {H : Type 0} → Node H → History H → List Change
+log_of {H} opening history =
+    log opening.own opening.members
+    (filter_map (λ (t : Turn (CallEntry H)). event_in t.entry.call) history)
+    (filter_map (λ (t : Turn (CallEntry H)). reply_in t.entry.answer) history)

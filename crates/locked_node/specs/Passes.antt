@@ -1,0 +1,85 @@
+-- What a pass of a locked node is, and what a call by it says.
+use Rattle.std.specs.Prelude.{◌≡◌, ℕ, ◌+◌, List, [], ◌∷◌, ◌++◌, length}
+use Rattle.turn_lock.specs.declared.errors.CloseError.{CloseError}
+use Rattle.turn_lock.specs.declared.errors.LockError.{LockError}
+use Rattle.turn_lock.specs.declared.pass.Pass.{Pass}
+use Rattle.turn_lock.specs.History.{turn, entries_of, GrownBy}
+use Rattle.turn_lock.specs.Passes as lock
+use Rattle.node_core.specs.Agreement.{IsNodeOf}
+use Rattle.node_core.specs.Calls.{Call, Answer, CallStep}
+use Rattle.node_core.specs.Node.{Node, Seen}
+use Rattle.locked_node.specs.declared.held.Held.{Held}
+use Rattle.locked_node.specs.declared.node.LockedNode.{LockedNode}
+use Rattle.locked_node.specs.History.{CallEntry, entry_of, History, LegalHistory, log_of}
+
+abbrev pub NodePass : Type 0 → Type 0
+NodePass H = Pass (Held H) (CallEntry H)
+
+module _ {H : Type 0} where
+  -- the node that it was made with
+  abbrev pub opening_of : LockedNode H → Seen H
+  opening_of locked = (lock.opening_of locked.lock).node
+
+  -- the name that its passes bear
+  abbrev pub name_of : LockedNode H → ℕ
+  name_of locked = lock.name_of locked.lock
+
+  -- how many passes were made with it
+  abbrev pub passes_of : LockedNode H → ℕ
+  passes_of locked = lock.passes_of locked.lock
+
+  -- if the pass bears the node's name, it is this node's, and in no call
+  abbrev pub Fits : LockedNode H → NodePass H → Type 0
+  Fits locked p = lock.Fits locked.lock p
+
+  -- which passes are not let in, and how that is said
+  abbrev pub Refuses : LockedNode H → NodePass H → LockError → Type 0
+  Refuses locked p e = lock.Refuses locked.lock p e
+
+  -- all passes bear the node's name
+  abbrev pub AreOwn : LockedNode H → List (NodePass H) → Type 0
+  AreOwn locked passes = lock.AreOwn locked.lock passes
+
+  -- with which passes the node is not closed, and how that is said
+  abbrev pub RefusesToClose : LockedNode H → List (NodePass H) → CloseError → Type 0
+  RefusesToClose locked passes e = lock.RefusesToClose locked.lock passes e
+
+  -- a pass of the node that has seen nothing and may make so many calls
+  abbrev pub IsNew : LockedNode H → ℕ → NodePass H → Type 0
+  IsNew locked turns p = lock.IsNew locked.lock turns p
+
+  -- It is the same pass, and these are the calls that it has made since, in as many turns.
+  pub record Made (locked : LockedNode H) (old new : NodePass H) (entries : List (CallEntry H)) : Type 0 where
+    pub same : lock.IsSamePass old new
+    pub grown : GrownBy (lock.number_of old) entries (lock.seen new) (lock.seen old)
+    pub calls : lock.calls_of new ≡ lock.calls_of old ++ entries
+    pub turns : lock.left_of new + length entries ≡ lock.left_of old
+    -- it can be handed in again
+    pub fits : Fits locked old → Fits locked new
+
+  -- The pass made this call, and was answered so, in one history that is legal from the node's opening.
+  pub record IsCalled (hash_of : H → List ℕ → ℕ) (locked : LockedNode H) (old new : NodePass H) (call : Call) (answer : Answer H) : Type 0 where
+    -- the pass bears the node's name
+    pub named : lock.lock_name old ≡ name_of locked
+    pub before : Node H
+    pub after : Node H
+    -- what others did since the pass was last in
+    pub between : History H
+    pub of_others : entries_of (lock.number_of old) between ≡ []
+    -- the history before the call begins with all that the pass had seen, and leaves the node that the call is made of
+    pub legal_before : LegalHistory hash_of (opening_of locked).node (lock.seen old ++ between) before
+    pub step : CallStep hash_of before call answer after
+    -- with the call at its end it is what the pass has seen from then on
+    pub seen_is : lock.seen new ≡ (lock.seen old ++ between) ++ turn (lock.number_of old) (entry_of call answer after) ∷ []
+    pub legal : LegalHistory hash_of (opening_of locked).node (lock.seen new) after
+    -- it is the one call that the pass has made since
+    pub made : Made locked old new (entry_of call answer after ∷ [])
+
+  -- The node after one legal history of all calls of these passes.
+  pub record IsClosed (hash_of : H → List ℕ → ℕ) (locked : LockedNode H) (passes : List (NodePass H)) (now : Seen H) : Type 0 where
+    pub history : History H
+    pub legal : LegalHistory hash_of (opening_of locked).node history now.node
+    -- each pass has seen a beginning of it; it has the calls of each, once and in their order, and no other
+    pub whole : lock.IsWhole history passes
+    -- the node holds what the log of the history comes to
+    pub is_log : IsNodeOf hash_of now (log_of (opening_of locked).node history)

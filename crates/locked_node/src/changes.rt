@@ -1,0 +1,171 @@
+//! Changes that a locked node takes, by themselves or in messages, and those that it says itself.
+ghost use Rattle.std.specs.Prelude.{◌≡◌, ◌≤◌, length, IfOk, IfErr};
+ghost use Rattle.change_core.specs.Numbers.{most_members};
+ghost use Rattle.node_core.specs.Calls.{OfEvent, WithReply};
+ghost use Rattle.node_core.specs.declared.events.Event.TheVariants as call;
+ghost use Rattle.node_core.specs.declared.events.Reply.TheVariants as answer;
+
+use crate::node::{LockedNode, NodePass};
+use crate::turns::Asked;
+use change_core::{Change, Moment, Sourced};
+use hash_ring::PointHash;
+use node_core::{NodeError, NodeState, Received, Stopped, Taken};
+use std::sync::Wait;
+use turn_lock::LockError;
+use wire_json::Message;
+
+#[derive(Clone, Copy)]
+struct Take<'a> {
+    changes: &'a [Sourced],
+    moment: Moment,
+    ghost few: { length changes.now ≤ most_members },
+}
+
+impl<'a, H: PointHash> Asked<H> for Take<'a> {
+    type Reply = Result<Taken, Stopped>;
+
+    ghost call = { λ a. OfEvent (call.Take a.changes.now a.moment) };
+
+    ghost answer = { λ reply. WithReply (answer.Take reply) };
+
+    fn ask(&self, node: &mut NodeState<H>) -> Result<Taken, Stopped> {
+        node.take(self.changes, self.moment)
+    }
+}
+
+#[derive(Clone, Copy)]
+struct Receive<'a>(&'a Message, Moment);
+
+impl<'a, H: PointHash> Asked<H> for Receive<'a> {
+    type Reply = Received;
+
+    ghost call = { λ a. OfEvent (call.Receive a.0.now a.1) };
+
+    ghost answer = { λ reply. WithReply (answer.Receive reply) };
+
+    fn ask(&self, node: &mut NodeState<H>) -> Received {
+        node.receive(self.0, self.1)
+    }
+}
+
+#[derive(Clone, Copy)]
+struct Leave;
+
+impl<H: PointHash> Asked<H> for Leave {
+    type Reply = Result<Change, NodeError>;
+
+    ghost call = { λ _. OfEvent call.Leave };
+
+    ghost answer = { λ reply. WithReply (answer.Leave reply) };
+
+    fn ask(&self, node: &mut NodeState<H>) -> Result<Change, NodeError> {
+        node.leave()
+    }
+}
+
+#[derive(Clone, Copy)]
+struct Rejoin;
+
+impl<H: PointHash> Asked<H> for Rejoin {
+    type Reply = Result<Change, NodeError>;
+
+    ghost call = { λ _. OfEvent call.Rejoin };
+
+    ghost answer = { λ reply. WithReply (answer.Rejoin reply) };
+
+    fn ask(&self, node: &mut NodeState<H>) -> Result<Change, NodeError> {
+        node.rejoin()
+    }
+}
+
+#[derive(Clone, Copy)]
+struct Expire(Moment);
+
+impl<H: PointHash> Asked<H> for Expire {
+    type Reply = Result<Option<Change>, NodeError>;
+
+    ghost call = { λ a. OfEvent (call.Expire a.0) };
+
+    ghost answer = { λ reply. WithReply (answer.Expire reply) };
+
+    fn ask(&self, node: &mut NodeState<H>) -> Result<Option<Change>, NodeError> {
+        node.expire(self.0)
+    }
+}
+
+impl<H: PointHash> LockedNode<H> {
+    ghost use Rattle.locked_node.specs.Passes.{Fits, IsCalled, Refuses};
+
+    /// Takes at most 4,096 changes one after another, at a moment. Where the node refuses one, the reply says how many were
+    /// taken before it, and why.
+    pub fn take<R: Wait>(
+        &self,
+        rt: &R,
+        pass: &mut NodePass<H>,
+        changes: &[Sourced],
+        moment: Moment,
+    ) -> Result<Result<Taken, Stopped>, LockError>
+        requires fits { Fits self.now pass.old }
+        requires few { length changes.now ≤ most_members }
+        ensures called { IfOk result (λ reply. IsCalled H.hash_of self.now pass.old pass.new (OfEvent (call.Take changes.now moment)) (WithReply (answer.Take reply))) }
+        ensures refused { IfErr result (λ e. (pass.new ≡ pass.old) × Refuses self.now pass.old e) }
+    {
+        self.turn(rt, pass, &Take { changes, moment })
+    }
+
+    /// Takes the changes of a message, at a moment, and makes the answer that it wants.
+    pub fn receive<R: Wait>(
+        &self,
+        rt: &R,
+        pass: &mut NodePass<H>,
+        message: &Message,
+        moment: Moment,
+    ) -> Result<Received, LockError>
+        requires { Fits self.now pass.old }
+        ensures called { IfOk result (λ reply. IsCalled H.hash_of self.now pass.old pass.new (OfEvent (call.Receive message.now moment)) (WithReply (answer.Receive reply))) }
+        ensures refused { IfErr result (λ e. (pass.new ≡ pass.old) × Refuses self.now pass.old e) }
+    {
+        self.turn(rt, pass, &Receive(message, moment))
+    }
+
+    /// The node leaves. It may answer `AlreadyLeft` or `Memory`.
+    pub fn leave<R: Wait>(
+        &self,
+        rt: &R,
+        pass: &mut NodePass<H>,
+    ) -> Result<Result<Change, NodeError>, LockError>
+        requires { Fits self.now pass.old }
+        ensures called { IfOk result (λ reply. IsCalled H.hash_of self.now pass.old pass.new (OfEvent call.Leave) (WithReply (answer.Leave reply))) }
+        ensures refused { IfErr result (λ e. (pass.new ≡ pass.old) × Refuses self.now pass.old e) }
+    {
+        self.turn(rt, pass, &Leave)
+    }
+
+    /// The node is back after it left. It may answer `NotLeft`, `Exhausted` or `Memory`.
+    pub fn rejoin<R: Wait>(
+        &self,
+        rt: &R,
+        pass: &mut NodePass<H>,
+    ) -> Result<Result<Change, NodeError>, LockError>
+        requires { Fits self.now pass.old }
+        ensures called { IfOk result (λ reply. IsCalled H.hash_of self.now pass.old pass.new (OfEvent call.Rejoin) (WithReply (answer.Rejoin reply))) }
+        ensures refused { IfErr result (λ e. (pass.new ≡ pass.old) × Refuses self.now pass.old e) }
+    {
+        self.turn(rt, pass, &Rejoin)
+    }
+
+    /// Puts in one change that is due at a moment, that of the least address, or answers None where none is due. It may answer
+    /// `Memory`.
+    pub fn expire<R: Wait>(
+        &self,
+        rt: &R,
+        pass: &mut NodePass<H>,
+        moment: Moment,
+    ) -> Result<Result<Option<Change>, NodeError>, LockError>
+        requires { Fits self.now pass.old }
+        ensures called { IfOk result (λ reply. IsCalled H.hash_of self.now pass.old pass.new (OfEvent (call.Expire moment)) (WithReply (answer.Expire reply))) }
+        ensures refused { IfErr result (λ e. (pass.new ≡ pass.old) × Refuses self.now pass.old e) }
+    {
+        self.turn(rt, pass, &Expire(moment))
+    }
+}

@@ -1,0 +1,269 @@
+//! What a locked node answers of its members and its ring. Nothing changes.
+ghost use Rattle.std.specs.Prelude.{◌≡◌, IfOk, IfErr};
+ghost use Rattle.node_core.specs.Calls.{OfEvent, OfView, WithReply, WithView};
+ghost use Rattle.node_core.specs.declared.events.Event.TheVariants as call;
+ghost use Rattle.node_core.specs.declared.events.Reply.TheVariants as answer;
+
+use crate::node::{LockedNode, NodePass};
+use crate::turns::Asked;
+use change_core::{Address, Change, Digest, Entry};
+use detector_core::Addresses;
+use hash_ring::PointHash;
+use node_core::{ChangeList, NodeError, NodeState, View};
+use std::sync::Wait;
+use turn_lock::LockError;
+use wire_json::Text;
+
+#[derive(Clone, Copy)]
+struct Own;
+
+impl<H: PointHash> Asked<H> for Own {
+    type Reply = Change;
+
+    ghost call = { λ _. OfEvent call.Own };
+
+    ghost answer = { λ reply. WithReply (answer.Own reply) };
+
+    fn ask(&self, node: &mut NodeState<H>) -> Change {
+        node.own()
+    }
+}
+
+#[derive(Clone, Copy)]
+struct Member(Address);
+
+impl<H: PointHash> Asked<H> for Member {
+    type Reply = Option<Entry>;
+
+    ghost call = { λ a. OfEvent (call.Member a.0) };
+
+    ghost answer = { λ reply. WithReply (answer.Member reply) };
+
+    fn ask(&self, node: &mut NodeState<H>) -> Option<Entry> {
+        node.member(self.0)
+    }
+}
+
+#[derive(Clone, Copy)]
+struct Len;
+
+impl<H: PointHash> Asked<H> for Len {
+    type Reply = usize;
+
+    ghost call = { λ _. OfEvent call.Len };
+
+    ghost answer = { λ reply. WithReply (answer.Len reply) };
+
+    fn ask(&self, node: &mut NodeState<H>) -> usize {
+        node.len()
+    }
+}
+
+#[derive(Clone, Copy)]
+struct Owner<'a>(&'a [u8]);
+
+impl<'a, H: PointHash> Asked<H> for Owner<'a> {
+    type Reply = Option<Address>;
+
+    ghost call = { λ a. OfEvent (call.Owner a.0.now) };
+
+    ghost answer = { λ reply. WithReply (answer.Owner reply) };
+
+    fn ask(&self, node: &mut NodeState<H>) -> Option<Address> {
+        node.owner(self.0)
+    }
+}
+
+#[derive(Clone, Copy)]
+struct Owners<'a>(&'a [u8], usize);
+
+impl<'a, H: PointHash> Asked<H> for Owners<'a> {
+    type Reply = Result<Addresses, NodeError>;
+
+    ghost call = { λ a. OfEvent (call.Owners a.0.now a.1) };
+
+    ghost answer = { λ reply. WithReply (answer.Owners reply) };
+
+    fn ask(&self, node: &mut NodeState<H>) -> Result<Addresses, NodeError> {
+        node.owners(self.0, self.1)
+    }
+}
+
+#[derive(Clone, Copy)]
+struct Members;
+
+impl<H: PointHash> Asked<H> for Members {
+    type Reply = Result<ChangeList, NodeError>;
+
+    ghost call = { λ _. OfEvent call.Members };
+
+    ghost answer = { λ reply. WithReply (answer.Members reply) };
+
+    fn ask(&self, node: &mut NodeState<H>) -> Result<ChangeList, NodeError> {
+        node.members()
+    }
+}
+
+#[derive(Clone, Copy)]
+struct DigestText;
+
+impl<H: PointHash> Asked<H> for DigestText {
+    type Reply = Result<Text, NodeError>;
+
+    ghost call = { λ _. OfEvent call.DigestText };
+
+    ghost answer = { λ reply. WithReply (answer.DigestText reply) };
+
+    fn ask(&self, node: &mut NodeState<H>) -> Result<Text, NodeError> {
+        node.digest_text()
+    }
+}
+
+#[derive(Clone, Copy)]
+struct MembersDigest;
+
+impl<H: PointHash> Asked<H> for MembersDigest {
+    type Reply = Result<Digest, NodeError>;
+
+    ghost call = { λ _. OfEvent call.Digest };
+
+    ghost answer = { λ reply. WithReply (answer.Digest reply) };
+
+    fn ask(&self, node: &mut NodeState<H>) -> Result<Digest, NodeError> {
+        node.digest()
+    }
+}
+
+#[derive(Clone, Copy)]
+struct MakeView;
+
+impl<H: PointHash> Asked<H> for MakeView {
+    type Reply = Result<View<H>, NodeError>;
+
+    ghost call = { λ _. OfView };
+
+    ghost answer = { λ reply. WithView reply };
+
+    fn ask(&self, node: &mut NodeState<H>) -> Result<View<H>, NodeError> {
+        node.view()
+    }
+}
+
+impl<H: PointHash> LockedNode<H> {
+    ghost use Rattle.locked_node.specs.Passes.{Fits, IsCalled, Refuses};
+
+    /// What the node holds of itself, as a change.
+    pub fn own<R: Wait>(&self, rt: &R, pass: &mut NodePass<H>) -> Result<Change, LockError>
+        requires { Fits self.now pass.old }
+        ensures called { IfOk result (λ reply. IsCalled H.hash_of self.now pass.old pass.new (OfEvent call.Own) (WithReply (answer.Own reply))) }
+        ensures refused { IfErr result (λ e. (pass.new ≡ pass.old) × Refuses self.now pass.old e) }
+    {
+        self.turn(rt, pass, &Own)
+    }
+
+    /// What the node holds of an address.
+    pub fn member<R: Wait>(
+        &self,
+        rt: &R,
+        pass: &mut NodePass<H>,
+        address: Address,
+    ) -> Result<Option<Entry>, LockError>
+        requires { Fits self.now pass.old }
+        ensures called { IfOk result (λ reply. IsCalled H.hash_of self.now pass.old pass.new (OfEvent (call.Member address)) (WithReply (answer.Member reply))) }
+        ensures refused { IfErr result (λ e. (pass.new ≡ pass.old) × Refuses self.now pass.old e) }
+    {
+        self.turn(rt, pass, &Member(address))
+    }
+
+    /// How many members the node holds, itself among them.
+    pub fn len<R: Wait>(&self, rt: &R, pass: &mut NodePass<H>) -> Result<usize, LockError>
+        requires { Fits self.now pass.old }
+        ensures called { IfOk result (λ reply. IsCalled H.hash_of self.now pass.old pass.new (OfEvent call.Len) (WithReply (answer.Len reply))) }
+        ensures refused { IfErr result (λ e. (pass.new ≡ pass.old) × Refuses self.now pass.old e) }
+    {
+        self.turn(rt, pass, &Len)
+    }
+
+    /// The owner of a key: of the serving members the one nearest to it. None exactly where none serves. Nothing grows here.
+    pub fn owner<R: Wait>(
+        &self,
+        rt: &R,
+        pass: &mut NodePass<H>,
+        key: &[u8],
+    ) -> Result<Option<Address>, LockError>
+        requires { Fits self.now pass.old }
+        ensures called { IfOk result (λ reply. IsCalled H.hash_of self.now pass.old pass.new (OfEvent (call.Owner key.now)) (WithReply (answer.Owner reply))) }
+        ensures refused { IfErr result (λ e. (pass.new ≡ pass.old) × Refuses self.now pass.old e) }
+    {
+        self.turn(rt, pass, &Owner(key))
+    }
+
+    /// The first `count` owners of a key, the owner first, or all serving members where there are fewer. `Memory` where
+    /// the list was refused.
+    pub fn owners<R: Wait>(
+        &self,
+        rt: &R,
+        pass: &mut NodePass<H>,
+        key: &[u8],
+        count: usize,
+    ) -> Result<Result<Addresses, NodeError>, LockError>
+        requires { Fits self.now pass.old }
+        ensures called { IfOk result (λ reply. IsCalled H.hash_of self.now pass.old pass.new (OfEvent (call.Owners key.now count)) (WithReply (answer.Owners reply))) }
+        ensures refused { IfErr result (λ e. (pass.new ≡ pass.old) × Refuses self.now pass.old e) }
+    {
+        self.turn(rt, pass, &Owners(key, count))
+    }
+
+    /// The members, ascending by address, or `Memory`.
+    pub fn members<R: Wait>(
+        &self,
+        rt: &R,
+        pass: &mut NodePass<H>,
+    ) -> Result<Result<ChangeList, NodeError>, LockError>
+        requires { Fits self.now pass.old }
+        ensures called { IfOk result (λ reply. IsCalled H.hash_of self.now pass.old pass.new (OfEvent call.Members) (WithReply (answer.Members reply))) }
+        ensures refused { IfErr result (λ e. (pass.new ≡ pass.old) × Refuses self.now pass.old e) }
+    {
+        self.turn(rt, pass, &Members)
+    }
+
+    /// The members as one line of text, or `Memory`.
+    pub fn digest_text<R: Wait>(
+        &self,
+        rt: &R,
+        pass: &mut NodePass<H>,
+    ) -> Result<Result<Text, NodeError>, LockError>
+        requires { Fits self.now pass.old }
+        ensures called { IfOk result (λ reply. IsCalled H.hash_of self.now pass.old pass.new (OfEvent call.DigestText) (WithReply (answer.DigestText reply))) }
+        ensures refused { IfErr result (λ e. (pass.new ≡ pass.old) × Refuses self.now pass.old e) }
+    {
+        self.turn(rt, pass, &DigestText)
+    }
+
+    /// The SHA-256 of the digest text, or `Memory`.
+    pub fn digest<R: Wait>(
+        &self,
+        rt: &R,
+        pass: &mut NodePass<H>,
+    ) -> Result<Result<Digest, NodeError>, LockError>
+        requires { Fits self.now pass.old }
+        ensures called { IfOk result (λ reply. IsCalled H.hash_of self.now pass.old pass.new (OfEvent call.Digest) (WithReply (answer.Digest reply))) }
+        ensures refused { IfErr result (λ e. (pass.new ≡ pass.old) × Refuses self.now pass.old e) }
+    {
+        self.turn(rt, pass, &MembersDigest)
+    }
+
+    /// A copy of the ring, made inside one turn and used outside: it names the owners of keys as the node did then, and waits
+    /// for nobody. `Memory` where the copy was refused.
+    pub fn view<R: Wait>(
+        &self,
+        rt: &R,
+        pass: &mut NodePass<H>,
+    ) -> Result<Result<View<H>, NodeError>, LockError>
+        requires { Fits self.now pass.old }
+        ensures called { IfOk result (λ reply. IsCalled H.hash_of self.now pass.old pass.new OfView (WithView reply)) }
+        ensures refused { IfErr result (λ e. (pass.new ≡ pass.old) × Refuses self.now pass.old e) }
+    {
+        self.turn(rt, pass, &MakeView)
+    }
+}

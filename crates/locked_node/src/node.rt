@@ -1,0 +1,96 @@
+//! The node that threads share: how it is made and how it is closed.
+ghost use Rattle.std.specs.Prelude.{◌≡◌, map, length, IfOk, IfErr, IsPermutation};
+ghost use Rattle.std.specs.List.{All, range_with_len};
+
+use crate::errors::CloseRefused;
+use crate::held::Held;
+use hash_ring::PointHash;
+use node_core::NodeState;
+use std::alloc::Global;
+use std::fmt;
+use turn_lock::{NewError, Pass, TurnLock};
+
+/// The right to make calls of a locked node. It is with one thread at a time.
+pub type NodePass<H> = Pass<Held<H>>;
+
+/// A node that threads share. Each call is that of `NodeState` under the same name, made in one turn of a lock, for which
+/// it waits; no clause says that a turn ever comes. Where the pass is let in, the call is one entry of a history that is
+/// legal from the node that this one was made with, begins with all that the pass had seen, and is what it has seen from
+/// then on. The reply stands in that entry, a refusal by the node among the replies. Each call also answers, in this order
+/// and with the pass as it was:
+///
+/// - `ForeignPass`, the pass bears the name of another node,
+/// - `PassSpent`, the pass has made as many calls as it may.
+#[derive(Drop)]
+pub struct LockedNode<H: PointHash> {
+    pub(crate) lock: TurnLock<Held<H>>,
+}
+
+impl<H: PointHash> LockedNode<H> {
+    ghost use Rattle.turn_lock.specs.Passes.{number_of, IsInRange, IsNewError};
+    ghost use Rattle.locked_node.specs.Passes.{opening_of, name_of, passes_of, AreOwn, Fits, IsNew, IsClosed, RefusesToClose};
+
+    /// The node, shared by so many passes (1 to 1,024), each for so many calls (at least 1). Its name is the number of its
+    /// address, the IPv4 number times 65,536 plus the port. The passes come in the order of their numbers, from 0 on.
+    ///
+    /// # Errors
+    /// `BadCount`, with the very node, where the passes or the turns are out of range, else `Memory` where a growth was
+    /// refused. At `Memory` the node is given up.
+    pub fn new(
+        alloc: Global,
+        node: NodeState<H>,
+        passes: u32,
+        turns: u32,
+    ) -> Result<(LockedNode<H>, Vec<NodePass<H>>), NewError<NodeState<H>>>
+        ensures node { IfOk result (λ r. (name_of r.0 ≡ node.node.own) × (passes_of r.0 ≡ passes) × (opening_of r.0 ≡ node)) }
+        ensures passes { IfOk result (λ r. All (IsNew r.0 turns) r.1.items × (map number_of r.1.items ≡ range_with_len 0 passes)) }
+        ensures counts { IfOk result (λ r. IsInRange passes turns) }
+        ensures refused { IfErr result (IsNewError node passes turns) }
+    {
+        let name = node.own().address.number();
+        match TurnLock::new(alloc, name, Held { node }, passes, turns) {
+            Ok((lock, passes)) => Ok((LockedNode { lock }, passes)),
+            Err(NewError::BadCount(held)) => Err(NewError::BadCount(held.node)),
+            Err(NewError::Memory) => Err(NewError::Memory),
+        }
+    }
+
+    /// Takes the node back, after one history that is legal from the node that this one was made with: each pass had seen
+    /// a beginning of it, and it has the calls of each pass, once and in their order, and no other. The node is that of
+    /// the history's log. The passes are all that were made, each once, in whatever order. Nothing grows here.
+    ///
+    /// # Errors
+    /// `ForeignPass` where some pass bears another node's name, else `MissingPass` where there are fewer passes than were
+    /// made, both with the very node and passes.
+    pub fn close(self, passes: Vec<NodePass<H>>) -> Result<NodeState<H>, CloseRefused<H>>
+        requires { All (Fits self) passes.items }
+        ensures closed { IfOk result (IsClosed H.hash_of self passes.items) }
+        ensures all { IfOk result (λ node. AreOwn self passes.items × (length passes.items ≡ passes_of self)) }
+        ensures numbers { IfOk result (λ node. IsPermutation (range_with_len 0 (passes_of self)) (map number_of passes.items)) }
+        ensures back { IfErr result (λ r. (r.node ≡ self) × (r.passes.items ≡ passes.items)) }
+        ensures cause { IfErr result (λ r. RefusesToClose self passes.items r.cause) }
+    {
+        let LockedNode { lock } = self;
+        match lock.close(passes) {
+            Ok(held) => {
+                let node = held.node;
+                // What holds of a node between any two calls, which `len` says.
+                let _ = node.len();
+                Ok(node)
+            }
+            Err(refused) => Err(CloseRefused {
+                node: LockedNode { lock: refused.lock },
+                passes: refused.passes,
+                cause: refused.cause,
+            }),
+        }
+    }
+}
+
+impl<H: PointHash> fmt::Debug for LockedNode<H> {
+    fn fmt<F: fmt::Write>(&self, f: &mut fmt::Formatter<F>) -> fmt::Result {
+        f.debug_struct("LockedNode")
+            .field("lock", &self.lock)
+            .finish()
+    }
+}

@@ -1,0 +1,168 @@
+//! The probes of a locked node.
+ghost use Rattle.std.specs.Prelude.{◌≡◌, IfOk, IfErr};
+ghost use Rattle.node_core.specs.Calls.{OfEvent, WithReply};
+ghost use Rattle.node_core.specs.declared.events.Event.TheVariants as call;
+ghost use Rattle.node_core.specs.declared.events.Reply.TheVariants as answer;
+
+use crate::node::{LockedNode, NodePass};
+use crate::turns::Asked;
+use change_core::{Address, Moment};
+use detector_core::{Probe, Running, Said};
+use hash_ring::PointHash;
+use node_core::{NodeError, NodeLost, NodeOutcome, NodeState};
+use std::sync::Wait;
+use turn_lock::LockError;
+
+#[derive(Clone, Copy)]
+struct NextProbe;
+
+impl<H: PointHash> Asked<H> for NextProbe {
+    type Reply = Result<Option<Probe>, NodeError>;
+
+    ghost call = { λ _. OfEvent call.Probe };
+
+    ghost answer = { λ reply. WithReply (answer.Probe reply) };
+
+    fn ask(&self, node: &mut NodeState<H>) -> Result<Option<Probe>, NodeError> {
+        node.probe()
+    }
+}
+
+#[derive(Clone, Copy)]
+struct Acked(u64);
+
+impl<H: PointHash> Asked<H> for Acked {
+    type Reply = Result<(), NodeError>;
+
+    ghost call = { λ a. OfEvent (call.Acked a.0) };
+
+    ghost answer = { λ reply. WithReply (answer.Acked reply) };
+
+    fn ask(&self, node: &mut NodeState<H>) -> Result<(), NodeError> {
+        node.acked(self.0)
+    }
+}
+
+#[derive(Clone, Copy)]
+struct Lost(u64, Moment);
+
+impl<H: PointHash> Asked<H> for Lost {
+    type Reply = Result<NodeLost, NodeError>;
+
+    ghost call = { λ a. OfEvent (call.Lost a.0 a.1) };
+
+    ghost answer = { λ reply. WithReply (answer.Lost reply) };
+
+    fn ask(&self, node: &mut NodeState<H>) -> Result<NodeLost, NodeError> {
+        node.lost(self.0, self.1)
+    }
+}
+
+#[derive(Clone, Copy)]
+struct HelperSaid(u64, Address, Said, Moment);
+
+impl<H: PointHash> Asked<H> for HelperSaid {
+    type Reply = Result<NodeOutcome, NodeError>;
+
+    ghost call = { λ a. OfEvent (call.HelperSaid a.0 a.1 a.2 a.3) };
+
+    ghost answer = { λ reply. WithReply (answer.HelperSaid reply) };
+
+    fn ask(&self, node: &mut NodeState<H>) -> Result<NodeOutcome, NodeError> {
+        node.helper_said(self.0, self.1, self.2, self.3)
+    }
+}
+
+#[derive(Clone, Copy)]
+struct RunningProbe;
+
+impl<H: PointHash> Asked<H> for RunningProbe {
+    type Reply = Option<Running>;
+
+    ghost call = { λ _. OfEvent call.Running };
+
+    ghost answer = { λ reply. WithReply (answer.Running reply) };
+
+    fn ask(&self, node: &mut NodeState<H>) -> Option<Running> {
+        node.running()
+    }
+}
+
+impl<H: PointHash> LockedNode<H> {
+    ghost use Rattle.locked_node.specs.Passes.{Fits, IsCalled, Refuses};
+
+    /// Begins a probe of the next member in turn, or answers None where nobody can be pinged. It may answer `Busy`, `Spent`
+    /// or `Memory`.
+    pub fn probe<R: Wait>(
+        &self,
+        rt: &R,
+        pass: &mut NodePass<H>,
+    ) -> Result<Result<Option<Probe>, NodeError>, LockError>
+        requires { Fits self.now pass.old }
+        ensures called { IfOk result (λ reply. IsCalled H.hash_of self.now pass.old pass.new (OfEvent call.Probe) (WithReply (answer.Probe reply))) }
+        ensures refused { IfErr result (λ e. (pass.new ≡ pass.old) × Refuses self.now pass.old e) }
+    {
+        self.turn(rt, pass, &NextProbe)
+    }
+
+    /// Ends a probe whose target was reached. It may answer `StaleProbe`.
+    pub fn acked<R: Wait>(
+        &self,
+        rt: &R,
+        pass: &mut NodePass<H>,
+        number: u64,
+    ) -> Result<Result<(), NodeError>, LockError>
+        requires { Fits self.now pass.old }
+        ensures called { IfOk result (λ reply. IsCalled H.hash_of self.now pass.old pass.new (OfEvent (call.Acked number)) (WithReply (answer.Acked reply))) }
+        ensures refused { IfErr result (λ e. (pass.new ≡ pass.old) × Refuses self.now pass.old e) }
+    {
+        self.turn(rt, pass, &Acked(number))
+    }
+
+    /// Gives a probe up at a moment: others are to be asked about its target, or it is suspect. It may answer `StaleProbe` or
+    /// `Memory`.
+    pub fn lost<R: Wait>(
+        &self,
+        rt: &R,
+        pass: &mut NodePass<H>,
+        number: u64,
+        moment: Moment,
+    ) -> Result<Result<NodeLost, NodeError>, LockError>
+        requires { Fits self.now pass.old }
+        ensures called { IfOk result (λ reply. IsCalled H.hash_of self.now pass.old pass.new (OfEvent (call.Lost number moment)) (WithReply (answer.Lost reply))) }
+        ensures refused { IfErr result (λ e. (pass.new ≡ pass.old) × Refuses self.now pass.old e) }
+    {
+        self.turn(rt, pass, &Lost(number, moment))
+    }
+
+    /// Notes at a moment what a helper said of a target. Where the verdict is that the target is suspect, it is held so. It
+    /// may answer `StaleProbe`, `NotAsked` or `Memory`.
+    pub fn helper_said<R: Wait>(
+        &self,
+        rt: &R,
+        pass: &mut NodePass<H>,
+        number: u64,
+        helper: Address,
+        said: Said,
+        moment: Moment,
+    ) -> Result<Result<NodeOutcome, NodeError>, LockError>
+        requires { Fits self.now pass.old }
+        ensures called { IfOk result (λ reply. IsCalled H.hash_of self.now pass.old pass.new (OfEvent (call.HelperSaid number helper said moment)) (WithReply (answer.HelperSaid reply))) }
+        ensures refused { IfErr result (λ e. (pass.new ≡ pass.old) × Refuses self.now pass.old e) }
+    {
+        self.turn(rt, pass, &HelperSaid(number, helper, said, moment))
+    }
+
+    /// The probe that runs, with the helper of least address that was asked and has not answered.
+    pub fn running<R: Wait>(
+        &self,
+        rt: &R,
+        pass: &mut NodePass<H>,
+    ) -> Result<Option<Running>, LockError>
+        requires { Fits self.now pass.old }
+        ensures called { IfOk result (λ reply. IsCalled H.hash_of self.now pass.old pass.new (OfEvent call.Running) (WithReply (answer.Running reply))) }
+        ensures refused { IfErr result (λ e. (pass.new ≡ pass.old) × Refuses self.now pass.old e) }
+    {
+        self.turn(rt, pass, &RunningProbe)
+    }
+}

@@ -1,0 +1,75 @@
+//! A call of the node in one turn: the one shape that every call has.
+ghost use Rattle.std.specs.Prelude.{◌≡◌, ◌++◌, ◌∷◌, [], IfOk, IfErr};
+ghost use Rattle.turn_lock.specs.History.{turn};
+ghost use Rattle.turn_lock.specs.Passes.{opening_of as lock_opening, number_of, left_of, seen, calls_of, IsInside, IsOutside, IsSamePass};
+
+use crate::held::Held;
+use crate::node::{LockedNode, NodePass};
+use hash_ring::PointHash;
+use node_core::NodeState;
+use std::marker::PhantomData;
+use std::sync::Wait;
+use turn_lock::{LockError, TurnLock};
+
+/// A call of the node with its arguments: how it is made, and what the history has of it.
+pub(crate) trait Asked<H: PointHash> {
+    ghost use Rattle.node_core.specs.Calls.{Call, Answer, CallStep};
+
+    type Reply;
+
+    ghost call: { Self → Call };
+
+    ghost answer: { Self.Reply → Answer H };
+
+    fn ask(&self, node: &mut NodeState<H>) -> Self::Reply
+        ensures { CallStep H.hash_of node.old.node (call self.now) (answer result) node.new.node };
+}
+
+/// How a turn ends in which such a call was made.
+struct InTurn<H, A> {
+    hash: PhantomData<H>,
+    asked: PhantomData<A>,
+}
+
+impl<H: PointHash, A: Asked<H>> InTurn<H, A> {
+    ghost use Rattle.locked_node.specs.History.{CallEntry, StandsFor};
+
+    /// Gives the turn back after this call, which was answered so.
+    fn leave(
+        lock: &TurnLock<Held<H>>,
+        pass: &mut NodePass<H>,
+        held: Held<H>,
+        _asked: &A,
+        _reply: &A::Reply,
+    )
+        ghost entry: { CallEntry H }
+        requires inside { IsInside lock.now pass.old }
+        requires legal { StandsFor H.hash_of (lock_opening lock.now).node (seen pass.old ++ turn (number_of pass.old) entry ∷ []) held.node }
+        ensures left { IsOutside lock.now pass.new × IsSamePass pass.old pass.new × (left_of pass.new ≡ left_of pass.old) }
+        ensures seen { seen pass.new ≡ seen pass.old ++ turn (number_of pass.old) entry ∷ [] }
+        ensures calls { calls_of pass.new ≡ calls_of pass.old ++ entry ∷ [] }
+    {
+        lock.leave(pass, held);
+    }
+}
+
+impl<H: PointHash> LockedNode<H> {
+    ghost use Rattle.locked_node.specs.Passes.{Fits, IsCalled, Refuses};
+
+    /// Waits for a turn, makes the call of the node, and gives the turn back.
+    pub(crate) fn turn<R: Wait, A: Asked<H>>(
+        &self,
+        rt: &R,
+        pass: &mut NodePass<H>,
+        asked: &A,
+    ) -> Result<A::Reply, LockError>
+        requires { Fits self.now pass.old }
+        ensures called { IfOk result (λ reply. IsCalled H.hash_of self.now pass.old pass.new (A.call asked.now) (A.answer reply)) }
+        ensures refused { IfErr result (λ e. (pass.new ≡ pass.old) × Refuses self.now pass.old e) }
+    {
+        let mut held = self.lock.enter(rt, pass)?;
+        let reply = asked.ask(&mut held.node);
+        InTurn::<H, A>::leave(&self.lock, pass, held, asked, &reply);
+        Ok(reply)
+    }
+}

@@ -10,6 +10,8 @@ mod lookups;
 mod makers;
 mod node;
 mod probes;
+#[cfg(test)]
+mod tests;
 mod turns;
 
 pub use errors::CloseRefused;

@@ -1,0 +1,193 @@
+//! Nodes that are shared, and calls of them. Where a growth is refused the node is as before, and the next try goes on.
+ghost use Rattle.std.specs.Prelude.{◌≡◌, ◌+◌, []};
+ghost use Rattle.std.specs.List.{All};
+ghost use Rattle.change_core.specs.Address.{address_of};
+ghost use Rattle.turn_lock.specs.Passes.{lock_name};
+ghost use Rattle.locked_node.specs.Passes.{name_of, Fits, IsNew};
+
+use crate::{LockedNode, NodePass};
+use change_core::{Address, Change, Incarnation, Moment, Sourced, Status, Weight};
+use hash_ring::SumHash;
+use node_core::{Config, NodeError, NodeState, StopCause, Stopped, Taken};
+use std::alloc::Global;
+use std::process::Abort;
+use std::sync::Wait;
+
+pub(super) type Shared = LockedNode<SumHash>;
+
+pub(super) type Caller = NodePass<SumHash>;
+
+/// The member 10.0.0.`number`:1.
+pub(super) fn member(rt: &impl Abort, number: u8) -> Address
+    ensures { result ≡ address_of (167772160 + number) 1 }
+{
+    Address::new(0x0a00_0000 + u32::from(number), 1).expect(rt, "an address")
+}
+
+pub(super) fn moment(rt: &impl Abort, number: u64) -> Moment {
+    Moment::new(number).expect(rt, "a moment")
+}
+
+/// A change with weight 1.
+pub(super) fn change(rt: &impl Abort, number: u8, incarnation: u64, status: Status) -> Change {
+    Change {
+        address: member(rt, number),
+        incarnation: Incarnation::new(incarnation).expect(rt, "an incarnation"),
+        status,
+        weight: Weight::new(1).expect(rt, "a weight"),
+    }
+}
+
+/// A change that its own member said.
+pub(super) fn news(rt: &impl Abort, number: u8, incarnation: u64, status: Status) -> Sourced {
+    let change = change(rt, number, incarnation, status);
+    Sourced {
+        change,
+        source: change.address,
+        source_incarnation: change.incarnation,
+    }
+}
+
+/// The standard configuration, with two points for each unit of weight and this many members.
+fn config(max: usize) -> Config {
+    let mut config = Config::standard();
+    config.replicas = 2;
+    config.max_members = max;
+    config
+}
+
+/// A node at 7 and moment 0.
+pub(super) fn node(rt: &impl Abort, alloc: Global, own: Address, max: usize) -> NodeState<SumHash>
+    ensures { result.node.own ≡ own }
+{
+    let first = Incarnation::new(7).expect(rt, "an incarnation");
+    let now = moment(rt, 0);
+    if let Ok(node) = NodeState::new(alloc, config(max), SumHash, own, first, 1, now) {
+        return node;
+    }
+    let again = NodeState::new(alloc, config(max), SumHash, own, first, 1, now);
+    again.ok().expect(rt, "a node")
+}
+
+/// The node, shared by so many passes.
+fn share(
+    rt: &impl Abort,
+    alloc: Global,
+    own: Address,
+    max: usize,
+    passes: u32,
+    turns: u32,
+) -> (Shared, Vec<Caller>)
+    ensures passes { All (IsNew result.0 turns) result.1.items }
+    ensures name { name_of result.0 ≡ own }
+{
+    if let Ok(made) = LockedNode::new(alloc, node(rt, alloc, own, max), passes, turns) {
+        return made;
+    }
+    let Ok(made) = LockedNode::new(alloc, node(rt, alloc, own, max), passes, turns) else {
+        panic!(rt; "a locked node")
+    };
+    made
+}
+
+/// The node 10.0.0.`number`:1 with one pass.
+pub(super) fn alone(rt: &impl Abort, alloc: Global, number: u8, max: usize) -> (Shared, Caller)
+    ensures { Fits result.0 result.1 }
+{
+    let (shared, mut passes) = share(rt, alloc, member(rt, number), max, 1, 1000);
+    let pass = passes.pop().expect(rt, "a pass");
+    (shared, pass)
+}
+
+/// The node with two passes, and the list that they came in, now empty.
+pub(super) fn pair(
+    rt: &impl Abort,
+    alloc: Global,
+    own: Address,
+    turns: u32,
+) -> (Shared, Caller, Caller, Vec<Caller>)
+    ensures first { Fits result.0 result.1 }
+    ensures second { Fits result.0 result.2 }
+    ensures room { result.3.items ≡ [] }
+    ensures names { (name_of result.0 ≡ own) × (lock_name result.1 ≡ own) }
+{
+    let (shared, mut passes) = share(rt, alloc, own, 4096, 2, turns);
+    let second = passes.pop().expect(rt, "a pass");
+    let first = passes.pop().expect(rt, "another");
+    passes.clear();
+    (shared, first, second, passes)
+}
+
+/// Takes one change.
+pub(super) fn take<R: Wait + Abort>(
+    rt: &R,
+    shared: &Shared,
+    pass: &mut Caller,
+    given: &Sourced,
+    now: u64,
+) -> Result<Taken, Stopped>
+    requires { Fits shared.now pass.old }
+    ensures { Fits shared.now pass.new }
+{
+    let now = moment(rt, now);
+    let answer = shared.take(rt, pass, &[*given], now);
+    let refused = Stopped {
+        taken: 0,
+        cause: StopCause::Memory,
+    };
+    if answer == Ok(Err(refused)) {
+        let again = shared.take(rt, pass, &[*given], now);
+        return again.ok().expect(rt, "a turn");
+    }
+    answer.ok().expect(rt, "a turn")
+}
+
+/// Takes one change, which is not refused.
+pub(super) fn hear<R: Wait + Abort>(
+    rt: &R,
+    shared: &Shared,
+    pass: &mut Caller,
+    given: &Sourced,
+    now: u64,
+)
+    requires { Fits shared.now pass.old }
+    ensures { Fits shared.now pass.new }
+{
+    let answer = take(rt, shared, pass, given, now);
+    assert!(rt; answer.is_ok());
+}
+
+pub(super) fn own<R: Wait + Abort>(rt: &R, shared: &Shared, pass: &mut Caller) -> Change
+    requires { Fits shared.now pass.old }
+    ensures { Fits shared.now pass.new }
+{
+    shared.own(rt, pass).ok().expect(rt, "a turn")
+}
+
+pub(super) fn status_of<R: Wait + Abort>(
+    rt: &R,
+    shared: &Shared,
+    pass: &mut Caller,
+    number: u8,
+) -> Option<Status>
+    requires { Fits shared.now pass.old }
+    ensures { Fits shared.now pass.new }
+{
+    let held = shared.member(rt, pass, member(rt, number));
+    held.ok().expect(rt, "a turn").map(|entry| entry.status)
+}
+
+pub(super) fn owner<R: Wait + Abort>(
+    rt: &R,
+    shared: &Shared,
+    pass: &mut Caller,
+    key: &str,
+) -> Option<Address>
+    requires { Fits shared.now pass.old }
+    ensures { Fits shared.now pass.new }
+{
+    shared
+        .owner(rt, pass, key.as_bytes())
+        .ok()
+        .expect(rt, "a turn")
+}

@@ -9,6 +9,7 @@ mod ring;
 mod search;
 mod servers;
 mod sorted;
+mod starts;
 mod text;
 
 pub use errors::RingError;

@@ -10,6 +10,7 @@ use crate::points::{MOST_REPLICAS, Point, fill_points, merge_points, point_count
 use crate::search::{first_at, first_server, name_servers};
 use crate::servers::{Server, take_out, weighs, weight_among};
 use crate::sorted::place;
+use crate::starts::Starts;
 use change_core::{Address, Weight};
 use std::alloc::Global;
 use std::marker::Model;
@@ -23,6 +24,7 @@ pub struct Ring<H: PointHash> {
     replicas: u32,
     servers: Vec<Server>,
     points: Vec<Point>,
+    starts: Starts,
     // The points of the server that is being added.
     fresh: Vec<Point>,
 }
@@ -55,6 +57,7 @@ impl<H: PointHash> Ring<H> {
             replicas,
             servers: Vec::new(alloc),
             points: Vec::new(alloc),
+            starts: Starts::new(alloc),
             fresh: Vec::new(alloc),
         })
     }
@@ -99,6 +102,7 @@ impl<H: PointHash> Ring<H> {
         self.points.reserve(count)?;
         self.fresh.clear();
         self.fresh.reserve(count)?;
+        self.starts.widen(&self.points);
         Ok(())
     }
 
@@ -115,12 +119,17 @@ impl<H: PointHash> Ring<H> {
             return false;
         }
         let count = point_count(self.replicas, weight);
-        take_out(&mut self.servers, &mut self.points, address);
+        take_out(
+            &mut self.servers,
+            &mut self.points,
+            &mut self.starts,
+            address,
+        );
         let Ok(_) = place(&mut self.servers, Server { address, weight }) else {
             unreachable!()
         };
         fill_points(&mut self.fresh, self.hash, address, count);
-        merge_points(&mut self.points, &self.fresh);
+        merge_points(&mut self.points, &mut self.starts, &self.fresh);
         true
     }
 
@@ -131,7 +140,12 @@ impl<H: PointHash> Ring<H> {
         ensures removed { result ≡ is_some (weight_of address self.old.servers) }
         ensures room { self.old.room ≤ self.new.room }
     {
-        take_out(&mut self.servers, &mut self.points, address)
+        take_out(
+            &mut self.servers,
+            &mut self.points,
+            &mut self.starts,
+            address,
+        )
     }
 
     /// The server of a key: that of the first point at or after the key's hash, the least point after the
@@ -141,7 +155,7 @@ impl<H: PointHash> Ring<H> {
         ensures nearest { IfSome result (IsNearest (H.hash_of self.now.hash) self.now.replicas self.now.servers key.now) }
         ensures nobody { IfNone result (self.now.servers ≡ []) }
     {
-        let start = first_at(&self.points, self.hash.hash(key));
+        let start = first_at(&self.points, &self.starts, self.hash.hash(key));
         first_server(&self.points, start)
     }
 
@@ -151,7 +165,7 @@ impl<H: PointHash> Ring<H> {
         ensures named { IfOk result (λ named. named.items ≡ take count (owners (H.hash_of self.now.hash) self.now.replicas self.now.servers key.now)) }
         ensures refusal { IsOkUnless result RingError.Memory }
     {
-        let start = first_at(&self.points, self.hash.hash(key));
+        let start = first_at(&self.points, &self.starts, self.hash.hash(key));
         let count = count.min(self.servers.len());
         let mut named = Vec::with_capacity(*self.servers.allocator(), count)?;
         name_servers(&self.points[start..], count, &mut named);
@@ -170,6 +184,7 @@ impl<H: PointHash> Ring<H> {
             replicas: self.replicas,
             servers: Vec::from_slice(alloc, &self.servers)?,
             points: Vec::from_slice(alloc, &self.points)?,
+            starts: self.starts.copy()?,
             fresh: Vec::with_capacity(alloc, self.fresh.capacity())?,
         })
     }

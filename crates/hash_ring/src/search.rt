@@ -6,33 +6,30 @@ ghost use Rattle.hash_ring.specs.Steps.{IsBelow, IsFrom, firsts};
 ghost use Rattle.hash_ring.specs.declared.points.Point.{Point};
 
 use crate::points::Point;
+use crate::starts::Starts;
 use change_core::Address;
 
-// How far from the guess the bounds of a search are set.
-const REACH: usize = 8;
-
 /// The place of the first point at or after a hash.
-pub(crate) fn first_at(points: &[Point], hash: u64) -> usize
+pub(crate) fn first_at(points: &[Point], starts: &Starts, hash: u64) -> usize
     requires { IsAscending point_cmp points.now }
     ensures bound { result ≤ length points.now }
     ensures low { IsBelow hash (take result points.now) }
     ensures high { IsFrom hash (drop result points.now) }
 {
-    let (low, high) = bounds(points, hash);
+    let (low, high) = bounds(points, starts.guess(points, hash), hash);
     low + points[low..high].partition_point(|point| point.hash < hash)
 }
 
-// Two places with the first point at or after a hash between them: close ones round a guess, where they hold,
-// and else the ends.
-fn bounds(points: &[Point], hash: u64) -> (usize, usize)
+// Two places with the first point at or after a hash between them: the guess and the place before it, where they
+// hold, and else the ends.
+fn bounds(points: &[Point], guess: usize, hash: u64) -> (usize, usize)
     requires { IsAscending point_cmp points.now }
     ensures order { (result.0 ≤ result.1) × (result.1 ≤ length points.now) }
     ensures low { IsBelow hash (take result.0 points.now) }
     ensures high { IsFrom hash (drop result.1 points.now) }
 {
-    let place = guess(points, hash);
-    let low = lower_bound(points, hash, place.saturating_sub(REACH));
-    let high = upper_bound(points, hash, place.saturating_add(REACH));
+    let low = lower_bound(points, hash, guess.saturating_sub(1));
+    let high = upper_bound(points, hash, guess);
     (low, high)
 }
 
@@ -60,32 +57,6 @@ fn upper_bound(points: &[Point], hash: u64, place: usize) -> usize
         Some(point) if point.hash >= hash => place,
         _ => points.len(),
     }
-}
-
-// About where a hash stands among points that are spread evenly: its share of the range, mended twice by how
-// far the point there is from it. No clause speaks of it: a bad guess costs time alone.
-fn guess(points: &[Point], hash: u64) -> usize {
-    let count = points.len();
-    let mut place = share(hash, count);
-    for _ in 0..2 {
-        let Some(point) = points.get(place) else {
-            break;
-        };
-        let found = point.hash;
-        place = if found < hash {
-            place
-                .saturating_add(share(hash - found, count))
-                .min(count - 1)
-        } else {
-            place.saturating_sub(share(found - hash, count))
-        };
-    }
-    place
-}
-
-// A number's share of 2^64, out of a count below 2^32.
-fn share(number: u64, count: usize) -> usize {
-    ((number >> 32).wrapping_mul(count as u64) >> 32) as usize
 }
 
 /// The server of the point at a place, going round.

@@ -4,7 +4,8 @@ ghost use Rattle.change_core.specs.Ascending.{In};
 ghost use Rattle.hash_ring.specs.Servers.{AreServers, addresses_of, is_same, shares, weight_of, without};
 ghost use Rattle.hash_ring.specs.declared.points.Point.{Point};
 
-use crate::points::Point;
+use crate::points::{Point, take_points};
+use crate::starts::Starts;
 use change_core::{Address, Weight};
 
 /// A server and its weight.
@@ -38,7 +39,12 @@ pub(crate) fn weighs(servers: &[Server], address: Address, weight: Weight) -> bo
 }
 
 /// Takes out a server and its points, and answers whether it was there.
-pub(crate) fn take_out(servers: &mut Vec<Server>, points: &mut Vec<Point>, address: Address) -> bool
+pub(crate) fn take_out(
+    servers: &mut Vec<Server>,
+    points: &mut Vec<Point>,
+    starts: &mut Starts,
+    address: Address,
+) -> bool
     requires servers { AreServers servers.old.items }
     requires theirs { (p : Point) → In p points.old.items → In p.server (addresses_of servers.old.items) }
     ensures servers { servers.new.items ≡ without address servers.old.items }
@@ -51,6 +57,6 @@ pub(crate) fn take_out(servers: &mut Vec<Server>, points: &mut Vec<Point>, addre
         return false;
     }
     servers.retain(|server| server.address != address);
-    points.retain(|point| point.server != address);
+    take_points(points, starts, address);
     true
 }

@@ -18,7 +18,3 @@ returns-then-is_none-clause-points c =
 pub returns-clause-servers : goal.returns-clause-servers
 returns-clause-servers c =
     filter_same _ (λ (s : Server). not (is_same s.address c.args.address)) _ (λ x b f' k. search rules) _ _ c.retain.ensures.filtered
-
-pub returns-clause-points : goal.returns-clause-points
-returns-clause-points c =
-    filter_same _ (λ (p : Point). not (is_same p.server c.args.address)) _ (λ x b f' k. search rules) _ _ c.retain-2.ensures.filtered

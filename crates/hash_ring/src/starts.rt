@@ -1,0 +1,107 @@
+// Where searches of the points begin. No clause speaks of it: a wrong start costs time alone.
+use crate::points::Point;
+use std::alloc::{AllocError, Global};
+
+// For how many places of the points' list there is one start.
+const SPREAD: usize = 16;
+
+// How far a search goes on from a start, point by point.
+const REACH: usize = 48;
+
+/// How many points stand before each of as many equal parts of the hashes as the list is long.
+#[derive(Drop)]
+pub(crate) struct Starts {
+    counts: Vec<u32>,
+}
+
+/// How far an edit of the points is counted: up to which part, and what it changes from there on.
+#[derive(Clone, Copy)]
+pub(crate) struct Passed {
+    part: usize,
+    change: u32,
+}
+
+impl Passed {
+    pub(crate) fn nothing() -> Passed {
+        Passed { part: 0, change: 0 }
+    }
+}
+
+impl Starts {
+    pub(crate) fn new(alloc: Global) -> Starts {
+        Starts {
+            counts: Vec::new(alloc),
+        }
+    }
+
+    pub(crate) fn copy(&self) -> Result<Starts, AllocError> {
+        let alloc = *self.counts.allocator();
+        Ok(Starts {
+            counts: Vec::from_slice(alloc, &self.counts)?,
+        })
+    }
+
+    /// Makes the list longer where the points have room for more. Where that is refused it stays as it was.
+    pub(crate) fn widen(&mut self, points: &Vec<Point>) {
+        let parts = points.capacity() / SPREAD;
+        if parts > self.counts.len() && self.counts.resize(parts, 0).is_ok() {
+            self.counts.fill(0);
+            self.add(points);
+        }
+    }
+
+    /// Counts points that ascend and were added.
+    pub(crate) fn add(&mut self, points: &[Point]) {
+        let mut passed = Passed::nothing();
+        for point in points {
+            passed = self.pass(passed, point.hash, 1);
+        }
+        self.finish(passed);
+    }
+
+    /// Counts the next of points that ascend and are taken out.
+    pub(crate) fn take(&mut self, passed: Passed, hash: u64) -> Passed {
+        self.pass(passed, hash, u32::MAX)
+    }
+
+    /// Ends what was begun: the parts after the last such point.
+    pub(crate) fn finish(&mut self, passed: Passed) {
+        let parts = self.counts.len();
+        raise(&mut self.counts, passed, parts);
+    }
+
+    // One more point, up to whose part nothing new has to be counted.
+    fn pass(&mut self, passed: Passed, hash: u64, step: u32) -> Passed {
+        let next = share(hash, self.counts.len()).saturating_add(1);
+        raise(&mut self.counts, passed, next);
+        Passed {
+            part: next,
+            change: passed.change.wrapping_add(step),
+        }
+    }
+
+    /// About where the first point at or after a hash stands: a few points from the start of the hash's part.
+    pub(crate) fn guess(&self, points: &[Point], hash: u64) -> usize {
+        let part = share(hash, self.counts.len());
+        let start = self.counts.get(part).map_or(0, |count| *count as usize);
+        let Some(rest) = points.get(start..) else {
+            return start;
+        };
+        let steps = rest.iter().take(REACH).position(|point| point.hash >= hash);
+        start.saturating_add(steps.unwrap_or(REACH))
+    }
+}
+
+// Adds the change to the counts up to a part.
+fn raise(counts: &mut [u32], passed: Passed, next: usize) {
+    if let Some(between) = counts.get_mut(passed.part..next) {
+        for count in between {
+            *count = count.wrapping_add(passed.change);
+        }
+    }
+}
+
+// A number's share of 2^64, out of a count below 2^32.
+fn share(number: u64, count: usize) -> usize {
+    ((number >> 32).wrapping_mul(count as u64) >> 32) as usize
+}

@@ -245,7 +245,18 @@ fn the_owner_is_looked_up_each_time(rt: HostRuntime) {
         Call::Ready(&two, 9_000, Err(ForwardError::InFlight)),
     ];
     check_calls(&rt, &mut first, &calls);
-    let mut second = Attempt::start(keys(&rt, alloc, &["zzzz1", "zzzz2"]));
+    let mut second = Attempt::start(keys(&rt, alloc, &["zzzz1"]));
+    let here = Ok(Step::Here);
+    check_calls(&rt, &mut second, &[Call::Ready(&at_c, 0, here)]);
+    check_calls(&rt, &mut second, &[Call::Ready(&two, 0, to(&rt, C))]);
+}
+
+#[test]
+fn an_attempt_waits_for_one_owner(rt: HostRuntime) {
+    let alloc = rt.alloc();
+    let three = summed(&rt, alloc, A, &[(B, Status::Alive), (C, Status::Alive)]);
+    let two = summed(&rt, alloc, A, &[(B, Status::Faulty), (C, Status::Alive)]);
+    let mut attempt = Attempt::start(keys(&rt, alloc, &["zzzz1", "zzzz2"]));
     let calls = [
         Call::Ready(&three, 0, Err(ForwardError::Diverged)),
         Call::Ready(&two, 0, to(&rt, C)),
@@ -253,8 +264,8 @@ fn the_owner_is_looked_up_each_time(rt: HostRuntime) {
         Call::Ready(&three, 5, Err(ForwardError::Diverged)),
         Call::Ready(&two, 5, Ok(Step::Wait(3_005))),
     ];
-    check_calls(&rt, &mut second, &calls);
-    assert!(rt; second.keys().len() == 2 && second.sends() == 1);
+    check_calls(&rt, &mut attempt, &calls);
+    assert!(rt; attempt.keys().len() == 2 && attempt.sends() == 1);
 }
 
 /// A sum of bytes that counts how often it is asked for.

@@ -8,7 +8,7 @@ use Rattle.forward_core.specs.declared.attempts.Step.TheVariants.{Wait, Here, Se
 use Rattle.forward_core.specs.declared.errors.ForwardError.{ForwardError}
 use Rattle.forward_core.specs.declared.errors.ForwardError.TheVariants as error
 use Rattle.forward_core.specs.Attempts.{AttemptState, started, most_sends, pause_after, IsAttempt, IsDue, ReadyStep, FailedStep}
-use Rattle.forward_core.specs.Schedule.{Call, ready, failed, Entry, CallStep, IsRun, Mark, sent_at, failed_at, marked, marks_of, IsSchedule, KeepsSchedule}
+use Rattle.forward_core.specs.Schedule.{AttemptCall, ready, failed, AttemptEntry, AttemptStep, IsRun, Mark, sent_at, failed_at, marked, marks_of, IsSchedule, KeepsSchedule}
 
 -- what follows a send, the last of n
 abbrev Follows : ℕ → List Mark → Type 0
@@ -79,12 +79,12 @@ module _ {H : Type 0} (hash_of : H → List ℕ → ℕ) where
   comes-ready view now old new marks (Err error.Nobody) whole h later = comes-same old new marks h.2 whole later
   comes-ready view now old new marks (Err error.NotInFlight) whole h later = absurd h
 
-  comes-call : (call : Call H) (old new : AttemptState) (marks : List Mark)
-      → IsAttempt old.sends old.stage → CallStep hash_of old call new → Later marks new → Comes old.sends old.stage (marked call marks)
+  comes-call : (call : AttemptCall H) (old new : AttemptState) (marks : List Mark)
+      → IsAttempt old.sends old.stage → AttemptStep hash_of old call new → Later marks new → Comes old.sends old.stage (marked call marks)
   comes-call (ready view now result) old new marks whole h later = comes-ready view now old new marks result whole h later
   comes-call (failed now result) old new marks whole h later = comes-failed old new now marks result whole h later
 
-  comes : (run : List (Entry H)) (old : AttemptState) → IsAttempt old.sends old.stage → IsRun hash_of old run → Comes old.sends old.stage (marks_of run)
+  comes : (run : List (AttemptEntry H)) (old : AttemptState) → IsAttempt old.sends old.stage → IsRun hash_of old run → Comes old.sends old.stage (marks_of run)
   comes [] old whole h = comes-nothing old.sends old.stage
   comes (e ∷ rest) old whole h = comes-call e.call old e.after (marks_of rest) whole h.0 (λ kept. comes rest e.after kept h.1)
 

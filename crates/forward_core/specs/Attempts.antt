@@ -1,4 +1,4 @@
--- An attempt: a request that is sent anew on a fixed schedule, each time to whom owns its keys by then. Both the number of sends
+-- An attempt: a request that is sent anew on a fixed schedule, each time to whoever owns its keys by then. Both the number of sends
 -- and the pauses are own.
 use Rattle.std.specs.Prelude.{◌≡◌, ◌≢◌, ℕ, ◌+◌, ◌-◌, ◌<◌, ◌≤◌, List, [], ◌∷◌, slice_index, Some, Result, Ok, Err}
 use Rattle.change_core.specs.declared.addresses.Address.{Address}

@@ -1,4 +1,5 @@
--- Where a request goes: to the one owner of all its keys, and to nobody if they have several (ringpop-go, package forward).
+-- Where a request goes: to the one owner of all its keys. Where two of them have different owners they have diverged, and where no
+-- member serves it goes to nobody (ringpop-go, package forward).
 use Rattle.std.specs.Prelude.{◌≡◌, ◌≢◌, ◌==◌, ℕ, List, All, Option, Some, None, Result, Ok, Err, if◌then◌else◌}
 use Rattle.std.specs.List.{Contains}
 use Rattle.change_core.specs.declared.addresses.Address.{Address}

@@ -8,23 +8,24 @@ use Rattle.forward_core.specs.declared.errors.ForwardError.TheVariants.{RetriesS
 use Rattle.forward_core.specs.Attempts.{AttemptState, started, most_sends, pause_after, ReadyStep, FailedStep}
 
 -- a call of an attempt, with its answer
-pub data Call (H : Type 0) : Type 0 where
-  ready : Viewed H → ℕ → Result Step ForwardError → Call H
-  failed : ℕ → Result (Unit {0}) ForwardError → Call H
+pub data AttemptCall (H : Type 0) : Type 0 where
+  ready : Viewed H → ℕ → Result Step ForwardError → AttemptCall H
+  failed : ℕ → Result (Unit {0}) ForwardError → AttemptCall H
 
 -- and with the attempt after it
-pub record Entry (H : Type 0) : Type 0 where
-  pub call : Call H
+pub record AttemptEntry (H : Type 0) : Type 0 where
+  pub call : AttemptCall H
   pub after : AttemptState
 
-abbrev pub CallStep : {H : Type 0} → (H → List ℕ → ℕ) → AttemptState → Call H → AttemptState → Type 0
-CallStep hash_of old (ready view now result) new = ReadyStep hash_of view now old result new
-CallStep hash_of old (failed now result) new = FailedStep now old result new
+-- from old, the call is answered so and leaves new
+abbrev pub AttemptStep : {H : Type 0} → (H → List ℕ → ℕ) → AttemptState → AttemptCall H → AttemptState → Type 0
+AttemptStep hash_of old (ready view now result) new = ReadyStep hash_of view now old result new
+AttemptStep hash_of old (failed now result) new = FailedStep now old result new
 
 -- from old, the calls follow one another
-abbrev pub IsRun : {H : Type 0} → (H → List ℕ → ℕ) → AttemptState → List (Entry H) → Type 0
+abbrev pub IsRun : {H : Type 0} → (H → List ℕ → ℕ) → AttemptState → List (AttemptEntry H) → Type 0
 IsRun hash_of old [] = Unit {0}
-IsRun hash_of old (e ∷ rest) = CallStep hash_of old e.call e.after × IsRun hash_of e.after rest
+IsRun hash_of old (e ∷ rest) = AttemptStep hash_of old e.call e.after × IsRun hash_of e.after rest
 
 -- a send or a failure, at its moment
 pub data Mark : Type 0 where
@@ -32,14 +33,14 @@ pub data Mark : Type 0 where
   failed_at : ℕ → Mark
 
 -- what a call adds to them
-abbrev pub marked : {H : Type 0} → Call H → List Mark → List Mark
+abbrev pub marked : {H : Type 0} → AttemptCall H → List Mark → List Mark
 marked (ready view now (Ok (Send a))) marks = sent_at now ∷ marks
 marked (failed now (Ok done)) marks = failed_at now ∷ marks
 marked (failed now (Err RetriesSpent)) marks = failed_at now ∷ marks
 marked call marks = marks
 
 -- the sends and failures of a run, in their order
-abbrev pub marks_of : {H : Type 0} → List (Entry H) → List Mark
+abbrev pub marks_of : {H : Type 0} → List (AttemptEntry H) → List Mark
 marks_of [] = []
 marks_of (e ∷ rest) = marked e.call (marks_of rest)
 
@@ -54,4 +55,4 @@ IsSchedule n from (failed_at f ∷ marks) = ⊥
 
 -- whatever the calls, an attempt keeps the schedule
 abbrev pub KeepsSchedule : {H : Type 0} → (H → List ℕ → ℕ) → Type 0
-KeepsSchedule {H} hash_of = (keys : List (List ℕ)) (run : List (Entry H)) → IsRun hash_of (started keys) run → IsSchedule 0 0 (marks_of run)
+KeepsSchedule {H} hash_of = (keys : List (List ℕ)) (run : List (AttemptEntry H)) → IsRun hash_of (started keys) run → IsSchedule 0 0 (marks_of run)

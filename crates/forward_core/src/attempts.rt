@@ -41,8 +41,8 @@ enum Stage {
     Spent,
 }
 
-/// A request that is sent until a send is answered or none is left, each time to whom owns its keys by then. It is
-/// handed each moment and reads no clock. Contracts see its keys, how often it was sent, and how it stands.
+/// A request that is sent until a send is answered or none is left, each time to whoever owns its keys by then. An attempt
+/// hears of failures alone: one that was answered is dropped. It is handed each moment and reads no clock. Contracts see its keys, how often it was sent, and how it stands.
 #[derive(Debug, Drop)]
 pub struct Attempt {
     keys: Keys,
@@ -74,7 +74,8 @@ impl Attempt {
 
     /// What is to be done now, by the view handed in: the owner is looked up anew each time. `Wait` exactly where the
     /// attempt rests still, which it does for 3,000, 6,000 and 12,000 milliseconds after its first, second and third
-    /// failure. `Send` counts one send and puts it in flight; any other answer changes nothing.
+    /// failure. `Here` where this node owns the keys, and else `Send`, which counts one send and puts it in flight; any other
+    /// answer changes nothing.
     ///
     /// Errors, in this order, each before any `Wait`: `RetriesSpent` once the fourth send has failed; `InFlight` while a
     /// send is; `Diverged` where two of the keys have different owners; `Nobody` where no member serves.

@@ -12,7 +12,7 @@ pub enum ForwardError {
     /// The last send that the schedule allows has failed.
     #[error("no retry is left")]
     RetriesSpent,
-    /// A send has neither been answered nor failed.
+    /// A send is on its way, and has not been noted as failed.
     #[error("a send is in flight")]
     InFlight,
     /// No send is in flight.

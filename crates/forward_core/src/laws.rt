@@ -1,7 +1,10 @@
-//! Laws over the definitions, each the contract of a function that does nothing.
+//! Laws over the definitions, each the contract of a function that does nothing; `limits` alone hands out the constant.
+ghost use Rattle.std.specs.Prelude.{◌≡◌};
+ghost use Rattle.forward_core.specs.Attempts.{most_sends};
 ghost use Rattle.forward_core.specs.Decided.{FailuresAreOne, RoutesAreOne, StepsAreOne};
 ghost use Rattle.forward_core.specs.Schedule.{KeepsSchedule};
 
+use crate::attempts::MOST_SENDS;
 use hash_ring::PointHash;
 
 /// Whatever the calls of an attempt, its sends and failures alternate, at most four of each, the first send whenever it
@@ -17,3 +20,10 @@ pub fn decided<H: PointHash>()
     ensures steps { StepsAreOne H.hash_of }
     ensures failures { FailuresAreOne }
 {}
+
+/// The limit of this crate's constant is the one that contracts name: how often an attempt is sent at most.
+pub fn limits() -> u32
+    ensures { result ≡ most_sends }
+{
+    MOST_SENDS
+}

@@ -22,7 +22,7 @@ pub fn route(owner: Option<Address>, own: Address) -> Route
 }
 
 /// Where a request of these keys goes, for the node whose view this is: to the one owner of all of them, as the view
-/// names it. It takes no memory, and hashes no key twice.
+/// names it. It takes no memory, and hashes each key at most once.
 ///
 /// `Diverged`: exactly where two of the keys have different owners. Where no member serves the answer is
 /// `Route::Nobody`, whatever the keys.

@@ -15,6 +15,9 @@ const B: &str = "10.0.0.2:1";
 
 const C: &str = "10.0.0.3:1";
 
+/// The greatest moment.
+const LIMIT: u64 = 9_007_199_254_740_991;
+
 fn address(rt: &impl Abort, text: &str) -> Address {
     Address::parse(text).ok().expect(rt, "an address")
 }
@@ -200,7 +203,7 @@ fn check_calls(rt: &impl Abort, attempt: &mut Attempt, calls: &[Call]) {
 fn an_attempt_is_sent_four_times(rt: HostRuntime) {
     let alloc = rt.alloc();
     let three = summed(&rt, alloc, A, &[(B, Status::Alive), (C, Status::Alive)]);
-    let spent = Err(ForwardError::RetriesSpent);
+    let none = left(&rt, alloc);
     let mut attempt = Attempt::start(keys(&rt, alloc, &["zzzz1"]));
     let calls = [
         Call::Ready(&three, 0, to(&rt, B)),
@@ -214,7 +217,8 @@ fn an_attempt_is_sent_four_times(rt: HostRuntime) {
         Call::Ready(&three, 20_999, Ok(Step::Wait(21_000))),
         Call::Ready(&three, 21_000, to(&rt, B)),
         Call::Failed(21_000, Err(ForwardError::RetriesSpent)),
-        Call::Ready(&three, 50_000, spent),
+        Call::Ready(&three, 50_000, Err(ForwardError::RetriesSpent)),
+        Call::Ready(&none, 50_000, Err(ForwardError::RetriesSpent)),
         Call::Failed(50_000, Err(ForwardError::NotInFlight)),
     ];
     check_calls(&rt, &mut attempt, &calls);
@@ -263,9 +267,12 @@ fn an_attempt_waits_for_one_owner(rt: HostRuntime) {
         Call::Failed(5, Ok(())),
         Call::Ready(&three, 5, Err(ForwardError::Diverged)),
         Call::Ready(&two, 5, Ok(Step::Wait(3_005))),
+        Call::Ready(&two, LIMIT, to(&rt, C)),
+        Call::Failed(LIMIT, Ok(())),
+        Call::Ready(&two, LIMIT, Ok(Step::Wait(9_007_199_254_746_991))),
     ];
     check_calls(&rt, &mut attempt, &calls);
-    assert!(rt; attempt.keys().len() == 2 && attempt.sends() == 1);
+    assert!(rt; attempt.keys().len() == 2 && attempt.sends() == 2);
 }
 
 /// A sum of bytes that counts how often it is asked for.
@@ -288,21 +295,20 @@ fn each_key_is_hashed_once(rt: HostRuntime) {
     let alloc = rt.alloc();
     let calls = AtomicU64::new(0);
     let hash = CountingHash { calls: &calls };
-    let view = view(
-        &rt,
-        alloc,
-        hash,
-        A,
-        &[(B, Status::Alive), (C, Status::Alive)],
-    );
-    let three = keys(&rt, alloc, &["zzzz1", "zzzz1", "zzzz1"]);
+    let two = [(B, Status::Faulty), (C, Status::Alive)];
+    let view = view(&rt, alloc, hash, A, &two);
+    let three = keys(&rt, alloc, &["zzzz1", "zzzz2", "zzzy3"]);
+    let split = keys(&rt, alloc, &["zzzz1", "zzzz0", "zzzz2"]);
     let before = calls.load(Ordering::SeqCst);
     let routed = route_keys(&view, &three);
-    assert_eq!(rt; routed, Ok(Route::To(address(&rt, B))));
+    assert_eq!(rt; routed, Ok(Route::To(address(&rt, C))));
     assert_eq!(rt; calls.load(Ordering::SeqCst), before.wrapping_add(3));
+    assert_eq!(rt; route_keys(&view, &split), Err(ForwardError::Diverged));
+    assert_eq!(rt; calls.load(Ordering::SeqCst), before.wrapping_add(5));
+    // The second answer is `InFlight`, before any look-up.
     let mut attempt = Attempt::start(three);
-    for hashes in [6, 6] {
-        let _ = attempt.ready(&view, moment(&rt, 0));
-        assert_eq!(rt; calls.load(Ordering::SeqCst), before.wrapping_add(hashes));
+    for wanted in [to(&rt, C), Err(ForwardError::InFlight)] {
+        assert_eq!(rt; attempt.ready(&view, moment(&rt, 0)), wanted);
+        assert_eq!(rt; calls.load(Ordering::SeqCst), before.wrapping_add(8));
     }
 }

@@ -21,6 +21,9 @@ pub type NodePass<H> = Pass<Held<H>>;
 ///
 /// - `ForeignPass`, the pass bears the name of another node,
 /// - `PassSpent`, the pass has made as many calls as it may.
+///
+/// A pass that bears this node's name is to be one of those that were made with it, and in no call. Two locked nodes of one
+/// address bear one name, so `ForeignPass` does not tell their passes apart.
 #[derive(Drop)]
 pub struct LockedNode<H: PointHash> {
     pub(crate) lock: TurnLock<Held<H>>,

@@ -34,7 +34,7 @@ struct InTurn<H, A> {
 impl<H: PointHash, A: Asked<H>> InTurn<H, A> {
     ghost use Rattle.locked_node.specs.History.{CallEntry, StandsFor};
 
-    /// Gives the turn back after this call, which was answered so.
+    /// Gives the turn back. What was asked and answered stands there for contracts, where it names the entry.
     fn leave(
         lock: &TurnLock<Held<H>>,
         pass: &mut NodePass<H>,

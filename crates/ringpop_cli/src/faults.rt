@@ -1,9 +1,8 @@
 //! Why a run ends before its end.
 ghost use Rattle.std.specs.Prelude.{◌≡◌};
-ghost use Rattle.ringpop_cli.specs.declared.faults.Fault.TheVariants.{Run, Sim};
+ghost use Rattle.ringpop_cli.specs.declared.faults.Fault.TheVariants.{Run};
 ghost use Rattle.ringpop_cli.specs.declared.faults.RunFault.TheVariants.{NoMemory};
 
-use crate::scripts::SimFault;
 use clap::error::ErrorKind;
 use std::alloc::{AllocError, AllocFailed};
 use std::fmt;
@@ -70,8 +69,6 @@ pub enum Fault {
     Usage(clap::Error),
     /// The run ended early.
     Run(RunFault),
-    /// The script ended early.
-    Sim(SimFault),
 }
 
 impl Fault {
@@ -83,7 +80,7 @@ impl Fault {
     {
         match self {
             Fault::Usage(_) => 2,
-            Fault::Run(_) | Fault::Sim(_) => 1,
+            Fault::Run(_) => 1,
         }
     }
 }
@@ -93,7 +90,6 @@ impl fmt::Display for Fault {
         match self {
             Fault::Usage(error) => write!(f, "{error}"),
             Fault::Run(fault) => writeln!(f, "ringpop: {fault}"),
-            Fault::Sim(fault) => writeln!(f, "ringpop: {fault}"),
         }
     }
 }
@@ -103,14 +99,6 @@ impl From<RunFault> for Fault {
 
     fn from(fault: RunFault) -> Fault {
         Fault::Run(fault)
-    }
-}
-
-impl From<SimFault> for Fault {
-    ghost from_gives = { λ e f. f ≡ Sim e };
-
-    fn from(fault: SimFault) -> Fault {
-        Fault::Sim(fault)
     }
 }
 

@@ -6,7 +6,7 @@ use crate::faults::{Fault, LineFault, RunFault};
 use crate::fold::fold_run;
 use crate::hashes::{hash_run, hash_text};
 use crate::owners::owner_run;
-use crate::words::{OwnerWords, SimWords, Words, read_words, words_not_text};
+use crate::words::{OwnerWords, Words, read_words, words_not_text};
 use fakes::{Lines, Long, Many, Page, Place};
 use std::alloc::Global;
 use std::io::{Read, Write};
@@ -14,7 +14,6 @@ use std::process::Abort;
 use std::test::Fail;
 
 mod fakes;
-mod scripts;
 
 const ALIVE: &str =
     r#"{"address":"10.0.0.2:1","incarnationNumber":5,"source":"10.0.0.2:1","sourceIncarnationNumber":5,"status":"alive"}"#;
@@ -512,21 +511,9 @@ fn of_key(count: usize, replicas: u32, sum: bool, key: &str) -> Words<'_>
     })
 }
 
-/// The words of `sim` with so many points of a server.
-fn of_script(replicas: u32, sum: bool) -> Words<'static>
-    requires { IsReplicas replicas }
-{
-    Words::Sim(SimWords { replicas, sum })
-}
-
 #[test]
 fn reads_the_words(rt: HostRuntime) {
-    let cases: [(&[&str], Words<'_>); 11] = [
-        (&["ringpop", "sim"], of_script(100, false)),
-        (
-            &["ringpop", "sim", "--sum", "--replicas", "2"],
-            of_script(2, true),
-        ),
+    let cases: [(&[&str], Words<'_>); 9] = [
         (&[], Words::Fold),
         (&["ringpop"], Words::Fold),
         (&["ringpop", "fold"], Words::Fold),
@@ -565,8 +552,8 @@ fn reads_the_words(rt: HostRuntime) {
 const REFUSED_WORDS: [(&[&str], &str); 10] = [
     (&["ringpop", ""], "error: unrecognized subcommand ''\n"),
     (
-        &["ringpop", "serve"],
-        "error: unrecognized subcommand 'serve'\n",
+        &["ringpop", "sim"],
+        "error: unrecognized subcommand 'sim'\n",
     ),
     (
         &["ringpop", "--help"],

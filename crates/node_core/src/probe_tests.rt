@@ -2,13 +2,12 @@ ghost use Rattle.std.specs.Prelude.{◌≡◌, ◌≤◌};
 
 use crate::test_calls::*;
 use crate::*;
-use change_core::{Address, Change, Sourced, Status};
-use detector_core::{Addresses, Probe, Running, Said};
+use change_core::{Address, Change, Moment, Sourced, Status};
+use detector_core::{Probe, Running, Said};
 use hash_ring::{PointHash, SumHash};
 use std::alloc::Global;
 use std::process::Abort;
 use std::sync::atomic::{AtomicU64, Ordering};
-use std::test::Fail;
 use wire_json::{Content, Message};
 
 /// 10.0.0.1:1 and the others after it.
@@ -41,19 +40,19 @@ fn among<H: PointHash>(rt: &impl Abort, alloc: Global, hash: H, others: usize) -
 }
 
 /// A probe that begins; no other may.
-fn begin(rt: &impl Abort, node: &mut NodeState<SumHash>) -> Result<Probe, Fail> {
-    let begun = probe(node)?.ok_or("a target")?;
+fn begin(rt: &impl Abort, node: &mut NodeState<SumHash>) -> Probe {
+    let begun = probe(node).ok().expect(rt, "a probe");
     assert!(rt; probe(node).err() == Some(NodeError::Busy));
-    Ok(begun)
+    begun.expect(rt, "a target")
 }
 
 /// The helpers that are asked about a lost target.
-fn helpers_of(rt: &impl Abort, node: &mut NodeState<SumHash>) -> Result<Addresses, Fail> {
-    let helpers = match lost(node, 1, moment(rt, 0))? {
-        NodeLost::Ask(helpers) => Some(helpers),
-        NodeLost::Suspect(_) => None,
-    };
-    Ok(helpers.ok_or("helpers")?)
+fn helpers_of(lost: &NodeLost) -> &[Address] {
+    if let NodeLost::Ask(helpers) = lost {
+        helpers.as_slice()
+    } else {
+        &[]
+    }
 }
 
 /// What helpers' words come to, one after another.
@@ -62,61 +61,64 @@ fn listen(
     node: &mut NodeState<SumHash>,
     helpers: &[Address],
     words: &[Said],
-) -> Result<NodeOutcome, Fail> {
+) -> NodeOutcome {
     let mut outcome = NodeOutcome::Waiting;
     for (helper, word) in helpers.iter().zip(words.iter()) {
         if outcome == NodeOutcome::Waiting {
-            outcome = helper_said(node, 1, *helper, *word, moment(rt, 0))?;
+            let heard = helper_said(node, 1, *helper, *word, moment(rt, 0));
+            outcome = heard.ok().expect(rt, "a word of a helper that was asked");
         }
     }
-    Ok(outcome)
+    outcome
 }
 
 /// What three helpers' words come to, of a target among five members.
-fn decide(rt: &impl Abort, alloc: Global, words: &[Said]) -> Result<NodeOutcome, Fail> {
+fn decide(rt: &impl Abort, alloc: Global, words: &[Said]) -> NodeOutcome {
     let mut node = among(rt, alloc, SumHash, 4);
-    let probe = begin(rt, &mut node)?;
-    let helpers = helpers_of(rt, &mut node)?;
-    assert_eq!(rt; helpers.as_slice().len(), 3);
+    let probe = begin(rt, &mut node);
+    let asking = lost(&mut node, 1, moment(rt, 0))
+        .ok()
+        .expect(rt, "helpers to ask");
+    let helpers = helpers_of(&asking);
+    assert_eq!(rt; helpers.len(), 3);
     let again = lost(&mut node, 1, moment(rt, 0)).err();
     assert!(rt; again == Some(NodeError::StaleProbe));
     let unasked = helper_said(&mut node, 1, probe.target, Said::Reached, moment(rt, 0)).err();
     assert!(rt; unasked == Some(NodeError::NotAsked));
-    let outcome = listen(rt, &mut node, helpers.as_slice(), words)?;
+    let outcome = listen(rt, &mut node, helpers, words);
     let entry = held(&node, probe.target).2;
     let is_suspect = entry.map(|entry| entry.status) == Some(Status::Suspect);
     assert!(rt; is_suspect == matches!(outcome, NodeOutcome::Suspect(_)));
     assert!(rt; running(&node).is_none());
-    Ok(outcome)
+    outcome
 }
 
 #[test]
-fn helpers_decide(rt: HostRuntime) -> Result<(), Fail> {
+fn helpers_decide(rt: HostRuntime) {
     let failed = Said::Failed;
-    let outcome = decide(&rt, rt.alloc(), &[failed, failed, failed])?;
+    let outcome = decide(&rt, rt.alloc(), &[failed, failed, failed]);
     assert!(rt; outcome == NodeOutcome::Inconclusive);
-    let outcome = decide(&rt, rt.alloc(), &[Said::NotReached, failed, failed])?;
+    let outcome = decide(&rt, rt.alloc(), &[Said::NotReached, failed, failed]);
     assert!(rt; matches!(outcome, NodeOutcome::Suspect(Some(_))));
-    let outcome = decide(&rt, rt.alloc(), &[Said::Reached])?;
+    let outcome = decide(&rt, rt.alloc(), &[Said::Reached]);
     assert!(rt; outcome == NodeOutcome::Reached);
-    Ok(())
 }
 
 /// The change that a target is suspect by.
-fn suspected(rt: &impl Abort, node: &mut NodeState<SumHash>) -> Result<Option<Change>, Fail> {
-    let lost = lost(node, 1, moment(rt, 0))?;
-    if let NodeLost::Suspect(change) = &lost {
-        Ok(*change)
+fn suspected(node: &mut NodeState<SumHash>, now: Moment) -> Option<Change> {
+    let lost = lost(node, 1, now);
+    if let Ok(NodeLost::Suspect(change)) = &lost {
+        *change
     } else {
-        Ok(None)
+        None
     }
 }
 
 #[test]
-fn a_lone_target_is_suspect_at_once(rt: HostRuntime) -> Result<(), Fail> {
+fn a_lone_target_is_suspect_at_once(rt: HostRuntime) {
     let mut node = among(&rt, rt.alloc(), SumHash, 1);
     let target = address(&rt, TEXTS[1]);
-    let probe = begin(&rt, &mut node)?;
+    let probe = begin(&rt, &mut node);
     assert!(rt; probe == Probe { number: 1, target });
     let waiting = Running {
         number: 1,
@@ -125,25 +127,27 @@ fn a_lone_target_is_suspect_at_once(rt: HostRuntime) -> Result<(), Fail> {
     };
     assert!(rt; running(&node) == Some(waiting));
     let wanted = change(&rt, TEXTS[1], 1, Status::Suspect);
-    assert!(rt; suspected(&rt, &mut node)? == Some(wanted));
+    assert!(rt; suspected(&mut node, moment(&rt, 0)) == Some(wanted));
     assert!(rt; acked(&mut node, 1).err() == Some(NodeError::StaleProbe));
     assert!(rt; held(&node, target).2 == Some(wanted.entry()));
-    Ok(())
 }
 
 #[test]
-fn an_ack_ends_a_probe(rt: HostRuntime) -> Result<(), Fail> {
-    let mut alone = among(&rt, rt.alloc(), SumHash, 0);
-    assert!(rt; probe(&mut alone)?.is_none());
+fn nobody_is_probed_by_a_node_alone(rt: HostRuntime) {
+    let mut node = among(&rt, rt.alloc(), SumHash, 0);
+    assert!(rt; probe(&mut node).ok() == Some(None));
+}
+
+#[test]
+fn an_ack_ends_a_probe(rt: HostRuntime) {
     let mut node = among(&rt, rt.alloc(), SumHash, 2);
     for number in 1..4 {
-        let probe = begin(&rt, &mut node)?;
+        let probe = begin(&rt, &mut node);
         assert_eq!(rt; probe.number, number);
         assert!(rt; acked(&mut node, number + 1).err() == Some(NodeError::StaleProbe));
-        acked(&mut node, number)?;
+        assert!(rt; acked(&mut node, number).is_ok());
         assert!(rt; running(&node).is_none());
     }
-    Ok(())
 }
 
 /// Whether a message of the membership carries these changes.
@@ -166,59 +170,62 @@ enum Sent {
     Telling,
 }
 
-/// Whether a message is made that carries these changes.
-fn sends(
-    rt: &impl Abort,
+/// The message that is made.
+fn message(
     node: &mut NodeState<SumHash>,
     sent: Sent,
-    changes: &[Sourced],
-) -> Result<bool, Fail> {
+    receiver: Address,
+    target: Address,
+) -> Result<Message, NodeError> {
+    match sent {
+        Sent::Join => join_message(node),
+        Sent::Ping => ping_to(node, receiver),
+        Sent::Asking => ping_req_to(node, receiver, target),
+        Sent::Telling => ping_req_ack_to(node, receiver, target, true),
+    }
+}
+
+/// Whether a message is made that carries these changes.
+fn sends(rt: &impl Abort, node: &mut NodeState<SumHash>, sent: Sent, changes: &[Sourced]) -> bool {
     let receiver = address(rt, TEXTS[1]);
     let target = address(rt, TEXTS[2]);
-    let message = match sent {
-        Sent::Join => join_message(node)?,
-        Sent::Ping => ping_to(node, receiver)?,
-        Sent::Asking => ping_req_to(node, receiver, target)?,
-        Sent::Telling => ping_req_ack_to(node, receiver, target, true)?,
-    };
-    Ok(carries(&message, changes))
+    let made = message(node, sent, receiver, target);
+    carries(&made.ok().expect(rt, "a message"), changes)
 }
 
 #[test]
-fn messages_carry_the_birth_as_often_as_the_limit_says(rt: HostRuntime) -> Result<(), Fail> {
+fn messages_carry_the_birth_as_often_as_the_limit_says(rt: HostRuntime) {
     let mut node = among(&rt, rt.alloc(), SumHash, 0);
     let birth = [news(&rt, TEXTS[0], 7, Status::Alive)];
     for sent in [Sent::Join, Sent::Ping, Sent::Asking, Sent::Telling] {
-        assert!(rt; sends(&rt, &mut node, sent, &birth)?);
+        assert!(rt; sends(&rt, &mut node, sent, &birth));
     }
     for _ in 0..12u8 {
-        assert!(rt; sends(&rt, &mut node, Sent::Ping, &birth)?);
+        assert!(rt; sends(&rt, &mut node, Sent::Ping, &birth));
     }
-    assert!(rt; sends(&rt, &mut node, Sent::Ping, &[])?);
-    Ok(())
+    assert!(rt; sends(&rt, &mut node, Sent::Ping, &[]));
 }
 
 #[test]
-fn a_view_stays_as_it_was(rt: HostRuntime) -> Result<(), Fail> {
+fn a_view_stays_as_it_was(rt: HostRuntime) {
     let [a, b, c] = [TEXTS[0], TEXTS[1], TEXTS[2]].map(|text| address(&rt, text));
     let mut node = among(&rt, rt.alloc(), SumHash, 2);
-    let before = view(&node)?;
+    let before = view(&node).ok().expect(&rt, "a view");
     told(&rt, &mut node, TEXTS[1], 1, Status::Suspect);
     assert!(rt; owner(&node, "zzzz0") == Some(a) && owner(&node, "zzzz1") == Some(b));
     told(&rt, &mut node, TEXTS[1], 1, Status::Faulty);
     assert!(rt; owner(&node, "zzzz0") == Some(a) && owner(&node, "zzzz1") == Some(c));
     assert!(rt; view_owner(&before, "zzzz1") == Some(b) && view_own(&before) == a);
-    let named = view_owners(&before, "zzzz1", 9)?;
+    let named = view_owners(&before, "zzzz1", 9).ok().expect(&rt, "owners");
     assert!(rt; named.as_slice() == [b, c, a].as_slice());
-    Ok(())
 }
 
 #[test]
-fn look_ups_answer(rt: HostRuntime) -> Result<(), Fail> {
+fn look_ups_answer(rt: HostRuntime) {
     let node = among(&rt, rt.alloc(), SumHash, 2);
     assert!(rt; names(&rt, &node, "zzzz2", &[TEXTS[2], TEXTS[0]]));
-    assert_eq!(rt; members(&node)?.as_slice().len(), 3);
-    let text = digest_text(&node)?;
+    let held = members(&node).ok().expect(&rt, "members");
+    assert_eq!(rt; held.as_slice().len(), 3);
+    let text = digest_text(&node).ok().expect(&rt, "a text");
     assert!(rt; text.as_str() == "10.0.0.1:1alive7;10.0.0.2:1alive1;10.0.0.3:1alive1");
-    Ok(())
 }

@@ -55,30 +55,36 @@ fn leaves_and_comes_back(rt: HostRuntime) {
     assert!(rt; again.is_err() && own(&node) == change(&rt, A, 11, Status::Alive));
 }
 
+/// Whether a batch stopped after so many changes, for this cause.
+fn stopped(answer: Result<Taken, Stopped>, taken: usize, cause: StopCause) -> bool {
+    answer.err() == Some(Stopped { taken, cause })
+}
+
+/// Changes of which the second leaves no incarnation to refute it by.
+fn exhausting(rt: &impl Abort) -> [Sourced; 3] {
+    [
+        news(rt, B, 1, Status::Alive),
+        news(rt, A, LIMIT, Status::Faulty),
+        news(rt, C, 1, Status::Alive),
+    ]
+}
+
 #[test]
-fn stops_at_what_it_cannot_take(rt: HostRuntime) {
-    let mut low = node(&rt, rt.alloc(), SumHash, A, 7, 4096);
-    hear(&rt, &mut low, &news(&rt, B, 1, Status::Alive), 0);
-    let exhausted = Stopped {
-        taken: 1,
-        cause: StopCause::Exhausted,
-    };
-    let batch = [
-        news(&rt, B, 1, Status::Alive),
-        news(&rt, A, LIMIT, Status::Faulty),
-        news(&rt, C, 1, Status::Alive),
-    ];
-    assert!(rt; take_batch(&mut low, &batch, moment(&rt, 0)) == Err(exhausted));
-    assert!(rt; held(&low, address(&rt, C)).2.is_none());
-    let mut small = node(&rt, rt.alloc(), SumHash, A, 7, 2);
-    hear(&rt, &mut small, &news(&rt, B, 1, Status::Alive), 0);
-    let full = Stopped {
-        taken: 0,
-        cause: StopCause::Full,
-    };
-    let answer = take(&rt, &mut small, &news(&rt, C, 1, Status::Alive), 0);
-    assert!(rt; answer == Err(full));
-    hear(&rt, &mut small, &news(&rt, B, 2, Status::Suspect), 0);
+fn stops_where_incarnations_run_out(rt: HostRuntime) {
+    let mut node = node(&rt, rt.alloc(), SumHash, A, 7, 4096);
+    hear(&rt, &mut node, &news(&rt, B, 1, Status::Alive), 0);
+    let answer = take_batch(&mut node, &exhausting(&rt), moment(&rt, 0));
+    assert!(rt; stopped(answer, 1, StopCause::Exhausted));
+    assert!(rt; held(&node, address(&rt, C)).2.is_none());
+}
+
+#[test]
+fn stops_where_it_is_full(rt: HostRuntime) {
+    let mut node = node(&rt, rt.alloc(), SumHash, A, 7, 2);
+    hear(&rt, &mut node, &news(&rt, B, 1, Status::Alive), 0);
+    let answer = take(&rt, &mut node, &news(&rt, C, 1, Status::Alive), 0);
+    assert!(rt; stopped(answer, 0, StopCause::Full));
+    hear(&rt, &mut node, &news(&rt, B, 2, Status::Suspect), 0);
 }
 
 #[test]

@@ -1,5 +1,6 @@
 // Searching the points for a hash, and walking on from there.
-ghost use Rattle.std.specs.Prelude.{◌≡◌, ℕ, ◌+◌, ◌-◌, ◌<◌, ◌≤◌, ◌⊎◌, [], ◌++◌, length, take, drop, slice_get, vec_capacity};
+ghost use Rattle.std.specs.Prelude.{◌≡◌, ℕ, ◌+◌, ◌-◌, ◌<◌, ◌≤◌, [], ◌++◌, length, take, drop, not, ltb, slice_get, IfSome, vec_capacity};
+ghost use Rattle.std.specs.List.{position};
 ghost use Rattle.change_core.specs.Ascending.{In, IsAscending};
 ghost use Rattle.hash_ring.specs.Points.{point_cmp};
 ghost use Rattle.hash_ring.specs.Steps.{IsBelow, IsFrom, firsts};
@@ -9,6 +10,9 @@ use crate::points::Point;
 use crate::starts::Starts;
 use change_core::Address;
 
+// How many points a search looks at one by one before it halves all of them.
+const REACH: usize = 48;
+
 /// The place of the first point at or after a hash.
 pub(crate) fn first_at(points: &[Point], starts: &Starts, hash: u64) -> usize
     requires { IsAscending point_cmp points.now }
@@ -16,47 +20,34 @@ pub(crate) fn first_at(points: &[Point], starts: &Starts, hash: u64) -> usize
     ensures low { IsBelow hash (take result points.now) }
     ensures high { IsFrom hash (drop result points.now) }
 {
-    let (low, high) = bounds(points, starts.guess(points, hash), hash);
-    low + points[low..high].partition_point(|point| point.hash < hash)
-}
-
-// Two places with the first point at or after a hash between them: the guess and the place before it, where they
-// hold, and else the ends.
-fn bounds(points: &[Point], guess: usize, hash: u64) -> (usize, usize)
-    requires { IsAscending point_cmp points.now }
-    ensures order { (result.0 ≤ result.1) × (result.1 ≤ length points.now) }
-    ensures low { IsBelow hash (take result.0 points.now) }
-    ensures high { IsFrom hash (drop result.1 points.now) }
-{
-    let low = lower_bound(points, hash, guess.saturating_sub(1));
-    let high = upper_bound(points, hash, guess);
-    (low, high)
-}
-
-// A place up to which all points are below a hash: the one asked about, or 0.
-fn lower_bound(points: &[Point], hash: u64, place: usize) -> usize
-    requires { IsAscending point_cmp points.now }
-    ensures place { result ≤ place }
-    ensures bound { result ≤ length points.now }
-    ensures low { IsBelow hash (take result points.now) }
-{
-    match points.get(place) {
-        Some(point) if point.hash < hash => place,
-        _ => 0,
+    match near(points, starts.before(hash), hash) {
+        Some(place) => place,
+        None => points.partition_point(|point| point.hash < hash),
     }
 }
 
-// A place from which on all points are at or above a hash: the one asked about, or the end.
-fn upper_bound(points: &[Point], hash: u64, place: usize) -> usize
+// The place of the first point at or after a hash, if it is one of the next after a place. A walk whose first point
+// is not below the hash knows nothing of the points before it, so it has found none, unless it began at 0.
+fn near(points: &[Point], place: usize, hash: u64) -> Option<usize>
     requires { IsAscending point_cmp points.now }
-    ensures order { (result ≡ place) ⊎ (result ≡ length points.now) }
-    ensures bound { result ≤ length points.now }
-    ensures high { IsFrom hash (drop result points.now) }
+    ensures bound { IfSome result (λ found. found ≤ length points.now) }
+    ensures low { IfSome result (λ found. IsBelow hash (take found points.now)) }
+    ensures high { IfSome result (λ found. IsFrom hash (drop found points.now)) }
 {
-    match points.get(place) {
-        Some(point) if point.hash >= hash => place,
-        _ => points.len(),
+    let end = place.saturating_add(REACH).min(points.len());
+    let next = points.get(place..end)?;
+    let steps = steps_up(next, hash)?;
+    if steps == 0 && place > 0 {
+        return None;
     }
+    Some(place + steps)
+}
+
+// How many points stand before the first at or after a hash, if there is one.
+fn steps_up(points: &[Point], hash: u64) -> Option<usize>
+    ensures { result ≡ position (λ (p : Point). not (ltb p.hash hash)) points.now }
+{
+    points.iter().position(|point| point.hash >= hash)
 }
 
 /// The server of the point at a place, going round.

@@ -5,9 +5,6 @@ use std::alloc::{AllocError, Global};
 // For how many places of the points' list there is one start.
 const SPREAD: usize = 16;
 
-// How far a search goes on from a start, point by point.
-const REACH: usize = 48;
-
 /// How many points stand before each of as many equal parts of the hashes as the list is long.
 #[derive(Drop)]
 pub(crate) struct Starts {
@@ -80,15 +77,11 @@ impl Starts {
         }
     }
 
-    /// About where the first point at or after a hash stands: a few points from the start of the hash's part.
-    pub(crate) fn guess(&self, points: &[Point], hash: u64) -> usize {
+    /// The place before the first point of a hash's part, or 0.
+    pub(crate) fn before(&self, hash: u64) -> usize {
         let part = share(hash, self.counts.len());
         let start = self.counts.get(part).map_or(0, |count| *count as usize);
-        let Some(rest) = points.get(start..) else {
-            return start;
-        };
-        let steps = rest.iter().take(REACH).position(|point| point.hash >= hash);
-        start.saturating_add(steps.unwrap_or(REACH))
+        start.saturating_sub(1)
     }
 }
 

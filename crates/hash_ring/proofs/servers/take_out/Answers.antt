@@ -1,6 +1,5 @@
 use Rattle.std.proofs.Common.{not, rules, ap, sym, ◌∙◌}
 use Rattle.std.proofs.lemmas.Fn.{filter_same}
-use Rattle.hash_ring.specs.declared.points.Point.{Point}
 use Rattle.hash_ring.specs.declared.servers.Server.{Server}
 use Rattle.std.specs.Option.{is_some}
 use Rattle.hash_ring.specs.Servers.{is_same, weight_of}

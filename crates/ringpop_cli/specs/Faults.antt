@@ -10,7 +10,7 @@ use Rattle.ringpop_cli.specs.declared.faults.LineFault.{LineFault}
 use Rattle.ringpop_cli.specs.declared.faults.LineFault.TheVariants.{Wire, ReadFailed, OutOfMemory}
 use Rattle.ringpop_cli.specs.declared.faults.RunFault.TheVariants.{NoMemory}
 use Rattle.ringpop_cli.specs.declared.faults.Fault.{Fault}
-use Rattle.ringpop_cli.specs.declared.faults.Fault.TheVariants.{Usage, Run}
+use Rattle.ringpop_cli.specs.declared.faults.Fault.TheVariants.{Usage, Run, Sim}
 
 -- a failed read and a want of memory are no faults of the line's bytes
 abbrev pub fault_of_wire : WireError → LineFault
@@ -30,8 +30,10 @@ fault_of_words e = fault_of_kind (kind_of e) e
 abbrev pub IsWordsFault : Fault → Type 0
 IsWordsFault (Usage e) = Unit {0}
 IsWordsFault (Run f) = f ≡ NoMemory
+IsWordsFault (Sim f) = ⊥
 
 -- refused words end with 2, and all else with 1
 abbrev pub status_of : Fault → ℕ
 status_of (Usage e) = 2
 status_of (Run f) = 1
+status_of (Sim f) = 1

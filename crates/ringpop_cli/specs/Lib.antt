@@ -5,3 +5,7 @@ pub mod Runs
 pub mod Fold
 pub mod Hash
 pub mod Owner
+pub mod ScriptLines
+pub mod ScriptAnswers
+pub mod Script
+pub mod ScriptRuns

@@ -46,21 +46,36 @@ fn hash_command<'a>(alloc: Global) -> Result<Command<'a>, AllocError> {
         .arg(word(alloc, TEXT))
 }
 
-fn owner_command<'a>(alloc: Global) -> Result<Command<'a>, AllocError> {
-    let count = option(alloc, COUNT, "1", 0, MOST_MEMBERS as u64).help("How many owners to name");
-    let replicas = option(alloc, REPLICAS, "100", 1, u64::from(MOST_REPLICAS)).help(
+/// How many points a server has for each of its weight.
+fn replicas_option<'a>(alloc: Global) -> Arg<'a> {
+    option(alloc, REPLICAS, "100", 1, u64::from(MOST_REPLICAS)).help(
         "Points of a server for each of its weight",
-    );
-    let sum = Arg::new(alloc, SUM)
+    )
+}
+
+/// Whether the hash is the sum of the bytes.
+fn sum_flag<'a>(alloc: Global) -> Arg<'a> {
+    Arg::new(alloc, SUM)
         .long(SUM)
         .action(ArgAction::SetTrue)
-        .help("Hash by the sum of the bytes");
+        .help("Hash by the sum of the bytes")
+}
+
+fn owner_command<'a>(alloc: Global) -> Result<Command<'a>, AllocError> {
+    let count = option(alloc, COUNT, "1", 0, MOST_MEMBERS as u64).help("How many owners to name");
     Command::new(alloc, "owner")
         .about("Reads change lines; prints the owners of a key among their members")
         .arg(count)?
-        .arg(replicas)?
-        .arg(sum)?
+        .arg(replicas_option(alloc))?
+        .arg(sum_flag(alloc))?
         .arg(word(alloc, KEY))
+}
+
+fn sim_command<'a>(alloc: Global) -> Result<Command<'a>, AllocError> {
+    Command::new(alloc, "sim")
+        .about("Reads a script of nodes, a command a line; answers each with a line")
+        .arg(replicas_option(alloc))?
+        .arg(sum_flag(alloc))
 }
 
 /// The subcommands and their words.
@@ -71,5 +86,6 @@ pub fn ringpop_command<'a>(alloc: Global) -> Result<Command<'a>, AllocError> {
         )
         .subcommand(fold_command(alloc))?
         .subcommand(hash_command(alloc)?)?
-        .subcommand(owner_command(alloc)?)
+        .subcommand(owner_command(alloc)?)?
+        .subcommand(sim_command(alloc)?)
 }

@@ -1,8 +1,9 @@
 //! Why a run ends before its end.
 ghost use Rattle.std.specs.Prelude.{◌≡◌};
-ghost use Rattle.ringpop_cli.specs.declared.faults.Fault.TheVariants.{Run};
+ghost use Rattle.ringpop_cli.specs.declared.faults.Fault.TheVariants.{Run, Sim};
 ghost use Rattle.ringpop_cli.specs.declared.faults.RunFault.TheVariants.{NoMemory};
 
+use crate::scripts::SimFault;
 use clap::error::ErrorKind;
 use std::alloc::{AllocError, AllocFailed};
 use std::fmt;
@@ -69,6 +70,8 @@ pub enum Fault {
     Usage(clap::Error),
     /// The run ended early.
     Run(RunFault),
+    /// The script ended early.
+    Sim(SimFault),
 }
 
 impl Fault {
@@ -80,7 +83,7 @@ impl Fault {
     {
         match self {
             Fault::Usage(_) => 2,
-            Fault::Run(_) => 1,
+            Fault::Run(_) | Fault::Sim(_) => 1,
         }
     }
 }
@@ -90,6 +93,7 @@ impl fmt::Display for Fault {
         match self {
             Fault::Usage(error) => write!(f, "{error}"),
             Fault::Run(fault) => writeln!(f, "ringpop: {fault}"),
+            Fault::Sim(fault) => writeln!(f, "ringpop: {fault}"),
         }
     }
 }
@@ -99,6 +103,14 @@ impl From<RunFault> for Fault {
 
     fn from(fault: RunFault) -> Fault {
         Fault::Run(fault)
+    }
+}
+
+impl From<SimFault> for Fault {
+    ghost from_gives = { λ e f. f ≡ Sim e };
+
+    fn from(fault: SimFault) -> Fault {
+        Fault::Sim(fault)
     }
 }
 

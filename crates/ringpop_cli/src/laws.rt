@@ -5,8 +5,10 @@ ghost use Rattle.change_core.specs.Numbers.{greatest_number};
 ghost use Rattle.ringpop_cli.specs.Input.{lines_of};
 ghost use Rattle.ringpop_cli.specs.Changes.{HaveSameLines, IsFirstFault, IsOutside, IsRefused};
 ghost use Rattle.ringpop_cli.specs.Runs.{RunsTo};
+ghost use Rattle.ringpop_cli.specs.ScriptLines.{IsCommand, IsSameCommand};
 ghost use Rattle.ringpop_cli.specs.declared.faults.LineFault.{LineFault};
 ghost use Rattle.ringpop_cli.specs.declared.faults.RunFault.{RunFault};
+ghost use Rattle.ringpop_cli.specs.declared.scripts.lines.Command.{Command};
 
 /// An input has one output at most. One that has an output is refused for no fault of its own, and one that is so
 /// refused has one such fault, at one line. The order of the lines and how often each stands make no difference.
@@ -22,4 +24,9 @@ pub fn one_run()
     ensures any_order { (text : List Change → List ℕ) (input other output : List ℕ)
         → RunsTo text input output → HaveSameLines (lines_of input) (lines_of other)
         → length (lines_of other) ≤ greatest_number → RunsTo text other output }
+{}
+
+/// A line of a script is one command at most.
+pub fn one_command()
+    ensures { (c d : Command) (line : List ℕ) → IsCommand c line → IsCommand d line → IsSameCommand c d }
 {}

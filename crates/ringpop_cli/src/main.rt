@@ -9,6 +9,7 @@ mod laws;
 mod members;
 mod outputs;
 mod owners;
+mod scripts;
 #[cfg(test)]
 mod tests;
 mod words;
@@ -38,26 +39,26 @@ fn given_words(rt: &(impl Env + Alloc<A = Global>)) -> Result<Vec<String>, Fault
 }
 
 /// Runs what the words ask for over standard input and standard output.
-fn run_words(rt: &(impl Input + Print), alloc: Global, words: &Words<'_>) -> Result<(), RunFault> {
+fn run_words(rt: &(impl Input + Print), alloc: Global, words: &Words<'_>) -> Result<(), Fault> {
     let mut writer = BufWriter::new(alloc, io::writer(rt)).map_err(|_| RunFault::NoMemory)?;
-    match words {
-        Words::Fold => {
-            let mut reader = BufReader::new(alloc, rt.reader()).map_err(|_| RunFault::NoMemory)?;
-            fold::fold_run(alloc, &mut reader, &mut writer)
-        }
-        Words::Hash(text) => hashes::hash_run(alloc, text, &mut writer),
-        Words::Owner(words) => {
-            let mut reader = BufReader::new(alloc, rt.reader()).map_err(|_| RunFault::NoMemory)?;
-            owners::owner_run(alloc, words, &mut reader, &mut writer)
-        }
+    if let Words::Hash(text) = words {
+        return Ok(hashes::hash_run(alloc, text, &mut writer)?);
     }
+    let mut reader = BufReader::new(alloc, rt.reader()).map_err(|_| RunFault::NoMemory)?;
+    match words {
+        Words::Fold => fold::fold_run(alloc, &mut reader, &mut writer)?,
+        Words::Hash(_) => {}
+        Words::Owner(words) => owners::owner_run(alloc, words, &mut reader, &mut writer)?,
+        Words::Sim(words) => scripts::sim_run(alloc, words, &mut reader, &mut writer)?,
+    }
+    Ok(())
 }
 
 /// Reads the words and does what they ask for.
 fn run(rt: &(impl Input + Print + Env + Alloc<A = Global>)) -> Result<(), Fault> {
     let given = given_words(rt)?;
     let words = words::read_words(rt.alloc(), given.as_slice())?;
-    Ok(run_words(rt, rt.alloc(), &words)?)
+    run_words(rt, rt.alloc(), &words)
 }
 
 fn main(rt: HostRuntime) -> ExitCode {

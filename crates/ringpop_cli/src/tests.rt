@@ -6,14 +6,15 @@ use crate::faults::{Fault, LineFault, RunFault};
 use crate::fold::fold_run;
 use crate::hashes::{hash_run, hash_text};
 use crate::owners::owner_run;
-use crate::words::{OwnerWords, Words, read_words, words_not_text};
-use fakes::{Lines, Long, Many, Page, Place};
+use crate::words::{OwnerWords, SimWords, Words, read_words, words_not_text};
+use fakes::{Form, Lines, Long, Many, Page, Place};
 use std::alloc::Global;
 use std::io::{Read, Write};
 use std::process::Abort;
 use std::test::Fail;
 
 mod fakes;
+mod scripts;
 
 const ALIVE: &str =
     r#"{"address":"10.0.0.2:1","incarnationNumber":5,"source":"10.0.0.2:1","sourceIncarnationNumber":5,"status":"alive"}"#;
@@ -246,7 +247,7 @@ fn refuses_too_many_and_too_long(rt: HostRuntime) {
     refuses(
         &rt,
         rt.alloc(),
-        Many::new(4097),
+        Many::new(Form::Change, 4097),
         "ringpop: line 4097: too many members\n",
     );
     refuses(
@@ -267,7 +268,7 @@ fn refuses_too_many_and_too_long(rt: HostRuntime) {
 #[test]
 fn holds_as_many_as_may_be(rt: HostRuntime) {
     let mut page = Page::new(ALL);
-    let ended = fold(&rt, rt.alloc(), Many::new(4096), &mut page);
+    let ended = fold(&rt, rt.alloc(), Many::new(Form::Change, 4096), &mut page);
     assert_eq!(rt; ended, Err(RunFault::CannotWrite));
     assert!(rt;
         page.text()
@@ -421,7 +422,13 @@ fn names_no_owner_after_a_fault(rt: HostRuntime) {
     is_refused(&rt, ended, &mut page, "ringpop: line 2: not an object\n");
 
     let mut page = Page::new(ALL);
-    let ended = name_owners(&rt, alloc, &ONE_OWNER, Many::new(4097), &mut page);
+    let ended = name_owners(
+        &rt,
+        alloc,
+        &ONE_OWNER,
+        Many::new(Form::Change, 4097),
+        &mut page,
+    );
     is_refused(
         &rt,
         ended,
@@ -511,9 +518,21 @@ fn of_key(count: usize, replicas: u32, sum: bool, key: &str) -> Words<'_>
     })
 }
 
+/// The words of `sim` with so many points of a server.
+fn of_script(replicas: u32, sum: bool) -> Words<'static>
+    requires { IsReplicas replicas }
+{
+    Words::Sim(SimWords { replicas, sum })
+}
+
 #[test]
 fn reads_the_words(rt: HostRuntime) {
-    let cases: [(&[&str], Words<'_>); 9] = [
+    let cases: [(&[&str], Words<'_>); 11] = [
+        (&["ringpop", "sim"], of_script(100, false)),
+        (
+            &["ringpop", "sim", "--sum", "--replicas", "2"],
+            of_script(2, true),
+        ),
         (&[], Words::Fold),
         (&["ringpop"], Words::Fold),
         (&["ringpop", "fold"], Words::Fold),
@@ -552,8 +571,8 @@ fn reads_the_words(rt: HostRuntime) {
 const REFUSED_WORDS: [(&[&str], &str); 10] = [
     (&["ringpop", ""], "error: unrecognized subcommand ''\n"),
     (
-        &["ringpop", "sim"],
-        "error: unrecognized subcommand 'sim'\n",
+        &["ringpop", "serve"],
+        "error: unrecognized subcommand 'serve'\n",
     ),
     (
         &["ringpop", "--help"],

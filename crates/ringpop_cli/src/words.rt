@@ -23,6 +23,8 @@ pub enum Words<'a> {
     Hash(&'a str),
     /// The owners of a key.
     Owner(OwnerWords<'a>),
+    /// The answers to a script.
+    Sim(SimWords),
 }
 
 /// The words of `owner`.
@@ -40,6 +42,16 @@ pub struct OwnerWords<'a> {
     pub ghost replicas_range: { IsReplicas replicas },
 }
 
+/// The words of `sim`.
+#[derive(Clone, Copy, Debug, PartialEq, Eq)]
+pub struct SimWords {
+    /// How many points a server has for each of its weight, 1 to 1,000.
+    pub replicas: u32,
+    /// Whether the hash is the sum of the bytes, in place of SHA-256's first eight.
+    pub sum: bool,
+    pub ghost replicas_range: { IsReplicas replicas },
+}
+
 /// A number, if it is there and in this range.
 fn number(matches: &ArgMatches<'_>, id: &str, least: u64, most: u64) -> Option<u64>
     ensures { IfSome result (λ n. (least ≤ n) × (n ≤ most)) }
@@ -48,16 +60,33 @@ fn number(matches: &ArgMatches<'_>, id: &str, least: u64, most: u64) -> Option<u
     (least <= given && given <= most).then_some(given)
 }
 
+/// How many points a server has for each of its weight, if that is there and in its range.
+fn replicas(matches: &ArgMatches<'_>) -> Option<u32>
+    ensures { IfSome result IsReplicas }
+{
+    let replicas = number(matches, REPLICAS, 1, u64::from(MOST_REPLICAS))?;
+    Some(replicas as u32)
+}
+
 /// The words of `owner`, if the key is there and each number is in its range.
 fn owner_words<'a>(matches: &ArgMatches<'a>) -> Option<OwnerWords<'a>> {
     let count = number(matches, COUNT, 0, MOST_MEMBERS as u64)?;
-    let replicas = number(matches, REPLICAS, 1, u64::from(MOST_REPLICAS))?;
+    let replicas = replicas(matches)?;
     let key = matches.get_str(KEY)?;
     Some(OwnerWords {
         count: count as usize,
-        replicas: replicas as u32,
+        replicas,
         sum: matches.get_flag(SUM),
         key,
+    })
+}
+
+/// The words of `sim`, if the number is in its range.
+fn sim_words(matches: &ArgMatches<'_>) -> Option<SimWords> {
+    let replicas = replicas(matches)?;
+    Some(SimWords {
+        replicas,
+        sum: matches.get_flag(SUM),
     })
 }
 
@@ -65,8 +94,18 @@ fn owner_words<'a>(matches: &ArgMatches<'a>) -> Option<OwnerWords<'a>> {
 fn words_of<'a>(matches: &ArgMatches<'a>) -> Option<Words<'a>> {
     match matches.subcommand() {
         None | Some(("fold", _)) => Some(Words::Fold),
-        Some(("hash", inner)) => inner.get_str(TEXT).map(Words::Hash),
-        Some(("owner", inner)) => owner_words(inner).map(Words::Owner),
+        Some(("hash", inner)) => {
+            let text = inner.get_str(TEXT)?;
+            Some(Words::Hash(text))
+        }
+        Some(("owner", inner)) => {
+            let words = owner_words(inner)?;
+            Some(Words::Owner(words))
+        }
+        Some(("sim", inner)) => {
+            let words = sim_words(inner)?;
+            Some(Words::Sim(words))
+        }
         Some(_) => None,
     }
 }

@@ -21,6 +21,7 @@ pub struct Page {
     len: usize,
     room: usize,
     can_flush: bool,
+    keeps_all: bool,
 }
 
 impl Page {
@@ -30,6 +31,7 @@ impl Page {
             len: 0,
             room,
             can_flush: true,
+            keeps_all: true,
         }
     }
 
@@ -37,6 +39,13 @@ impl Page {
     pub fn without_flush() -> Page {
         let mut page = Page::new(PAGE);
         page.can_flush = false;
+        page
+    }
+
+    /// A page that keeps its last line alone.
+    pub fn of_last_line() -> Page {
+        let mut page = Page::new(PAGE);
+        page.keeps_all = false;
         page
     }
 
@@ -54,6 +63,9 @@ impl Write for Page {
         let Some(&byte) = buf.first() else {
             return Ok(0);
         };
+        if !self.keeps_all && self.as_slice().ends_with(b"\n") {
+            self.len = 0;
+        }
         match self.bytes.get_mut(self.len) {
             Some(place) if self.len < self.room => {
                 *place = byte;
@@ -132,9 +144,21 @@ impl<'a> Read for Lines<'a> {
     }
 }
 
-/// So many lines about distinct addresses.
+/// What each of many lines says.
+#[derive(Clone, Copy)]
+pub enum Form {
+    /// A change, each of another address.
+    Change,
+    /// That a node is made, each of another address.
+    Node,
+    /// That a node pings another; the first line makes the node.
+    Ping,
+}
+
+/// So many lines of one form.
 #[derive(Clone, Copy)]
 pub struct Many {
+    form: Form,
     count: u32,
     left: u32,
     line: Page,
@@ -142,8 +166,9 @@ pub struct Many {
 }
 
 impl Many {
-    pub fn new(count: u32) -> Many {
+    pub fn new(form: Form, count: u32) -> Many {
         Many {
+            form,
             count,
             left: count,
             line: Page::new(PAGE),
@@ -156,10 +181,15 @@ impl Many {
         self.place = 0;
         self.line = Page::new(PAGE);
         let (high, low) = (self.left / 256, self.left % 256);
-        writeln!(
-            self.line,
-            "{{\"address\":\"10.0.{high}.{low}:1\",\"incarnationNumber\":1,\"source\":\"10.0.0.1:1\",\"sourceIncarnationNumber\":1,\"status\":\"alive\"}}"
-        )
+        match self.form {
+            Form::Change => writeln!(
+                self.line,
+                "{{\"address\":\"10.0.{high}.{low}:1\",\"incarnationNumber\":1,\"source\":\"10.0.0.1:1\",\"sourceIncarnationNumber\":1,\"status\":\"alive\"}}"
+            ),
+            Form::Node => writeln!(self.line, "node 10.0.{high}.{low}:1 1"),
+            Form::Ping if self.begun() == 1 => writeln!(self.line, "node 10.0.0.1:1 1"),
+            Form::Ping => writeln!(self.line, "send 10.0.0.1:1 10.0.0.2:1"),
+        }
     }
 }
 

@@ -1,0 +1,16 @@
+use Rattle.std.proofs.Common.{refl, string_bytes}
+use Rattle.ringpop_cli.proofs.ScriptTurns.{turn_done, turn_unwritten}
+use Rattle.ringpop_cli.proofs.scripts.runs.turn.Goals as goal
+
+pub returns-in-Ok-write_text-clause-turn : goal.returns-in-Ok-write_text-clause-turn
+returns-in-Ok-write_text-clause-turn g c =
+    turn_done g.H.PointHash.hash_of c.args.world.now c.answer_line.new.world (g.R.Read.remaining c.args.reader.now) (g.R.Read.remaining c.next_line.new.reader)
+    (g.W.Write.contents c.args.writer.now) (g.W.Write.contents c.write_text.new.writer) c.args.number c.in-Ok-Some.line (string_bytes c.in-Ok.text)
+    (rw c.in-Ok-Some.field-0-is at c.in-Ok-Some.ensures.read) (rw c.as_slice.ensures.value at c.in-Ok.ensures.answer) (rw c.as_str.ensures.value at c.in-Ok-write_text.ensures.ok)
+
+pub returns-clause-turn : goal.returns-clause-turn
+returns-clause-turn g c =
+    turn_unwritten g.H.PointHash.hash_of c.args.world.now c.answer_line.new.world (g.R.Read.remaining c.args.reader.now) (g.R.Read.remaining c.next_line.new.reader)
+    (g.W.Write.contents c.args.writer.now) (g.W.Write.contents c.write_text.new.writer) c.args.number c.in-Ok-Some.line (string_bytes c.in-Ok.text)
+    (rw c.in-Ok-Some.field-0-is at c.in-Ok-Some.ensures.read) (rw c.as_slice.ensures.value at c.in-Ok.ensures.answer)
+    (rw (c.in-Err-write_text.ensures.refusal, c.as_str.ensures.value) at c.in-Err-write_text.ensures.left) ((rw c.in-Ok-Some.field-0-is at c.in-Ok-Some.ensures.counted) refl)

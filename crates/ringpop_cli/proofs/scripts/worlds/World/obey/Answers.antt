@@ -1,0 +1,4 @@
+use Rattle.ringpop_cli.proofs.scripts.worlds.World.obey.Goals as goal
+
+pub returns-in-Ask-clause-answer : goal.returns-in-Ask-clause-answer
+returns-in-Ask-clause-answer g c = rw c.in-Ask.is c.ask.ensures.answer

@@ -1,0 +1,20 @@
+use Rattle.std.proofs.Common.{◌<◌, ◌≤◌, ap, arith}
+use Rattle.ringpop_cli.proofs.ScriptWorlds.{held_not_below, restarted, script_of}
+use Rattle.ringpop_cli.specs.Script.{nodes_in, with_node}
+use Rattle.ringpop_cli.proofs.scripts.worlds.World.restart.Goals as goal
+
+pub returns-then-number-clause-fault : goal.returns-then-number-clause-fault
+returns-then-number-clause-fault g c =
+    let below : c.args.birth.now.incarnation ≤ c.incarnation_at-held.result = omega (arith, c.if-number.true, c.number.ensures.value, c.number-2.ensures.value) in
+    rw (← c.self.view_is) (held_not_below c.self.inside.nodes.items c.args.birth.now.address c.in-Some.place c.incarnation_at-held.result c.args.birth.now.incarnation
+    (rw c.as_slice.ensures.value at c.in-Some.ensures.place) (rw c.as_slice-2.ensures.value at c.incarnation_at-held.ensures) below)
+
+pub returns-clause-answer : goal.returns-clause-answer
+returns-clause-answer g c =
+    let above : c.incarnation_at-held.result < c.args.birth.now.incarnation = omega (arith, c.if-number.false, c.number.ensures.value, c.number-2.ensures.value) in
+    rw (← c.self.view_is) (
+      with_node (nodes_in c.self.inside.nodes.items) c.args.birth.now.address c.in_ok-node.node.node,
+      restarted c.self.inside.nodes.items c.args.birth.now.address c.in-Some.place c.incarnation_at-held.result c.args.birth.now.incarnation c.in_ok-node.node.node _
+          (rw c.as_slice.ensures.value at c.in-Some.ensures.place) (rw c.as_slice-2.ensures.value at c.incarnation_at-held.ensures) above c.in_ok-node.ensures.born,
+      ap (λ ns. script_of c.self.inside.hash c.self.inside.replicas c.self.inside.moment ns c.self.inside.messages.items) c.put_at.ensures,
+    )

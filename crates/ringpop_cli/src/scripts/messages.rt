@@ -1,0 +1,11 @@
+//! The messages that a script keeps.
+
+use change_core::Address;
+use wire_json::Message;
+
+/// A message, and whom it is for.
+#[derive(Debug, Drop)]
+pub struct Sent {
+    pub to: Address,
+    pub message: Message,
+}

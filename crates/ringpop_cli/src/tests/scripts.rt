@@ -1,0 +1,333 @@
+use crate::faults::Fault;
+use crate::scripts::{ScriptFault, SimFault, sim_run};
+use crate::tests::fakes::{Form, Lines, Long, Many, Page};
+use crate::words::SimWords;
+use std::alloc::Global;
+use std::io::{Read, Write};
+use std::process::Abort;
+
+/// No end of bytes, or of room.
+const ALL: usize = usize::MAX;
+
+/// The words of `sim` for small rings that hash by the sum of bytes.
+const SMALL: SimWords = SimWords {
+    replicas: 2,
+    sum: true,
+};
+
+const SUSPICION: [&str; 11] = [
+    "node 10.0.0.1:1 7",
+    "node 10.0.0.2:1 1",
+    "take 10.0.0.1:1 10.0.0.2:1 1 alive",
+    "take 10.0.0.1:1 10.0.0.1:1 7 suspect",
+    "members 10.0.0.1:1",
+    "owners 10.0.0.1:1 2 zzzz1",
+    "take 10.0.0.1:1 10.0.0.2:1 1 suspect",
+    "at 5000",
+    "expire 10.0.0.1:1",
+    "owners 10.0.0.1:1 2 zzzz1",
+    "expire 10.0.0.1:1",
+];
+
+const SUSPICION_ANSWERED: &str =
+    "ok\nok\ntaken 1 0\ntaken 1 1\n10.0.0.1:1alive8;10.0.0.2:1alive1\n10.0.0.2:1 10.0.0.1:1\ntaken 1 0\nok\n10.0.0.2:1faulty1\n10.0.0.1:1\nnone\n";
+
+const LOSSES: [&str; 14] = [
+    "node 10.0.0.1:1 7",
+    "node 10.0.0.2:1 1",
+    "take 10.0.0.1:1 10.0.0.2:1 1 alive",
+    "take 10.0.0.1:1 10.0.0.1:1 7 suspect",
+    "send 10.0.0.1:1 10.0.0.2:1",
+    "deliver 1",
+    "deliver 1",
+    "deliver 2",
+    "members 10.0.0.2:1",
+    "restart 10.0.0.2:1 2",
+    "members 10.0.0.2:1",
+    "deliver 1",
+    "deliver 4",
+    "members 10.0.0.1:1",
+];
+
+const LOSSES_ANSWERED: &str =
+    "ok\nok\ntaken 1 0\ntaken 1 1\nmessage 1\ntaken 1 0 message 2\ntaken 0 0 message 3\ntaken 0 0\n10.0.0.1:1alive8;10.0.0.2:1alive1\nok\n10.0.0.2:1alive2\ntaken 1 0 message 4\ntaken 1 0\n10.0.0.1:1alive8;10.0.0.2:1alive2\n";
+
+/// A node at its last incarnation, which can refute nothing.
+const EXHAUSTED: [&str; 10] = [
+    "node 10.0.0.1:1 9007199254740991",
+    "node 10.0.0.2:1 1",
+    "take 10.0.0.1:1 10.0.0.1:1 9007199254740991 suspect",
+    "take 10.0.0.2:1 10.0.0.1:1 9007199254740991 suspect",
+    "at 5000",
+    "expire 10.0.0.2:1",
+    "send 10.0.0.2:1 10.0.0.1:1",
+    "deliver 1",
+    "leave 10.0.0.1:1",
+    "rejoin 10.0.0.1:1",
+];
+
+const EXHAUSTED_ANSWERED: &str =
+    "ok\nok\nstopped 0 Exhausted\ntaken 1 0\nok\n10.0.0.1:1faulty9007199254740991\nmessage 1\nstopped 1 Exhausted\n10.0.0.1:1leave9007199254740991\nExhausted\n";
+
+/// A node made late and asked at an earlier moment, keys with spaces and without bytes, and weights.
+const OTHERS: [&str; 20] = [
+    "at 1000",
+    "node 10.0.0.1:1 7",
+    "at 0",
+    "take 10.0.0.1:1 10.0.0.2:1 1 suspect 8",
+    "at 5999",
+    "expire 10.0.0.1:1",
+    "owners 10.0.0.1:1 9 ",
+    "owners 10.0.0.1:1 1 a  b c z",
+    "at 6000",
+    "expire 10.0.0.1:1",
+    "leave 10.0.0.1:1",
+    "leave 10.0.0.1:1",
+    "owners 10.0.0.1:1 9 a",
+    "rejoin 10.0.0.1:1",
+    "rejoin 10.0.0.1:1",
+    "node 10.0.0.3:1 1 2",
+    "members 10.0.0.3:1",
+    "digest 10.0.0.3:1",
+    "send 10.0.0.1:1 10.0.0.9:1",
+    "deliver 1",
+];
+
+const OTHERS_ANSWERED: &str =
+    "ok\nok\nok\ntaken 1 0\nok\nnone\n10.0.0.1:1 10.0.0.2:1\n10.0.0.2:1\nok\n10.0.0.2:1faulty1*8\n10.0.0.1:1leave7\nAlreadyLeft\nnone\n10.0.0.1:1alive8\nNotLeft\nok\n10.0.0.3:1alive1*2\n";
+
+/// Whether a growth was refused, by the fault or by an answer.
+fn met_refusal(ended: Result<(), SimFault>, text: &str) -> bool {
+    let refused = matches!(ended, Err(SimFault::AtLine(_, ScriptFault::OutOfMemory)));
+    refused || text.find("Memory").is_some()
+}
+
+/// Runs a script. Where a growth was refused it is run again.
+fn sim<R: Read + Copy>(alloc: Global, script: R, page: &mut Page) -> Result<(), SimFault> {
+    let (mut first, mut second) = (script, script);
+    let empty = *page;
+    let ended = sim_run(alloc, &SMALL, &mut first, page);
+    if !met_refusal(ended, page.text()) {
+        return ended;
+    }
+    *page = empty;
+    sim_run(alloc, &SMALL, &mut second, page)
+}
+
+#[test]
+fn answers_scripts(rt: HostRuntime) {
+    let cases: [(&[&str], &str); 3] = [
+        (&SUSPICION, SUSPICION_ANSWERED),
+        (&LOSSES, LOSSES_ANSWERED),
+        (&EXHAUSTED, EXHAUSTED_ANSWERED),
+    ];
+    for (lines, text) in cases {
+        let mut page = Page::new(ALL);
+        let ended = sim(rt.alloc(), Lines::new(lines, ALL), &mut page);
+        assert!(rt; ended.is_ok());
+        assert_eq!(rt; page.text(), text);
+    }
+}
+
+#[test]
+fn answers_late_nodes_keys_and_weights(rt: HostRuntime) {
+    let mut page = Page::new(ALL);
+    let ended = sim(rt.alloc(), Lines::new(&OTHERS, ALL), &mut page);
+    assert!(rt; ended.is_ok());
+    assert!(rt; page.text().starts_with(OTHERS_ANSWERED));
+    assert!(rt; page.text().ends_with("\nmessage 1\nlost\n"));
+}
+
+/// That the page says this once a script ended: what is wrong, with status 1, behind what stands there.
+fn tells(rt: &impl Abort, ended: Result<(), SimFault>, page: &mut Page, text: &str) {
+    if let Err(fault) = ended {
+        let fault = Fault::from(fault);
+        assert_eq!(rt; fault.status(), 1);
+        let _ = write!(page, "{fault}");
+    }
+    assert!(rt; page.text().ends_with(text), "{text}");
+}
+
+/// That a script is refused with this text after these answers.
+fn refuses<R: Read + Copy>(rt: &impl Abort, alloc: Global, script: R, answers: &str, text: &str) {
+    let mut page = Page::new(ALL);
+    let ended = sim(alloc, script, &mut page);
+    assert_eq!(rt; page.text(), answers);
+    tells(rt, ended, &mut page, text);
+}
+
+/// That a script is refused with this text after this answer to the line before.
+fn refuses_in_the_end(rt: &impl Abort, alloc: Global, script: Many, answer: &str, text: &str) {
+    let mut page = Page::of_last_line();
+    let ended = sim(alloc, script, &mut page);
+    assert_eq!(rt; page.text(), answer);
+    tells(rt, ended, &mut page, text);
+}
+
+/// Lines of which the last is at fault, and what is said of it.
+const AT_FAULT: [(&[&str], &str, &str); 8] = [
+    (
+        &["node 10.0.0.1:1 07"],
+        "",
+        "ringpop: line 1: bad command\n",
+    ),
+    (
+        &["at 5", "leave 10.0.0.1:1"],
+        "ok\n",
+        "ringpop: line 2: unknown node\n",
+    ),
+    (
+        &["node 10.0.0.1:1 7", "node 10.0.0.1:1 8"],
+        "ok\n",
+        "ringpop: line 2: node exists\n",
+    ),
+    (&["deliver 9"], "", "ringpop: line 1: unknown message\n"),
+    (&["deliver 0"], "", "ringpop: line 1: unknown message\n"),
+    (
+        &["restart 10.0.0.1:1 7"],
+        "",
+        "ringpop: line 1: unknown node\n",
+    ),
+    (
+        &["node 10.0.0.1:1 7", "restart 10.0.0.1:1 7"],
+        "ok\n",
+        "ringpop: line 2: incarnation not greater\n",
+    ),
+    (
+        &["node 10.0.0.1:1 7", "send 10.0.0.2:1 10.0.0.1:1"],
+        "ok\n",
+        "ringpop: line 2: unknown node\n",
+    ),
+];
+
+#[test]
+fn refuses_lines_at_fault(rt: HostRuntime) {
+    for (lines, answers, text) in AT_FAULT {
+        refuses(&rt, rt.alloc(), Lines::new(lines, ALL), answers, text);
+    }
+}
+
+#[test]
+fn refuses_too_many_nodes(rt: HostRuntime) {
+    let script = Many::new(Form::Node, 65);
+    let text = "ringpop: line 65: too many nodes\n";
+    refuses_in_the_end(&rt, rt.alloc(), script, "ok\n", text);
+}
+
+#[test]
+fn refuses_too_many_messages(rt: HostRuntime) {
+    let script = Many::new(Form::Ping, 65_538);
+    let text = "ringpop: line 65538: too many messages\n";
+    refuses_in_the_end(&rt, rt.alloc(), script, "message 65536\n", text);
+}
+
+#[test]
+fn refuses_too_long_a_line(rt: HostRuntime) {
+    let cases = [
+        (1_048_577, "ringpop: line 1: line too long\n"),
+        (1_048_576, "ringpop: line 1: bad command\n"),
+    ];
+    for (left, text) in cases {
+        refuses(&rt, rt.alloc(), Long { left }, "", text);
+    }
+}
+
+#[test]
+fn tells_of_scripts_what_the_machine_refused(rt: HostRuntime) {
+    let cases = [
+        (
+            SimFault::AtLine(7, ScriptFault::OutOfMemory),
+            "ringpop: line 7: out of memory\n",
+        ),
+        (
+            SimFault::AtLine(7, ScriptFault::ReadFailed),
+            "ringpop: line 7: read failed\n",
+        ),
+        (SimFault::CannotWrite, "ringpop: cannot write\n"),
+    ];
+    for (fault, text) in cases {
+        tells(&rt, Err(fault), &mut Page::new(ALL), text);
+    }
+}
+
+/// Lines that are no commands.
+const NO_COMMANDS: [&str; 24] = [
+    "",
+    " ",
+    "node",
+    "Node 10.0.0.1:1 7",
+    " node 10.0.0.1:1 7",
+    "node  10.0.0.1:1 7",
+    "node 10.0.0.1:1",
+    "node 10.0.0.1:1 7 ",
+    "node 10.0.0.1:1 7 0",
+    "node 10.0.0.1:1 7 9",
+    "node 10.0.0.1:1 7 1 1",
+    "node 10.0.0.1 7",
+    "node 10.0.0.1:1 9007199254740992",
+    "at -1",
+    "at +1",
+    "at 1.0",
+    "take 10.0.0.1:1 10.0.0.2:1 1 Alive",
+    "take 10.0.0.1:1 10.0.0.2:1 1",
+    "leave 10.0.0.1:1 10.0.0.2:1",
+    "owners 10.0.0.1:1 1",
+    "owners 10.0.0.1:1 4097 k",
+    "send 10.0.0.1:1",
+    "deliver",
+    "deliver one",
+];
+
+#[test]
+fn refuses_what_is_no_command(rt: HostRuntime) {
+    for line in NO_COMMANDS {
+        refuses(
+            &rt,
+            rt.alloc(),
+            Lines::new(&[line], ALL),
+            "",
+            "ringpop: line 1: bad command\n",
+        );
+    }
+}
+
+/// A script, and how many bytes its answers have after each line.
+const SHORT: [&str; 3] = [
+    "node 10.0.0.1:1 7",
+    "members 10.0.0.1:1",
+    "leave 10.0.0.1:1",
+];
+
+const SHORT_ANSWERED: &str = "ok\n10.0.0.1:1alive7\n10.0.0.1:1leave7\n";
+
+#[test]
+fn answers_whole_lines_before_a_failed_read(rt: HostRuntime) {
+    let whole = SHORT_ANSWERED.as_bytes();
+    for left in 0..54 {
+        let mut page = Page::new(ALL);
+        let ended = sim(rt.alloc(), Lines::new(&SHORT, left), &mut page);
+        let (number, written) = match left {
+            0..18 => (1, 0),
+            18..37 => (2, 3),
+            37..54 => (3, 20),
+            _ => (4, 37),
+        };
+        assert_eq!(rt;
+            ended,
+            Err(SimFault::AtLine(number, ScriptFault::ReadFailed)),
+            "left {left}"
+        );
+        assert_eq!(rt; Some(page.as_slice()), whole.get(..written), "left {left}");
+    }
+}
+
+#[test]
+fn writes_what_the_writer_takes_of_answers(rt: HostRuntime) {
+    let whole = SHORT_ANSWERED.as_bytes();
+    for room in 0..whole.len() {
+        let mut page = Page::new(room);
+        let ended = sim(rt.alloc(), Lines::new(&SHORT, ALL), &mut page);
+        assert_eq!(rt; ended, Err(SimFault::CannotWrite), "room {room}");
+        assert_eq!(rt; Some(page.as_slice()), whole.get(..room), "room {room}");
+    }
+}

@@ -1,5 +1,5 @@
 -- A line is one command at most.
-use Rattle.std.proofs.Common.{◌≡◌, ℕ, Option, Some, None, List, [], ◌∷◌, ◌++◌, length, eqb, cond, refl, sym, ap, subst, ◌∙◌, get_or}
+use Rattle.std.proofs.Common.{◌≡◌, ℕ, Option, Some, None, List, ◌∷◌, ◌++◌, length, eqb, cond, refl, sym, ap, subst, ◌∙◌, get_or}
 use denote.Ref.{Bor}
 use Rattle.change_core.specs.declared.changes.Change.{Change}
 use Rattle.change_core.specs.Address.{address_text}

@@ -1,11 +1,10 @@
 -- What a command makes of a script.
-use Rattle.std.proofs.Common.{◌≡◌, ◌≢◌, ℕ, ◌+◌, ◌<◌, ◌≤◌, Bool, true, false, Option, Some, None, Result, Ok, Err, List, [], ◌∷◌, ◌++◌, length, map, get_or, refl, sym, ap, subst, ◌∙◌, arith, inl, inr}
+use Rattle.std.proofs.Common.{◌≡◌, ℕ, ◌<◌, ◌≤◌, Bool, true, false, Option, Some, None, Result, Ok, Err, List, [], ◌∷◌, ◌++◌, length, get_or, refl, sym, ap, ◌∙◌, arith, inl, inr}
 use Rattle.std.specs.Prelude.{◌⊎◌, is_some}
 use Rattle.std.specs.Option.{IfSome}
 use Rattle.std.specs.Result.{IfOk}
 use Rattle.std.proofs.lemmas.List.{map-append}
 use Rattle.wire_json.specs.declared.messages.Message.{Message}
-use Rattle.node_core.specs.declared.events.Received.{Received}
 use Rattle.node_core.specs.declared.events.Received.TheVariants as received
 use Rattle.node_core.specs.declared.events.Taken.{Taken}
 use Rattle.node_core.specs.Node.{Node, Seen, own_change}
@@ -15,7 +14,7 @@ use Rattle.ringpop_cli.specs.declared.scripts.lines.Question.{Question}
 use Rattle.ringpop_cli.specs.declared.scripts.messages.Sent.{Sent}
 use Rattle.ringpop_cli.specs.declared.scripts.faults.ScriptFault.{ScriptFault}
 use Rattle.ringpop_cli.specs.declared.scripts.faults.ScriptFault.TheVariants as fault
-use Rattle.ringpop_cli.specs.Script.{Comes, GoesOn, IsPlace, IsRefusedFor, NodeAnswers, Obeys, Pings, Receives, Script, message_of, most_messages, node_at, nodes_in, with_message, with_node}
+use Rattle.ringpop_cli.specs.Script.{Comes, GoesOn, IsPlace, IsRefusedFor, NodeAnswers, Obeys, Script, most_messages, node_at, nodes_in, with_node}
 use Rattle.ringpop_cli.proofs.ScriptPlaces.{place_node}
 
 abbrev pub script_of : {H : Type 0} → H → ℕ → ℕ → List (Node H) → List Sent → Script H

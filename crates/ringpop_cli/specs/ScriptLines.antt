@@ -1,12 +1,11 @@
 -- Which command a line of a script is.
-use Rattle.std.specs.Prelude.{◌≡◌, ◌≢◌, ℕ, ◌<◌, ◌≤◌, All, Option, Some, None, List, ◌∷◌, ◌++◌, codes}
+use Rattle.std.specs.Prelude.{◌≡◌, ℕ, ◌<◌, ◌≤◌, All, Option, Some, None, List, ◌∷◌, ◌++◌, codes}
 use Rattle.change_core.specs.declared.changes.Change.{Change}
 use Rattle.change_core.specs.Address.{IsAddress, address_text}
 use Rattle.change_core.specs.Numbers.{IsWeight, greatest_number, most_members}
 use Rattle.change_core.specs.Numeral.{number_text}
 use Rattle.change_core.specs.Status.{status_word}
 use Rattle.ringpop_cli.specs.declared.scripts.lines.Birth.{Birth}
-use Rattle.ringpop_cli.specs.declared.scripts.lines.Question.{Question}
 use Rattle.ringpop_cli.specs.declared.scripts.lines.Question.TheVariants as question
 use Rattle.ringpop_cli.specs.declared.scripts.lines.Verb.{Verb}
 use Rattle.ringpop_cli.specs.declared.scripts.lines.Verb.TheVariants as verb

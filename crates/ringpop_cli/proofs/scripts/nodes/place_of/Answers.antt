@@ -1,4 +1,4 @@
-use Rattle.std.proofs.Common.{◌≡◌, ◌≤◌, ◌<◌, length, ap, arith}
+use Rattle.std.proofs.Common.{ap}
 use Rattle.change_core.specs.declared.changes.Change.{Change}
 use Rattle.node_core.specs.Node.{own_change}
 use Rattle.ringpop_cli.proofs.ScriptPlaces.{found_place, no_place, none_yet, not_before, other_address, that_address, whole_before}

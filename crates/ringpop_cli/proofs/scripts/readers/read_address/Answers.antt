@@ -1,5 +1,4 @@
 use Rattle.std.proofs.Common.{sym, subst}
-use Rattle.change_core.specs.Address.{address_text}
 use Rattle.ringpop_cli.specs.ScriptLines.{IsVisible}
 use Rattle.ringpop_cli.proofs.ScriptWords.{visible_address}
 use Rattle.ringpop_cli.proofs.scripts.readers.read_address.Goals as goal

@@ -1,4 +1,3 @@
-use Rattle.std.proofs.Common.{◌≡◌, Some, ap, ◌∙◌}
 use Rattle.change_core.specs.Address.{address_text}
 use Rattle.ringpop_cli.proofs.ScriptWords.{visible_address}
 use Rattle.ringpop_cli.proofs.scripts.readers.Words.address.Goals as goal

@@ -1,4 +1,4 @@
-use Rattle.std.proofs.Common.{◌≤◌, ap, arith, length, rules}
+use Rattle.std.proofs.Common.{◌≤◌, ap, length, rules}
 use Rattle.std.proofs.lemmas.Result.{err_from_is_err_and}
 use Rattle.ringpop_cli.specs.Script.{most_messages, nodes_in}
 use Rattle.ringpop_cli.proofs.ScriptWorlds.{place_known, script_of, send_refused}

@@ -10,7 +10,7 @@ use Rattle.ringpop_cli.specs.declared.scripts.faults.SimFault.TheVariants.{AtLin
 use Rattle.ringpop_cli.specs.Input.{lines_of}
 use Rattle.ringpop_cli.specs.Script.{Script}
 use Rattle.ringpop_cli.specs.ScriptRuns.{AnswersAll, AnswersLine, Completes, IsCountedLine, IsLineRefused, IsRefusedAt, ReadsLine, Stops, Turns}
-use Rattle.ringpop_cli.proofs.Scripting.{answers_more, appends_more, appends_nothing, appends_part, unread_refused}
+use Rattle.ringpop_cli.proofs.Scripting.{answers_more, appends_more, appends_nothing, unread_refused}
 
 -- ---- one turn
 
@@ -103,16 +103,22 @@ stops_known hash_of start input rest before output new old written now number s 
     )
 stops_known hash_of start input rest before output new old written now number s then CannotWrite lines answers place appended h =
     let (line, text, left, next, first, answered, part, few) = h in (
-      output ++ (text ++ 10 ∷ []),
+      output,
+      text,
+      written,
       record {
-        before = before ++ line ∷ [];
+        before = before;
+        line = line;
         left = left;
-        then = next;
-        lines = lines ∙ ap (λ ls. before ++ ls) first ∙ sym (append_assoc before (line ∷ []) left);
-        answers = answers_more hash_of start s next before line output text answers answered;
-        counted = omega (arith, length-append before (line ∷ []));
+        then = s;
+        last = next;
+        lines = lines ∙ ap (λ ls. before ++ ls) first;
+        answers = answers;
+        answer = answered;
+        counted = omega arith;
       },
-      appends_part old written now output (text ++ 10 ∷ []) appended part,
+      appended,
+      part,
     )
 
 pub stops : {H : Type 0} (hash_of : H → List ℕ → ℕ) (start : Script H) (known left new old written now : Option (List ℕ)) (number : ℕ) (s then : Script H) (e : SimFault)

@@ -86,18 +86,18 @@ no_long hash_of s (command.Deliver n) h = h
 no_long hash_of s (command.Restart birth) h = h
 
 -- what is wrong with a command is wrong with its line
-pub refused_line : {H : Type 0} (hash_of : H → List ℕ → ℕ) (s : Script H) (line : List ℕ) (c : Command) (f : ScriptFault) → IsCommand c line → IsRefusedFor hash_of s c f
-    → IsLineRefused hash_of s line f
-refused_line hash_of s line c fault.ReadFailed is h = tt
-refused_line hash_of s line c fault.LineTooLong is h = absurd (no_long hash_of s c h)
-refused_line hash_of s line c fault.OutOfMemory is h = tt
-refused_line hash_of s line c fault.BadCommand is h = absurd (no_bad hash_of s c h)
-refused_line hash_of s line c fault.UnknownNode is h = (c, is, h)
-refused_line hash_of s line c fault.NodeExists is h = (c, is, h)
-refused_line hash_of s line c fault.TooManyNodes is h = (c, is, h)
-refused_line hash_of s line c fault.UnknownMessage is h = (c, is, h)
-refused_line hash_of s line c fault.TooManyMessages is h = (c, is, h)
-refused_line hash_of s line c fault.IncarnationNotGreater is h = (c, is, h)
+pub refused_line : {H : Type 0} (hash_of : H → List ℕ → ℕ) (s : Script H) (line : List ℕ) (c : Command) (f : ScriptFault) → length line ≤ max_line → IsCommand c line
+    → IsRefusedFor hash_of s c f → IsLineRefused hash_of s line f
+refused_line hash_of s line c fault.ReadFailed short is h = tt
+refused_line hash_of s line c fault.LineTooLong short is h = absurd (no_long hash_of s c h)
+refused_line hash_of s line c fault.OutOfMemory short is h = tt
+refused_line hash_of s line c fault.BadCommand short is h = absurd (no_bad hash_of s c h)
+refused_line hash_of s line c fault.UnknownNode short is h = (short, c, is, h)
+refused_line hash_of s line c fault.NodeExists short is h = (short, c, is, h)
+refused_line hash_of s line c fault.TooManyNodes short is h = (short, c, is, h)
+refused_line hash_of s line c fault.UnknownMessage short is h = (short, c, is, h)
+refused_line hash_of s line c fault.TooManyMessages short is h = (short, c, is, h)
+refused_line hash_of s line c fault.IncarnationNotGreater short is h = (short, c, is, h)
 
 pub unread_refused : {H : Type 0} (hash_of : H → List ℕ → ℕ) (s : Script H) (lines : List (List ℕ)) (f : ScriptFault) → IsUnread lines f → IsRefusedAt hash_of s lines f
 unread_refused hash_of s [] f h = h
@@ -117,13 +117,6 @@ appends_more None mid new a b p q = tt
 appends_more (Some xs) None new a b p q = absurd p
 appends_more (Some xs) (Some ys) None a b p q = absurd q
 appends_more (Some xs) (Some ys) (Some zs) a b p q = q ∙ ap (λ w. w ++ b) p ∙ append_assoc xs a b
-
-pub appends_part : (old mid new : Option (List ℕ)) (a b : List ℕ) → Appends old mid a → AppendsFront mid new b → AppendsFront old new (a ++ b)
-appends_part None mid new a b p q = tt
-appends_part (Some xs) None new a b p q = absurd p
-appends_part (Some xs) (Some ys) new a b p q =
-    let (front, rest, e, is) = q in
-    (a ++ front, rest, ap (λ w. a ++ w) e ∙ sym (append_assoc a front rest), is ∙ ap (λ w. Some (w ++ front)) p ∙ ap Some (append_assoc xs a front))
 
 -- one line more
 pub answers_more : {H : Type 0} (hash_of : H → List ℕ → ℕ) (old mid new : Script H) (lines : List (List ℕ)) (line output text : List ℕ)

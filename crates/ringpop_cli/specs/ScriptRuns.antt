@@ -21,17 +21,19 @@ use Rattle.ringpop_cli.specs.Script.{Script, IsRefusedFor, Obeys, beginning}
 use Rattle.ringpop_cli.specs.ScriptAnswers.{answer_text}
 use Rattle.ringpop_cli.specs.ScriptLines.{IsCommand}
 
--- the line is a command, which the script answers with this text
+-- the line is no longer than it may be, and a command, which the script answers with this text
 abbrev pub AnswersLine : {H : Type 0} → (H → List ℕ → ℕ) → Script H → List ℕ → List ℕ → Script H → Type 0
-AnswersLine hash_of old line text new = (c : Command) × (answer : Answer) × IsCommand c line × Obeys hash_of old c answer new × (text ≡ answer_text answer)
+AnswersLine hash_of old line text new =
+    (length line ≤ max_line) × (c : Command) × (answer : Answer) × IsCommand c line × Obeys hash_of old c answer new × (text ≡ answer_text answer)
 
--- what is wrong with a line where the script is this one; a want of memory and a failed read say nothing of its bytes
+-- what is wrong with a line where the script is this one: that it is too long, or else that it is no command, or what is wrong with the
+-- command; a want of memory and a failed read say nothing of its bytes
 abbrev pub IsLineRefused : {H : Type 0} → (H → List ℕ → ℕ) → Script H → List ℕ → ScriptFault → Type 0
 IsLineRefused hash_of s line fault.ReadFailed = Unit {0}
 IsLineRefused hash_of s line fault.LineTooLong = max_line < length line
 IsLineRefused hash_of s line fault.OutOfMemory = Unit {0}
-IsLineRefused hash_of s line fault.BadCommand = (c : Command) → IsCommand c line → ⊥
-IsLineRefused hash_of s line other = (c : Command) × IsCommand c line × IsRefusedFor hash_of s c other
+IsLineRefused hash_of s line fault.BadCommand = (length line ≤ max_line) × ((c : Command) → IsCommand c line → ⊥)
+IsLineRefused hash_of s line other = (length line ≤ max_line) × (c : Command) × IsCommand c line × IsRefusedFor hash_of s c other
 
 -- what is wrong with the first of the lines that are left; where none is left a read can fail, and nothing else
 abbrev pub IsRefusedAt : {H : Type 0} → (H → List ℕ → ℕ) → Script H → List (List ℕ) → ScriptFault → Type 0
@@ -71,24 +73,28 @@ pub record IsStoppedAt {H : Type 0} (hash_of : H → List ℕ → ℕ) (start : 
   pub is : IsRefusedAt hash_of then left f
   pub counted : IsCountedLine number f
 
--- the first lines of the input are answered by this output, and they are not too many to be counted
-pub record IsFront {H : Type 0} (hash_of : H → List ℕ → ℕ) (start : Script H) (input output : List ℕ) : Type 0 where
+-- the first lines of the input are answered by this output, and the one behind them, which can be counted, by this text
+pub record IsCutAfter {H : Type 0} (hash_of : H → List ℕ → ℕ) (start : Script H) (input output text : List ℕ) : Type 0 where
   pub before : List (List ℕ)
+  pub line : List ℕ
   pub left : List (List ℕ)
   pub then : Script H
-  pub lines : lines_of input ≡ before ++ left
+  pub last : Script H
+  pub lines : lines_of input ≡ before ++ line ∷ left
   pub answers : AnswersAll hash_of start before output then
-  pub counted : length before ≤ greatest_number
+  pub answer : AnswersLine hash_of then line text last
+  pub counted : length before < greatest_number
 
 -- what is written for an input, where it is known, and all its lines are answered
 abbrev pub Completes : {H : Type 0} → (H → List ℕ → ℕ) → Script H → Option (List ℕ) → Option (List ℕ) → Option (List ℕ) → Type 0
 Completes hash_of start known old new = IfSome known (λ input. (output : List ℕ) × IsAnswered hash_of start input output × Appends old new output)
 
--- why not all are answered, and what is written then: the answers to the lines before the first at fault, or a front of the answers where the
--- writer failed
+-- why not all are answered, and what is written then: the answers to the lines before the first at fault; or where the writer failed the answers
+-- before the one that it failed at, and a front of that one
 abbrev pub Stops : {H : Type 0} → (H → List ℕ → ℕ) → Script H → SimFault → Option (List ℕ) → Option (List ℕ) → Option (List ℕ) → Type 0
 Stops hash_of start (AtLine number f) known old new = IfSome known (λ input. (output : List ℕ) × IsStoppedAt hash_of start input number f output × Appends old new output)
-Stops hash_of start CannotWrite known old new = IfSome known (λ input. (output : List ℕ) × IsFront hash_of start input output × AppendsFront old new output)
+Stops hash_of start CannotWrite known old new =
+    IfSome known (λ input. (output text : List ℕ) × (written : Option (List ℕ)) × IsCutAfter hash_of start input output text × Appends old written output × AppendsFront written new (text ++ 10 ∷ []))
 
 -- what was read as a line: a line of the known bytes, or nothing at their end, or a fault
 abbrev pub IsUnread : List (List ℕ) → ScriptFault → Type 0

@@ -568,7 +568,7 @@ fn reads_the_words(rt: HostRuntime) {
 }
 
 /// Words, and how their refusal begins.
-const REFUSED_WORDS: [(&[&str], &str); 10] = [
+const REFUSED_WORDS: [(&[&str], &str); 13] = [
     (&["ringpop", ""], "error: unrecognized subcommand ''\n"),
     (
         &["ringpop", "serve"],
@@ -604,6 +604,18 @@ const REFUSED_WORDS: [(&[&str], &str); 10] = [
     ),
     (
         &["ringpop", "owner", "--replicas", "1001", "k"],
+        "error: invalid value '1001' for '--replicas <replicas>'",
+    ),
+    (
+        &["ringpop", "sim", "x"],
+        "error: unexpected argument 'x' found\n",
+    ),
+    (
+        &["ringpop", "sim", "--replicas", "0"],
+        "error: invalid value '0' for '--replicas <replicas>'",
+    ),
+    (
+        &["ringpop", "sim", "--replicas", "1001"],
         "error: invalid value '1001' for '--replicas <replicas>'",
     ),
 ];

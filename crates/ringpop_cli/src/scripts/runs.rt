@@ -1,7 +1,8 @@
 //! The lines of a script in, their answers out.
-ghost use Rattle.std.specs.Prelude.{◌≡◌, ◌≤◌, ◌⊎◌, true, IfOk, IfErr, IfSome, IsSome, IsOkUnless, string_bytes};
+ghost use Rattle.std.specs.Prelude.{◌≡◌, ◌≤◌, ◌⊎◌, true, length, vec_len, IfOk, IfErr, IfSome, IsSome, IsOkUnless, string_bytes};
 ghost use Rattle.change_core.specs.Numbers.{greatest_number};
 ghost use Rattle.hash_ring.specs.Points.{IsReplicas};
+ghost use Rattle.wire_json.specs.Lines.{max_line};
 ghost use Rattle.ringpop_cli.specs.Script.{beginning};
 ghost use Rattle.ringpop_cli.specs.ScriptRuns.{AnswersLine, Completes, CompletesBy, EndsScript, IsCountedLine, IsLineRefused, ReadsLine, Stops, StopsBy, Turns, fault_of_read};
 
@@ -47,6 +48,7 @@ fn next_line<R: Read>(
 ) -> Result<Option<Vec<u8>>, ScriptFault>
     ensures read { IfSome (R.remaining reader.old) (λ xs. ReadsLine xs result (R.remaining reader.new)) }
     ensures counted { IfOk result (λ line. IsSome line → number ≤ greatest_number) }
+    ensures short { IfOk result (λ line. IfSome line (λ v. vec_len v ≤ max_line)) }
     ensures own { IfErr result (λ f. IsCountedLine number f) }
 {
     let read = read_line(alloc, reader);
@@ -65,6 +67,7 @@ fn answer_line<H: PointHash>(
     world: &mut World<H>,
     line: &[u8],
 ) -> Result<String, ScriptFault>
+    requires { length line.now ≤ max_line }
     ensures answer { IfOk result (λ text. AnswersLine H.hash_of world.old line.now (string_bytes text) world.new) }
     ensures fault { IfErr result (λ f. IsLineRefused H.hash_of world.old line.now f) }
 {
@@ -129,8 +132,8 @@ fn sim_run_by<H: PointHash, R: Read, W: Write>(
 
 /// Reads the commands of a script to the end, one a line, and answers each with a line, at once.
 ///
-/// Errors: the first line at fault, once the lines before it are answered; `CannotWrite` where the writer failed, and then a
-/// front of the answers is written. Lines are counted from 1 to 9007199254740991; one more is `ReadFailed`, or
+/// Errors: the first line at fault, once the lines before it are answered; `CannotWrite` where the writer failed, and then the
+/// answers before the one that it failed at are written, and a front of that one. Lines are counted from 1 to 9007199254740991; one more is `ReadFailed`, or
 /// `OutOfMemory` where a growth is refused in reading it.
 pub fn sim_run<R: Read, W: Write>(
     alloc: Global,

@@ -20,6 +20,7 @@ pub struct Page {
     bytes: [u8; PAGE],
     len: usize,
     room: usize,
+    lines: u64,
     can_flush: bool,
     keeps_all: bool,
 }
@@ -30,6 +31,7 @@ impl Page {
             bytes: [0; PAGE],
             len: 0,
             room,
+            lines: 0,
             can_flush: true,
             keeps_all: true,
         }
@@ -47,6 +49,11 @@ impl Page {
         let mut page = Page::new(PAGE);
         page.keeps_all = false;
         page
+    }
+
+    /// How many lines were written, those that it did not keep among them.
+    pub fn lines(&self) -> u64 {
+        self.lines
     }
 
     pub fn as_slice(&self) -> &[u8] {
@@ -70,6 +77,9 @@ impl Write for Page {
             Some(place) if self.len < self.room => {
                 *place = byte;
                 self.len += 1;
+                if byte == b'\n' {
+                    self.lines = self.lines.saturating_add(1);
+                }
                 Ok(1)
             }
             _ => Err(io::Error::from(ErrorKind::WriteZero)),
@@ -151,8 +161,14 @@ pub enum Form {
     Change,
     /// That a node is made, each of another address.
     Node,
+    /// The same, but that the last has the address of the one before it.
+    Again,
     /// That a node pings another; the first line makes the node.
     Ping,
+    /// That a node pings itself; the first line makes the node, and the last delivers the first ping.
+    Delivery,
+    /// That a node takes a change, each of another address; the first line makes the node.
+    Take,
 }
 
 /// So many lines of one form.
@@ -187,8 +203,13 @@ impl Many {
                 "{{\"address\":\"10.0.{high}.{low}:1\",\"incarnationNumber\":1,\"source\":\"10.0.0.1:1\",\"sourceIncarnationNumber\":1,\"status\":\"alive\"}}"
             ),
             Form::Node => writeln!(self.line, "node 10.0.{high}.{low}:1 1"),
-            Form::Ping if self.begun() == 1 => writeln!(self.line, "node 10.0.0.1:1 1"),
+            Form::Again if self.left == 0 => writeln!(self.line, "node 10.0.0.1:1 1"),
+            Form::Again => writeln!(self.line, "node 10.0.{high}.{low}:1 1"),
+            _ if self.begun() == 1 => writeln!(self.line, "node 10.0.0.1:1 1"),
             Form::Ping => writeln!(self.line, "send 10.0.0.1:1 10.0.0.2:1"),
+            Form::Delivery if self.left == 0 => writeln!(self.line, "deliver 1"),
+            Form::Delivery => writeln!(self.line, "send 10.0.0.1:1 10.0.0.1:1"),
+            Form::Take => writeln!(self.line, "take 10.0.0.1:1 10.0.{high}.{low}:2 1 alive"),
         }
     }
 }

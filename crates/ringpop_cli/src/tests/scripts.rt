@@ -1,6 +1,6 @@
 use crate::faults::Fault;
 use crate::scripts::{ScriptFault, SimFault, sim_run};
-use crate::tests::fakes::{Form, Lines, Long, Many, Page};
+use crate::tests::fakes::{Form, Lines, Long, Many, Page, Place};
 use crate::words::SimWords;
 use std::alloc::Global;
 use std::io::{Read, Write};
@@ -70,7 +70,7 @@ const EXHAUSTED_ANSWERED: &str =
     "ok\nok\nstopped 0 Exhausted\ntaken 1 0\nok\n10.0.0.1:1faulty9007199254740991\nmessage 1\nstopped 1 Exhausted\n10.0.0.1:1leave9007199254740991\nExhausted\n";
 
 /// A node made late and asked at an earlier moment, keys with spaces and without bytes, and weights.
-const OTHERS: [&str; 20] = [
+const OTHERS: [&str; 25] = [
     "at 1000",
     "node 10.0.0.1:1 7",
     "at 0",
@@ -89,25 +89,41 @@ const OTHERS: [&str; 20] = [
     "node 10.0.0.3:1 1 2",
     "members 10.0.0.3:1",
     "digest 10.0.0.3:1",
+    "restart 10.0.0.3:1 2 3",
+    "members 10.0.0.3:1",
+    "node 10.0.0.4:1 1 1",
+    "owners 10.0.0.3:1 0 k",
+    "owners 10.0.0.3:1 4096 k",
     "send 10.0.0.1:1 10.0.0.9:1",
     "deliver 1",
 ];
 
 const OTHERS_ANSWERED: &str =
-    "ok\nok\nok\ntaken 1 0\nok\nnone\n10.0.0.1:1 10.0.0.2:1\n10.0.0.2:1\nok\n10.0.0.2:1faulty1*8\n10.0.0.1:1leave7\nAlreadyLeft\nnone\n10.0.0.1:1alive8\nNotLeft\nok\n10.0.0.3:1alive1*2\n";
+    "ok\nok\nok\ntaken 1 0\nok\nnone\n10.0.0.1:1 10.0.0.2:1\n10.0.0.2:1\nok\n10.0.0.2:1faulty1*8\n10.0.0.1:1leave7\nAlreadyLeft\nnone\n10.0.0.1:1alive8\nNotLeft\nok\n10.0.0.3:1alive1*2\n102d23bd842cbc64e2c06fd4e2afab809640e435c3010d50384240bb7d8b754a\nok\n10.0.0.3:1alive2*3\nok\nnone\n10.0.0.3:1\nmessage 1\nlost\n";
 
-/// Whether a growth was refused, by the fault or by an answer.
-fn met_refusal(ended: Result<(), SimFault>, text: &str) -> bool {
-    let refused = matches!(ended, Err(SimFault::AtLine(_, ScriptFault::OutOfMemory)));
-    refused || text.find("Memory").is_some()
+/// The line at which a growth was refused, if that ended a script.
+fn refused_at(ended: Result<(), SimFault>) -> Option<u64> {
+    match ended {
+        Err(SimFault::AtLine(number, ScriptFault::OutOfMemory)) => Some(number),
+        _ => None,
+    }
 }
 
-/// Runs a script. Where a growth was refused it is run again.
-fn sim<R: Read + Copy>(alloc: Global, script: R, page: &mut Page) -> Result<(), SimFault> {
+/// Runs a script. Where a growth was refused it was at the line that the reader had begun, with all lines before it answered, and it is
+/// run again.
+fn sim<R: Read + Place + Copy>(
+    rt: &impl Abort,
+    alloc: Global,
+    script: R,
+    page: &mut Page,
+) -> Result<(), SimFault> {
     let (mut first, mut second) = (script, script);
     let empty = *page;
     let ended = sim_run(alloc, &SMALL, &mut first, page);
-    if !met_refusal(ended, page.text()) {
+    if let Some(number) = refused_at(ended) {
+        assert_eq!(rt; number, first.begun());
+        assert_eq!(rt; page.lines().saturating_add(1), number);
+    } else if page.text().find("Memory").is_none() {
         return ended;
     }
     *page = empty;
@@ -123,7 +139,7 @@ fn answers_scripts(rt: HostRuntime) {
     ];
     for (lines, text) in cases {
         let mut page = Page::new(ALL);
-        let ended = sim(rt.alloc(), Lines::new(lines, ALL), &mut page);
+        let ended = sim(&rt, rt.alloc(), Lines::new(lines, ALL), &mut page);
         assert!(rt; ended.is_ok());
         assert_eq!(rt; page.text(), text);
     }
@@ -132,10 +148,9 @@ fn answers_scripts(rt: HostRuntime) {
 #[test]
 fn answers_late_nodes_keys_and_weights(rt: HostRuntime) {
     let mut page = Page::new(ALL);
-    let ended = sim(rt.alloc(), Lines::new(&OTHERS, ALL), &mut page);
+    let ended = sim(&rt, rt.alloc(), Lines::new(&OTHERS, ALL), &mut page);
     assert!(rt; ended.is_ok());
-    assert!(rt; page.text().starts_with(OTHERS_ANSWERED));
-    assert!(rt; page.text().ends_with("\nmessage 1\nlost\n"));
+    assert_eq!(rt; page.text(), OTHERS_ANSWERED);
 }
 
 /// That the page says this once a script ended: what is wrong, with status 1, behind what stands there.
@@ -149,23 +164,29 @@ fn tells(rt: &impl Abort, ended: Result<(), SimFault>, page: &mut Page, text: &s
 }
 
 /// That a script is refused with this text after these answers.
-fn refuses<R: Read + Copy>(rt: &impl Abort, alloc: Global, script: R, answers: &str, text: &str) {
+fn refuses<R: Read + Place + Copy>(
+    rt: &impl Abort,
+    alloc: Global,
+    script: R,
+    answers: &str,
+    text: &str,
+) {
     let mut page = Page::new(ALL);
-    let ended = sim(alloc, script, &mut page);
+    let ended = sim(rt, alloc, script, &mut page);
     assert_eq!(rt; page.text(), answers);
     tells(rt, ended, &mut page, text);
 }
 
-/// That a script is refused with this text after this answer to the line before.
+/// That a script ends with this answer, behind which a fault is told by this text.
 fn refuses_in_the_end(rt: &impl Abort, alloc: Global, script: Many, answer: &str, text: &str) {
     let mut page = Page::of_last_line();
-    let ended = sim(alloc, script, &mut page);
+    let ended = sim(rt, alloc, script, &mut page);
     assert_eq!(rt; page.text(), answer);
     tells(rt, ended, &mut page, text);
 }
 
 /// Lines of which the last is at fault, and what is said of it.
-const AT_FAULT: [(&[&str], &str, &str); 8] = [
+const AT_FAULT: [(&[&str], &str, &str); 9] = [
     (
         &["node 10.0.0.1:1 07"],
         "",
@@ -194,6 +215,15 @@ const AT_FAULT: [(&[&str], &str, &str); 8] = [
         "ringpop: line 2: incarnation not greater\n",
     ),
     (
+        &[
+            "node 10.0.0.1:1 7",
+            "take 10.0.0.1:1 10.0.0.1:1 7 suspect",
+            "restart 10.0.0.1:1 8",
+        ],
+        "ok\ntaken 1 1\n",
+        "ringpop: line 3: incarnation not greater\n",
+    ),
+    (
         &["node 10.0.0.1:1 7", "send 10.0.0.2:1 10.0.0.1:1"],
         "ok\n",
         "ringpop: line 2: unknown node\n",
@@ -209,14 +239,31 @@ fn refuses_lines_at_fault(rt: HostRuntime) {
 
 #[test]
 fn refuses_too_many_nodes(rt: HostRuntime) {
-    let script = Many::new(Form::Node, 65);
-    let text = "ringpop: line 65: too many nodes\n";
-    refuses_in_the_end(&rt, rt.alloc(), script, "ok\n", text);
+    let cases = [
+        (Form::Node, "ringpop: line 65: too many nodes\n"),
+        (Form::Again, "ringpop: line 65: node exists\n"),
+    ];
+    for (form, text) in cases {
+        refuses_in_the_end(&rt, rt.alloc(), Many::new(form, 65), "ok\n", text);
+    }
+}
+
+#[test]
+fn stops_where_a_node_is_full(rt: HostRuntime) {
+    let script = Many::new(Form::Take, 4_097);
+    refuses_in_the_end(&rt, rt.alloc(), script, "stopped 0 Full\n", "Full\n");
 }
 
 #[test]
 fn refuses_too_many_messages(rt: HostRuntime) {
     let script = Many::new(Form::Ping, 65_538);
+    let text = "ringpop: line 65538: too many messages\n";
+    refuses_in_the_end(&rt, rt.alloc(), script, "message 65536\n", text);
+}
+
+#[test]
+fn refuses_an_answer_too_many(rt: HostRuntime) {
+    let script = Many::new(Form::Delivery, 65_538);
     let text = "ringpop: line 65538: too many messages\n";
     refuses_in_the_end(&rt, rt.alloc(), script, "message 65536\n", text);
 }
@@ -251,7 +298,7 @@ fn tells_of_scripts_what_the_machine_refused(rt: HostRuntime) {
 }
 
 /// Lines that are no commands.
-const NO_COMMANDS: [&str; 24] = [
+const NO_COMMANDS: [&str; 33] = [
     "",
     " ",
     "node",
@@ -276,6 +323,15 @@ const NO_COMMANDS: [&str; 24] = [
     "send 10.0.0.1:1",
     "deliver",
     "deliver one",
+    "node 10.0.0.1:1 7 02",
+    "at 05",
+    "at 9007199254740992",
+    "deliver 9007199254740992",
+    "deliver 1 1",
+    "rejoin 10.0.0.1:1 x",
+    "expire 10.0.0.1:1 x",
+    "members 10.0.0.1:1 x",
+    "digest 10.0.0.1:1 x",
 ];
 
 #[test]
@@ -303,9 +359,9 @@ const SHORT_ANSWERED: &str = "ok\n10.0.0.1:1alive7\n10.0.0.1:1leave7\n";
 #[test]
 fn answers_whole_lines_before_a_failed_read(rt: HostRuntime) {
     let whole = SHORT_ANSWERED.as_bytes();
-    for left in 0..54 {
+    for left in 0..=54 {
         let mut page = Page::new(ALL);
-        let ended = sim(rt.alloc(), Lines::new(&SHORT, left), &mut page);
+        let ended = sim(&rt, rt.alloc(), Lines::new(&SHORT, left), &mut page);
         let (number, written) = match left {
             0..18 => (1, 0),
             18..37 => (2, 3),
@@ -326,7 +382,7 @@ fn writes_what_the_writer_takes_of_answers(rt: HostRuntime) {
     let whole = SHORT_ANSWERED.as_bytes();
     for room in 0..whole.len() {
         let mut page = Page::new(room);
-        let ended = sim(rt.alloc(), Lines::new(&SHORT, ALL), &mut page);
+        let ended = sim(&rt, rt.alloc(), Lines::new(&SHORT, ALL), &mut page);
         assert_eq!(rt; ended, Err(SimFault::CannotWrite), "room {room}");
         assert_eq!(rt; Some(page.as_slice()), whole.get(..room), "room {room}");
     }

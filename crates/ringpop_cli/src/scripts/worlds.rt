@@ -73,8 +73,9 @@ impl<H: PointHash> World<H> {
 
     /// Does what a command says, and answers.
     ///
-    /// Errors: those of `ScriptFault` that are not of reading, in the order in which they stand there; `OutOfMemory` where
-    /// a growth was refused.
+    /// Errors: of unknown node, node exists, too many nodes, unknown message, too many messages and incarnation not
+    /// greater the first that the command has; `OutOfMemory` where a growth was refused, and then the call of the node may
+    /// have been made. A script ends at either.
     pub fn obey(&mut self, command: &Command<'_>) -> Result<Answer, ScriptFault>
         ensures answer { IfOk result (λ answer. Obeys H.hash_of self.old command.now answer self.new) }
         ensures fault { IfErr result (λ f. IsRefusedFor H.hash_of self.old command.now f) }

@@ -1,5 +1,6 @@
 -- A call more keeps a history legal, and what a call and a closing show by it.
 use Rattle.std.proofs.Common.{◌≡◌, ℕ, ◌+◌, List, [], ◌∷◌, ◌++◌, refl, sym, ap, ◌∙◌, subst, arith}
+use Rattle.std.proofs.lemmas.List.{append_assoc, length-append}
 use Rattle.std.specs.List.{filter_map}
 use Rattle.turn_lock.specs.declared.kept.Turn.{Turn}
 use Rattle.turn_lock.specs.History.{turn, GrownBy, GoesOn}
@@ -14,7 +15,8 @@ use Rattle.node_core.specs.Run.{IsRun}
 use Rattle.node_core.proofs.RunLoop.{IsNodeOf-run}
 use Rattle.locked_node.specs.declared.node.LockedNode.{LockedNode}
 use Rattle.locked_node.specs.History.{CallEntry, entry_of, event_in, reply_in, History, LegalHistory, StandsFor, log_of}
-use Rattle.locked_node.specs.Passes.{NodePass, opening_of, IsCalled}
+use Rattle.locked_node.specs.Passes.{NodePass, opening_of, IsCalled, Made, MadeInTurn}
+use Rattle.locked_node.proofs.Itself.{history_itself}
 
 module _ {H : Type 0} (hash_of : H → List ℕ → ℕ) where
   pub legal_push : (opening : Node H) (history : History H) (before : Node H) (n : ℕ) (call : Call) (answer : Answer H) (after : Node H)
@@ -56,6 +58,7 @@ module _ {H : Type 0} (hash_of : H → List ℕ → ℕ) where
       let n : ℕ = lock.number_of old in
       let e : CallEntry H = entry_of call answer after in
       let opening : Node H = (opening_of locked).node in
+      let pushed : LegalHistory hash_of opening (lock.seen entered ++ turn n e ∷ []) after = legal_push opening (lock.seen entered) held.node n call answer after stands.1 step in
       let saw_own : lock.seen new ≡ lock.seen entered ++ turn n e ∷ [] = saw ∙ ap (λ (k : ℕ). lock.seen entered ++ turn k e ∷ []) same.1 in
       record {
         named = sym same.0 ∙ (sym same_2.0 ∙ outside_name locked.lock new outside);
@@ -63,10 +66,12 @@ module _ {H : Type 0} (hash_of : H → List ℕ → ℕ) where
         after = after;
         between = goes.0;
         of_others = goes.2;
+        opened = stands.0;
+        itself = history_itself hash_of opening _ after pushed;
         legal_before = subst (λ (l : History H). LegalHistory hash_of opening l held.node) goes.1 stands.1;
         step = step;
         seen_is = saw_own ∙ ap (λ (l : History H). l ++ turn n e ∷ []) goes.1;
-        legal = subst (λ (l : History H). LegalHistory hash_of opening l after) (sym saw_own) (legal_push opening (lock.seen entered) held.node n call answer after stands.1 step);
+        legal = subst (λ (l : History H). LegalHistory hash_of opening l after) (sym saw_own) pushed;
         made = record {
           same = (same_2.0 ∙ same.0, same_2.1 ∙ same.1);
           grown = subst (λ (l : History H). GrownBy n (e ∷ []) l (lock.seen old)) (sym saw_own)
@@ -76,3 +81,15 @@ module _ {H : Type 0} (hash_of : H → List ℕ → ℕ) where
           fits = λ _ _. outside;
         };
       }
+
+-- two steps of a pass are one
+pub made_in_turn : {H : Type 0} → MadeInTurn H
+made_in_turn {H} locked old mid new es fs a b =
+    record {
+      same = (b.same.0 ∙ a.same.0, b.same.1 ∙ a.same.1);
+      grown = grown_twice (lock.number_of old) es fs (lock.seen old) (lock.seen mid) (lock.seen new) a.grown
+          (subst (λ (n : ℕ). GrownBy n fs (lock.seen new) (lock.seen mid)) a.same.1 b.grown);
+      calls = b.calls ∙ ap (λ (l : List (CallEntry H)). l ++ fs) a.calls ∙ append_assoc (lock.calls_of old) es fs;
+      turns = omega (arith, length-append es fs, a.turns, b.turns);
+      fits = λ h. b.fits (a.fits h);
+    }

@@ -29,6 +29,16 @@ LegalHistory hash_of opening [] last = last ≡ opening
 LegalHistory hash_of opening (t ∷ ts) last =
     CallStep hash_of opening t.entry.call t.entry.answer t.entry.after × LegalHistory hash_of t.entry.after ts last
 
+-- the same node: its own address, its hash and its configuration
+pub record IsItself {H : Type 0} (old new : Node H) : Type 0 where
+  pub own_stays : new.own ≡ old.own
+  pub hash_stays : new.hash ≡ old.hash
+  pub config_stays : new.config ≡ old.config
+
+-- no call changes these
+abbrev pub CallsLeaveItself : {H : Type 0} → (H → List ℕ → ℕ) → Type 0
+CallsLeaveItself {H} hash_of = (old new : Node H) (call : Call) (answer : Answer H) → CallStep hash_of old call answer new → IsItself old new
+
 -- the node stands for a history that is legal from the opening, which was as a node is between any two calls
 abbrev pub StandsFor : {H : Type 0} → (H → List ℕ → ℕ) → Seen H → History H → Seen H → Type 0
 StandsFor hash_of opening history now = IsSeen hash_of opening × LegalHistory hash_of opening.node history now.node

@@ -7,10 +7,11 @@ use Rattle.turn_lock.specs.History.{turn, entries_of, GrownBy}
 use Rattle.turn_lock.specs.Passes as lock
 use Rattle.node_core.specs.Agreement.{IsNodeOf}
 use Rattle.node_core.specs.Calls.{Call, Answer, CallStep}
+use Rattle.node_core.specs.Invariant.{IsSeen}
 use Rattle.node_core.specs.Node.{Node, Seen}
 use Rattle.locked_node.specs.declared.held.Held.{Held}
 use Rattle.locked_node.specs.declared.node.LockedNode.{LockedNode}
-use Rattle.locked_node.specs.History.{CallEntry, entry_of, History, LegalHistory, log_of}
+use Rattle.locked_node.specs.History.{CallEntry, entry_of, History, LegalHistory, IsItself, log_of}
 
 abbrev pub NodePass : Type 0 → Type 0
 NodePass H = Pass (Held H) (CallEntry H)
@@ -66,6 +67,9 @@ module _ {H : Type 0} where
     -- what others did since the pass was last in
     pub between : History H
     pub of_others : entries_of (lock.number_of old) between ≡ []
+    -- the node was opened as a node is between any two calls, and is the same one after this call
+    pub opened : IsSeen hash_of (opening_of locked)
+    pub itself : IsItself (opening_of locked).node after
     -- the history before the call begins with all that the pass had seen, and leaves the node that the call is made of
     pub legal_before : LegalHistory hash_of (opening_of locked).node (lock.seen old ++ between) before
     pub step : CallStep hash_of before call answer after
@@ -79,7 +83,16 @@ module _ {H : Type 0} where
   pub record IsClosed (hash_of : H → List ℕ → ℕ) (locked : LockedNode H) (passes : List (NodePass H)) (now : Seen H) : Type 0 where
     pub history : History H
     pub legal : LegalHistory hash_of (opening_of locked).node history now.node
+    -- the node was opened as a node is between any two calls, is one still, and is the same one
+    pub opened : IsSeen hash_of (opening_of locked)
+    pub whole_still : IsSeen hash_of now
+    pub itself : IsItself (opening_of locked).node now.node
     -- each pass has seen a beginning of it; it has the calls of each, once and in their order, and no other
     pub whole : lock.IsWhole history passes
     -- the node holds what the log of the history comes to
     pub is_log : IsNodeOf hash_of now (log_of (opening_of locked).node history)
+
+-- what a pass made in two steps, one after the other, are the calls of both in turn
+abbrev pub MadeInTurn : Type 0 → Type 0
+MadeInTurn H =
+    (locked : LockedNode H) (old mid new : NodePass H) (es fs : List (CallEntry H)) → Made locked old mid es → Made locked mid new fs → Made locked old new (es ++ fs)

@@ -2,8 +2,8 @@
 ghost use Rattle.std.specs.Prelude.{◌≡◌, ◌≤◌, length, IfOk, IfErr};
 ghost use Rattle.change_core.specs.Numbers.{most_members};
 ghost use Rattle.node_core.specs.Calls.{OfEvent, WithReply};
-ghost use Rattle.node_core.specs.declared.events.Event.TheVariants as call;
-ghost use Rattle.node_core.specs.declared.events.Reply.TheVariants as answer;
+ghost use Rattle.node_core.specs.declared.events.Event.TheVariants as event;
+ghost use Rattle.node_core.specs.declared.events.Reply.TheVariants as reply;
 
 use crate::node::{LockedNode, NodePass};
 use crate::turns::Asked;
@@ -24,9 +24,9 @@ struct Take<'a> {
 impl<'a, H: PointHash> Asked<H> for Take<'a> {
     type Reply = Result<Taken, Stopped>;
 
-    ghost call = { λ a. OfEvent (call.Take a.changes.now a.moment) };
+    ghost call = { λ a. OfEvent (event.Take a.changes.now a.moment) };
 
-    ghost answer = { λ reply. WithReply (answer.Take reply) };
+    ghost answer = { λ r. WithReply (reply.Take r) };
 
     fn ask(&self, node: &mut NodeState<H>) -> Result<Taken, Stopped> {
         node.take(self.changes, self.moment)
@@ -39,9 +39,9 @@ struct Receive<'a>(&'a Message, Moment);
 impl<'a, H: PointHash> Asked<H> for Receive<'a> {
     type Reply = Received;
 
-    ghost call = { λ a. OfEvent (call.Receive a.0.now a.1) };
+    ghost call = { λ a. OfEvent (event.Receive a.0.now a.1) };
 
-    ghost answer = { λ reply. WithReply (answer.Receive reply) };
+    ghost answer = { λ r. WithReply (reply.Receive r) };
 
     fn ask(&self, node: &mut NodeState<H>) -> Received {
         node.receive(self.0, self.1)
@@ -54,9 +54,9 @@ struct Leave;
 impl<H: PointHash> Asked<H> for Leave {
     type Reply = Result<Change, NodeError>;
 
-    ghost call = { λ _. OfEvent call.Leave };
+    ghost call = { λ _. OfEvent event.Leave };
 
-    ghost answer = { λ reply. WithReply (answer.Leave reply) };
+    ghost answer = { λ r. WithReply (reply.Leave r) };
 
     fn ask(&self, node: &mut NodeState<H>) -> Result<Change, NodeError> {
         node.leave()
@@ -69,9 +69,9 @@ struct Rejoin;
 impl<H: PointHash> Asked<H> for Rejoin {
     type Reply = Result<Change, NodeError>;
 
-    ghost call = { λ _. OfEvent call.Rejoin };
+    ghost call = { λ _. OfEvent event.Rejoin };
 
-    ghost answer = { λ reply. WithReply (answer.Rejoin reply) };
+    ghost answer = { λ r. WithReply (reply.Rejoin r) };
 
     fn ask(&self, node: &mut NodeState<H>) -> Result<Change, NodeError> {
         node.rejoin()
@@ -84,9 +84,9 @@ struct Expire(Moment);
 impl<H: PointHash> Asked<H> for Expire {
     type Reply = Result<Option<Change>, NodeError>;
 
-    ghost call = { λ a. OfEvent (call.Expire a.0) };
+    ghost call = { λ a. OfEvent (event.Expire a.0) };
 
-    ghost answer = { λ reply. WithReply (answer.Expire reply) };
+    ghost answer = { λ r. WithReply (reply.Expire r) };
 
     fn ask(&self, node: &mut NodeState<H>) -> Result<Option<Change>, NodeError> {
         node.expire(self.0)
@@ -107,7 +107,7 @@ impl<H: PointHash> LockedNode<H> {
     ) -> Result<Result<Taken, Stopped>, LockError>
         requires fits { Fits self.now pass.old }
         requires few { length changes.now ≤ most_members }
-        ensures called { IfOk result (λ reply. IsCalled H.hash_of self.now pass.old pass.new (OfEvent (call.Take changes.now moment)) (WithReply (answer.Take reply))) }
+        ensures called { IfOk result (λ r. IsCalled H.hash_of self.now pass.old pass.new (OfEvent (event.Take changes.now moment)) (WithReply (reply.Take r))) }
         ensures refused { IfErr result (λ e. (pass.new ≡ pass.old) × Refuses self.now pass.old e) }
     {
         self.turn(rt, pass, &Take { changes, moment })
@@ -122,7 +122,7 @@ impl<H: PointHash> LockedNode<H> {
         moment: Moment,
     ) -> Result<Received, LockError>
         requires { Fits self.now pass.old }
-        ensures called { IfOk result (λ reply. IsCalled H.hash_of self.now pass.old pass.new (OfEvent (call.Receive message.now moment)) (WithReply (answer.Receive reply))) }
+        ensures called { IfOk result (λ r. IsCalled H.hash_of self.now pass.old pass.new (OfEvent (event.Receive message.now moment)) (WithReply (reply.Receive r))) }
         ensures refused { IfErr result (λ e. (pass.new ≡ pass.old) × Refuses self.now pass.old e) }
     {
         self.turn(rt, pass, &Receive(message, moment))
@@ -135,7 +135,7 @@ impl<H: PointHash> LockedNode<H> {
         pass: &mut NodePass<H>,
     ) -> Result<Result<Change, NodeError>, LockError>
         requires { Fits self.now pass.old }
-        ensures called { IfOk result (λ reply. IsCalled H.hash_of self.now pass.old pass.new (OfEvent call.Leave) (WithReply (answer.Leave reply))) }
+        ensures called { IfOk result (λ r. IsCalled H.hash_of self.now pass.old pass.new (OfEvent event.Leave) (WithReply (reply.Leave r))) }
         ensures refused { IfErr result (λ e. (pass.new ≡ pass.old) × Refuses self.now pass.old e) }
     {
         self.turn(rt, pass, &Leave)
@@ -148,7 +148,7 @@ impl<H: PointHash> LockedNode<H> {
         pass: &mut NodePass<H>,
     ) -> Result<Result<Change, NodeError>, LockError>
         requires { Fits self.now pass.old }
-        ensures called { IfOk result (λ reply. IsCalled H.hash_of self.now pass.old pass.new (OfEvent call.Rejoin) (WithReply (answer.Rejoin reply))) }
+        ensures called { IfOk result (λ r. IsCalled H.hash_of self.now pass.old pass.new (OfEvent event.Rejoin) (WithReply (reply.Rejoin r))) }
         ensures refused { IfErr result (λ e. (pass.new ≡ pass.old) × Refuses self.now pass.old e) }
     {
         self.turn(rt, pass, &Rejoin)
@@ -163,7 +163,7 @@ impl<H: PointHash> LockedNode<H> {
         moment: Moment,
     ) -> Result<Result<Option<Change>, NodeError>, LockError>
         requires { Fits self.now pass.old }
-        ensures called { IfOk result (λ reply. IsCalled H.hash_of self.now pass.old pass.new (OfEvent (call.Expire moment)) (WithReply (answer.Expire reply))) }
+        ensures called { IfOk result (λ r. IsCalled H.hash_of self.now pass.old pass.new (OfEvent (event.Expire moment)) (WithReply (reply.Expire r))) }
         ensures refused { IfErr result (λ e. (pass.new ≡ pass.old) × Refuses self.now pass.old e) }
     {
         self.turn(rt, pass, &Expire(moment))

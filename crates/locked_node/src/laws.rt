@@ -1,11 +1,23 @@
-//! A law over the definitions, the contract of a function that does nothing.
+//! Laws over the definitions, each the contract of a function that does nothing.
 ghost use Rattle.locked_node.specs.Agreement.{ClosedAgree};
+ghost use Rattle.locked_node.specs.History.{CallsLeaveItself};
+ghost use Rattle.locked_node.specs.Passes.{MadeInTurn};
 
 use hash_ring::PointHash;
 
 /// Two closed nodes whose histories' logs hold the same changes hold the same members, with one text and digest, name the
-/// same owners of every key, and have the same ring, if they have one hash and one number of replica points, whatever
-/// their threads did.
+/// same owners of every key, and have the same ring, if they were made with one hash and one number of replica points,
+/// whatever their threads did.
 pub fn agreement<H: PointHash>()
     ensures { ClosedAgree H.hash_of }
+{}
+
+/// No call changes a node's own address, its hash or its configuration.
+pub fn identity<H: PointHash>()
+    ensures { CallsLeaveItself H.hash_of }
+{}
+
+/// What a pass made in two steps, one after the other, it made in one: the calls of both in turn.
+pub fn steps<H>()
+    ensures { MadeInTurn H }
 {}

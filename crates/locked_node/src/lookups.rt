@@ -1,8 +1,8 @@
 //! What a locked node answers of its members and its ring. Nothing changes.
 ghost use Rattle.std.specs.Prelude.{◌≡◌, IfOk, IfErr};
 ghost use Rattle.node_core.specs.Calls.{OfEvent, OfView, WithReply, WithView};
-ghost use Rattle.node_core.specs.declared.events.Event.TheVariants as call;
-ghost use Rattle.node_core.specs.declared.events.Reply.TheVariants as answer;
+ghost use Rattle.node_core.specs.declared.events.Event.TheVariants as event;
+ghost use Rattle.node_core.specs.declared.events.Reply.TheVariants as reply;
 
 use crate::node::{LockedNode, NodePass};
 use crate::turns::Asked;
@@ -20,9 +20,9 @@ struct Own;
 impl<H: PointHash> Asked<H> for Own {
     type Reply = Change;
 
-    ghost call = { λ _. OfEvent call.Own };
+    ghost call = { λ _. OfEvent event.Own };
 
-    ghost answer = { λ reply. WithReply (answer.Own reply) };
+    ghost answer = { λ r. WithReply (reply.Own r) };
 
     fn ask(&self, node: &mut NodeState<H>) -> Change {
         node.own()
@@ -35,9 +35,9 @@ struct Member(Address);
 impl<H: PointHash> Asked<H> for Member {
     type Reply = Option<Entry>;
 
-    ghost call = { λ a. OfEvent (call.Member a.0) };
+    ghost call = { λ a. OfEvent (event.Member a.0) };
 
-    ghost answer = { λ reply. WithReply (answer.Member reply) };
+    ghost answer = { λ r. WithReply (reply.Member r) };
 
     fn ask(&self, node: &mut NodeState<H>) -> Option<Entry> {
         node.member(self.0)
@@ -50,9 +50,9 @@ struct Len;
 impl<H: PointHash> Asked<H> for Len {
     type Reply = usize;
 
-    ghost call = { λ _. OfEvent call.Len };
+    ghost call = { λ _. OfEvent event.Len };
 
-    ghost answer = { λ reply. WithReply (answer.Len reply) };
+    ghost answer = { λ r. WithReply (reply.Len r) };
 
     fn ask(&self, node: &mut NodeState<H>) -> usize {
         node.len()
@@ -65,9 +65,9 @@ struct Owner<'a>(&'a [u8]);
 impl<'a, H: PointHash> Asked<H> for Owner<'a> {
     type Reply = Option<Address>;
 
-    ghost call = { λ a. OfEvent (call.Owner a.0.now) };
+    ghost call = { λ a. OfEvent (event.Owner a.0.now) };
 
-    ghost answer = { λ reply. WithReply (answer.Owner reply) };
+    ghost answer = { λ r. WithReply (reply.Owner r) };
 
     fn ask(&self, node: &mut NodeState<H>) -> Option<Address> {
         node.owner(self.0)
@@ -80,9 +80,9 @@ struct Owners<'a>(&'a [u8], usize);
 impl<'a, H: PointHash> Asked<H> for Owners<'a> {
     type Reply = Result<Addresses, NodeError>;
 
-    ghost call = { λ a. OfEvent (call.Owners a.0.now a.1) };
+    ghost call = { λ a. OfEvent (event.Owners a.0.now a.1) };
 
-    ghost answer = { λ reply. WithReply (answer.Owners reply) };
+    ghost answer = { λ r. WithReply (reply.Owners r) };
 
     fn ask(&self, node: &mut NodeState<H>) -> Result<Addresses, NodeError> {
         node.owners(self.0, self.1)
@@ -95,9 +95,9 @@ struct Members;
 impl<H: PointHash> Asked<H> for Members {
     type Reply = Result<ChangeList, NodeError>;
 
-    ghost call = { λ _. OfEvent call.Members };
+    ghost call = { λ _. OfEvent event.Members };
 
-    ghost answer = { λ reply. WithReply (answer.Members reply) };
+    ghost answer = { λ r. WithReply (reply.Members r) };
 
     fn ask(&self, node: &mut NodeState<H>) -> Result<ChangeList, NodeError> {
         node.members()
@@ -110,9 +110,9 @@ struct DigestText;
 impl<H: PointHash> Asked<H> for DigestText {
     type Reply = Result<Text, NodeError>;
 
-    ghost call = { λ _. OfEvent call.DigestText };
+    ghost call = { λ _. OfEvent event.DigestText };
 
-    ghost answer = { λ reply. WithReply (answer.DigestText reply) };
+    ghost answer = { λ r. WithReply (reply.DigestText r) };
 
     fn ask(&self, node: &mut NodeState<H>) -> Result<Text, NodeError> {
         node.digest_text()
@@ -125,9 +125,9 @@ struct MembersDigest;
 impl<H: PointHash> Asked<H> for MembersDigest {
     type Reply = Result<Digest, NodeError>;
 
-    ghost call = { λ _. OfEvent call.Digest };
+    ghost call = { λ _. OfEvent event.Digest };
 
-    ghost answer = { λ reply. WithReply (answer.Digest reply) };
+    ghost answer = { λ r. WithReply (reply.Digest r) };
 
     fn ask(&self, node: &mut NodeState<H>) -> Result<Digest, NodeError> {
         node.digest()
@@ -142,7 +142,7 @@ impl<H: PointHash> Asked<H> for MakeView {
 
     ghost call = { λ _. OfView };
 
-    ghost answer = { λ reply. WithView reply };
+    ghost answer = { λ r. WithView r };
 
     fn ask(&self, node: &mut NodeState<H>) -> Result<View<H>, NodeError> {
         node.view()
@@ -155,7 +155,7 @@ impl<H: PointHash> LockedNode<H> {
     /// What the node holds of itself, as a change.
     pub fn own<R: Wait>(&self, rt: &R, pass: &mut NodePass<H>) -> Result<Change, LockError>
         requires { Fits self.now pass.old }
-        ensures called { IfOk result (λ reply. IsCalled H.hash_of self.now pass.old pass.new (OfEvent call.Own) (WithReply (answer.Own reply))) }
+        ensures called { IfOk result (λ r. IsCalled H.hash_of self.now pass.old pass.new (OfEvent event.Own) (WithReply (reply.Own r))) }
         ensures refused { IfErr result (λ e. (pass.new ≡ pass.old) × Refuses self.now pass.old e) }
     {
         self.turn(rt, pass, &Own)
@@ -169,7 +169,7 @@ impl<H: PointHash> LockedNode<H> {
         address: Address,
     ) -> Result<Option<Entry>, LockError>
         requires { Fits self.now pass.old }
-        ensures called { IfOk result (λ reply. IsCalled H.hash_of self.now pass.old pass.new (OfEvent (call.Member address)) (WithReply (answer.Member reply))) }
+        ensures called { IfOk result (λ r. IsCalled H.hash_of self.now pass.old pass.new (OfEvent (event.Member address)) (WithReply (reply.Member r))) }
         ensures refused { IfErr result (λ e. (pass.new ≡ pass.old) × Refuses self.now pass.old e) }
     {
         self.turn(rt, pass, &Member(address))
@@ -178,7 +178,7 @@ impl<H: PointHash> LockedNode<H> {
     /// How many members the node holds, itself among them.
     pub fn len<R: Wait>(&self, rt: &R, pass: &mut NodePass<H>) -> Result<usize, LockError>
         requires { Fits self.now pass.old }
-        ensures called { IfOk result (λ reply. IsCalled H.hash_of self.now pass.old pass.new (OfEvent call.Len) (WithReply (answer.Len reply))) }
+        ensures called { IfOk result (λ r. IsCalled H.hash_of self.now pass.old pass.new (OfEvent event.Len) (WithReply (reply.Len r))) }
         ensures refused { IfErr result (λ e. (pass.new ≡ pass.old) × Refuses self.now pass.old e) }
     {
         self.turn(rt, pass, &Len)
@@ -192,7 +192,7 @@ impl<H: PointHash> LockedNode<H> {
         key: &[u8],
     ) -> Result<Option<Address>, LockError>
         requires { Fits self.now pass.old }
-        ensures called { IfOk result (λ reply. IsCalled H.hash_of self.now pass.old pass.new (OfEvent (call.Owner key.now)) (WithReply (answer.Owner reply))) }
+        ensures called { IfOk result (λ r. IsCalled H.hash_of self.now pass.old pass.new (OfEvent (event.Owner key.now)) (WithReply (reply.Owner r))) }
         ensures refused { IfErr result (λ e. (pass.new ≡ pass.old) × Refuses self.now pass.old e) }
     {
         self.turn(rt, pass, &Owner(key))
@@ -208,7 +208,7 @@ impl<H: PointHash> LockedNode<H> {
         count: usize,
     ) -> Result<Result<Addresses, NodeError>, LockError>
         requires { Fits self.now pass.old }
-        ensures called { IfOk result (λ reply. IsCalled H.hash_of self.now pass.old pass.new (OfEvent (call.Owners key.now count)) (WithReply (answer.Owners reply))) }
+        ensures called { IfOk result (λ r. IsCalled H.hash_of self.now pass.old pass.new (OfEvent (event.Owners key.now count)) (WithReply (reply.Owners r))) }
         ensures refused { IfErr result (λ e. (pass.new ≡ pass.old) × Refuses self.now pass.old e) }
     {
         self.turn(rt, pass, &Owners(key, count))
@@ -221,7 +221,7 @@ impl<H: PointHash> LockedNode<H> {
         pass: &mut NodePass<H>,
     ) -> Result<Result<ChangeList, NodeError>, LockError>
         requires { Fits self.now pass.old }
-        ensures called { IfOk result (λ reply. IsCalled H.hash_of self.now pass.old pass.new (OfEvent call.Members) (WithReply (answer.Members reply))) }
+        ensures called { IfOk result (λ r. IsCalled H.hash_of self.now pass.old pass.new (OfEvent event.Members) (WithReply (reply.Members r))) }
         ensures refused { IfErr result (λ e. (pass.new ≡ pass.old) × Refuses self.now pass.old e) }
     {
         self.turn(rt, pass, &Members)
@@ -234,7 +234,7 @@ impl<H: PointHash> LockedNode<H> {
         pass: &mut NodePass<H>,
     ) -> Result<Result<Text, NodeError>, LockError>
         requires { Fits self.now pass.old }
-        ensures called { IfOk result (λ reply. IsCalled H.hash_of self.now pass.old pass.new (OfEvent call.DigestText) (WithReply (answer.DigestText reply))) }
+        ensures called { IfOk result (λ r. IsCalled H.hash_of self.now pass.old pass.new (OfEvent event.DigestText) (WithReply (reply.DigestText r))) }
         ensures refused { IfErr result (λ e. (pass.new ≡ pass.old) × Refuses self.now pass.old e) }
     {
         self.turn(rt, pass, &DigestText)
@@ -247,7 +247,7 @@ impl<H: PointHash> LockedNode<H> {
         pass: &mut NodePass<H>,
     ) -> Result<Result<Digest, NodeError>, LockError>
         requires { Fits self.now pass.old }
-        ensures called { IfOk result (λ reply. IsCalled H.hash_of self.now pass.old pass.new (OfEvent call.Digest) (WithReply (answer.Digest reply))) }
+        ensures called { IfOk result (λ r. IsCalled H.hash_of self.now pass.old pass.new (OfEvent event.Digest) (WithReply (reply.Digest r))) }
         ensures refused { IfErr result (λ e. (pass.new ≡ pass.old) × Refuses self.now pass.old e) }
     {
         self.turn(rt, pass, &MembersDigest)
@@ -261,7 +261,7 @@ impl<H: PointHash> LockedNode<H> {
         pass: &mut NodePass<H>,
     ) -> Result<Result<View<H>, NodeError>, LockError>
         requires { Fits self.now pass.old }
-        ensures called { IfOk result (λ reply. IsCalled H.hash_of self.now pass.old pass.new OfView (WithView reply)) }
+        ensures called { IfOk result (λ r. IsCalled H.hash_of self.now pass.old pass.new OfView (WithView r)) }
         ensures refused { IfErr result (λ e. (pass.new ≡ pass.old) × Refuses self.now pass.old e) }
     {
         self.turn(rt, pass, &MakeView)

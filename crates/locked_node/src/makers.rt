@@ -1,8 +1,8 @@
 //! The messages that a locked node makes.
 ghost use Rattle.std.specs.Prelude.{◌≡◌, IfOk, IfErr};
 ghost use Rattle.node_core.specs.Calls.{OfEvent, WithReply};
-ghost use Rattle.node_core.specs.declared.events.Event.TheVariants as call;
-ghost use Rattle.node_core.specs.declared.events.Reply.TheVariants as answer;
+ghost use Rattle.node_core.specs.declared.events.Event.TheVariants as event;
+ghost use Rattle.node_core.specs.declared.events.Reply.TheVariants as reply;
 
 use crate::node::{LockedNode, NodePass};
 use crate::turns::Asked;
@@ -19,9 +19,9 @@ struct JoinMessage;
 impl<H: PointHash> Asked<H> for JoinMessage {
     type Reply = Result<Message, NodeError>;
 
-    ghost call = { λ _. OfEvent call.JoinMessage };
+    ghost call = { λ _. OfEvent event.JoinMessage };
 
-    ghost answer = { λ reply. WithReply (answer.JoinMessage reply) };
+    ghost answer = { λ r. WithReply (reply.JoinMessage r) };
 
     fn ask(&self, node: &mut NodeState<H>) -> Result<Message, NodeError> {
         node.join_message()
@@ -34,9 +34,9 @@ struct PingTo(Address);
 impl<H: PointHash> Asked<H> for PingTo {
     type Reply = Result<Message, NodeError>;
 
-    ghost call = { λ a. OfEvent (call.PingTo a.0) };
+    ghost call = { λ a. OfEvent (event.PingTo a.0) };
 
-    ghost answer = { λ reply. WithReply (answer.PingTo reply) };
+    ghost answer = { λ r. WithReply (reply.PingTo r) };
 
     fn ask(&self, node: &mut NodeState<H>) -> Result<Message, NodeError> {
         node.ping_to(self.0)
@@ -49,9 +49,9 @@ struct PingReqTo(Address, Address);
 impl<H: PointHash> Asked<H> for PingReqTo {
     type Reply = Result<Message, NodeError>;
 
-    ghost call = { λ a. OfEvent (call.PingReqTo a.0 a.1) };
+    ghost call = { λ a. OfEvent (event.PingReqTo a.0 a.1) };
 
-    ghost answer = { λ reply. WithReply (answer.PingReqTo reply) };
+    ghost answer = { λ r. WithReply (reply.PingReqTo r) };
 
     fn ask(&self, node: &mut NodeState<H>) -> Result<Message, NodeError> {
         node.ping_req_to(self.0, self.1)
@@ -64,9 +64,9 @@ struct PingReqAckTo(Address, Address, bool);
 impl<H: PointHash> Asked<H> for PingReqAckTo {
     type Reply = Result<Message, NodeError>;
 
-    ghost call = { λ a. OfEvent (call.PingReqAckTo a.0 a.1 a.2) };
+    ghost call = { λ a. OfEvent (event.PingReqAckTo a.0 a.1 a.2) };
 
-    ghost answer = { λ reply. WithReply (answer.PingReqAckTo reply) };
+    ghost answer = { λ r. WithReply (reply.PingReqAckTo r) };
 
     fn ask(&self, node: &mut NodeState<H>) -> Result<Message, NodeError> {
         node.ping_req_ack_to(self.0, self.1, self.2)
@@ -83,7 +83,7 @@ impl<H: PointHash> LockedNode<H> {
         pass: &mut NodePass<H>,
     ) -> Result<Result<Message, NodeError>, LockError>
         requires { Fits self.now pass.old }
-        ensures called { IfOk result (λ reply. IsCalled H.hash_of self.now pass.old pass.new (OfEvent call.JoinMessage) (WithReply (answer.JoinMessage reply))) }
+        ensures called { IfOk result (λ r. IsCalled H.hash_of self.now pass.old pass.new (OfEvent event.JoinMessage) (WithReply (reply.JoinMessage r))) }
         ensures refused { IfErr result (λ e. (pass.new ≡ pass.old) × Refuses self.now pass.old e) }
     {
         self.turn(rt, pass, &JoinMessage)
@@ -97,7 +97,7 @@ impl<H: PointHash> LockedNode<H> {
         target: Address,
     ) -> Result<Result<Message, NodeError>, LockError>
         requires { Fits self.now pass.old }
-        ensures called { IfOk result (λ reply. IsCalled H.hash_of self.now pass.old pass.new (OfEvent (call.PingTo target)) (WithReply (answer.PingTo reply))) }
+        ensures called { IfOk result (λ r. IsCalled H.hash_of self.now pass.old pass.new (OfEvent (event.PingTo target)) (WithReply (reply.PingTo r))) }
         ensures refused { IfErr result (λ e. (pass.new ≡ pass.old) × Refuses self.now pass.old e) }
     {
         self.turn(rt, pass, &PingTo(target))
@@ -112,7 +112,7 @@ impl<H: PointHash> LockedNode<H> {
         target: Address,
     ) -> Result<Result<Message, NodeError>, LockError>
         requires { Fits self.now pass.old }
-        ensures called { IfOk result (λ reply. IsCalled H.hash_of self.now pass.old pass.new (OfEvent (call.PingReqTo helper target)) (WithReply (answer.PingReqTo reply))) }
+        ensures called { IfOk result (λ r. IsCalled H.hash_of self.now pass.old pass.new (OfEvent (event.PingReqTo helper target)) (WithReply (reply.PingReqTo r))) }
         ensures refused { IfErr result (λ e. (pass.new ≡ pass.old) × Refuses self.now pass.old e) }
     {
         self.turn(rt, pass, &PingReqTo(helper, target))
@@ -128,7 +128,7 @@ impl<H: PointHash> LockedNode<H> {
         reached: bool,
     ) -> Result<Result<Message, NodeError>, LockError>
         requires { Fits self.now pass.old }
-        ensures called { IfOk result (λ reply. IsCalled H.hash_of self.now pass.old pass.new (OfEvent (call.PingReqAckTo requester target reached)) (WithReply (answer.PingReqAckTo reply))) }
+        ensures called { IfOk result (λ r. IsCalled H.hash_of self.now pass.old pass.new (OfEvent (event.PingReqAckTo requester target reached)) (WithReply (reply.PingReqAckTo r))) }
         ensures refused { IfErr result (λ e. (pass.new ≡ pass.old) × Refuses self.now pass.old e) }
     {
         self.turn(rt, pass, &PingReqAckTo(requester, target, reached))

@@ -1,8 +1,8 @@
 //! The probes of a locked node.
 ghost use Rattle.std.specs.Prelude.{◌≡◌, IfOk, IfErr};
 ghost use Rattle.node_core.specs.Calls.{OfEvent, WithReply};
-ghost use Rattle.node_core.specs.declared.events.Event.TheVariants as call;
-ghost use Rattle.node_core.specs.declared.events.Reply.TheVariants as answer;
+ghost use Rattle.node_core.specs.declared.events.Event.TheVariants as event;
+ghost use Rattle.node_core.specs.declared.events.Reply.TheVariants as reply;
 
 use crate::node::{LockedNode, NodePass};
 use crate::turns::Asked;
@@ -19,9 +19,9 @@ struct NextProbe;
 impl<H: PointHash> Asked<H> for NextProbe {
     type Reply = Result<Option<Probe>, NodeError>;
 
-    ghost call = { λ _. OfEvent call.Probe };
+    ghost call = { λ _. OfEvent event.Probe };
 
-    ghost answer = { λ reply. WithReply (answer.Probe reply) };
+    ghost answer = { λ r. WithReply (reply.Probe r) };
 
     fn ask(&self, node: &mut NodeState<H>) -> Result<Option<Probe>, NodeError> {
         node.probe()
@@ -34,9 +34,9 @@ struct Acked(u64);
 impl<H: PointHash> Asked<H> for Acked {
     type Reply = Result<(), NodeError>;
 
-    ghost call = { λ a. OfEvent (call.Acked a.0) };
+    ghost call = { λ a. OfEvent (event.Acked a.0) };
 
-    ghost answer = { λ reply. WithReply (answer.Acked reply) };
+    ghost answer = { λ r. WithReply (reply.Acked r) };
 
     fn ask(&self, node: &mut NodeState<H>) -> Result<(), NodeError> {
         node.acked(self.0)
@@ -49,9 +49,9 @@ struct Lost(u64, Moment);
 impl<H: PointHash> Asked<H> for Lost {
     type Reply = Result<NodeLost, NodeError>;
 
-    ghost call = { λ a. OfEvent (call.Lost a.0 a.1) };
+    ghost call = { λ a. OfEvent (event.Lost a.0 a.1) };
 
-    ghost answer = { λ reply. WithReply (answer.Lost reply) };
+    ghost answer = { λ r. WithReply (reply.Lost r) };
 
     fn ask(&self, node: &mut NodeState<H>) -> Result<NodeLost, NodeError> {
         node.lost(self.0, self.1)
@@ -64,9 +64,9 @@ struct HelperSaid(u64, Address, Said, Moment);
 impl<H: PointHash> Asked<H> for HelperSaid {
     type Reply = Result<NodeOutcome, NodeError>;
 
-    ghost call = { λ a. OfEvent (call.HelperSaid a.0 a.1 a.2 a.3) };
+    ghost call = { λ a. OfEvent (event.HelperSaid a.0 a.1 a.2 a.3) };
 
-    ghost answer = { λ reply. WithReply (answer.HelperSaid reply) };
+    ghost answer = { λ r. WithReply (reply.HelperSaid r) };
 
     fn ask(&self, node: &mut NodeState<H>) -> Result<NodeOutcome, NodeError> {
         node.helper_said(self.0, self.1, self.2, self.3)
@@ -79,9 +79,9 @@ struct RunningProbe;
 impl<H: PointHash> Asked<H> for RunningProbe {
     type Reply = Option<Running>;
 
-    ghost call = { λ _. OfEvent call.Running };
+    ghost call = { λ _. OfEvent event.Running };
 
-    ghost answer = { λ reply. WithReply (answer.Running reply) };
+    ghost answer = { λ r. WithReply (reply.Running r) };
 
     fn ask(&self, node: &mut NodeState<H>) -> Option<Running> {
         node.running()
@@ -99,7 +99,7 @@ impl<H: PointHash> LockedNode<H> {
         pass: &mut NodePass<H>,
     ) -> Result<Result<Option<Probe>, NodeError>, LockError>
         requires { Fits self.now pass.old }
-        ensures called { IfOk result (λ reply. IsCalled H.hash_of self.now pass.old pass.new (OfEvent call.Probe) (WithReply (answer.Probe reply))) }
+        ensures called { IfOk result (λ r. IsCalled H.hash_of self.now pass.old pass.new (OfEvent event.Probe) (WithReply (reply.Probe r))) }
         ensures refused { IfErr result (λ e. (pass.new ≡ pass.old) × Refuses self.now pass.old e) }
     {
         self.turn(rt, pass, &NextProbe)
@@ -113,7 +113,7 @@ impl<H: PointHash> LockedNode<H> {
         number: u64,
     ) -> Result<Result<(), NodeError>, LockError>
         requires { Fits self.now pass.old }
-        ensures called { IfOk result (λ reply. IsCalled H.hash_of self.now pass.old pass.new (OfEvent (call.Acked number)) (WithReply (answer.Acked reply))) }
+        ensures called { IfOk result (λ r. IsCalled H.hash_of self.now pass.old pass.new (OfEvent (event.Acked number)) (WithReply (reply.Acked r))) }
         ensures refused { IfErr result (λ e. (pass.new ≡ pass.old) × Refuses self.now pass.old e) }
     {
         self.turn(rt, pass, &Acked(number))
@@ -129,7 +129,7 @@ impl<H: PointHash> LockedNode<H> {
         moment: Moment,
     ) -> Result<Result<NodeLost, NodeError>, LockError>
         requires { Fits self.now pass.old }
-        ensures called { IfOk result (λ reply. IsCalled H.hash_of self.now pass.old pass.new (OfEvent (call.Lost number moment)) (WithReply (answer.Lost reply))) }
+        ensures called { IfOk result (λ r. IsCalled H.hash_of self.now pass.old pass.new (OfEvent (event.Lost number moment)) (WithReply (reply.Lost r))) }
         ensures refused { IfErr result (λ e. (pass.new ≡ pass.old) × Refuses self.now pass.old e) }
     {
         self.turn(rt, pass, &Lost(number, moment))
@@ -147,7 +147,7 @@ impl<H: PointHash> LockedNode<H> {
         moment: Moment,
     ) -> Result<Result<NodeOutcome, NodeError>, LockError>
         requires { Fits self.now pass.old }
-        ensures called { IfOk result (λ reply. IsCalled H.hash_of self.now pass.old pass.new (OfEvent (call.HelperSaid number helper said moment)) (WithReply (answer.HelperSaid reply))) }
+        ensures called { IfOk result (λ r. IsCalled H.hash_of self.now pass.old pass.new (OfEvent (event.HelperSaid number helper said moment)) (WithReply (reply.HelperSaid r))) }
         ensures refused { IfErr result (λ e. (pass.new ≡ pass.old) × Refuses self.now pass.old e) }
     {
         self.turn(rt, pass, &HelperSaid(number, helper, said, moment))
@@ -160,7 +160,7 @@ impl<H: PointHash> LockedNode<H> {
         pass: &mut NodePass<H>,
     ) -> Result<Option<Running>, LockError>
         requires { Fits self.now pass.old }
-        ensures called { IfOk result (λ reply. IsCalled H.hash_of self.now pass.old pass.new (OfEvent call.Running) (WithReply (answer.Running reply))) }
+        ensures called { IfOk result (λ r. IsCalled H.hash_of self.now pass.old pass.new (OfEvent event.Running) (WithReply (reply.Running r))) }
         ensures refused { IfErr result (λ e. (pass.new ≡ pass.old) × Refuses self.now pass.old e) }
     {
         self.turn(rt, pass, &RunningProbe)

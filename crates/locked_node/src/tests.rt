@@ -2,9 +2,9 @@
 ghost use Rattle.locked_node.specs.Passes.{Fits};
 
 use crate::{CloseRefused, LockedNode};
-use change_core::{Address, Change, Status};
+use change_core::{Address, Change, Sourced, Status};
 use hash_ring::SumHash;
-use node_core::{NodeError, NodeState, StopCause, Taken, View};
+use node_core::{NodeError, NodeState, StopCause, Stopped, Taken, View};
 use std::alloc::Global;
 use std::process::Abort;
 use std::sync::Wait;
@@ -17,11 +17,17 @@ mod probes;
 mod shared;
 
 use shared::{
-    Caller, Shared, alone, change, hear, member, moment, news, node, own, owner, pair, status_of,
-    take,
+    Caller, Shared, Start, alone, change, hear, member, moment, news, node, own, owner, pair,
+    status_of, take,
 };
 
 const LIMIT: u64 = 9_007_199_254_740_991;
+
+/// One change was applied.
+const ONE: Taken = Taken {
+    applied: 1,
+    refuted: 0,
+};
 
 fn view<R: Wait + Abort>(rt: &R, shared: &Shared, pass: &mut Caller) -> View<SumHash>
     requires { Fits shared.now pass.old }
@@ -36,7 +42,7 @@ fn view<R: Wait + Abort>(rt: &R, shared: &Shared, pass: &mut Caller) -> View<Sum
 
 #[test]
 fn a_view_answers_as_the_node_did(rt: HostRuntime) {
-    let (shared, mut pass) = alone(&rt, rt.alloc(), 1, 4096);
+    let (shared, mut pass) = alone(&rt, rt.alloc(), 1, 7, 4096);
     hear(&rt, &shared, &mut pass, &news(&rt, 2, 1, Status::Alive), 0);
     hear(&rt, &shared, &mut pass, &news(&rt, 3, 1, Status::Alive), 0);
     let before = view(&rt, &shared, &mut pass);
@@ -51,10 +57,11 @@ fn a_view_answers_as_the_node_did(rt: HostRuntime) {
 
 #[test]
 fn refutes_what_is_wrong_about_itself(rt: HostRuntime) {
-    let (shared, mut pass) = alone(&rt, rt.alloc(), 1, 4096);
+    let (shared, mut pass) = alone(&rt, rt.alloc(), 1, 7, 4096);
     let rows = [(7, Status::Suspect, 1, 1), (6, Status::Faulty, 0, 0)];
-    for (number, status, applied, refuted) in rows {
-        let answer = take(&rt, &shared, &mut pass, &news(&rt, 1, number, status), 0);
+    for (incarnation, status, applied, refuted) in rows {
+        let given = news(&rt, 1, incarnation, status);
+        let answer = take(&rt, &shared, &mut pass, &given, 0);
         assert!(rt; answer == Ok(Taken { applied, refuted }));
         assert!(rt; own(&rt, &shared, &mut pass) == change(&rt, 1, 8, Status::Alive));
     }
@@ -84,7 +91,7 @@ fn rejoin<R: Wait + Abort>(rt: &R, shared: &Shared, pass: &mut Caller) -> Result
 
 #[test]
 fn leaves_and_comes_back(rt: HostRuntime) {
-    let (shared, mut pass) = alone(&rt, rt.alloc(), 1, 4096);
+    let (shared, mut pass) = alone(&rt, rt.alloc(), 1, 7, 4096);
     let left = leave(&rt, &shared, &mut pass);
     assert!(rt; left == Ok(change(&rt, 1, 7, Status::Leave)));
     assert!(rt; leave(&rt, &shared, &mut pass) == Err(NodeError::AlreadyLeft));
@@ -95,13 +102,13 @@ fn leaves_and_comes_back(rt: HostRuntime) {
     assert!(rt; rejoin(&rt, &shared, &mut pass) == Err(NodeError::NotLeft));
 }
 
-/// Why taking 10.0.0.2:1, this change and 10.0.0.3:1 stops. What was taken before a refused growth is old at the next try.
-fn stops<R: Wait + Abort>(
+/// What taking 10.0.0.2:1, this change and 10.0.0.3:1 comes to. What was taken before a refused growth is old at the next try.
+fn take_three<R: Wait + Abort>(
     rt: &R,
     shared: &Shared,
     pass: &mut Caller,
     second: (u8, u64, Status),
-) -> Option<StopCause>
+) -> Result<Taken, Stopped>
     requires { Fits shared.now pass.old }
     ensures { Fits shared.now pass.new }
 {
@@ -112,32 +119,26 @@ fn stops<R: Wait + Abort>(
     ];
     let now = moment(rt, 0);
     let answer = shared.take(rt, pass, &batch, now).ok().expect(rt, "a turn");
-    let cause = answer.err().map(|stopped| stopped.cause);
-    if cause != Some(StopCause::Memory) {
-        return cause;
+    if answer.err().map(|stopped| stopped.cause) != Some(StopCause::Memory) {
+        return answer;
     }
-    let again = shared.take(rt, pass, &batch, now).ok().expect(rt, "a turn");
-    again.err().map(|stopped| stopped.cause)
+    shared.take(rt, pass, &batch, now).ok().expect(rt, "a turn")
 }
 
 #[test]
 fn a_batch_stops_at_what_it_cannot_take(rt: HostRuntime) {
     let rows = [
-        (4096, (1, LIMIT, Status::Faulty), StopCause::Exhausted),
-        (2, (4, 1, Status::Alive), StopCause::Full),
+        (4096, (1, LIMIT, Status::Faulty), StopCause::Exhausted, 3),
+        (2, (4, 1, Status::Alive), StopCause::Full, 2),
     ];
-    for (max, second, cause) in rows {
-        let (shared, mut pass) = alone(&rt, rt.alloc(), 1, max);
-        assert!(rt; stops(&rt, &shared, &mut pass, second) == Some(cause));
+    for (max, second, cause, next) in rows {
+        let (shared, mut pass) = alone(&rt, rt.alloc(), 1, 7, max);
+        let stopped = take_three(&rt, &shared, &mut pass, second);
+        assert!(rt; stopped == Err(Stopped { taken: 1, cause }));
         assert!(rt; status_of(&rt, &shared, &mut pass, 2) == Some(Status::Alive));
         assert!(rt; status_of(&rt, &shared, &mut pass, 3).is_none());
-        hear(
-            &rt,
-            &shared,
-            &mut pass,
-            &news(&rt, 2, 2, Status::Suspect),
-            0,
-        );
+        let later = news(&rt, next, 2, Status::Suspect);
+        assert!(rt; take(&rt, &shared, &mut pass, &later, 0) == Ok(ONE));
     }
 }
 
@@ -160,7 +161,7 @@ fn expire<R: Wait + Abort>(
 
 #[test]
 fn entries_run_out_in_turn(rt: HostRuntime) {
-    let (shared, mut pass) = alone(&rt, rt.alloc(), 1, 4096);
+    let (shared, mut pass) = alone(&rt, rt.alloc(), 1, 7, 4096);
     hear(
         &rt,
         &shared,
@@ -183,9 +184,24 @@ fn entries_run_out_in_turn(rt: HostRuntime) {
 }
 
 #[test]
+fn a_suspicion_that_was_answered_does_not_run_out(rt: HostRuntime) {
+    let (shared, mut pass) = alone(&rt, rt.alloc(), 1, 7, 4096);
+    for (incarnation, status, now) in [(1, Status::Suspect, 0), (2, Status::Alive, 100)] {
+        let given = news(&rt, 2, incarnation, status);
+        hear(&rt, &shared, &mut pass, &given, now);
+    }
+    assert!(rt; expire(&rt, &shared, &mut pass, 5_000) == Ok(None));
+}
+
+#[test]
 fn counts_out_of_range_hand_the_node_back(rt: HostRuntime) -> Result<(), Fail> {
     for (passes, turns) in [(0, 1), (1025, 1), (1, 0)] {
-        let given = node(&rt, rt.alloc(), member(&rt, 1), 4096);
+        let start = Start {
+            own: member(&rt, 1),
+            incarnation: 7,
+            max: 4096,
+        };
+        let given = node(&rt, rt.alloc(), &start);
         let Err(NewError::BadCount(given)) = LockedNode::new(rt.alloc(), given, passes, turns)
         else {
             panic!(rt; "{passes} passes of {turns} turns")
@@ -237,13 +253,50 @@ fn a_node_does_not_close_without_a_pass(rt: HostRuntime) -> Result<(), Fail> {
     Ok(())
 }
 
+fn len<R: Wait>(rt: &R, shared: &Shared, mut pass: Caller) -> (Result<usize, LockError>, Caller)
+    requires { Fits shared.now pass }
+    ensures { Fits shared.now result.1 }
+{
+    let answer = shared.len(rt, &mut pass);
+    (answer, pass)
+}
+
+/// What two threads are answered, and their passes.
+fn len_by_two<R: Threads + Wait + Sync>(
+    rt: &R,
+    shared: &Shared,
+    first: Caller,
+    second: Caller,
+) -> (
+    (Result<usize, LockError>, Caller),
+    (Result<usize, LockError>, Caller),
+)
+    requires first { Fits shared.now first }
+    requires second { Fits shared.now second }
+    ensures first { Fits shared.now result.0.1 }
+    ensures second { Fits shared.now result.1.1 }
+{
+    join(
+        rt,
+        move || -> (Result<usize, LockError>, Caller)
+            requires { Fits shared.now first }
+            ensures { Fits shared.entry.now result.1 }
+        { len(rt, shared, first) },
+        move || -> (Result<usize, LockError>, Caller)
+            requires { Fits shared.now second }
+            ensures { Fits shared.entry.now result.1 }
+        { len(rt, shared, second) },
+    )
+}
+
 #[test]
 fn a_pass_of_another_node_is_refused(rt: HostRuntime) -> Result<(), Fail> {
-    let (shared, first, _, mut passes) = pair(&rt, rt.alloc(), member(&rt, 1), 9);
-    let (_other, mut foreign, _, _) = pair(&rt, rt.alloc(), member(&rt, 2), 9);
-    let refused = shared.len(&rt, &mut foreign);
-    assert!(rt; refused == Err(LockError::ForeignPass));
+    let (shared, first, second, mut passes) = pair(&rt, rt.alloc(), member(&rt, 1), 9);
+    let (_other, foreign, _, _) = pair(&rt, rt.alloc(), member(&rt, 2), 9);
+    let ((counted, second), (refused, foreign)) = len_by_two(&rt, &shared, second, foreign);
+    assert!(rt; counted == Ok(1) && refused == Err(LockError::ForeignPass));
     passes.push(first)?;
+    passes.push(second)?;
     passes.push(foreign)?;
     let Err(
         CloseRefused {
@@ -255,21 +308,12 @@ fn a_pass_of_another_node_is_refused(rt: HostRuntime) -> Result<(), Fail> {
     else {
         panic!(rt; "a pass is foreign")
     };
-    assert!(rt; cause == CloseError::ForeignPass && passes.len() == 2);
+    assert!(rt; cause == CloseError::ForeignPass && passes.len() == 3);
     Ok(())
 }
 
-/// Takes ten of twenty changes, about 10.0.0.2:1 to 10.0.0.5:1, with each status in turn, and that another is alive.
-fn hear_ten<R: Wait + Abort>(
-    rt: &R,
-    shared: &Shared,
-    mut pass: Caller,
-    other: u8,
-    is_last: bool,
-) -> Caller
-    requires { Fits shared.now pass }
-    ensures { Fits shared.now result }
-{
+/// One of twenty changes about 10.0.0.2:1 to 10.0.0.5:1, of each status in turn.
+fn one_of_twenty(rt: &impl Abort, i: u8) -> Sourced {
     let statuses = [
         Status::Alive,
         Status::Suspect,
@@ -277,50 +321,68 @@ fn hear_ten<R: Wait + Abort>(
         Status::Leave,
         Status::Tombstone,
     ];
-    hear(rt, shared, &mut pass, &news(rt, other, 7, Status::Alive), 0);
-    for step in 1..11u8 {
-        let i = if is_last { 21 - step } else { step };
-        let status = statuses[usize::from(i % 5)];
-        let given = news(rt, 2 + i % 4, 1 + u64::from(i / 8), status);
-        hear(rt, shared, &mut pass, &given, 0);
+    news(
+        rt,
+        2 + i % 4,
+        1 + u64::from(i / 8),
+        statuses[usize::from(i % 5)],
+    )
+}
+
+/// Takes that a member is alive, and then some of the twenty changes.
+fn hear_some<R: Wait + Abort>(
+    rt: &R,
+    shared: &Shared,
+    mut pass: Caller,
+    born: u8,
+    order: &[u8],
+) -> Caller
+    requires { Fits shared.now pass }
+    ensures { Fits shared.now result }
+{
+    hear(rt, shared, &mut pass, &news(rt, born, 7, Status::Alive), 0);
+    for i in order {
+        hear(rt, shared, &mut pass, &one_of_twenty(rt, *i), 0);
     }
     pass
 }
 
+/// Two threads take what there is to take, each in its own order.
 fn hear_by_two<R: Threads + Wait + Abort + Sync>(
     rt: &R,
     shared: &Shared,
     first: Caller,
     second: Caller,
-    other: u8,
+    orders: (&[u8], &[u8]),
 ) -> (Caller, Caller)
     requires first { Fits shared.now first }
     requires second { Fits shared.now second }
     ensures first { Fits shared.now result.0 }
     ensures second { Fits shared.now result.1 }
 {
+    let (one, other) = orders;
     join(
         rt,
         move || -> Caller
             requires { Fits shared.now first }
             ensures { Fits shared.entry.now result }
-        { hear_ten(rt, shared, first, other, false) },
+        { hear_some(rt, shared, first, 6, one) },
         move || -> Caller
             requires { Fits shared.now second }
             ensures { Fits shared.entry.now result }
-        { hear_ten(rt, shared, second, other, true) },
+        { hear_some(rt, shared, second, 1, other) },
     )
 }
 
-/// The node after two threads took ten changes each.
+/// The node after two threads took the twenty changes and that both nodes are alive.
 fn after_twenty<R: Threads + Wait + Abort + Sync>(
     rt: &R,
     alloc: Global,
     number: u8,
-    other: u8,
+    orders: (&[u8], &[u8]),
 ) -> Result<NodeState<SumHash>, Fail> {
     let (shared, first, second, mut passes) = pair(rt, alloc, member(rt, number), 1000);
-    let (first, second) = hear_by_two(rt, &shared, first, second, other);
+    let (first, second) = hear_by_two(rt, &shared, first, second, orders);
     passes.push(first)?;
     passes.push(second)?;
     Ok(shared.close(passes).ok().ok_or("it closes")?)
@@ -343,8 +405,14 @@ fn names(rt: &impl Abort, node: &NodeState<SumHash>, key: &[u8], owners: [u8; 3]
 fn nodes_that_two_threads_share_agree(rt: HostRuntime) -> Result<(), Fail> {
     let text =
         "10.0.0.1:1alive7;10.0.0.2:1suspect3;10.0.0.3:1faulty3;10.0.0.4:1leave3;10.0.0.5:1tombstone3;10.0.0.6:1alive7";
-    for (number, other) in [(1, 6), (6, 1)] {
-        let node = after_twenty(&rt, rt.alloc(), number, other)?;
+    let up = [1u8, 2, 3, 4, 5, 6, 7, 8, 9, 10];
+    let down = [20u8, 19, 18, 17, 16, 15, 14, 13, 12, 11];
+    let mixed = [11u8, 1, 12, 2, 13, 3, 14, 4, 15, 5];
+    let rest = [20u8, 6, 19, 7, 18, 8, 17, 9, 16, 10];
+    let rows = [(1, &up, &down), (6, &mixed, &rest)];
+    for (number, one, other) in rows {
+        let orders = (one.as_slice(), other.as_slice());
+        let node = after_twenty(&rt, rt.alloc(), number, orders)?;
         assert!(rt; node.digest_text()?.as_str() == text);
         assert!(rt; names(&rt, &node, b"zzzz1", [2, 6, 1]));
         assert!(rt; names(&rt, &node, b"zzzz3", [6, 1, 2]));

@@ -26,12 +26,12 @@ pub(crate) trait Asked<H: PointHash> {
 }
 
 /// How a turn ends in which such a call was made.
-struct InTurn<H, A> {
+struct TurnEnd<H, A> {
     hash: PhantomData<H>,
     asked: PhantomData<A>,
 }
 
-impl<H: PointHash, A: Asked<H>> InTurn<H, A> {
+impl<H: PointHash, A: Asked<H>> TurnEnd<H, A> {
     ghost use Rattle.locked_node.specs.History.{CallEntry, StandsFor};
 
     /// Gives the turn back. What was asked and answered stands there for contracts, where it names the entry.
@@ -69,7 +69,7 @@ impl<H: PointHash> LockedNode<H> {
     {
         let mut held = self.lock.enter(rt, pass)?;
         let reply = asked.ask(&mut held.node);
-        InTurn::<H, A>::leave(&self.lock, pass, held, asked, &reply);
+        TurnEnd::<H, A>::leave(&self.lock, pass, held, asked, &reply);
         Ok(reply)
     }
 }

@@ -5,6 +5,7 @@ use super::shared::{Caller, Shared, alone, change, hear, member, moment, news};
 use change_core::{Digest, Incarnation, Sourced, Status};
 use detector_core::Addresses;
 use node_core::{ChangeList, Received, Taken};
+use std::alloc::Global;
 use std::process::Abort;
 use std::sync::Wait;
 use std::test::Fail;
@@ -12,6 +13,9 @@ use wire_json::{Changes, Content, Kind, Message, News, Text};
 
 /// The SHA-256 of the empty text: the digest of no members.
 const NOBODY: &str = "e3b0c44298fc1c149afbf4c8996fb92427ae41e4649b934ca495991b7852b855";
+
+/// The SHA-256 of `10.0.0.2:1alive1;10.0.0.3:1alive1`.
+const BOTH: &str = "d1a8af2bb895f65a9ccca4d7e53168c4bb18cd81e9fc26727d51cb26d484051a";
 
 /// The SHA-256 of `10.0.0.1:1alive7`.
 const ALONE: &str = "114cdd273aed4efee25e37eb2d6f8902516de89bfb099e3deb7cd6f372fa39df";
@@ -63,17 +67,26 @@ fn answer<R: Wait + Abort>(
     }
 }
 
-/// How many changes an answer carries.
-fn carried(message: &Message) -> usize {
+/// The changes that a Joined or an Ack carries.
+fn carried(message: &Message) -> &[Sourced] {
     match &message.content {
-        Content::Joined(news) | Content::Ack(news) => news.changes.as_slice().len(),
-        _ => 0,
+        Content::Joined(news) | Content::Ack(news) => news.changes.as_slice(),
+        _ => &[],
+    }
+}
+
+/// That a member is alive, as 10.0.0.2:1 says it at 1.
+fn told(rt: &impl Abort, number: u8, incarnation: u64) -> Sourced {
+    Sourced {
+        change: change(rt, number, incarnation, Status::Alive),
+        source: member(rt, 2),
+        source_incarnation: Incarnation::new(1).expect(rt, "an incarnation"),
     }
 }
 
 #[test]
 fn a_join_is_answered_by_all_members(rt: HostRuntime) -> Result<(), Fail> {
-    let (shared, mut pass) = alone(&rt, rt.alloc(), 2, 4096);
+    let (shared, mut pass) = alone(&rt, rt.alloc(), 2, 1, 4096);
     let mut changes = Vec::new(rt.alloc());
     changes.push(news(&rt, 1, 7, Status::Alive))?;
     let join = message(
@@ -85,32 +98,51 @@ fn a_join_is_answered_by_all_members(rt: HostRuntime) -> Result<(), Fail> {
         applied: 1,
         refuted: 0,
     };
+    let all = [told(&rt, 1, 7), told(&rt, 2, 1)];
     assert!(rt; taken == wanted && joined.source == member(&rt, 2));
-    let Content::Joined(news) = &joined.content else {
-        panic!(rt; "a Joined")
-    };
-    let held = news.changes.as_slice();
-    assert!(rt; held.len() == 2);
-    assert!(rt; held[0].change == change(&rt, 1, 7, Status::Alive));
-    assert!(rt; held[1].change == change(&rt, 2, 7, Status::Alive));
+    assert!(rt; joined.content.kind() == Kind::Joined && carried(&joined) == all.as_slice());
     Ok(())
 }
 
+/// A ping of 10.0.0.1:1 without changes.
+fn empty_ping(rt: &impl Abort, alloc: Global, checksum: &str) -> Message {
+    let content = Content::Ping(news_of(rt, digest_of(rt, checksum), Vec::new(alloc)));
+    message(rt, content)
+}
+
+/// The answer to a ping after fifteen others, which bring each the change given and no more.
+fn sixteenth<R: Wait + Abort>(
+    rt: &R,
+    alloc: Global,
+    shared: &Shared,
+    pass: &mut Caller,
+    checksum: &str,
+) -> Option<Message>
+    requires { Fits shared.now pass.old }
+    ensures { Fits shared.now pass.new }
+{
+    let ping = empty_ping(rt, alloc, NOBODY);
+    let birth = [told(rt, 2, 1)];
+    for _ in 0..15u8 {
+        let (_, ack) = answer(rt, shared, pass, &ping)?;
+        assert!(rt; carried(&ack) == birth.as_slice());
+    }
+    let (_, ack) = answer(rt, shared, pass, &empty_ping(rt, alloc, checksum))?;
+    Some(ack)
+}
+
 #[test]
-fn pings_are_answered_by_news_and_then_by_all(rt: HostRuntime) -> Result<(), Fail> {
-    let (shared, mut pass) = alone(&rt, rt.alloc(), 2, 4096);
+fn pings_are_answered_by_news_and_then_by_all(rt: HostRuntime) {
+    let all = [told(&rt, 2, 1), told(&rt, 3, 1)];
     let mut given = news(&rt, 3, 1, Status::Alive);
     given.source = member(&rt, 1);
-    hear(&rt, &shared, &mut pass, &given, 0);
-    let ping = message(
-        &rt,
-        Content::Ping(news_of(&rt, digest_of(&rt, NOBODY), Vec::new(rt.alloc()))),
-    );
-    for wanted in [1, 1, 1, 1, 1, 1, 1, 1, 1, 1, 1, 1, 1, 1, 1, 2] {
-        let (_, ack) = answer(&rt, &shared, &mut pass, &ping).ok_or("an answer")?;
-        assert!(rt; carried(&ack) == wanted);
+    for (checksum, last) in [(NOBODY, 2), (BOTH, 0)] {
+        let (shared, mut pass) = alone(&rt, rt.alloc(), 2, 1, 4096);
+        hear(&rt, &shared, &mut pass, &given, 0);
+        let ack = sixteenth(&rt, rt.alloc(), &shared, &mut pass, checksum);
+        let ack = ack.expect(&rt, "an answer");
+        assert!(rt; ack.content.kind() == Kind::Ack && carried(&ack) == &all[..last]);
     }
-    Ok(())
 }
 
 fn join_message<R: Wait + Abort>(rt: &R, shared: &Shared, pass: &mut Caller) -> Message
@@ -168,7 +200,7 @@ fn ping_req_ack<R: Wait + Abort>(rt: &R, shared: &Shared, pass: &mut Caller) -> 
 
 #[test]
 fn makes_messages(rt: HostRuntime) {
-    let (shared, mut pass) = alone(&rt, rt.alloc(), 1, 4096);
+    let (shared, mut pass) = alone(&rt, rt.alloc(), 1, 7, 4096);
     let made = [
         join_message(&rt, &shared, &mut pass),
         ping(&rt, &shared, &mut pass),
@@ -227,7 +259,7 @@ fn owners<R: Wait + Abort>(rt: &R, shared: &Shared, pass: &mut Caller) -> Addres
 
 #[test]
 fn says_what_it_holds(rt: HostRuntime) {
-    let (shared, mut pass) = alone(&rt, rt.alloc(), 1, 4096);
+    let (shared, mut pass) = alone(&rt, rt.alloc(), 1, 7, 4096);
     let own = [change(&rt, 1, 7, Status::Alive)];
     let named = [member(&rt, 1)];
     assert!(rt; members(&rt, &shared, &mut pass).as_slice() == own.as_slice());

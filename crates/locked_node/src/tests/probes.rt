@@ -3,7 +3,7 @@ ghost use Rattle.locked_node.specs.Passes.{Fits};
 
 use super::shared::{Caller, Shared, alone, change, hear, member, moment, news};
 use change_core::{Address, Change, Status};
-use detector_core::{Probe, Said};
+use detector_core::{Probe, Running, Said};
 use node_core::{NodeError, NodeLost, NodeOutcome};
 use std::process::Abort;
 use std::sync::Wait;
@@ -24,94 +24,136 @@ fn probe<R: Wait + Abort>(
     answer.ok().expect(rt, "a turn")
 }
 
-/// What becomes of the lost probe 1: the helper that is asked, or the change that the target is suspect by.
-fn lose<R: Wait + Abort>(
+/// What becomes of a lost probe: the helper that is asked, or the change that the target is suspect by.
+fn try_lose<R: Wait + Abort>(
     rt: &R,
     shared: &Shared,
     pass: &mut Caller,
+    number: u64,
 ) -> Result<(Option<Address>, Option<Change>), NodeError>
     requires { Fits shared.now pass.old }
     ensures { Fits shared.now pass.new }
 {
     let now = moment(rt, 0);
-    let lost = shared.lost(rt, pass, 1, now).ok().expect(rt, "a turn")?;
-    Ok(match lost {
+    let lost = shared.lost(rt, pass, number, now);
+    Ok(match lost.ok().expect(rt, "a turn")? {
         NodeLost::Ask(helpers) => (helpers.as_slice().first().copied(), None),
         NodeLost::Suspect(change) => (None, change),
     })
 }
 
-fn lose_once<R: Wait + Abort>(
+fn lose<R: Wait + Abort>(
     rt: &R,
     shared: &Shared,
     pass: &mut Caller,
+    number: u64,
 ) -> Result<(Option<Address>, Option<Change>), NodeError>
     requires { Fits shared.now pass.old }
     ensures { Fits shared.now pass.new }
 {
-    let mut answer = lose(rt, shared, pass);
-    for _ in 0..4 {
-        if answer == Err(NodeError::Memory) {
-            answer = lose(rt, shared, pass);
-        }
+    let answer = try_lose(rt, shared, pass, number);
+    if answer == Err(NodeError::Memory) {
+        return try_lose(rt, shared, pass, number);
     }
     answer
 }
 
-fn acked<R: Wait + Abort>(rt: &R, shared: &Shared, pass: &mut Caller) -> Result<(), NodeError>
+fn acked<R: Wait + Abort>(
+    rt: &R,
+    shared: &Shared,
+    pass: &mut Caller,
+    number: u64,
+) -> Result<(), NodeError>
     requires { Fits shared.now pass.old }
     ensures { Fits shared.now pass.new }
 {
-    shared.acked(rt, pass, 1).ok().expect(rt, "a turn")
+    shared.acked(rt, pass, number).ok().expect(rt, "a turn")
+}
+
+fn running<R: Wait + Abort>(rt: &R, shared: &Shared, pass: &mut Caller) -> Option<Running>
+    requires { Fits shared.now pass.old }
+    ensures { Fits shared.now pass.new }
+{
+    shared.running(rt, pass).ok().expect(rt, "a turn")
 }
 
 #[test]
 fn a_lost_target_is_suspect_where_nobody_can_be_asked(rt: HostRuntime) {
-    let (shared, mut pass) = alone(&rt, rt.alloc(), 1, 4096);
+    let (shared, mut pass) = alone(&rt, rt.alloc(), 1, 7, 4096);
     hear(&rt, &shared, &mut pass, &news(&rt, 2, 1, Status::Alive), 0);
-    let wanted = Probe {
-        number: 1,
-        target: member(&rt, 2),
-    };
-    assert!(rt; probe(&rt, &shared, &mut pass) == Ok(Some(wanted)));
-    assert!(rt; probe(&rt, &shared, &mut pass) == Err(NodeError::Busy));
+    let target = member(&rt, 2);
     let suspect = change(&rt, 2, 1, Status::Suspect);
-    assert!(rt; lose_once(&rt, &shared, &mut pass) == Ok((None, Some(suspect))));
-    assert!(rt; acked(&rt, &shared, &mut pass) == Err(NodeError::StaleProbe));
+    assert!(rt; probe(&rt, &shared, &mut pass) == Ok(Some(Probe { number: 1, target })));
+    assert!(rt; probe(&rt, &shared, &mut pass) == Err(NodeError::Busy));
+    assert!(rt; lose(&rt, &shared, &mut pass, 1) == Ok((None, Some(suspect))));
+    assert!(rt; acked(&rt, &shared, &mut pass, 1) == Err(NodeError::StaleProbe));
+    assert!(rt; probe(&rt, &shared, &mut pass) == Ok(Some(Probe { number: 2, target })));
+    assert!(rt; acked(&rt, &shared, &mut pass, 2) == Ok(()));
+    assert!(rt; running(&rt, &shared, &mut pass).is_none());
 }
 
-fn hear_helper<R: Wait + Abort>(
+fn try_hear<R: Wait + Abort>(
     rt: &R,
     shared: &Shared,
     pass: &mut Caller,
+    number: u64,
     helper: Address,
+    said: Said,
 ) -> Result<NodeOutcome, NodeError>
     requires { Fits shared.now pass.old }
     ensures { Fits shared.now pass.new }
 {
     let now = moment(rt, 0);
-    let answer = shared.helper_said(rt, pass, 1, helper, Said::Reached, now);
+    let answer = shared.helper_said(rt, pass, number, helper, said, now);
     answer.ok().expect(rt, "a turn")
 }
 
-fn is_running<R: Wait + Abort>(rt: &R, shared: &Shared, pass: &mut Caller) -> bool
+/// What a helper's word about the lost target comes to, and the target.
+fn decide<R: Wait + Abort>(
+    rt: &R,
+    shared: &Shared,
+    pass: &mut Caller,
+    number: u64,
+    said: Said,
+) -> Option<(Address, NodeOutcome)>
     requires { Fits shared.now pass.old }
     ensures { Fits shared.now pass.new }
 {
-    shared.running(rt, pass).ok().expect(rt, "a turn").is_some()
+    let target = probe(rt, shared, pass).ok()??.target;
+    let (helper, _) = lose(rt, shared, pass, number).ok()?;
+    let helper = helper?;
+    let waiting = Running {
+        number,
+        target,
+        waiting: Some(helper),
+    };
+    assert!(rt; helper != target && running(rt, shared, pass) == Some(waiting));
+    let outcome = try_hear(rt, shared, pass, number, helper, said);
+    let again = outcome == Err(NodeError::Memory);
+    let outcome = if again {
+        try_hear(rt, shared, pass, number, helper, said)
+    } else {
+        outcome
+    };
+    Some((target, outcome.ok()?))
 }
 
 #[test]
-fn a_helper_reaches_a_lost_target(rt: HostRuntime) -> Result<(), Fail> {
-    let (shared, mut pass) = alone(&rt, rt.alloc(), 1, 4096);
+fn a_helper_decides_about_a_lost_target(rt: HostRuntime) -> Result<(), Fail> {
+    let (shared, mut pass) = alone(&rt, rt.alloc(), 1, 7, 4096);
     hear(&rt, &shared, &mut pass, &news(&rt, 2, 1, Status::Alive), 0);
     hear(&rt, &shared, &mut pass, &news(&rt, 3, 1, Status::Alive), 0);
-    let target = probe(&rt, &shared, &mut pass)?.ok_or("a target")?.target;
-    let (helper, _) = lose_once(&rt, &shared, &mut pass)?;
-    let helper = helper.ok_or("a helper")?;
-    assert!(rt; helper != target && is_running(&rt, &shared, &mut pass));
-    let outcome = hear_helper(&rt, &shared, &mut pass, helper);
-    assert!(rt; outcome == Ok(NodeOutcome::Reached));
-    assert!(rt; !is_running(&rt, &shared, &mut pass));
+    for (number, said) in [(1, Said::Failed), (2, Said::Reached), (3, Said::NotReached)] {
+        let decided = decide(&rt, &shared, &mut pass, number, said);
+        let (target, outcome) = decided.ok_or("an outcome")?;
+        let mut suspect = change(&rt, 2, 1, Status::Suspect);
+        suspect.address = target;
+        let wanted = match said {
+            Said::Failed => NodeOutcome::Inconclusive,
+            Said::Reached => NodeOutcome::Reached,
+            Said::NotReached => NodeOutcome::Suspect(Some(suspect)),
+        };
+        assert!(rt; outcome == wanted && running(&rt, &shared, &mut pass).is_none());
+    }
     Ok(())
 }

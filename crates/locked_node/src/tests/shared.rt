@@ -56,12 +56,22 @@ fn config(max: usize) -> Config {
     config
 }
 
-/// A node at 7 and moment 0.
-pub(super) fn node(rt: &impl Abort, alloc: Global, own: Address, max: usize) -> NodeState<SumHash>
-    ensures { result.node.own ≡ own }
+/// How a node begins.
+#[derive(Clone, Copy)]
+pub(super) struct Start {
+    pub(super) own: Address,
+    pub(super) incarnation: u64,
+    pub(super) max: usize,
+}
+
+/// A node at moment 0.
+pub(super) fn node(rt: &impl Abort, alloc: Global, start: &Start) -> NodeState<SumHash>
+    ensures { result.node.own ≡ start.now.own }
 {
-    let first = Incarnation::new(7).expect(rt, "an incarnation");
+    let first = Incarnation::new(start.incarnation).expect(rt, "an incarnation");
     let now = moment(rt, 0);
+    let own = start.own;
+    let max = start.max;
     if let Ok(node) = NodeState::new(alloc, config(max), SumHash, own, first, 1, now) {
         return node;
     }
@@ -73,33 +83,43 @@ pub(super) fn node(rt: &impl Abort, alloc: Global, own: Address, max: usize) -> 
 fn share(
     rt: &impl Abort,
     alloc: Global,
-    own: Address,
-    max: usize,
+    start: &Start,
     passes: u32,
     turns: u32,
 ) -> (Shared, Vec<Caller>)
     ensures passes { All (IsNew result.0 turns) result.1.items }
-    ensures name { name_of result.0 ≡ own }
+    ensures name { name_of result.0 ≡ start.now.own }
 {
-    if let Ok(made) = LockedNode::new(alloc, node(rt, alloc, own, max), passes, turns) {
+    if let Ok(made) = LockedNode::new(alloc, node(rt, alloc, start), passes, turns) {
         return made;
     }
-    let Ok(made) = LockedNode::new(alloc, node(rt, alloc, own, max), passes, turns) else {
+    let Ok(made) = LockedNode::new(alloc, node(rt, alloc, start), passes, turns) else {
         panic!(rt; "a locked node")
     };
     made
 }
 
-/// The node 10.0.0.`number`:1 with one pass.
-pub(super) fn alone(rt: &impl Abort, alloc: Global, number: u8, max: usize) -> (Shared, Caller)
+/// The node 10.0.0.`number`:1 at this incarnation, with one pass.
+pub(super) fn alone(
+    rt: &impl Abort,
+    alloc: Global,
+    number: u8,
+    incarnation: u64,
+    max: usize,
+) -> (Shared, Caller)
     ensures { Fits result.0 result.1 }
 {
-    let (shared, mut passes) = share(rt, alloc, member(rt, number), max, 1, 1000);
+    let start = Start {
+        own: member(rt, number),
+        incarnation,
+        max,
+    };
+    let (shared, mut passes) = share(rt, alloc, &start, 1, 1000);
     let pass = passes.pop().expect(rt, "a pass");
     (shared, pass)
 }
 
-/// The node with two passes, and the list that they came in, now empty.
+/// The node at 7 with two passes, and the list that they came in, now empty.
 pub(super) fn pair(
     rt: &impl Abort,
     alloc: Global,
@@ -111,7 +131,12 @@ pub(super) fn pair(
     ensures room { result.3.items ≡ [] }
     ensures names { (name_of result.0 ≡ own) × (lock_name result.1 ≡ own) }
 {
-    let (shared, mut passes) = share(rt, alloc, own, 4096, 2, turns);
+    let start = Start {
+        own,
+        incarnation: 7,
+        max: 4096,
+    };
+    let (shared, mut passes) = share(rt, alloc, &start, 2, turns);
     let second = passes.pop().expect(rt, "a pass");
     let first = passes.pop().expect(rt, "another");
     passes.clear();

@@ -1,6 +1,6 @@
 use Rattle.std.proofs.Common.{[]}
 use contract.BorrowLft.{⊑_meet, ⊑_static}
-use Rattle.locked_node.proofs.turns.InTurn.leave.Goals as goal
+use Rattle.locked_node.proofs.turns.TurnEnd.leave.Goals as goal
 
 pub leave-requires : goal.leave-requires
 leave-requires g c κs within =

@@ -1,4 +1,4 @@
-use Rattle.locked_node.proofs.turns.InTurn.leave.Given as goal
+use Rattle.locked_node.proofs.turns.TurnEnd.leave.Given as goal
 
 abbrev pub ghost-leave : goal.ghost-leave
 ghost-leave g a = g.entry

@@ -1,4 +1,8 @@
 //! What no clause says: that the calls succeed, and that threads take turns. Worked examples, by one pass or by several.
+ghost use Rattle.std.specs.Prelude.{◌≡◌};
+ghost use Rattle.std.specs.List.{All};
+ghost use Rattle.change_core.specs.Address.{address_of};
+ghost use Rattle.turn_lock.specs.Passes.{lock_name};
 ghost use Rattle.locked_node.specs.Passes.{Fits};
 
 use crate::{CloseRefused, LockedNode};
@@ -289,26 +293,31 @@ fn len_by_two<R: Threads + Wait + Sync>(
     )
 }
 
+/// A pass of 10.0.0.2:1.
+fn foreign_pass(rt: &impl Abort, alloc: Global) -> Caller
+    ensures { lock_name result ≡ address_of 167772162 1 }
+{
+    let (_node, pass, _, _) = pair(rt, alloc, member(rt, 2), 9);
+    pass
+}
+
+/// Why a node is not closed, and how many passes come back.
+fn close_refused(shared: Shared, passes: Vec<Caller>) -> Option<(CloseError, usize)>
+    requires { All (Fits shared) passes.items }
+{
+    let refused = shared.close(passes).err()?;
+    Some((refused.cause, refused.passes.len()))
+}
+
 #[test]
 fn a_pass_of_another_node_is_refused(rt: HostRuntime) -> Result<(), Fail> {
-    let (shared, first, second, mut passes) = pair(&rt, rt.alloc(), member(&rt, 1), 9);
-    let (_other, foreign, _, _) = pair(&rt, rt.alloc(), member(&rt, 2), 9);
-    let ((counted, second), (refused, foreign)) = len_by_two(&rt, &shared, second, foreign);
-    assert!(rt; counted == Ok(1) && refused == Err(LockError::ForeignPass));
-    passes.push(first)?;
-    passes.push(second)?;
-    passes.push(foreign)?;
-    let Err(
-        CloseRefused {
-            node: _node,
-            passes,
-            cause,
-        },
-    ) = shared.close(passes)
-    else {
-        panic!(rt; "a pass is foreign")
-    };
-    assert!(rt; cause == CloseError::ForeignPass && passes.len() == 3);
+    let (shared, _, own, mut passes) = pair(&rt, rt.alloc(), member(&rt, 1), 9);
+    let foreign = foreign_pass(&rt, rt.alloc());
+    let (counted, refused) = len_by_two(&rt, &shared, own, foreign);
+    assert!(rt; counted.0 == Ok(1) && refused.0 == Err(LockError::ForeignPass));
+    passes.push(counted.1)?;
+    passes.push(refused.1)?;
+    assert!(rt; close_refused(shared, passes) == Some((CloseError::ForeignPass, 2)));
     Ok(())
 }
 

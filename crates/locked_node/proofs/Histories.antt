@@ -15,7 +15,7 @@ use Rattle.node_core.specs.Run.{IsRun}
 use Rattle.node_core.proofs.RunLoop.{IsNodeOf-run}
 use Rattle.locked_node.specs.declared.node.LockedNode.{LockedNode}
 use Rattle.locked_node.specs.History.{CallEntry, entry_of, event_in, reply_in, History, LegalHistory, StandsFor, log_of}
-use Rattle.locked_node.specs.Passes.{NodePass, opening_of, IsCalled, Made, MadeInTurn}
+use Rattle.locked_node.specs.Passes.{NodePass, opening_of, IsCalled, MadeInTurn}
 use Rattle.locked_node.proofs.Itself.{history_itself}
 
 module _ {H : Type 0} (hash_of : H → List ℕ → ℕ) where

@@ -24,8 +24,7 @@ use Rattle.node_core.specs.Probes.{put_in, ended}
 use Rattle.node_core.specs.Receiving.{AnswerStep, ReceiveStep, MakeStep}
 use Rattle.node_core.specs.Step.{NodeStep}
 use Rattle.node_core.specs.Taking.{TakeStep, alteration, altered_by, took, took_all}
-use Rattle.turn_lock.specs.declared.kept.Turn.{Turn}
-use Rattle.locked_node.specs.History.{CallEntry, History, LegalHistory, IsItself, CallsLeaveItself}
+use Rattle.locked_node.specs.History.{History, LegalHistory, IsItself, CallsLeaveItself}
 
 module _ {H : Type 0} where
   abbrev self : Node H → ℕ × (H × Config)

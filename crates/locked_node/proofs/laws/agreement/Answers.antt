@@ -1,4 +1,4 @@
-use Rattle.std.proofs.Common.{◌≡◌, ◌∙◌, sym, ap, ℕ}
+use Rattle.std.proofs.Common.{◌∙◌, sym, ap}
 use Rattle.node_core.specs.declared.configs.Config.{Config}
 use Rattle.node_core.proofs.Agreeing.{nodes_agree}
 use Rattle.locked_node.specs.Agreement.{log_closed}

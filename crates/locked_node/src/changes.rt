@@ -154,8 +154,7 @@ impl<H: PointHash> LockedNode<H> {
         self.turn(rt, pass, &Rejoin)
     }
 
-    /// Puts in one change that is due at a moment, that of the least address, or answers None where none is due. It may answer
-    /// `Memory`.
+    /// Puts in one change that is due at a moment, that of the least address, or answers None where none is, or `Memory`.
     pub fn expire<R: Wait>(
         &self,
         rt: &R,

@@ -198,8 +198,7 @@ impl<H: PointHash> LockedNode<H> {
         self.turn(rt, pass, &Owner(key))
     }
 
-    /// The first `count` owners of a key, the owner first, or all serving members where there are fewer. `Memory` where
-    /// the list was refused.
+    /// The first `count` owners of a key, the owner first, or all serving members where there are fewer, or `Memory`.
     pub fn owners<R: Wait>(
         &self,
         rt: &R,
@@ -253,8 +252,7 @@ impl<H: PointHash> LockedNode<H> {
         self.turn(rt, pass, &MembersDigest)
     }
 
-    /// A copy of the ring, made inside one turn and used outside: it names the owners of keys as the node did then, and waits
-    /// for nobody. `Memory` where the copy was refused.
+    /// A copy of the ring, made in one turn and used outside, where it names owners as the node did then; or `Memory`.
     pub fn view<R: Wait>(
         &self,
         rt: &R,

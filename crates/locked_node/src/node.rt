@@ -16,11 +16,8 @@ pub type NodePass<H> = Pass<Held<H>>;
 /// A node that threads share. Each call is that of `NodeState` under the same name, made in one turn of a lock, for which
 /// it waits; no clause says that a turn ever comes. Where the pass is let in, the call is one entry of a history that is
 /// legal from the node that this one was made with, begins with all that the pass had seen, and is what it has seen from
-/// then on. The reply stands in that entry, a refusal by the node among the replies. Each call also answers, in this order
-/// and with the pass as it was:
-///
-/// - `ForeignPass`, the pass bears the name of another node,
-/// - `PassSpent`, the pass has made as many calls as it may.
+/// then on. The reply stands in that entry, a refusal by the node among the replies. Each call also answers, with the pass
+/// as it was, `ForeignPass` where the pass bears the name of another node, else `PassSpent` where it has made as many calls as it may.
 ///
 /// A pass that bears this node's name is to be one of those that were made with it, and in no call. Two locked nodes of one
 /// address bear one name, so `ForeignPass` does not tell their passes apart.
@@ -36,9 +33,8 @@ impl<H: PointHash> LockedNode<H> {
     /// The node, shared by so many passes (1 to 1,024), each for so many calls (at least 1). Its name is the number of its
     /// address, the IPv4 number times 65,536 plus the port. The passes come in the order of their numbers, from 0 on.
     ///
-    /// # Errors
-    /// `BadCount`, with the very node, where the passes or the turns are out of range, else `Memory` where a growth was
-    /// refused. At `Memory` the node is given up.
+    /// Errors: `BadCount`, with the very node, where the passes or the turns are out of range, else `Memory` where a growth
+    /// was refused. At `Memory` the node is given up.
     pub fn new(
         alloc: Global,
         node: NodeState<H>,
@@ -62,9 +58,8 @@ impl<H: PointHash> LockedNode<H> {
     /// a beginning of it, and it has the calls of each pass, once and in their order, and no other. The node is that of
     /// the history's log. The passes are all that were made, each once, in whatever order. Nothing grows here.
     ///
-    /// # Errors
-    /// `ForeignPass` where some pass bears another node's name, else `MissingPass` where there are fewer passes than were
-    /// made, both with the very node and passes.
+    /// Errors: `ForeignPass` where some pass bears another node's name, else `MissingPass` where there are fewer passes than
+    /// were made, both with the very node and passes.
     pub fn close(self, passes: Vec<NodePass<H>>) -> Result<NodeState<H>, CloseRefused<H>>
         requires { All (Fits self) passes.items }
         ensures closed { IfOk result (IsClosed H.hash_of self passes.items) }

@@ -91,8 +91,7 @@ impl<H: PointHash> Asked<H> for RunningProbe {
 impl<H: PointHash> LockedNode<H> {
     ghost use Rattle.locked_node.specs.Passes.{Fits, IsCalled, Refuses};
 
-    /// Begins a probe of the next member in turn, or answers None where nobody can be pinged. It may answer `Busy`, `Spent`
-    /// or `Memory`.
+    /// Begins a probe of the next member in turn, or answers None where there is none, or `Busy`, `Spent` or `Memory`.
     pub fn probe<R: Wait>(
         &self,
         rt: &R,
@@ -119,8 +118,7 @@ impl<H: PointHash> LockedNode<H> {
         self.turn(rt, pass, &Acked(number))
     }
 
-    /// Gives a probe up at a moment: others are to be asked about its target, or it is suspect. It may answer `StaleProbe` or
-    /// `Memory`.
+    /// Gives a probe up: others are to be asked about its target, or it is suspect; or answers `StaleProbe` or `Memory`.
     pub fn lost<R: Wait>(
         &self,
         rt: &R,

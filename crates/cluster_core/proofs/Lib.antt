@@ -1,3 +1,0 @@
-pub mod Acts
-pub mod Kept
-pub mod Served

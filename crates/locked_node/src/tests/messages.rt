@@ -8,7 +8,6 @@ use node_core::{ChangeList, Received, Taken};
 use std::alloc::Global;
 use std::process::Abort;
 use std::sync::Wait;
-use std::test::Fail;
 use wire_json::{Changes, Content, Kind, Message, News, Text};
 
 /// The SHA-256 of the empty text: the digest of no members.
@@ -84,16 +83,26 @@ fn told(rt: &impl Abort, number: u8, incarnation: u64) -> Sourced {
     }
 }
 
+/// A list of one change.
+fn one_change(rt: &impl Abort, alloc: Global, given: Sourced) -> Vec<Sourced> {
+    let mut changes = Vec::new(alloc);
+    if changes.reserve(1).is_err() {
+        changes.reserve(1).ok().expect(rt, "room");
+    }
+    changes.push(given).ok().expect(rt, "room");
+    changes
+}
+
 #[test]
-fn a_join_is_answered_by_all_members(rt: HostRuntime) -> Result<(), Fail> {
+fn a_join_is_answered_by_all_members(rt: HostRuntime) {
     let (shared, mut pass) = alone(&rt, rt.alloc(), 2, 1, 4096);
-    let mut changes = Vec::new(rt.alloc());
-    changes.push(news(&rt, 1, 7, Status::Alive))?;
+    let changes = one_change(&rt, rt.alloc(), news(&rt, 1, 7, Status::Alive));
     let join = message(
         &rt,
         Content::Join(news_of(&rt, digest_of(&rt, NOBODY), changes)),
     );
-    let (taken, joined) = answer(&rt, &shared, &mut pass, &join).ok_or("an answer")?;
+    let answered = answer(&rt, &shared, &mut pass, &join);
+    let (taken, joined) = answered.expect(&rt, "an answer");
     let wanted = Taken {
         applied: 1,
         refuted: 0,
@@ -101,7 +110,6 @@ fn a_join_is_answered_by_all_members(rt: HostRuntime) -> Result<(), Fail> {
     let all = [told(&rt, 1, 7), told(&rt, 2, 1)];
     assert!(rt; taken == wanted && joined.source == member(&rt, 2));
     assert!(rt; joined.content.kind() == Kind::Joined && carried(&joined) == all.as_slice());
-    Ok(())
 }
 
 /// A ping of 10.0.0.1:1 without changes.

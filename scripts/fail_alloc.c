@@ -1,9 +1,12 @@
 /* Preloaded into a test program: makes its Nth allocation fail, N being FAIL_ALLOC, and none where that is absent.
    Where FAIL_ALLOC_COUNT names a file, the number of allocations is written to it at the end. */
+#define _GNU_SOURCE
 #include <errno.h>
 #include <stdatomic.h>
 #include <stdio.h>
 #include <stdlib.h>
+#include <sys/syscall.h>
+#include <unistd.h>
 
 void *__libc_malloc(size_t size);
 void *__libc_realloc(void *from, size_t size);
@@ -35,7 +38,7 @@ void *realloc(void *from, size_t size) {
     return __libc_realloc(from, size);
 }
 
-__attribute__((destructor)) static void end(void) {
+static void tell(void) {
     const char *name = getenv("FAIL_ALLOC_COUNT");
     unsigned long made = atomic_load(&count);
     FILE *file = name ? fopen(name, "w") : NULL;
@@ -43,4 +46,13 @@ __attribute__((destructor)) static void end(void) {
         fprintf(file, "%lu\n", made);
         fclose(file);
     }
+}
+
+__attribute__((destructor)) static void end(void) { tell(); }
+
+/* A program with threads ends so, and no destructor runs. */
+void _exit(int status) {
+    tell();
+    syscall(SYS_exit_group, status);
+    __builtin_unreachable();
 }

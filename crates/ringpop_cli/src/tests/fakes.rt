@@ -1,6 +1,7 @@
 //! Readers and writers that take no memory, a byte at a time.
 use std::io;
 use std::io::{ErrorKind, Read, Write};
+use std::sync::atomic::{AtomicU64, Ordering};
 
 /// How many bytes a page holds.
 const PAGE: usize = 1024;
@@ -267,5 +268,69 @@ impl Read for Long {
         *to = b' ';
         self.left -= 1;
         Ok(1)
+    }
+}
+
+/// Lines that are typed: each is begun once the lines before it are answered on the screen. The reader fails where it is asked for one
+/// before that.
+#[derive(Clone, Copy)]
+pub struct Typed<'a> {
+    lines: Lines<'a>,
+    shown: &'a AtomicU64,
+}
+
+impl<'a> Typed<'a> {
+    pub fn new(lines: &'a [&'a str], shown: &'a AtomicU64) -> Typed<'a> {
+        Typed {
+            lines: Lines::new(lines, usize::MAX),
+            shown,
+        }
+    }
+}
+
+impl<'a> Read for Typed<'a> {
+    fn read(&mut self, buf: &mut [u8]) -> io::Result<usize> {
+        let shown = self.shown.load(Ordering::SeqCst);
+        if self.lines.place == 0 && shown != self.lines.line as u64 {
+            return Err(io::Error::from(ErrorKind::Other));
+        }
+        self.lines.read(buf)
+    }
+}
+
+/// A page that counts at each flush the lines that are on it by then: those are shown.
+#[derive(Clone, Copy)]
+pub struct Screen<'a> {
+    page: Page,
+    shown: &'a AtomicU64,
+}
+
+impl<'a> Screen<'a> {
+    pub fn new(shown: &'a AtomicU64) -> Screen<'a> {
+        Screen {
+            page: Page::new(PAGE),
+            shown,
+        }
+    }
+
+    /// Takes all lines off.
+    pub fn clear(&mut self) {
+        self.page = Page::new(PAGE);
+        self.shown.store(0, Ordering::SeqCst);
+    }
+
+    pub fn text(&self) -> &str {
+        self.page.text()
+    }
+}
+
+impl<'a> Write for Screen<'a> {
+    fn write(&mut self, buf: &[u8]) -> io::Result<usize> {
+        self.page.write(buf)
+    }
+
+    fn flush(&mut self) -> io::Result<()> {
+        self.shown.store(self.page.lines(), Ordering::SeqCst);
+        Ok(())
     }
 }

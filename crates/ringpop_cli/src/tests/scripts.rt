@@ -1,10 +1,11 @@
 use crate::faults::Fault;
 use crate::scripts::{ScriptFault, SimFault, sim_run};
-use crate::tests::fakes::{Form, Lines, Long, Many, Page, Place};
+use crate::tests::fakes::{Form, Lines, Long, Many, Page, Place, Screen, Typed};
 use crate::words::SimWords;
 use std::alloc::Global;
 use std::io::{Read, Write};
 use std::process::Abort;
+use std::sync::atomic::AtomicU64;
 
 /// No end of bytes, or of room.
 const ALL: usize = usize::MAX;
@@ -386,4 +387,28 @@ fn writes_what_the_writer_takes_of_answers(rt: HostRuntime) {
         assert_eq!(rt; ended, Err(SimFault::CannotWrite), "room {room}");
         assert_eq!(rt; Some(page.as_slice()), whole.get(..room), "room {room}");
     }
+}
+
+#[test]
+fn tells_of_an_answer_that_was_not_flushed(rt: HostRuntime) {
+    let mut page = Page::without_flush();
+    let ended = sim(&rt, rt.alloc(), Lines::new(&SHORT, ALL), &mut page);
+    assert_eq!(rt; ended, Err(SimFault::CannotWrite));
+    assert_eq!(rt; page.text(), "ok\n");
+}
+
+/// Each line is typed once the answer to the one before it is shown.
+#[test]
+fn shows_each_answer_before_it_reads_on(rt: HostRuntime) {
+    let shown = AtomicU64::new(0);
+    let mut screen = Screen::new(&shown);
+    let mut script = Typed::new(&SHORT, &shown);
+    let mut ended = sim_run(rt.alloc(), &SMALL, &mut script, &mut screen);
+    if refused_at(ended).is_some() {
+        screen.clear();
+        script = Typed::new(&SHORT, &shown);
+        ended = sim_run(rt.alloc(), &SMALL, &mut script, &mut screen);
+    }
+    assert!(rt; ended.is_ok());
+    assert_eq!(rt; screen.text(), SHORT_ANSWERED);
 }

@@ -2,13 +2,15 @@
 use Rattle.std.proofs.Common.{◌≡◌, ◌≢◌, ℕ, zero, suc, ◌+◌, ◌<◌, ◌≤◌, eqb, Bool, Option, Some, None, Result, Ok, Err, List, [], ◌∷◌, length, get_or, refl, sym, ap, ◌∙◌, arith, inl, inr, true, false}
 use Rattle.std.proofs.Math.ListN.{set}
 use Rattle.std.specs.Option.{IfSome}
-use Rattle.std.specs.Result.{IfOk}
+use Rattle.std.specs.Result.{IfErr, IfOk}
 use Rattle.std.proofs.lemmas.Bool.{cases_Bool, eqb-true, eqb-false}
 use Rattle.std.proofs.lemmas.List.{get_or_default}
 use Rattle.change_core.specs.declared.changes.Change.{Change}
 use Rattle.change_core.specs.Members.{greatest}
 use Rattle.change_core.proofs.Members.{IsGreatest-greatest}
 use Rattle.node_core.specs.Node.{Node, Seen, or_birth, own_change}
+use Rattle.ringpop_cli.specs.declared.scripts.faults.ScriptFault.{ScriptFault}
+use Rattle.ringpop_cli.specs.declared.scripts.faults.ScriptFault.TheVariants.{OutOfMemory}
 use Rattle.ringpop_cli.specs.Script.{IsPlace, GoesOn, node_at, nodes_in, with_node}
 
 -- what a node holds of itself is of its address
@@ -58,6 +60,12 @@ pub place_answers : {H X E : Type 0} (seen : List (Seen H)) (a i : ℕ) (old new
     → IfOk r (λ x. P x old.node new.node) → IfOk r (λ x. GoesOn (nodes_in seen) a (P x) (nodes_in (set seen i new)))
 place_answers seen a i old new (Ok x) P p e h = place_goes seen a i old new (P x) p e h
 place_answers seen a i old new (Err x) P p e h = tt
+
+-- and so where it has no memory
+pub place_lacks : {H X : Type 0} (seen : List (Seen H)) (a i : ℕ) (old new : Seen H) (r : Result X ScriptFault) (P : Node H → Node H → Type 0) → IsPlace seen a i → old ≡ get_or seen i old
+    → IfErr r (λ f. P old.node new.node) → IfErr r (λ f. f ≡ OutOfMemory → GoesOn (nodes_in seen) a P (nodes_in (set seen i new)))
+place_lacks seen a i old new (Ok x) P p e h = tt
+place_lacks seen a i old new (Err f) P p e h = λ q. place_goes seen a i old new P p e h
 
 -- the test of an address failed
 pub other_address : (b : Bool) (m n p : ℕ) → b ≡ false → b ≡ eqb m n → m ≡ p → p ≡ n → ⊥

@@ -10,7 +10,7 @@ use Rattle.ringpop_cli.specs.declared.scripts.faults.SimFault.TheVariants.{AtLin
 use Rattle.ringpop_cli.specs.Input.{lines_of}
 use Rattle.ringpop_cli.specs.Script.{Script}
 use Rattle.ringpop_cli.specs.ScriptRuns.{AnswersAll, AnswersLine, Completes, IsCountedLine, IsLineRefused, IsRefusedAt, ReadsLine, Stops, Turns}
-use Rattle.ringpop_cli.proofs.Scripting.{answers_more, appends_more, appends_nothing, unread_refused}
+use Rattle.ringpop_cli.proofs.Scripting.{answers_more, appends_more, appends_nothing, refused_first, unread_refused}
 
 -- ---- one turn
 
@@ -30,7 +30,7 @@ pub turn_refused : {H : Type 0} (hash_of : H → List ℕ → ℕ) (s then : Scr
 turn_refused hash_of s then None left written number v f h is counted = tt
 turn_refused hash_of s then (Some xs) left written number v f h is counted =
     let (rest, e, lines) = h in
-    (refl, subst (λ (ls : List (List ℕ)). IsRefusedAt hash_of s ls f) (sym lines) is, counted, refl)
+    (refl, subst (λ (ls : List (List ℕ)). IsRefusedAt hash_of s ls f) (sym lines) (refused_first hash_of s v.items (lines_of rest) f is), counted, refl)
 
 pub turn_done : {H : Type 0} (hash_of : H → List ℕ → ℕ) (s then : Script H) (known left written now : Option (List ℕ)) (number : ℕ) (v : Vec ℕ Global) (text : List ℕ)
     → IfSome known (λ xs. ReadsLine xs (Ok (Some v)) left) → AnswersLine hash_of s v.items text then → Appends written now (text ++ 10 ∷ [])

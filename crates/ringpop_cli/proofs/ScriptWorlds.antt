@@ -2,7 +2,7 @@
 use Rattle.std.proofs.Common.{◌≡◌, ℕ, ◌<◌, ◌≤◌, Bool, true, false, Option, Some, None, Result, Ok, Err, List, [], ◌∷◌, ◌++◌, length, get_or, refl, sym, ap, ◌∙◌, arith, inl, inr}
 use Rattle.std.specs.Prelude.{◌⊎◌, is_some}
 use Rattle.std.specs.Option.{IfSome}
-use Rattle.std.specs.Result.{IfOk}
+use Rattle.std.specs.Result.{IfErr, IfOk}
 use Rattle.std.proofs.lemmas.List.{map-append}
 use Rattle.wire_json.specs.declared.messages.Message.{Message}
 use Rattle.node_core.specs.declared.events.Received.TheVariants as received
@@ -14,7 +14,7 @@ use Rattle.ringpop_cli.specs.declared.scripts.lines.Question.{Question}
 use Rattle.ringpop_cli.specs.declared.scripts.messages.Sent.{Sent}
 use Rattle.ringpop_cli.specs.declared.scripts.faults.ScriptFault.{ScriptFault}
 use Rattle.ringpop_cli.specs.declared.scripts.faults.ScriptFault.TheVariants as fault
-use Rattle.ringpop_cli.specs.Script.{Comes, GoesOn, IsPlace, IsRefusedFor, NodeAnswers, Obeys, Script, most_messages, node_at, nodes_in, with_node}
+use Rattle.ringpop_cli.specs.Script.{Comes, GoesOn, IsPlace, IsRefusedFor, NodeAnswers, NodeLacks, Obeys, Script, most_messages, node_at, nodes_in, with_node}
 use Rattle.ringpop_cli.proofs.ScriptPlaces.{place_node}
 
 abbrev pub script_of : {H : Type 0} → H → ℕ → ℕ → List (Node H) → List Sent → Script H
@@ -55,6 +55,13 @@ held_not_below seen a i held given p h l =
     let is = rw e at h in
     (n, e, omega (arith, is, l))
 
+pub held_below : {H : Type 0} (seen : List (Seen H)) (a i held given : ℕ) → IsPlace seen a i → IfSome (node_at (nodes_in seen) a) (λ n. held ≡ (own_change n).incarnation) → held < given
+    → (x : Node H) × (node_at (nodes_in seen) a ≡ Some x) × ((own_change x).incarnation < given)
+held_below seen a i held given p h l =
+    let (n, e) = place_held seen a i p in
+    let is = rw e at h in
+    (n, e, omega (arith, is, l))
+
 pub restarted : {H : Type 0} (seen : List (Seen H)) (a i held given : ℕ) (x born : Node H) → IsPlace seen a i → IfSome (node_at (nodes_in seen) a) (λ n. held ≡ (own_change n).incarnation)
     → held < given → x ≡ born → GoesOn (nodes_in seen) a (λ before after. ((own_change before).incarnation < given) × (after ≡ born)) (with_node (nodes_in seen) a x)
 restarted seen a i held given x born p h l is =
@@ -70,18 +77,26 @@ pub asks : {H : Type 0} (hash_of : H → List ℕ → ℕ) (old : Script H) (a :
 asks hash_of old a question nodes (Ok answer) h = (nodes, h, refl)
 asks hash_of old a question nodes (Err f) h = tt
 
+pub lacks : {H : Type 0} (hash_of : H → List ℕ → ℕ) (old : Script H) (a : ℕ) (question : Question) (nodes : List (Node H)) (r : Result Answer ScriptFault)
+    → IfErr r (λ f. (f ≡ fault.OutOfMemory) ⊎ ((f ≡ fault.UnknownNode) × (node_at old.nodes a ≡ None)))
+    → IfErr r (λ f. f ≡ fault.OutOfMemory → GoesOn old.nodes a (λ before after. NodeLacks hash_of old.moment before question after) nodes)
+    → IfErr r (λ f. IsRefusedFor hash_of old (command.Ask a question) f)
+lacks hash_of old a question nodes (Ok answer) h memory = tt
+lacks hash_of old a question nodes (Err f) (inl e) memory = rw e (nodes, memory e)
+lacks hash_of old a question nodes (Err f) (inr p) memory = rw p.0 p.1
+
 -- ---- messages
 
 -- what keeping a message is refused for
 abbrev pub IsUnkept : List Sent → ScriptFault → Type 0
-IsUnkept messages f = (f ≡ fault.OutOfMemory) ⊎ ((f ≡ fault.TooManyMessages) × (most_messages ≤ length messages))
+IsUnkept messages f = ((f ≡ fault.OutOfMemory) × (length messages < most_messages)) ⊎ ((f ≡ fault.TooManyMessages) × (most_messages ≤ length messages))
 
 pub send_refused : {H : Type 0} (hash_of : H → List ℕ → ℕ) (old : Script H) (a target : ℕ) (f : ScriptFault) → (node_at old.nodes a ≡ None → ⊥) → IsUnkept old.messages f
     → IsRefusedFor hash_of old (command.Send a target) f
-send_refused hash_of old a target f held (inl e) = rw e tt
+send_refused hash_of old a target f held (inl p) = rw p.0 (held, p.1)
 send_refused hash_of old a target f held (inr p) = rw p.0 (held, p.1)
 
 pub answer_refused : {H : Type 0} (hash_of : H → List ℕ → ℕ) (old : Script H) (n : ℕ) (sent : Sent) (nodes : List (Node H)) (taken : Taken) (message : Message) (f : ScriptFault)
     → Comes hash_of old n sent (received.Answer taken message) nodes → IsUnkept old.messages f → IsRefusedFor hash_of old (command.Deliver n) f
-answer_refused hash_of old n sent nodes taken message f h (inl e) = rw e tt
+answer_refused hash_of old n sent nodes taken message f h (inl p) = rw p.0 (sent, nodes, taken, inr (message, h, p.1))
 answer_refused hash_of old n sent nodes taken message f h (inr p) = rw p.0 (sent, nodes, taken, message, h, p.1)

@@ -1,5 +1,5 @@
 -- A script: its nodes, its messages and its moment, and what each command does and answers.
-use Rattle.std.specs.Prelude.{◌≡◌, ◌≢◌, ℕ, zero, suc, ◌+◌, ◌<◌, ◌≤◌, ◌==◌, cond, Option, Some, None, Ok, Err, List, [], ◌∷◌, ◌++◌, length, map, slice_get, slice_index_or}
+use Rattle.std.specs.Prelude.{◌≡◌, ◌≢◌, ℕ, zero, suc, ◌+◌, ◌<◌, ◌≤◌, ◌==◌, ◌⊎◌, cond, Option, Some, None, Ok, Err, List, [], ◌∷◌, ◌++◌, length, map, slice_get, slice_index_or}
 use Rattle.std.specs.List.{find}
 use Rattle.change_core.specs.declared.changes.Change.{Change}
 use Rattle.change_core.specs.declared.changes.Sourced.{Sourced}
@@ -99,6 +99,17 @@ NodeAnswers hash_of now old (question.Owners count key) (answer.Owners owners) n
 -- no other answer is given
 NodeAnswers hash_of now old question other new = ⊥
 
+-- one of the nodes has no memory for what it is asked at a moment, and is this then: one call of it
+abbrev pub NodeLacks : {H : Type 0} → (H → List ℕ → ℕ) → ℕ → Node H → Question → Node H → Type 0
+NodeLacks hash_of now old question.Leave new = NodeStep hash_of old call.Leave (reply.Leave (Err refused.Memory)) new
+NodeLacks hash_of now old question.Rejoin new = NodeStep hash_of old call.Rejoin (reply.Rejoin (Err refused.Memory)) new
+NodeLacks hash_of now old question.Expire new = NodeStep hash_of old (call.Expire now) (reply.Expire (Err refused.Memory)) new
+NodeLacks hash_of now old question.Members new = NodeStep hash_of old call.DigestText (reply.DigestText (Err refused.Memory)) new
+NodeLacks hash_of now old question.Digest new = NodeStep hash_of old call.Digest (reply.Digest (Err refused.Memory)) new
+NodeLacks hash_of now old (question.Owners count key) new = NodeStep hash_of old (call.Owners key.now count) (reply.Owners (Err refused.Memory)) new
+-- a batch that stops for it is answered
+NodeLacks hash_of now old (question.Take c) new = ⊥
+
 -- the node of this address goes on, so that P holds of it before and after
 abbrev pub GoesOn : {H : Type 0} → List (Node H) → ℕ → (Node H → Node H → Type 0) → List (Node H) → Type 0
 GoesOn {H} old a P new = (before after : Node H) × (node_at old a ≡ Some before) × P before after × (new ≡ with_node old a after)
@@ -148,9 +159,20 @@ Obeys {H} hash_of old (Restart birth) answer.Done new =
 -- no other answer is given
 Obeys hash_of old command other new = ⊥
 
--- what is wrong with a command; a want of memory says nothing of it
+-- the message of this number is taken, and there is no memory for the answer to it, or none to keep that
+abbrev pub IsUnanswered : {H : Type 0} → (H → List ℕ → ℕ) → Script H → ℕ → Type 0
+IsUnanswered {H} hash_of s n =
+    (sent : Sent) × (nodes : List (Node H)) × (taken : Taken)
+    × (Comes hash_of s n sent (received.NoAnswer taken) nodes ⊎ ((message : Message) × Comes hash_of s n sent (received.Answer taken message) nodes × (length s.messages < most_messages)))
+
+-- what is wrong with a command; memory is wanting in a call of a node, or for a node or a message more, where nothing else is wrong
 abbrev pub IsRefusedFor : {H : Type 0} → (H → List ℕ → ℕ) → Script H → Command → ScriptFault → Type 0
-IsRefusedFor hash_of s command fault.OutOfMemory = Unit {0}
+IsRefusedFor hash_of s (Makes birth) fault.OutOfMemory = (node_at s.nodes birth.address ≡ None) × (length s.nodes < most_nodes)
+IsRefusedFor {H} hash_of s (Ask a question) fault.OutOfMemory = (nodes : List (Node H)) × GoesOn s.nodes a (λ before after. NodeLacks hash_of s.moment before question after) nodes
+IsRefusedFor hash_of s (Send a target) fault.OutOfMemory = (node_at s.nodes a ≢ None) × (length s.messages < most_messages)
+IsRefusedFor hash_of s (Deliver n) fault.OutOfMemory = IsUnanswered hash_of s n
+IsRefusedFor {H} hash_of s (Restart birth) fault.OutOfMemory =
+    (before : Node H) × (node_at s.nodes birth.address ≡ Some before) × ((own_change before).incarnation < birth.incarnation)
 IsRefusedFor hash_of s (Makes birth) fault.NodeExists = node_at s.nodes birth.address ≢ None
 IsRefusedFor hash_of s (Makes birth) fault.TooManyNodes = (node_at s.nodes birth.address ≡ None) × (most_nodes ≤ length s.nodes)
 IsRefusedFor hash_of s (Ask a question) fault.UnknownNode = node_at s.nodes a ≡ None

@@ -26,17 +26,21 @@ abbrev pub AnswersLine : {H : Type 0} → (H → List ℕ → ℕ) → Script H 
 AnswersLine hash_of old line text new =
     (length line ≤ max_line) × (c : Command) × (answer : Answer) × IsCommand c line × Obeys hash_of old c answer new × (text ≡ answer_text answer)
 
--- what is wrong with a line where the script is this one: that it is too long, or else that it is no command, or what is wrong with the
--- command; a want of memory and a failed read say nothing of its bytes
+-- what is wrong with a line that was read, where the script is this one: that it is too long, or else that it is no command, or what is
+-- wrong with the command; or the command is done, and there is no memory for the text of its answer
 abbrev pub IsLineRefused : {H : Type 0} → (H → List ℕ → ℕ) → Script H → List ℕ → ScriptFault → Type 0
-IsLineRefused hash_of s line fault.ReadFailed = Unit {0}
+IsLineRefused hash_of s line fault.ReadFailed = ⊥
 IsLineRefused hash_of s line fault.LineTooLong = max_line < length line
-IsLineRefused hash_of s line fault.OutOfMemory = Unit {0}
 IsLineRefused hash_of s line fault.BadCommand = (length line ≤ max_line) × ((c : Command) → IsCommand c line → ⊥)
+IsLineRefused {H} hash_of s line fault.OutOfMemory =
+    (length line ≤ max_line) × (c : Command) × IsCommand c line × (IsRefusedFor hash_of s c fault.OutOfMemory ⊎ ((answer : Answer) × (then : Script H) × Obeys hash_of s c answer then))
 IsLineRefused hash_of s line other = (length line ≤ max_line) × (c : Command) × IsCommand c line × IsRefusedFor hash_of s c other
 
--- what is wrong with the first of the lines that are left; where none is left a read can fail, and nothing else
+-- what is wrong with the first of the lines that are left; a want of memory and a failed read say nothing of its bytes, since they may come
+-- before it is read; where none is left a read can fail, and nothing else
 abbrev pub IsRefusedAt : {H : Type 0} → (H → List ℕ → ℕ) → Script H → List (List ℕ) → ScriptFault → Type 0
+IsRefusedAt hash_of s (line ∷ lines) fault.ReadFailed = Unit {0}
+IsRefusedAt hash_of s (line ∷ lines) fault.OutOfMemory = Unit {0}
 IsRefusedAt hash_of s (line ∷ lines) f = IsLineRefused hash_of s line f
 IsRefusedAt hash_of s [] f = f ≡ fault.ReadFailed
 

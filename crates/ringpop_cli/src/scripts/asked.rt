@@ -1,6 +1,6 @@
 //! What one node is asked, and what it answers.
-ghost use Rattle.std.specs.Prelude.{IfOk, IsOkUnless};
-ghost use Rattle.ringpop_cli.specs.Script.{NodeAnswers};
+ghost use Rattle.std.specs.Prelude.{IfErr, IfOk, IsOkUnless};
+ghost use Rattle.ringpop_cli.specs.Script.{NodeAnswers, NodeLacks};
 
 use crate::scripts::answers::Answer;
 use crate::scripts::faults::ScriptFault;
@@ -17,6 +17,7 @@ pub fn ask<H: PointHash>(
 ) -> Result<Answer, ScriptFault>
     ensures answer { IfOk result (λ answer. NodeAnswers H.hash_of moment node.old.node question.now answer node.new.node) }
     ensures refusal { IsOkUnless result ScriptFault.OutOfMemory }
+    ensures memory { IfErr result (λ _. NodeLacks H.hash_of moment node.old.node question.now node.new.node) }
 {
     match question {
         Question::Take(change) => Ok(take(node, moment, change)),
@@ -47,6 +48,7 @@ fn take<H: PointHash>(node: &mut NodeState<H>, moment: Moment, change: &Change) 
 fn leave<H: PointHash>(node: &mut NodeState<H>) -> Result<Answer, ScriptFault>
     ensures answer { IfOk result (λ answer. NodeAnswers H.hash_of 0 node.old.node Question.Leave answer node.new.node) }
     ensures refusal { IsOkUnless result ScriptFault.OutOfMemory }
+    ensures memory { IfErr result (λ _. NodeLacks H.hash_of 0 node.old.node Question.Leave node.new.node) }
 {
     match node.leave() {
         Ok(change) => Ok(Answer::Said(change)),
@@ -58,6 +60,7 @@ fn leave<H: PointHash>(node: &mut NodeState<H>) -> Result<Answer, ScriptFault>
 fn rejoin<H: PointHash>(node: &mut NodeState<H>) -> Result<Answer, ScriptFault>
     ensures answer { IfOk result (λ answer. NodeAnswers H.hash_of 0 node.old.node Question.Rejoin answer node.new.node) }
     ensures refusal { IsOkUnless result ScriptFault.OutOfMemory }
+    ensures memory { IfErr result (λ _. NodeLacks H.hash_of 0 node.old.node Question.Rejoin node.new.node) }
 {
     match node.rejoin() {
         Ok(change) => Ok(Answer::Said(change)),
@@ -70,6 +73,7 @@ fn rejoin<H: PointHash>(node: &mut NodeState<H>) -> Result<Answer, ScriptFault>
 fn expire<H: PointHash>(node: &mut NodeState<H>, moment: Moment) -> Result<Answer, ScriptFault>
     ensures answer { IfOk result (λ answer. NodeAnswers H.hash_of moment node.old.node Question.Expire answer node.new.node) }
     ensures refusal { IsOkUnless result ScriptFault.OutOfMemory }
+    ensures memory { IfErr result (λ _. NodeLacks H.hash_of moment node.old.node Question.Expire node.new.node) }
 {
     match node.expire(moment) {
         Ok(Some(change)) => Ok(Answer::Said(change)),
@@ -81,6 +85,7 @@ fn expire<H: PointHash>(node: &mut NodeState<H>, moment: Moment) -> Result<Answe
 fn members<H: PointHash>(node: &NodeState<H>) -> Result<Answer, ScriptFault>
     ensures answer { IfOk result (λ answer. NodeAnswers H.hash_of 0 node.now.node Question.Members answer node.now.node) }
     ensures refusal { IsOkUnless result ScriptFault.OutOfMemory }
+    ensures memory { IfErr result (λ _. NodeLacks H.hash_of 0 node.now.node Question.Members node.now.node) }
 {
     match node.digest_text() {
         Ok(text) => Ok(Answer::Members(text)),
@@ -91,6 +96,7 @@ fn members<H: PointHash>(node: &NodeState<H>) -> Result<Answer, ScriptFault>
 fn digest<H: PointHash>(node: &NodeState<H>) -> Result<Answer, ScriptFault>
     ensures answer { IfOk result (λ answer. NodeAnswers H.hash_of 0 node.now.node Question.Digest answer node.now.node) }
     ensures refusal { IsOkUnless result ScriptFault.OutOfMemory }
+    ensures memory { IfErr result (λ _. NodeLacks H.hash_of 0 node.now.node Question.Digest node.now.node) }
 {
     match node.digest() {
         Ok(digest) => Ok(Answer::Digest(digest)),
@@ -105,6 +111,7 @@ fn owners<H: PointHash>(
 ) -> Result<Answer, ScriptFault>
     ensures answer { IfOk result (λ answer. NodeAnswers H.hash_of 0 node.now.node (Question.Owners count key.entry) answer node.now.node) }
     ensures refusal { IsOkUnless result ScriptFault.OutOfMemory }
+    ensures memory { IfErr result (λ _. NodeLacks H.hash_of 0 node.now.node (Question.Owners count key.entry) node.now.node) }
 {
     match node.owners(key, count) {
         Ok(owners) => Ok(Answer::Owners(owners)),

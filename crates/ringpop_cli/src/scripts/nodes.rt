@@ -2,7 +2,7 @@
 ghost use Rattle.std.specs.Prelude.{◌≡◌, ◌<◌, ◌≤◌, ◌⊎◌, None, IfOk, IfErr, IfSome, OnErr};
 ghost use Rattle.hash_ring.specs.Points.{IsReplicas};
 ghost use Rattle.node_core.specs.Node.{own_change};
-ghost use Rattle.ringpop_cli.specs.Script.{GoesOn, IsPlace, NodeAnswers, Pings, Receives, born, node_at, nodes_in, with_node};
+ghost use Rattle.ringpop_cli.specs.Script.{GoesOn, IsPlace, NodeAnswers, NodeLacks, Pings, Receives, born, node_at, nodes_in, with_node};
 
 use crate::scripts::answers::Answer;
 use crate::scripts::asked::ask;
@@ -39,6 +39,8 @@ pub fn ask_at<H: PointHash>(
         (λ before after. NodeAnswers H.hash_of moment before question.now answer after) (nodes_in nodes.new.items)) }
     ensures fault { IfErr result (λ f. (f ≡ ScriptFault.OutOfMemory)
         ⊎ ((f ≡ ScriptFault.UnknownNode) × (node_at (nodes_in nodes.old.items) address ≡ None))) }
+    ensures memory { IfErr result (λ f. f ≡ ScriptFault.OutOfMemory → GoesOn (nodes_in nodes.old.items) address
+        (λ before after. NodeLacks H.hash_of moment before question.now after) (nodes_in nodes.new.items)) }
 {
     let Some(place) = place_of(nodes.as_slice(), address) else {
         return Err(ScriptFault::UnknownNode);

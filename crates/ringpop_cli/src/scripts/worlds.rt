@@ -188,7 +188,7 @@ fn message_at(messages: &[Sent], number: u64) -> Option<&Sent>
 fn keep(messages: &mut Vec<Sent>, to: Address, message: Message) -> Result<u64, ScriptFault>
     ensures number { IfOk result (λ n. (length messages.old.items < most_messages) × (n ≡ length messages.old.items + 1)
         × (messages.new.items ≡ with_message messages.old.items to message)) }
-    ensures fault { IfErr result (λ f. (f ≡ ScriptFault.OutOfMemory)
+    ensures fault { IfErr result (λ f. ((f ≡ ScriptFault.OutOfMemory) × (length messages.old.items < most_messages))
         ⊎ ((f ≡ ScriptFault.TooManyMessages) × (most_messages ≤ length messages.old.items))) }
 {
     let kept = messages.len();

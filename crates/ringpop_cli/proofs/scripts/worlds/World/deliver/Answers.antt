@@ -1,4 +1,4 @@
-use Rattle.std.proofs.Common.{refl, sym, ap}
+use Rattle.std.proofs.Common.{inl, refl, sym, ap}
 use Rattle.std.proofs.lemmas.Result.{err_from_is_err_and}
 use Rattle.ringpop_cli.specs.Script.{nodes_in}
 use Rattle.ringpop_cli.proofs.ScriptWorlds.{answer_refused, script_of}
@@ -11,6 +11,15 @@ returns-in_default-place_of-clause-answer g c =
 pub returns-in-Done-clause-answer : goal.returns-in-Done-clause-answer
 returns-in-Done-clause-answer g c =
     rw (← c.self.view_is) (c.in-Some.sent.now, nodes_in c.receive_at.new.nodes.items, (sym (rw c.as_slice.ensures.value at c.in-Some.ensures), c.in-Done.ensures), refl)
+
+pub returns-in-NoAnswer-clause-fault : goal.returns-in-NoAnswer-clause-fault
+returns-in-NoAnswer-clause-fault g c =
+    rw (← c.self.view_is) (
+      c.in-Some.sent.now,
+      nodes_in c.receive_at.new.nodes.items,
+      c.in-NoAnswer.field-0,
+      inl (sym (rw c.as_slice.ensures.value at c.in-Some.ensures), c.in-NoAnswer.ensures),
+    )
 
 pub returns-in-Stopped-clause-answer : goal.returns-in-Stopped-clause-answer
 returns-in-Stopped-clause-answer g c =

@@ -1,4 +1,4 @@
-use Rattle.std.proofs.Common.{◌≤◌, ap, length, rules}
+use Rattle.std.proofs.Common.{◌<◌, ◌≤◌, ap, length, rules}
 use Rattle.std.proofs.lemmas.Result.{err_from_is_err_and}
 use Rattle.ringpop_cli.specs.Script.{most_messages, nodes_in}
 use Rattle.ringpop_cli.proofs.ScriptWorlds.{place_known, script_of, send_refused}
@@ -8,6 +8,12 @@ pub returns-then-len-ge-MOST_MESSAGES-clause-fault : goal.returns-then-len-ge-MO
 returns-then-len-ge-MOST_MESSAGES-clause-fault g c =
     let many : most_messages ≤ length c.self.inside.messages.items = search rules in
     rw (← c.self.view_is) (place_known c.self.inside.nodes.items c.args.address c.in-Some.place (rw c.as_slice.ensures.value at c.in-Some.ensures.place), many)
+
+pub returns-in_err-message-clause-fault : goal.returns-in_err-message-clause-fault
+returns-in_err-message-clause-fault g c =
+    let p = err_from_is_err_and c.from_residual.result c.from_residual.ensures.1 in
+    let few : length c.self.inside.messages.items < most_messages = search rules in
+    rw (← c.self.view_is, p.1, p.2, c.in_err-message.ensures.fault) (place_known c.self.inside.nodes.items c.args.address c.in-Some.place (rw c.as_slice.ensures.value at c.in-Some.ensures.place), few)
 
 pub returns-in_err-number-clause-fault : goal.returns-in_err-number-clause-fault
 returns-in_err-number-clause-fault g c =

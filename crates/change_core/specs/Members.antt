@@ -9,7 +9,7 @@ use Rattle.change_core.specs.Address.{address_text}
 use Rattle.change_core.specs.Change.{Exceeds, exceeds}
 use Rattle.change_core.specs.Status.{status_word, is_serving}
 
--- the one of two that exceeds the other
+-- of two changes that may be there the one that is; where both are, the second if it exceeds the first, and else the first
 abbrev pub greater : Option Change → Option Change → Option Change
 greater None d = d
 greater (Some c) None = Some c
@@ -44,6 +44,7 @@ alters (Some held) given = exceeds given held
 abbrev pub is_news : List Change → Change → Bool
 is_news cs c = alters (greatest cs c.address) c
 
+-- the address that a change is about
 abbrev pub address_of_change : Change → ℕ
 address_of_change c = c.address
 
@@ -55,11 +56,12 @@ addresses cs = ascending nat_cmp (map address_of_change cs)
 abbrev pub members : List Change → List Change
 members cs = filter_map (greatest cs) (addresses cs)
 
--- each number is below all later ones
+-- each number of the list is above this one
 abbrev pub AllAbove : ℕ → List ℕ → Type 0
 AllAbove a [] = Unit {0}
 AllAbove a (b ∷ bs) = (a < b) × AllAbove a bs
 
+-- each number is below all later ones
 abbrev pub IsRising : List ℕ → Type 0
 IsRising [] = Unit {0}
 IsRising (a ∷ as') = AllAbove a as' × IsRising as'
@@ -80,6 +82,6 @@ weight_text w = cond (w == 1) [] (42 ∷ number_text w)
 abbrev pub change_text : Change → List ℕ
 change_text c = address_text c.address ++ (status_word c.status ++ (number_text c.incarnation ++ weight_text c.weight))
 
--- the texts of the members joined by ';'
+-- the texts of the changes of a list, in its order, joined by ';'
 abbrev pub digest_text : List Change → List ℕ
 digest_text cs = join_with_byte 59 (map change_text cs)

@@ -13,5 +13,6 @@ most_members = 4096
 abbrev pub greatest_weight : ℕ
 greatest_weight = 8
 
+-- from 1 to the greatest weight
 abbrev pub IsWeight : ℕ → Type 0
 IsWeight w = (1 ≤ w) × (w ≤ greatest_weight)

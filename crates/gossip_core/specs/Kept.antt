@@ -4,6 +4,7 @@ use Rattle.gossip_core.specs.declared.gossip.Gossip.TheInside.{Inside}
 use Rattle.gossip_core.specs.Dissemination.{Dissemination, IsBounded}
 use Rattle.gossip_core.specs.Pending.{IsByAddress}
 
+-- what is seen of the fields: the factor, the limit, and the changes of the map in their order
 abbrev pub seen : Inside → Dissemination
 seen g = record { factor = g.factor; limit = g.limit; pending = values g.pending }
 

@@ -42,7 +42,7 @@ weight_or_none (Some w) = w
 abbrev pub shares : Address → List Server → ℕ
 shares a servers = weight_or_none (weight_of a servers)
 
--- each address stands once
+-- servers of one address are the same server
 abbrev pub EachOnce : List Server → Type 0
 EachOnce servers = (s t : Server) → In s servers → In t servers → s.address ≡ t.address → s ≡ t
 

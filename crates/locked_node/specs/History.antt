@@ -16,6 +16,7 @@ pub record CallEntry (H : Type 0) : Type 0 where
   pub answer : Answer H
   pub after : Node H
 
+-- the entry of this call, with this answer and this node after it
 abbrev pub entry_of : {H : Type 0} → Call → Answer H → Node H → CallEntry H
 entry_of call answer after = record { call = call; answer = answer; after = after }
 
@@ -43,10 +44,12 @@ CallsLeaveItself {H} hash_of = (old new : Node H) (call : Call) (answer : Answer
 abbrev pub StandsFor : {H : Type 0} → (H → List ℕ → ℕ) → Seen H → History H → Seen H → Type 0
 StandsFor hash_of opening history now = IsSeen hash_of opening × LegalHistory hash_of opening.node history now.node
 
+-- the event of a call, where it is one: a view has none
 abbrev pub event_in : Call → Option Event
 event_in (OfEvent event) = Some event
 event_in OfView = None
 
+-- the reply of an answer, where it is one: a view is none
 abbrev pub reply_in : {H : Type 0} → Answer H → Option Reply
 reply_in (WithReply reply) = Some reply
 reply_in (WithView result) = None

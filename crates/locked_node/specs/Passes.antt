@@ -13,6 +13,7 @@ use Rattle.locked_node.specs.declared.held.Held.{Held}
 use Rattle.locked_node.specs.declared.node.LockedNode.{LockedNode}
 use Rattle.locked_node.specs.History.{CallEntry, entry_of, History, LegalHistory, IsItself, log_of}
 
+-- a pass of the lock whose state is a node, and whose entries are its calls
 abbrev pub NodePass : Type 0 → Type 0
 NodePass H = Pass (Held H) (CallEntry H)
 

@@ -8,6 +8,7 @@ use Rattle.node_core.specs.Node.{Node}
 use Rattle.node_core.specs.Step.{Answers, NodeStep}
 use Rattle.node_core.specs.Viewing.{Viewed, view_of}
 
+-- a call: an event, or the making of a view
 pub data Call : Type 0 where
   OfEvent : Event → Call
   OfView : Call

@@ -5,6 +5,7 @@ use Rattle.node_core.specs.declared.configs.Config.{Config}
 use Rattle.node_core.specs.declared.configs.ConfigField.{ConfigField}
 use Rattle.node_core.specs.declared.configs.ConfigField.TheVariants.{Replicas, MaxMembers, SuspectMs, FaultyMs, Helpers, Piggyback, PerMessage}
 
+-- whether n is from least to most, both included
 abbrev pub is_within : ℕ → ℕ → ℕ → Bool
 is_within least most n = nat_le least n && nat_le n most
 

@@ -11,6 +11,7 @@ use Rattle.node_core.specs.Node.{Node, altered, at_moment, is_timed, next_status
 abbrev pub timer_of : List Timer → ℕ → Option Timer
 timer_of timers a = find (λ t. t.address == a) timers
 
+-- whether there is a timer, and its deadline is reached now
 abbrev pub is_reached : ℕ → Option Timer → Bool
 is_reached now None = false
 is_reached now (Some t) = nat_le t.deadline now
@@ -27,6 +28,7 @@ due node = find (is_due node) node.members
 abbrev pub expired : Change → Change
 expired c = record c { status = next_status c.status }
 
+-- the entry that is due at a moment becomes what it does at its deadline, or none is due; for want of memory nothing changes
 abbrev pub ExpireStep : {H : Type 0} → Node H → ℕ → Result (Option Change) NodeError → Node H → Type 0
 ExpireStep old moment (Ok None) new = (due (at_moment old moment) ≡ None) × (new ≡ at_moment old moment)
 ExpireStep old moment (Ok (Some change)) new =

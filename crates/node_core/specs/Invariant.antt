@@ -24,6 +24,7 @@ use Rattle.node_core.specs.Step.{NodeStep}
 abbrev pub Purpose : Type 0
 Purpose = ℕ × Status
 
+-- that of a timer: its incarnation, and the status that comes next
 abbrev pub purpose_of : Timer → Purpose
 purpose_of t = (t.incarnation, t.next)
 
@@ -39,6 +40,7 @@ pub record IsProbing (probing : ProbeState) : Type 0 where
   pub different : AllDifferent probing.rest
   pub waited : (p : Attempted) → probing.running ≡ Some p → first_waiting p.asked ≡ None → p.asked ≡ []
 
+-- what holds of a node between any two calls: of its entries, pending changes, timers, probe and configuration
 pub record IsNode {H : Type 0} (node : Node H) : Type 0 where
   -- one entry for each address, ascending, and no more than may be
   pub one_each : IsMemberList node.members

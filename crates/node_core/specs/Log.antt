@@ -9,6 +9,7 @@ abbrev pub log_given : ℕ → List Change → List Change → List Change
 log_given own log [] = log
 log_given own log (c ∷ cs) = log_given own (log_one own log c) cs
 
+-- 1 where it is so, and else 0
 abbrev pub one_if : Bool → ℕ
 one_if b = cond b 1 0
 

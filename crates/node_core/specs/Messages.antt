@@ -18,6 +18,7 @@ use Rattle.node_core.specs.Node.{Node, own_change, said_by}
 abbrev pub digest_of : List Change → Digest
 digest_of members = record { bytes = sha256 (digest_text members) }
 
+-- whether two digests are the same, byte by byte
 abbrev pub is_same_digest : Digest → Digest → Bool
 is_same_digest d e = pointwise nat_eq d.bytes e.bytes
 
@@ -67,15 +68,18 @@ ack_changes node checksum (s ∷ ss) = s ∷ ss
 abbrev pub ack_by : {H : Type 0} → Node H → ℕ → Digest → Message
 ack_by node source checksum = says node (Ack (news_of node (ack_changes node checksum (piggyback node source))))
 
--- the messages that a node makes unasked: its own entry to join, and what it passes on to the receiver
+-- the message to join, with the node's own entry
 abbrev pub join_by : {H : Type 0} → Node H → Message
 join_by node = says node (Join (news_of node (said_by node (own_change node) ∷ [])))
 
+-- a ping of the target, with what the node passes on to it
 abbrev pub ping_by : {H : Type 0} → Node H → ℕ → Message
 ping_by node target = says node (Ping (news_of node (piggyback node target)))
 
+-- a request to the helper to ping the target, with what the node passes on to the helper
 abbrev pub ping_req_by : {H : Type 0} → Node H → ℕ → ℕ → Message
 ping_req_by node helper target = says node (PingReq (news_of node (piggyback node helper)) target)
 
+-- the node's word as a helper: whether the target was reached, with what it passes on to the requester
 abbrev pub ping_req_ack_by : {H : Type 0} → Node H → ℕ → ℕ → Bool → Message
 ping_req_ack_by node requester target reached = says node (PingReqAck (news_of node (piggyback node requester)) target reached)

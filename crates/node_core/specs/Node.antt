@@ -37,6 +37,7 @@ asserts Faulty = false
 asserts Leave = true
 asserts Tombstone = false
 
+-- what is held, and where nothing is, a birth at incarnation 0 with weight 1
 abbrev pub or_birth : ℕ → Option Change → Change
 or_birth own None = birth own 0 1
 or_birth own (Some c) = c
@@ -65,6 +66,7 @@ next_status Faulty = Tombstone
 next_status Leave = Leave
 next_status Tombstone = Tombstone
 
+-- whether an entry with this status comes to a deadline: a suspect or a faulty one does
 abbrev pub has_deadline : Status → Bool
 has_deadline Alive = false
 has_deadline Suspect = true

@@ -11,6 +11,7 @@ use Rattle.node_core.specs.declared.configs.Config.{Config}
 use Rattle.node_core.specs.Invariant.{IsNode}
 use Rattle.node_core.specs.Node.{Node, Seen}
 
+-- the parts that a node keeps: configuration, membership, ring, pending changes, timers, prober and last moment
 pub record Parts (H : Type 0) : Type 0 where
   pub config : Config
   pub members : Membership
@@ -33,6 +34,7 @@ node_of p = record {
   probing = p.probing;
 }
 
+-- what is seen of these parts: their node, and the points of their ring
 abbrev pub seen_in : {H : Type 0} → Parts H → Seen H
 seen_in p = record { node = node_of p; points = p.ring.points }
 

@@ -43,10 +43,12 @@ suspicion_of c Faulty = None
 suspicion_of c Leave = None
 suspicion_of c Tombstone = None
 
+-- the same of an entry that may be there, by its own status
 abbrev pub suspicion_in : Option Change → Option Change
 suspicion_in None = None
 suspicion_in (Some c) = suspicion_of c c.status
 
+-- the same of what the node holds of the target
 abbrev pub suspicion : {H : Type 0} → Node H → ℕ → Option Change
 suspicion node target = suspicion_in (greatest node.members target)
 

@@ -55,6 +55,7 @@ abbrev pub as_answered : Taken → Result Message NodeError → Received
 as_answered taken (Ok message) = received.Answer taken message
 as_answered taken (Err error) = received.NoAnswer taken
 
+-- the changes of a message of the membership are taken; where all are and it wants an answer, it has one or finds no memory; any other does nothing
 abbrev pub ReceiveStep : {H : Type 0} → Node H → Message → ℕ → Received → Node H → Type 0
 ReceiveStep old message moment (received.Done taken) new =
     (is_gossip message.content ≡ true) × (is_answered message.content ≡ false) × TakeStep old (carried message.content) moment (Ok taken) new

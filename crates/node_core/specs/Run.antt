@@ -31,6 +31,7 @@ given_in (call.Take given moment) (answer.Take (Err stopped)) = take stopped.tak
 given_in (call.Receive message moment) (answer.Receive result) = received_in (map change_of (carried message.content)) result
 given_in event reply = []
 
+-- a change that may be there, as a list
 abbrev pub change_in : Option Change → List Change
 change_in None = []
 change_in (Some c) = c ∷ []

@@ -25,6 +25,7 @@ pub record IsSynchronised {H : Type 0} (taker giver : Node H) (taken : Taken) (n
   pub of_itself : (held c : Change) → taken.refuted ≡ 1 → greatest taker.members taker.own ≡ Some held → greatest giver.members taker.own ≡ Some c
       → greatest new.members taker.own ≡ Some (refutation held c)
 
+-- so it is of any two nodes, as they are between two calls, where the one took the whole membership of the other
 abbrev pub NodesSynchronise : Type 0 → Type 0
 NodesSynchronise H =
     (taker giver new : Node H) (moment : ℕ) (taken : Taken)

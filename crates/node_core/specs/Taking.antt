@@ -14,6 +14,7 @@ use Rattle.node_core.specs.declared.taking.Effect.TheVariants.{Unaltered, Applie
 use Rattle.node_core.specs.Log.{applied, one_if, refuted}
 use Rattle.node_core.specs.Node.{Node, altered, asserted_by, at_moment, own_change}
 
+-- a change without its source
 abbrev pub change_of : Sourced → Change
 change_of s = s.change
 
@@ -24,6 +25,7 @@ alteration node s =
     (Some (asserted_by node.own (refutation (own_change node) s.change)))
     (cond (alters (greatest node.members s.change.address) s.change) (Some s) None)
 
+-- the node after an alteration, if there is one
 abbrev pub altered_by : {H : Type 0} → Node H → Option Sourced → Node H
 altered_by node None = node
 altered_by node (Some s) = altered node s
@@ -75,23 +77,26 @@ abbrev pub TakeStep : {H : Type 0} → Node H → List Sourced → ℕ → Resul
 TakeStep old given moment (Ok taken) new = TakesAll (at_moment old moment) given taken new
 TakeStep old given moment (Err stopped) new = TakesFirst (at_moment old moment) given stopped new
 
--- what one given change that is taken does: nothing, an alteration, or a refutation
+-- 1 where a given change altered an entry, itself or by its refutation, and else 0
 abbrev pub altered_in : Effect → ℕ
 altered_in Unaltered = 0
 altered_in Applied = 1
 altered_in Refuted = 1
 
+-- 1 where it was refuted, and else 0
 abbrev pub refuted_by : Effect → ℕ
 refuted_by Unaltered = 0
 refuted_by Applied = 0
 refuted_by Refuted = 1
 
+-- one given change is taken, and this is what it does: nothing, an alteration, or a refutation
 pub record TakesOne {H : Type 0} (old : Node H) (s : Sourced) (effect : Effect) (new : Node H) : Type 0 where
   pub none_refused : refusal old s.change ≡ None
   pub applied_is : altered_in effect ≡ one_if (alters (greatest old.members s.change.address) s.change)
   pub refuted_is : refuted_by effect ≡ one_if (is_refuted old.own (greatest old.members old.own) s.change)
   pub new_is : new ≡ took old s
 
+-- one given change stops a batch for this cause, and does nothing
 pub record StopsOne {H : Type 0} (old : Node H) (s : Sourced) (cause : StopCause) (new : Node H) : Type 0 where
   pub stops : StopsFor old s cause
   pub same : new ≡ old

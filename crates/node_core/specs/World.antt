@@ -40,6 +40,7 @@ abbrev pub refuted_in : ℕ → List Change → List Change → List Change
 refuted_in own log [] = []
 refuted_in own log (c ∷ cs) = refutations own (greatest log own) c ++ refuted_in own (log_one own log c) cs
 
+-- the change that a leave or a rejoin answers
 abbrev pub renewed_in : Reply → List Change
 renewed_in (answer.Leave (Ok change)) = change ∷ []
 renewed_in (answer.Rejoin (Ok change)) = change ∷ []
@@ -74,6 +75,7 @@ pub data WorldEvent (H : Type 0) : Type 0 where
 abbrev pub placed_at : {H : Type 0} → ℕ → Node H → (ℕ → Option (Node H)) → ℕ → Option (Node H)
 placed_at own node nodes a = cond (a == own) (Some node) (nodes a)
 
+-- the world with a newborn node at its address, which asserts its birth
 abbrev pub begins : {H : Type 0} → World H → H → Config → ℕ → ℕ → ℕ → Lcg → World H
 begins w hash config own incarnation moment generator = record {
   nodes = placed_at own (newborn hash config own incarnation moment generator) w.nodes;
@@ -90,6 +92,7 @@ called w (Some before) own event reply after = record {
   asserted = w.asserted ++ asserted_in before event reply;
 }
 
+-- the world after one event
 abbrev pub happens : {H : Type 0} → World H → WorldEvent H → World H
 happens w (Starts hash config own incarnation moment generator) = begins w hash config own incarnation moment generator
 happens w (Restarts hash config own incarnation moment generator) = begins w hash config own incarnation moment generator
@@ -113,10 +116,12 @@ abbrev pub MayAllHappen : {H : Type 0} → (H → List ℕ → ℕ) → World H 
 MayAllHappen hash_of w [] = Unit {0}
 MayAllHappen hash_of w (e ∷ es) = MayHappen hash_of w e × MayAllHappen hash_of (happens w e) es
 
+-- the world after these events, one after another
 abbrev pub world_after : {H : Type 0} → World H → List (WorldEvent H) → World H
 world_after w [] = w
 world_after w (e ∷ es) = world_after (happens w e) es
 
+-- no nodes, no messages, and nothing asserted
 abbrev pub nothing : {H : Type 0} → World H
 nothing = record { nodes = λ a. None; messages = []; asserted = [] }
 
@@ -132,11 +137,12 @@ IsGrounded asserted c = In (grounds c) asserted
 abbrev pub IsAssertedAt : List Change → ℕ → ℕ → Type 0
 IsAssertedAt asserted a incarnation = (c : Change) × In c asserted × (c.address ≡ a) × (c.incarnation ≡ incarnation)
 
--- the last of the list about an address
+-- of two changes that may be there the first, and where it is not the second
 abbrev pub later : Option Change → Option Change → Option Change
 later (Some c) earlier = Some c
 later None earlier = earlier
 
+-- the last of the list about an address
 abbrev pub last_about : ℕ → List Change → Option Change
 last_about a [] = None
 last_about a (c ∷ cs) = later (last_about a cs) (cond (c.address == a) (Some c) None)
@@ -151,10 +157,12 @@ pub record IsTrueNews (asserted : List Change) (s : Sourced) : Type 0 where
   pub entry : IsTrueEntry asserted s.change
   pub source : IsAssertedAt asserted s.source s.source_incarnation
 
+-- a message: its source asserted the incarnation that it names, and each change that it carries is true
 pub record IsTrueMessage (asserted : List Change) (message : Message) : Type 0 where
   pub source : IsAssertedAt asserted message.source message.source_incarnation
   pub changes : (s : Sourced) → In s (carried message.content) → IsTrueNews asserted s
 
+-- a node at this address: its entries and what it passes on are true, its timers' incarnations were asserted, and it holds itself as it last asserted
 pub record IsTrueNode {H : Type 0} (asserted : List Change) (a : ℕ) (node : Node H) : Type 0 where
   pub entries : (c : Change) → In c node.members → IsTrueEntry asserted c
   pub passed_on : (p : Pending) → In p node.gossip.pending → IsTrueNews asserted p.sourced

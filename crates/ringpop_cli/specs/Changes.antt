@@ -24,6 +24,7 @@ IsChangeLine line c = IsLine (λ v. ChangeForm v c) line
 abbrev pub AreChangeLines : List (List ℕ) → List Sourced → Type 0
 AreChangeLines = AllZip IsChangeLine
 
+-- a change without its source
 abbrev pub change_of : Sourced → Change
 change_of c = c.change
 

@@ -23,6 +23,7 @@ abbrev pub fault_of_kind : ErrorKind → Error → Fault
 fault_of_kind no_room e = Run NoMemory
 fault_of_kind k e = Usage e
 
+-- what an error of the words is to a run, by its own kind
 abbrev pub fault_of_words : Error → Fault
 fault_of_words e = fault_of_kind (kind_of e) e
 

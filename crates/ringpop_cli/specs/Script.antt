@@ -26,10 +26,11 @@ use Rattle.ringpop_cli.specs.declared.scripts.lines.Command.TheVariants.{Node as
 use Rattle.ringpop_cli.specs.declared.scripts.faults.ScriptFault.{ScriptFault}
 use Rattle.ringpop_cli.specs.declared.scripts.faults.ScriptFault.TheVariants as fault
 
--- how many nodes and messages a script has at most
+-- how many nodes a script has at most
 abbrev pub most_nodes : ℕ
 most_nodes = 64
 
+-- how many messages a script has at most
 abbrev pub most_messages : ℕ
 most_messages = 65536
 

@@ -12,6 +12,7 @@ use Rattle.node_core.specs.declared.events.Taken.{Taken}
 use Rattle.ringpop_cli.specs.declared.scripts.answers.Answer.{Answer}
 use Rattle.ringpop_cli.specs.declared.scripts.answers.Answer.TheVariants.{Done, Taken as WasTaken, Answered, Stopped as WasStopped, Said, AlreadyLeft, NotLeft, Exhausted, Nothing, Members, Digest, Owners, Message, Lost}
 
+-- the word of what stops a batch
 abbrev pub cause_word : StopCause → List ℕ
 cause_word cause.Exhausted = codes "Exhausted"
 cause_word cause.Full = codes "Full"
@@ -21,6 +22,7 @@ cause_word cause.Memory = codes "Memory"
 abbrev pub taken_text : Taken → List ℕ
 taken_text t = codes "taken " ++ (number_text t.applied ++ 32 ∷ number_text t.refuted)
 
+-- the word `message` and the number of one
 abbrev pub message_text : ℕ → List ℕ
 message_text n = codes "message " ++ number_text n
 
@@ -28,6 +30,7 @@ message_text n = codes "message " ++ number_text n
 abbrev pub stopped_text : Stopped → List ℕ
 stopped_text s = codes "stopped " ++ (number_text s.taken ++ 32 ∷ cause_word s.cause)
 
+-- an address with a space before it
 abbrev pub spaced : ℕ → List ℕ
 spaced a = 32 ∷ address_text a
 
@@ -36,6 +39,7 @@ abbrev pub owners_text : List ℕ → List ℕ
 owners_text [] = codes "none"
 owners_text (a ∷ others) = address_text a ++ flat_map spaced others
 
+-- an answer as a line, without its newline
 abbrev pub answer_text : Answer → List ℕ
 answer_text Done = codes "ok"
 answer_text (WasTaken taken) = taken_text taken

@@ -61,6 +61,7 @@ Addresses a P line = IsAddress a × Leads (address_text a) P line
 abbrev pub CountsOwners : ℕ → ℕ → List ℕ → List ℕ → Type 0
 CountsOwners a count key = Addresses a (λ line. (count ≤ most_members) × Leads (number_text count) (λ rest. rest ≡ key) line)
 
+-- how the first word of a command is written
 abbrev pub verb_word : Verb → List ℕ
 verb_word verb.Node = codes "node"
 verb_word verb.At = codes "at"

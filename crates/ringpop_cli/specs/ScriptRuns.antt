@@ -100,7 +100,7 @@ Stops hash_of start (AtLine number f) known old new = IfSome known (λ input. (o
 Stops hash_of start CannotWrite known old new =
     IfSome known (λ input. (output text : List ℕ) × (written : Option (List ℕ)) × IsCutAfter hash_of start input output text × Appends old written output × AppendsFront written new (text ++ 10 ∷ []))
 
--- what was read as a line: a line of the known bytes, or nothing at their end, or a fault
+-- why none of the lines that are left was read: a failed read, or, where there is a line, that it is too long, or a want of memory
 abbrev pub IsUnread : List (List ℕ) → ScriptFault → Type 0
 IsUnread [] f = f ≡ fault.ReadFailed
 IsUnread (line ∷ lines) fault.ReadFailed = Unit {0}
@@ -108,6 +108,7 @@ IsUnread (line ∷ lines) fault.LineTooLong = max_line < length line
 IsUnread (line ∷ lines) fault.OutOfMemory = Unit {0}
 IsUnread (line ∷ lines) other = ⊥
 
+-- what was read as a line: a line of the known bytes, or nothing at their end, or a fault
 abbrev pub ReadsLine : List ℕ → Result (Option (Vec ℕ Global)) ScriptFault → Option (List ℕ) → Type 0
 ReadsLine xs (Ok None) new = xs ≡ []
 ReadsLine xs (Ok (Some v)) new = (rest : List ℕ) × (new ≡ Some rest) × (lines_of xs ≡ v.items ∷ lines_of rest)

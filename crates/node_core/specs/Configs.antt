@@ -26,7 +26,7 @@ bad_field c =
     (Some MaxMembers))
     (Some Replicas)
 
--- each field is in its range
+-- each field whose type leaves its range open is in it
 abbrev pub IsConfig : Config → Type 0
 IsConfig c = bad_field c ≡ None
 

@@ -20,7 +20,7 @@ is_reached now (Some t) = nat_le t.deadline now
 abbrev pub is_due : {H : Type 0} → Node H → Change → Bool
 is_due node c = is_timed node.own c && is_reached node.moment (timer_of node.timers c.address)
 
--- of the entries that are due, that of the least address
+-- of the entries that are due the first: that of the least address, since members ascend
 abbrev pub due : {H : Type 0} → Node H → Option Change
 due node = find (is_due node) node.members
 

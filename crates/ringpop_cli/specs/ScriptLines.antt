@@ -12,7 +12,7 @@ use Rattle.ringpop_cli.specs.declared.scripts.lines.Verb.TheVariants as verb
 use Rattle.ringpop_cli.specs.declared.scripts.lines.Command.{Command}
 use Rattle.ringpop_cli.specs.declared.scripts.lines.Command.TheVariants.{Node, At, Ask, Send, Deliver, Restart}
 
--- letters, digits and signs: no space stands in it
+-- bytes of ASCII above the space: none of them is one
 abbrev pub IsVisible : List ℕ → Type 0
 IsVisible = All (λ x. (32 < x) × (x < 128))
 

@@ -6,10 +6,11 @@ ghost use Rattle.hash_ring.specs.declared.servers.Server.{Server};
 
 use crate::errors::RingError;
 use crate::hash::PointHash;
-use crate::places::Places;
-use crate::points::{MOST_REPLICAS, Point, fill_points, point_count};
+use crate::points::{MOST_REPLICAS, Point, fill_points, merge_points, point_count};
+use crate::search::{first_at, first_server, name_servers};
 use crate::servers::{Server, take_out, weighs, weight_among};
 use crate::sorted::place;
+use crate::starts::Starts;
 use change_core::{Address, Weight};
 use std::alloc::Global;
 use std::marker::Model;
@@ -22,7 +23,8 @@ pub struct Ring<H: PointHash> {
     hash: H,
     replicas: u32,
     servers: Vec<Server>,
-    places: Places,
+    points: Vec<Point>,
+    starts: Starts,
     // The points of the server that is being added.
     fresh: Vec<Point>,
 }
@@ -33,9 +35,9 @@ impl<H: PointHash> Model for Ring<H> {
 
     ghost Value = { RingModel H };
 
-    ghost view = { λ r. ring_model r.hash r.replicas r.servers r.places r.fresh };
+    ghost view = { λ r. ring_model r.hash r.replicas r.servers r.points r.fresh };
 
-    ghost invariant = { λ r. IsRing (H.hash_of r.hash) r.replicas r.servers.items r.places.points (vec_capacity r.fresh) };
+    ghost invariant = { λ r. IsRing (H.hash_of r.hash) r.replicas r.servers.items r.points.items (vec_capacity r.fresh) };
 }
 
 impl<H: PointHash> Ring<H> {
@@ -54,7 +56,8 @@ impl<H: PointHash> Ring<H> {
             hash,
             replicas,
             servers: Vec::new(alloc),
-            places: Places::new(alloc),
+            points: Vec::new(alloc),
+            starts: Starts::new(alloc),
             fresh: Vec::new(alloc),
         })
     }
@@ -82,8 +85,8 @@ impl<H: PointHash> Ring<H> {
         weight_among(&self.servers, address)
     }
 
-    /// Makes room for a server, unless it is there with at least this weight. `Memory`: a growth was refused, or
-    /// there are 2^32 servers; the ring stays as it was.
+    /// Makes room for a server, unless it is there with at least this weight. `Memory`: a growth was refused;
+    /// the ring stays as it was.
     pub fn reserve_for(&mut self, address: Address, weight: Weight) -> Result<(), RingError>
         ensures room { OnOk result (HasRoom self.new (record { address = address; weight = weight })) }
         ensures enough { HasRoom self.old (record { address = address; weight = weight }) → IsOk result }
@@ -96,9 +99,10 @@ impl<H: PointHash> Ring<H> {
         }
         let count = point_count(self.replicas, weight) as usize;
         self.servers.reserve(1)?;
-        self.places.reserve(count)?;
+        self.points.reserve(count)?;
         self.fresh.clear();
         self.fresh.reserve(count)?;
+        self.starts.widen(&self.points);
         Ok(())
     }
 
@@ -115,12 +119,17 @@ impl<H: PointHash> Ring<H> {
             return false;
         }
         let count = point_count(self.replicas, weight);
-        take_out(&mut self.servers, &mut self.places, address);
+        take_out(
+            &mut self.servers,
+            &mut self.points,
+            &mut self.starts,
+            address,
+        );
         let Ok(_) = place(&mut self.servers, Server { address, weight }) else {
             unreachable!()
         };
         fill_points(&mut self.fresh, self.hash, address, count);
-        self.places.add(address, &self.fresh);
+        merge_points(&mut self.points, &mut self.starts, &self.fresh);
         true
     }
 
@@ -131,7 +140,12 @@ impl<H: PointHash> Ring<H> {
         ensures removed { result ≡ is_some (weight_of address self.old.servers) }
         ensures room { self.old.room ≤ self.new.room }
     {
-        take_out(&mut self.servers, &mut self.places, address)
+        take_out(
+            &mut self.servers,
+            &mut self.points,
+            &mut self.starts,
+            address,
+        )
     }
 
     /// The server of a key: that of the first point at or after the key's hash, the least point after the
@@ -141,8 +155,8 @@ impl<H: PointHash> Ring<H> {
         ensures nearest { IfSome result (IsNearest (H.hash_of self.now.hash) self.now.replicas self.now.servers key.now) }
         ensures nobody { IfNone result (self.now.servers ≡ []) }
     {
-        let start = self.places.first_at(self.hash.hash(key));
-        self.places.server_from(start)
+        let start = first_at(&self.points, &self.starts, self.hash.hash(key));
+        first_server(&self.points, start)
     }
 
     /// The first `count` owners of a key, the owner first, or all servers where there are fewer. `Memory`: the
@@ -151,10 +165,11 @@ impl<H: PointHash> Ring<H> {
         ensures named { IfOk result (λ named. named.items ≡ take count (owners (H.hash_of self.now.hash) self.now.replicas self.now.servers key.now)) }
         ensures refusal { IsOkUnless result RingError.Memory }
     {
-        let start = self.places.first_at(self.hash.hash(key));
+        let start = first_at(&self.points, &self.starts, self.hash.hash(key));
         let count = count.min(self.servers.len());
         let mut named = Vec::with_capacity(*self.servers.allocator(), count)?;
-        self.places.name_servers(start, count, &mut named);
+        name_servers(&self.points[start..], count, &mut named);
+        name_servers(&self.points[..start], count, &mut named);
         Ok(named)
     }
 
@@ -168,7 +183,8 @@ impl<H: PointHash> Ring<H> {
             hash: self.hash,
             replicas: self.replicas,
             servers: Vec::from_slice(alloc, &self.servers)?,
-            places: self.places.copy()?,
+            points: Vec::from_slice(alloc, &self.points)?,
+            starts: self.starts.copy()?,
             fresh: Vec::with_capacity(alloc, self.fresh.capacity())?,
         })
     }

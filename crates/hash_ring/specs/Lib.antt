@@ -4,3 +4,4 @@ pub mod Serving
 pub mod RingModel
 pub mod Consistency
 pub mod Steps
+pub mod Places

@@ -3,11 +3,15 @@
 
 mod errors;
 mod hash;
+mod heads;
 pub mod laws;
+mod moves;
+mod places;
 mod points;
 mod ring;
 mod search;
 mod servers;
+mod slots;
 mod sorted;
 mod starts;
 mod text;

@@ -1,14 +1,9 @@
-ghost use Rattle.std.specs.Prelude.{◌≡◌, ℕ, ◌+◌, ◌*◌, ◌≤◌, ◌<◌, ◌++◌, [], length, not, vec_len, vec_capacity};
-ghost use Rattle.std.specs.List.{filter, position, position_or_len};
-ghost use Rattle.change_core.specs.Ascending.{ascending, In, IsAscending};
+ghost use Rattle.std.specs.Prelude.{◌≡◌, ◌+◌, ◌*◌, ◌≤◌, ◌<◌, ◌++◌, length, vec_len, vec_capacity};
+ghost use Rattle.change_core.specs.Ascending.{ascending};
 ghost use Rattle.change_core.specs.Numeral.{number_text};
 ghost use Rattle.hash_ring.specs.Points.{IsReplicas, AreSmall, distance, point_cmp, points_of};
-ghost use Rattle.hash_ring.specs.Servers.{is_same};
-ghost use Rattle.hash_ring.specs.declared.points.Point.{Point};
 
 use crate::hash::PointHash;
-use crate::sorted::merge;
-use crate::starts::{Passed, Starts};
 use crate::text::ShortText;
 use change_core::{Address, Weight};
 
@@ -103,66 +98,4 @@ fn push_points<H: PointHash>(points: &mut Vec<Point>, hash: H, server: Address, 
         };
         points.push_reserved(point);
     }
-}
-
-/// Merges points into those of other servers. With room this takes no memory.
-pub(crate) fn merge_points(points: &mut Vec<Point>, starts: &mut Starts, fresh: &[Point])
-    requires ascends { IsAscending point_cmp points.old.items }
-    requires fresh_ascends { IsAscending point_cmp fresh.now }
-    requires apart { (p : Point) → In p points.old.items → In p fresh.now → ⊥ }
-    requires room { vec_len points.old + length fresh.now ≤ vec_capacity points.old }
-    ensures { points.new.items ≡ ascending point_cmp (points.old.items ++ fresh.now) }
-{
-    let count = points.len();
-    let Ok(()) = points.extend_from_slice(fresh) else {
-        unreachable!()
-    };
-    merge(points, count, fresh);
-    starts.add(fresh);
-}
-
-/// Takes out a server's points; the others move together, run by run. This takes no memory.
-pub(crate) fn take_points(points: &mut Vec<Point>, starts: &mut Starts, server: Address)
-    ensures points { points.new.items ≡ filter (λ (p : Point). not (is_same p.server server)) points.old.items }
-    ensures capacity { vec_capacity points.new ≡ vec_capacity points.old }
-{
-    let mut passed = Passed::nothing();
-    let mut kept = 0;
-    let mut at = 0;
-    while at < points.len() {
-        let end = at + run_of_others(&points[at..], server);
-        points.copy_within(at..end, kept);
-        kept += end - at;
-        if let Some(point) = points.get(end) {
-            passed = starts.take(passed, point.hash);
-        }
-        at = end + 1;
-    }
-    points.truncate(kept);
-    starts.finish(passed);
-}
-
-// How many points of other servers come first.
-fn run_of_others(points: &[Point], server: Address) -> usize
-    ensures bound { result ≤ length points.now }
-    ensures run { result ≡ position_or_len (λ (p : Point). is_same p.server server) points.now }
-{
-    match first_of(points, server) {
-        Some(place) => place,
-        None => points.len(),
-    }
-}
-
-// The place of the first of a server's points. The IPv4 numbers tell most servers apart, and are compared fastest.
-fn first_of(points: &[Point], server: Address) -> Option<usize>
-    ensures { result ≡ position (λ (p : Point). is_same p.server server) points.now }
-{
-    points.iter().position(|point| is_point_of(point, server))
-}
-
-// Whether a point is a server's.
-fn is_point_of(point: &Point, server: Address) -> bool
-    ensures { result ≡ is_same point.now.server server }
-{
-    point.server.ip() == server.ip() && point.server == server
 }

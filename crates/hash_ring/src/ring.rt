@@ -6,11 +6,10 @@ ghost use Rattle.hash_ring.specs.declared.servers.Server.{Server};
 
 use crate::errors::RingError;
 use crate::hash::PointHash;
-use crate::points::{MOST_REPLICAS, Point, fill_points, merge_points, point_count};
-use crate::search::{first_at, first_server, name_servers};
+use crate::places::Places;
+use crate::points::{MOST_REPLICAS, Point, fill_points, point_count};
 use crate::servers::{Server, take_out, weighs, weight_among};
 use crate::sorted::place;
-use crate::starts::Starts;
 use change_core::{Address, Weight};
 use std::alloc::Global;
 use std::marker::Model;
@@ -23,8 +22,7 @@ pub struct Ring<H: PointHash> {
     hash: H,
     replicas: u32,
     servers: Vec<Server>,
-    points: Vec<Point>,
-    starts: Starts,
+    places: Places,
     // The points of the server that is being added.
     fresh: Vec<Point>,
 }
@@ -35,9 +33,9 @@ impl<H: PointHash> Model for Ring<H> {
 
     ghost Value = { RingModel H };
 
-    ghost view = { λ r. ring_model r.hash r.replicas r.servers r.points r.fresh };
+    ghost view = { λ r. ring_model r.hash r.replicas r.servers r.places r.fresh };
 
-    ghost invariant = { λ r. IsRing (H.hash_of r.hash) r.replicas r.servers.items r.points.items (vec_capacity r.fresh) };
+    ghost invariant = { λ r. IsRing (H.hash_of r.hash) r.replicas r.servers.items r.places.points (vec_capacity r.fresh) };
 }
 
 impl<H: PointHash> Ring<H> {
@@ -56,8 +54,7 @@ impl<H: PointHash> Ring<H> {
             hash,
             replicas,
             servers: Vec::new(alloc),
-            points: Vec::new(alloc),
-            starts: Starts::new(alloc),
+            places: Places::new(alloc),
             fresh: Vec::new(alloc),
         })
     }
@@ -85,8 +82,8 @@ impl<H: PointHash> Ring<H> {
         weight_among(&self.servers, address)
     }
 
-    /// Makes room for a server, unless it is there with at least this weight. `Memory`: a growth was refused;
-    /// the ring stays as it was.
+    /// Makes room for a server, unless it is there with at least this weight. `Memory`: a growth was refused, as
+    /// that of the slots past 2^32 servers always is; the ring stays as it was.
     pub fn reserve_for(&mut self, address: Address, weight: Weight) -> Result<(), RingError>
         ensures room { OnOk result (HasRoom self.new (record { address = address; weight = weight })) }
         ensures enough { HasRoom self.old (record { address = address; weight = weight }) → IsOk result }
@@ -99,10 +96,9 @@ impl<H: PointHash> Ring<H> {
         }
         let count = point_count(self.replicas, weight) as usize;
         self.servers.reserve(1)?;
-        self.points.reserve(count)?;
+        self.places.reserve(count)?;
         self.fresh.clear();
         self.fresh.reserve(count)?;
-        self.starts.widen(&self.points);
         Ok(())
     }
 
@@ -119,17 +115,12 @@ impl<H: PointHash> Ring<H> {
             return false;
         }
         let count = point_count(self.replicas, weight);
-        take_out(
-            &mut self.servers,
-            &mut self.points,
-            &mut self.starts,
-            address,
-        );
+        take_out(&mut self.servers, &mut self.places, address);
         let Ok(_) = place(&mut self.servers, Server { address, weight }) else {
             unreachable!()
         };
         fill_points(&mut self.fresh, self.hash, address, count);
-        merge_points(&mut self.points, &mut self.starts, &self.fresh);
+        self.places.add(address, &self.fresh);
         true
     }
 
@@ -140,12 +131,7 @@ impl<H: PointHash> Ring<H> {
         ensures removed { result ≡ is_some (weight_of address self.old.servers) }
         ensures room { self.old.room ≤ self.new.room }
     {
-        take_out(
-            &mut self.servers,
-            &mut self.points,
-            &mut self.starts,
-            address,
-        )
+        take_out(&mut self.servers, &mut self.places, address)
     }
 
     /// The server of a key: that of the first point at or after the key's hash, the least point after the
@@ -155,8 +141,8 @@ impl<H: PointHash> Ring<H> {
         ensures nearest { IfSome result (IsNearest (H.hash_of self.now.hash) self.now.replicas self.now.servers key.now) }
         ensures nobody { IfNone result (self.now.servers ≡ []) }
     {
-        let start = first_at(&self.points, &self.starts, self.hash.hash(key));
-        first_server(&self.points, start)
+        let start = self.places.first_at(self.hash.hash(key));
+        self.places.server_from(start)
     }
 
     /// The first `count` owners of a key, the owner first, or all servers where there are fewer. `Memory`: the
@@ -165,11 +151,10 @@ impl<H: PointHash> Ring<H> {
         ensures named { IfOk result (λ named. named.items ≡ take count (owners (H.hash_of self.now.hash) self.now.replicas self.now.servers key.now)) }
         ensures refusal { IsOkUnless result RingError.Memory }
     {
-        let start = first_at(&self.points, &self.starts, self.hash.hash(key));
+        let start = self.places.first_at(self.hash.hash(key));
         let count = count.min(self.servers.len());
         let mut named = Vec::with_capacity(*self.servers.allocator(), count)?;
-        name_servers(&self.points[start..], count, &mut named);
-        name_servers(&self.points[..start], count, &mut named);
+        self.places.name_servers(start, count, &mut named);
         Ok(named)
     }
 
@@ -183,8 +168,7 @@ impl<H: PointHash> Ring<H> {
             hash: self.hash,
             replicas: self.replicas,
             servers: Vec::from_slice(alloc, &self.servers)?,
-            points: Vec::from_slice(alloc, &self.points)?,
-            starts: self.starts.copy()?,
+            places: self.places.copy()?,
             fresh: Vec::with_capacity(alloc, self.fresh.capacity())?,
         })
     }

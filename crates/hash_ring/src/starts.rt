@@ -1,4 +1,5 @@
 // Where searches of the points begin. No clause speaks of it: a wrong start costs time alone.
+use crate::heads::{Head, high_half};
 use crate::points::Point;
 use std::alloc::{AllocError, Global};
 
@@ -39,11 +40,15 @@ impl Starts {
     }
 
     /// Makes the list longer where the points have room for more. Where that is refused it stays as it was.
-    pub(crate) fn widen(&mut self, points: &Vec<Point>) {
-        let parts = points.capacity() / SPREAD;
+    pub(crate) fn widen(&mut self, heads: &Vec<Head>) {
+        let parts = heads.capacity() / SPREAD;
         if parts > self.counts.len() && self.counts.resize(parts, 0).is_ok() {
             self.counts.fill(0);
-            self.add(points);
+            let mut passed = Passed::nothing();
+            for head in heads {
+                passed = self.pass(passed, head.high, 1);
+            }
+            self.finish(passed);
         }
     }
 
@@ -51,14 +56,14 @@ impl Starts {
     pub(crate) fn add(&mut self, points: &[Point]) {
         let mut passed = Passed::nothing();
         for point in points {
-            passed = self.pass(passed, point.hash, 1);
+            passed = self.pass(passed, high_half(point.hash), 1);
         }
         self.finish(passed);
     }
 
     /// Counts the next of points that ascend and are taken out.
-    pub(crate) fn take(&mut self, passed: Passed, hash: u64) -> Passed {
-        self.pass(passed, hash, u32::MAX)
+    pub(crate) fn take(&mut self, passed: Passed, high: u32) -> Passed {
+        self.pass(passed, high, u32::MAX)
     }
 
     /// Ends what was begun: the parts after the last such point.
@@ -68,8 +73,8 @@ impl Starts {
     }
 
     // One more point, up to whose part nothing new has to be counted.
-    fn pass(&mut self, passed: Passed, hash: u64, step: u32) -> Passed {
-        let next = share(hash, self.counts.len()).saturating_add(1);
+    fn pass(&mut self, passed: Passed, high: u32, step: u32) -> Passed {
+        let next = share(high, self.counts.len()).saturating_add(1);
         raise(&mut self.counts, passed, next);
         Passed {
             part: next,
@@ -77,9 +82,9 @@ impl Starts {
         }
     }
 
-    /// The place before the first point of a hash's part, or 0.
-    pub(crate) fn before(&self, hash: u64) -> usize {
-        let part = share(hash, self.counts.len());
+    /// The place before the first point of the part of a hash's upper half, or 0.
+    pub(crate) fn before(&self, high: u32) -> usize {
+        let part = share(high, self.counts.len());
         let start = self.counts.get(part).map_or(0, |count| *count as usize);
         start.saturating_sub(1)
     }
@@ -94,7 +99,7 @@ fn raise(counts: &mut [u32], passed: Passed, next: usize) {
     }
 }
 
-// A number's share of 2^64, out of a count below 2^32.
-fn share(number: u64, count: usize) -> usize {
-    ((number >> 32).wrapping_mul(count as u64) >> 32) as usize
+// A number's share of 2^32, out of a count below 2^32.
+fn share(number: u32, count: usize) -> usize {
+    (u64::from(number).wrapping_mul(count as u64) >> 32) as usize
 }

@@ -12,7 +12,7 @@ returns-then-is_none-clause-servers c =
 
 pub returns-then-is_none-clause-points : goal.returns-then-is_none-clause-points
 returns-then-is_none-clause-points c =
-    sym (points_none c.args.address c.args.servers.now.items c.args.points.now.items (none_if_not_some (weight_of c.args.address c.args.servers.now.items) (ap (λ ss. is_some (weight_of c.args.address ss)) (sym c.deref.ensures.value) ∙ (ap is_some (sym c.weight_among.ensures) ∙ c.if-is_none.ensures))) c.requires.theirs)
+    sym (points_none c.args.address c.args.servers.now.items c.args.places.now.points (none_if_not_some (weight_of c.args.address c.args.servers.now.items) (ap (λ ss. is_some (weight_of c.args.address ss)) (sym c.deref.ensures.value) ∙ (ap is_some (sym c.weight_among.ensures) ∙ c.if-is_none.ensures))) c.requires.theirs)
 
 pub returns-clause-servers : goal.returns-clause-servers
 returns-clause-servers c =

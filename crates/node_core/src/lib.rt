@@ -27,10 +27,3 @@ pub use node::NodeState;
 pub use replies::{Replies, Run, RunRefused};
 pub use runs::run;
 pub use views::View;
-
-#[cfg(test)]
-mod probe_tests;
-#[cfg(test)]
-mod test_calls;
-#[cfg(test)]
-mod tests;

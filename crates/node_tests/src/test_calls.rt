@@ -1,8 +1,11 @@
 //! What the tests ask a node, one call in a function of its own, and the values that they ask with.
-use crate::*;
 use change_core::{Address, Change, Digest, Entry, Incarnation, Moment, Sourced, Status, Weight};
 use detector_core::{Addresses, Probe, Running, Said};
 use hash_ring::{PointHash, SumHash};
+use node_core::{
+    ChangeList, Config, NodeError, NodeLost, NodeOutcome, NodeState, Received, StopCause, Stopped,
+    Taken, View,
+};
 use std::alloc::Global;
 use std::process::Abort;
 use wire_json::{Message, Text};
@@ -75,6 +78,21 @@ pub(crate) fn node<H: PointHash>(
     let start = moment(rt, 0);
     let made = again(|| NodeState::new(alloc, config(max), hash, own, born, 1, start));
     made.ok().expect(rt, "a node")
+}
+
+/// Has a new node at this incarnation go through this.
+pub(crate) fn with_node<F: FnMut(&mut NodeState<SumHash>)>(
+    rt: &impl Abort,
+    alloc: Global,
+    text: &str,
+    number: u64,
+    max: usize,
+    mut body: F,
+)
+    requires { F.IsAlwaysCallable body }
+{
+    let mut node = node(rt, alloc, SumHash, text, number, max);
+    body(&mut node);
 }
 
 /// What a node holds of itself and of another, and of how many.

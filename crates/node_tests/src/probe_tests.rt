@@ -1,0 +1,276 @@
+//! Probes of a node, the messages that it makes, and what it answers to look-ups.
+use crate::test_calls::*;
+use change_core::{Address, Change, Moment, Sourced, Status};
+use detector_core::{Probe, Running, Said};
+use hash_ring::SumHash;
+use node_core::{NodeError, NodeLost, NodeOutcome, NodeState, View};
+use std::alloc::Global;
+use std::process::Abort;
+use wire_json::{Content, Message};
+
+/// 10.0.0.1:1 and the others after it.
+const TEXTS: [&str; 5] = [
+    "10.0.0.1:1",
+    "10.0.0.2:1",
+    "10.0.0.3:1",
+    "10.0.0.4:1",
+    "10.0.0.5:1",
+];
+
+/// Takes news of a member about itself.
+fn told(rt: &impl Abort, node: &mut NodeState<SumHash>, text: &str, number: u64, status: Status) {
+    hear(rt, node, &news(rt, text, number, status), 0);
+}
+
+/// Hears of so many others, each alive at 1.
+fn meet(rt: &impl Abort, node: &mut NodeState<SumHash>, others: usize) {
+    for text in TEXTS.iter().skip(1).take(others) {
+        told(rt, node, *text, 1, Status::Alive);
+    }
+}
+
+/// Has the node 10.0.0.1:1 at 7 go through this, with so many others that are alive at 1.
+fn with_others<F: FnMut(&mut NodeState<SumHash>)>(
+    rt: &impl Abort,
+    alloc: Global,
+    others: usize,
+    mut body: F,
+)
+    requires { F.IsAlwaysCallable body }
+{
+    let mut node = node(rt, alloc, SumHash, TEXTS[0], 7, 4096);
+    meet(rt, &mut node, others);
+    body(&mut node);
+}
+
+/// A probe that begins; no other may.
+fn begin(rt: &impl Abort, node: &mut NodeState<SumHash>) -> Probe {
+    let begun = probe(node).ok().expect(rt, "a probe");
+    assert!(rt; probe(node).err() == Some(NodeError::Busy));
+    begun.expect(rt, "a target")
+}
+
+/// The helpers that are asked about a lost target.
+fn helpers_of(lost: &NodeLost) -> &[Address] {
+    if let NodeLost::Ask(helpers) = lost {
+        helpers.as_slice()
+    } else {
+        &[]
+    }
+}
+
+/// What helpers' words come to, one after another.
+fn listen(
+    rt: &impl Abort,
+    node: &mut NodeState<SumHash>,
+    helpers: &[Address],
+    words: &[Said],
+) -> NodeOutcome {
+    let mut outcome = NodeOutcome::Waiting;
+    for (helper, word) in helpers.iter().zip(words.iter()) {
+        if outcome == NodeOutcome::Waiting {
+            let heard = helper_said(node, 1, *helper, *word, moment(rt, 0));
+            outcome = heard.ok().expect(rt, "a word of a helper that was asked");
+        }
+    }
+    outcome
+}
+
+/// Probes, and asks three helpers about the target, once; nobody else has a word. Returns the target, and who is asked.
+fn ask_three(rt: &impl Abort, node: &mut NodeState<SumHash>) -> (Address, NodeLost) {
+    let target = begin(rt, node).target;
+    let now = moment(rt, 0);
+    let asking = lost(node, 1, now).ok().expect(rt, "helpers to ask");
+    assert_eq!(rt; helpers_of(&asking).len(), 3);
+    let again = lost(node, 1, now).err();
+    assert!(rt; again == Some(NodeError::StaleProbe));
+    let unasked = helper_said(node, 1, target, Said::Reached, now).err();
+    assert!(rt; unasked == Some(NodeError::NotAsked));
+    (target, asking)
+}
+
+/// What three helpers' words come to, of a target among five members.
+fn decide(rt: &impl Abort, node: &mut NodeState<SumHash>, words: &[Said]) -> NodeOutcome {
+    let (target, asking) = ask_three(rt, node);
+    let outcome = listen(rt, node, helpers_of(&asking), words);
+    let entry = held(node, target).2;
+    let is_suspect = entry.map(|entry| entry.status) == Some(Status::Suspect);
+    assert!(rt; is_suspect == matches!(outcome, NodeOutcome::Suspect(_)));
+    assert!(rt; running(node).is_none());
+    outcome
+}
+
+#[test]
+fn helpers_decide(rt: HostRuntime) {
+    let failed = Said::Failed;
+    with_others(&rt, rt.alloc(), 4, |node| {
+        let outcome = decide(&rt, node, &[failed, failed, failed]);
+        assert!(rt; outcome == NodeOutcome::Inconclusive);
+    });
+    with_others(&rt, rt.alloc(), 4, |node| {
+        let outcome = decide(&rt, node, &[Said::NotReached, failed, failed]);
+        assert!(rt; matches!(outcome, NodeOutcome::Suspect(Some(_))));
+    });
+    with_others(&rt, rt.alloc(), 4, |node| {
+        let outcome = decide(&rt, node, &[Said::Reached]);
+        assert!(rt; outcome == NodeOutcome::Reached);
+    });
+}
+
+/// The change that a target is suspect by.
+fn suspected(node: &mut NodeState<SumHash>, now: Moment) -> Option<Change> {
+    let lost = lost(node, 1, now);
+    if let Ok(NodeLost::Suspect(change)) = &lost {
+        *change
+    } else {
+        None
+    }
+}
+
+/// Probes the only other member, which is lost.
+fn lose_the_other(rt: &impl Abort, node: &mut NodeState<SumHash>) {
+    let target = address(rt, TEXTS[1]);
+    let probe = begin(rt, node);
+    assert!(rt; probe == Probe { number: 1, target });
+    let waiting = Running {
+        number: 1,
+        target,
+        waiting: None,
+    };
+    assert!(rt; running(node) == Some(waiting));
+    let wanted = change(rt, TEXTS[1], 1, Status::Suspect);
+    assert!(rt; suspected(node, moment(rt, 0)) == Some(wanted));
+    assert!(rt; acked(node, 1).err() == Some(NodeError::StaleProbe));
+    assert!(rt; held(node, target).2 == Some(wanted.entry()));
+}
+
+#[test]
+fn a_lone_target_is_suspect_at_once(rt: HostRuntime) {
+    with_others(&rt, rt.alloc(), 1, |node| lose_the_other(&rt, node));
+}
+
+#[test]
+fn nobody_is_probed_by_a_node_alone(rt: HostRuntime) {
+    with_others(&rt, rt.alloc(), 0, |node| {
+        assert!(rt; probe(node).ok() == Some(None));
+    });
+}
+
+/// Ends three probes, each by its own ack.
+fn end_three(rt: &impl Abort, node: &mut NodeState<SumHash>) {
+    for number in 1..4 {
+        let probe = begin(rt, node);
+        assert_eq!(rt; probe.number, number);
+        assert!(rt; acked(node, number + 1).err() == Some(NodeError::StaleProbe));
+        assert!(rt; acked(node, number).is_ok());
+        assert!(rt; running(node).is_none());
+    }
+}
+
+#[test]
+fn an_ack_ends_a_probe(rt: HostRuntime) {
+    with_others(&rt, rt.alloc(), 2, |node| end_three(&rt, node));
+}
+
+/// Whether a message of the membership carries these changes.
+fn carries(message: &Message, changes: &[Sourced]) -> bool {
+    match &message.content {
+        Content::Join(news) => news.changes.as_slice() == changes,
+        Content::Ping(news) => news.changes.as_slice() == changes,
+        Content::PingReq(news, _) => news.changes.as_slice() == changes,
+        Content::PingReqAck(news, _, _) => news.changes.as_slice() == changes,
+        _ => false,
+    }
+}
+
+/// What node 10.0.0.1:1 sends to 10.0.0.2:1, of 10.0.0.3:1 where it is of another.
+#[derive(Clone, Copy)]
+enum Sent {
+    Join,
+    Ping,
+    Asking,
+    Telling,
+}
+
+/// The message that is made.
+fn message(
+    node: &mut NodeState<SumHash>,
+    sent: Sent,
+    receiver: Address,
+    target: Address,
+) -> Result<Message, NodeError> {
+    match sent {
+        Sent::Join => join_message(node),
+        Sent::Ping => ping_to(node, receiver),
+        Sent::Asking => ping_req_to(node, receiver, target),
+        Sent::Telling => ping_req_ack_to(node, receiver, target, true),
+    }
+}
+
+/// Whether a message is made that carries these changes.
+fn sends(rt: &impl Abort, node: &mut NodeState<SumHash>, sent: Sent, changes: &[Sourced]) -> bool {
+    let receiver = address(rt, TEXTS[1]);
+    let target = address(rt, TEXTS[2]);
+    let made = message(node, sent, receiver, target);
+    carries(&made.ok().expect(rt, "a message"), changes)
+}
+
+/// Sends its birth sixteen times, and then no more.
+fn send_birth(rt: &impl Abort, node: &mut NodeState<SumHash>) {
+    let birth = [news(rt, TEXTS[0], 7, Status::Alive)];
+    for sent in [Sent::Join, Sent::Ping, Sent::Asking, Sent::Telling] {
+        assert!(rt; sends(rt, node, sent, &birth));
+    }
+    for _ in 0..12u8 {
+        assert!(rt; sends(rt, node, Sent::Ping, &birth));
+    }
+    assert!(rt; sends(rt, node, Sent::Ping, &[]));
+}
+
+#[test]
+fn messages_carry_the_birth_as_often_as_the_limit_says(rt: HostRuntime) {
+    with_others(&rt, rt.alloc(), 0, |node| send_birth(&rt, node));
+}
+
+/// Whether two members own two keys.
+fn are_owners(rt: &impl Abort, node: &NodeState<SumHash>, first: &str, second: &str) -> bool {
+    owner(node, "zzzz0") == Some(address(rt, first))
+        && owner(node, "zzzz1") == Some(address(rt, second))
+}
+
+/// Checks a view of three members.
+fn check_view(rt: &impl Abort, view: &View<SumHash>) {
+    let [a, b, c] = [TEXTS[0], TEXTS[1], TEXTS[2]].map(|text| address(rt, text));
+    assert!(rt; view_owner(view, "zzzz1") == Some(b) && view_own(view) == a);
+    let named = view_owners(view, "zzzz1", 9).ok().expect(rt, "owners");
+    assert!(rt; named.as_slice() == [b, c, a].as_slice());
+}
+
+/// Has a member suspect, and then faulty; the view of before stays.
+fn change_after_view(rt: &impl Abort, node: &mut NodeState<SumHash>) {
+    let before = view(node).ok().expect(rt, "a view");
+    told(rt, node, TEXTS[1], 1, Status::Suspect);
+    assert!(rt; are_owners(rt, node, TEXTS[0], TEXTS[1]));
+    told(rt, node, TEXTS[1], 1, Status::Faulty);
+    assert!(rt; are_owners(rt, node, TEXTS[0], TEXTS[2]));
+    check_view(rt, &before);
+}
+
+#[test]
+fn a_view_stays_as_it_was(rt: HostRuntime) {
+    with_others(&rt, rt.alloc(), 2, |node| change_after_view(&rt, node));
+}
+
+/// Looks up owners, members and the text.
+fn look_up(rt: &impl Abort, node: &NodeState<SumHash>) {
+    assert!(rt; names(rt, node, "zzzz2", &[TEXTS[2], TEXTS[0]]));
+    let held = members(node).ok().expect(rt, "members");
+    assert_eq!(rt; held.as_slice().len(), 3);
+    let text = digest_text(node).ok().expect(rt, "a text");
+    assert!(rt; text.as_str() == "10.0.0.1:1alive7;10.0.0.2:1alive1;10.0.0.3:1alive1");
+}
+
+#[test]
+fn look_ups_answer(rt: HostRuntime) {
+    with_others(&rt, rt.alloc(), 2, |node| look_up(&rt, node));
+}

@@ -11,6 +11,3 @@ pub use attempts::{Attempt, MOST_SENDS, Step};
 pub use errors::ForwardError;
 pub use routes::Route;
 pub use routing::{route, route_keys};
-
-#[cfg(test)]
-mod tests;

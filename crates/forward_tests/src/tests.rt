@@ -1,0 +1,253 @@
+ghost use Rattle.std.specs.Prelude.{◌%◌, ◌^◌, sum};
+
+use crate::views::{A, B, C, Views, address, keys, moment, view, with_views};
+use change_core::Status;
+use forward_core::{Attempt, ForwardError, MOST_SENDS, Route, Step, route_keys};
+use hash_ring::{PointHash, SumHash};
+use node_core::View;
+use std::alloc::Global;
+use std::process::Abort;
+use std::sync::atomic::{AtomicU64, Ordering};
+use wire_json::Keys;
+
+/// The greatest moment.
+const LIMIT: u64 = 9_007_199_254_740_991;
+
+/// Checks where keys go by a view.
+fn check_route(
+    rt: &impl Abort,
+    alloc: Global,
+    view: &View<SumHash>,
+    texts: &[&str],
+    wanted: Result<Route, ForwardError>,
+) {
+    let first = texts.first().copied().unwrap_or("");
+    let keys = keys(rt, alloc, texts);
+    assert_eq!(rt; route_keys(view, &keys), wanted, "of {first}");
+}
+
+/// Checks the keys of each view.
+fn check_routes(rt: &impl Abort, alloc: Global, views: &Views) {
+    let (three, two, none) = (&views.three, &views.two, &views.none);
+    let to = |text: &str| Ok(Route::To(address(rt, text)));
+    let rows: [(&View<SumHash>, &[&str], Result<Route, ForwardError>); 8] = [
+        (three, &["zzzz0"], Ok(Route::Here)),
+        (three, &["zzzz1"], to(B)),
+        (three, &["zzzz1", "zzzz1", "zzzz1"], to(B)),
+        (three, &["zzzz1", "zzzz2"], Err(ForwardError::Diverged)),
+        (three, &["zzzz0", "", "zzzz1"], Err(ForwardError::Diverged)),
+        (two, &["zzzz0", ""], Ok(Route::Here)),
+        (two, &["zzzz1", "zzzz2"], to(C)),
+        (none, &["zzzz1", "zzzz2"], Ok(Route::Nobody)),
+    ];
+    for (view, texts, wanted) in &rows {
+        check_route(rt, alloc, *view, *texts, *wanted);
+    }
+}
+
+#[test]
+fn one_owner_of_all_keys(rt: HostRuntime) {
+    with_views(&rt, rt.alloc(), Status::Suspect, |views| {
+        check_routes(&rt, rt.alloc(), views)
+    });
+}
+
+/// A call of an attempt, and what it is to answer.
+#[derive(Clone, Copy)]
+enum Call<'a> {
+    /// `ready`, by this view at this moment.
+    Ready(&'a View<SumHash>, u64, Result<Step, ForwardError>),
+    /// `failed`, at this moment.
+    Failed(u64, Result<(), ForwardError>),
+}
+
+/// The step that sends to this member.
+fn to(rt: &impl Abort, text: &str) -> Result<Step, ForwardError> {
+    Ok(Step::Send(address(rt, text)))
+}
+
+/// Makes a call, and checks its answer, and that a refused `ready`, a `Wait` and a `Here` count no send.
+fn check_call(rt: &impl Abort, attempt: &mut Attempt, call: &Call) {
+    let before = attempt.sends();
+    match call {
+        Call::Ready(view, now, wanted) => {
+            let answer = attempt.ready(*view, moment(rt, *now));
+            assert_eq!(rt; answer, *wanted, "ready at {now}");
+            let one = matches!(wanted, Ok(Step::Send(_)));
+            assert_eq!(rt; attempt.sends(), before.wrapping_add(u32::from(one)));
+        }
+        Call::Failed(now, wanted) => {
+            let answer = attempt.failed(moment(rt, *now));
+            assert_eq!(rt; answer, *wanted, "failed at {now}");
+            assert_eq!(rt; attempt.sends(), before);
+        }
+    }
+}
+
+/// Makes the calls in turn.
+fn check_calls(rt: &impl Abort, attempt: &mut Attempt, calls: &[Call]) {
+    for call in calls {
+        check_call(rt, attempt, call);
+    }
+}
+
+/// Has a new attempt at these keys go through the calls; returns how often it was sent, and how many keys it has.
+fn attempt_of(rt: &impl Abort, alloc: Global, texts: &[&str], calls: &[Call]) -> (u32, usize) {
+    let mut attempt = Attempt::start(keys(rt, alloc, texts));
+    check_calls(rt, &mut attempt, calls);
+    (attempt.sends(), attempt.keys().len())
+}
+
+/// Checks an attempt that fails each time.
+fn check_failing(rt: &impl Abort, alloc: Global, views: &Views) {
+    let (three, none) = (&views.three, &views.none);
+    let calls = [
+        Call::Ready(three, 0, to(rt, B)),
+        Call::Failed(0, Ok(())),
+        Call::Ready(three, 2_999, Ok(Step::Wait(3_000))),
+        Call::Ready(three, 3_000, to(rt, B)),
+        Call::Failed(3_000, Ok(())),
+        Call::Ready(three, 8_999, Ok(Step::Wait(9_000))),
+        Call::Ready(three, 9_000, to(rt, B)),
+        Call::Failed(9_000, Ok(())),
+        Call::Ready(three, 20_999, Ok(Step::Wait(21_000))),
+        Call::Ready(three, 21_000, to(rt, B)),
+        Call::Failed(21_000, Err(ForwardError::RetriesSpent)),
+        Call::Ready(three, 50_000, Err(ForwardError::RetriesSpent)),
+        Call::Ready(none, 50_000, Err(ForwardError::RetriesSpent)),
+        Call::Failed(50_000, Err(ForwardError::NotInFlight)),
+    ];
+    assert!(rt; attempt_of(rt, alloc, &["zzzz1"], &calls) == (MOST_SENDS, 1));
+}
+
+#[test]
+fn an_attempt_is_sent_four_times(rt: HostRuntime) {
+    with_views(&rt, rt.alloc(), Status::Alive, |views| {
+        check_failing(&rt, rt.alloc(), views)
+    });
+}
+
+/// Checks an attempt whose owner changes.
+fn check_owners(rt: &impl Abort, alloc: Global, views: &Views) {
+    let (three, two, at_c, none) = (&views.three, &views.two, &views.at_c, &views.none);
+    let calls = [
+        Call::Failed(0, Err(ForwardError::NotInFlight)),
+        Call::Ready(none, 0, Err(ForwardError::Nobody)),
+        Call::Ready(three, 0, to(rt, B)),
+        Call::Ready(none, 0, Err(ForwardError::InFlight)),
+        Call::Failed(0, Ok(())),
+        Call::Failed(0, Err(ForwardError::NotInFlight)),
+        Call::Ready(none, 2_999, Err(ForwardError::Nobody)),
+        Call::Ready(three, 2_999, Ok(Step::Wait(3_000))),
+        Call::Ready(at_c, 2_999, Ok(Step::Wait(3_000))),
+        Call::Ready(at_c, 3_000, Ok(Step::Here)),
+        Call::Ready(two, 3_000, to(rt, C)),
+        Call::Ready(two, 9_000, Err(ForwardError::InFlight)),
+    ];
+    attempt_of(rt, alloc, &["zzzz1"], &calls);
+}
+
+/// Checks an attempt that is this node's, and then another's.
+fn check_here(rt: &impl Abort, alloc: Global, views: &Views) {
+    let calls = [
+        Call::Ready(&views.at_c, 0, Ok(Step::Here)),
+        Call::Ready(&views.two, 0, to(rt, C)),
+    ];
+    attempt_of(rt, alloc, &["zzzz1"], &calls);
+}
+
+#[test]
+fn the_owner_is_looked_up_each_time(rt: HostRuntime) {
+    with_views(&rt, rt.alloc(), Status::Alive, |views| {
+        check_owners(&rt, rt.alloc(), views);
+        check_here(&rt, rt.alloc(), views)
+    });
+}
+
+/// Checks an attempt at two keys, of one owner or of two.
+fn check_two_keys(rt: &impl Abort, alloc: Global, views: &Views) {
+    let (three, two) = (&views.three, &views.two);
+    let calls = [
+        Call::Ready(three, 0, Err(ForwardError::Diverged)),
+        Call::Ready(two, 0, to(rt, C)),
+        Call::Failed(5, Ok(())),
+        Call::Ready(three, 5, Err(ForwardError::Diverged)),
+        Call::Ready(two, 5, Ok(Step::Wait(3_005))),
+        Call::Ready(two, LIMIT, to(rt, C)),
+        Call::Failed(LIMIT, Ok(())),
+        Call::Ready(two, LIMIT, Ok(Step::Wait(9_007_199_254_746_991))),
+    ];
+    assert!(rt; attempt_of(rt, alloc, &["zzzz1", "zzzz2"], &calls) == (2, 2));
+}
+
+#[test]
+fn an_attempt_waits_for_one_owner(rt: HostRuntime) {
+    with_views(&rt, rt.alloc(), Status::Alive, |views| {
+        check_two_keys(&rt, rt.alloc(), views)
+    });
+}
+
+/// A sum of bytes that counts how often it is asked for.
+#[derive(Clone, Copy)]
+struct CountingHash<'a> {
+    calls: &'a AtomicU64,
+}
+
+impl<'a> PointHash for CountingHash<'a> {
+    ghost hash_of = { λ _ bytes. sum bytes % 2 ^ 64 };
+
+    fn hash(&self, bytes: &[u8]) -> u64 {
+        self.calls.fetch_add(1, Ordering::SeqCst);
+        SumHash.hash(bytes)
+    }
+}
+
+/// Checks how many hashes the routing of keys takes.
+fn count_routing<'a>(
+    rt: &impl Abort,
+    alloc: Global,
+    view: &View<CountingHash<'a>>,
+    calls: &AtomicU64,
+) {
+    let to_c = Ok(Route::To(address(rt, C)));
+    let rows: [(&[&str; 3], Result<Route, ForwardError>, u64); 2] = [
+        (&["zzzz1", "zzzz2", "zzzy3"], to_c, 3),
+        (&["zzzz1", "zzzz0", "zzzz2"], Err(ForwardError::Diverged), 2),
+    ];
+    for (texts, wanted, hashes) in &rows {
+        let keys = keys(rt, alloc, texts.as_slice());
+        let before = calls.load(Ordering::SeqCst);
+        assert_eq!(rt; route_keys(view, &keys), *wanted);
+        assert_eq!(rt; calls.load(Ordering::SeqCst), before.wrapping_add(*hashes));
+    }
+}
+
+/// Checks how many hashes an attempt takes. The second answer is `InFlight`, before any look-up.
+fn count_attempt<'a>(
+    rt: &impl Abort,
+    attempt: &mut Attempt,
+    view: &View<CountingHash<'a>>,
+    calls: &AtomicU64,
+) {
+    let before = calls.load(Ordering::SeqCst);
+    for wanted in [to(rt, C), Err(ForwardError::InFlight)] {
+        assert_eq!(rt; attempt.ready(view, moment(rt, 0)), wanted);
+        assert_eq!(rt; calls.load(Ordering::SeqCst), before.wrapping_add(3));
+    }
+}
+
+/// Checks how many hashes three keys take.
+fn count<'a>(rt: &impl Abort, alloc: Global, view: &View<CountingHash<'a>>, calls: &AtomicU64) {
+    count_routing(rt, alloc, view, calls);
+    let mut attempt = Attempt::start(keys(rt, alloc, &["zzzz1", "zzzz2", "zzzy3"]));
+    count_attempt(rt, &mut attempt, view, calls);
+}
+
+#[test]
+fn each_key_is_hashed_once(rt: HostRuntime) {
+    let calls = AtomicU64::new(0);
+    let hash = CountingHash { calls: &calls };
+    let two = [(B, Status::Faulty), (C, Status::Alive)];
+    let view = view(&rt, rt.alloc(), hash, A, &two);
+    count(&rt, rt.alloc(), &view, &calls);
+}

@@ -10,8 +10,6 @@ mod lookups;
 mod makers;
 mod node;
 mod probes;
-#[cfg(test)]
-mod tests;
 mod turns;
 
 pub use errors::CloseRefused;

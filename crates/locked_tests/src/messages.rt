@@ -1,7 +1,7 @@
 //! Messages that a locked node makes and answers, and what it says of its members.
 ghost use Rattle.locked_node.specs.Passes.{Fits};
 
-use super::shared::{Caller, Shared, alone, change, hear, member, moment, news};
+use crate::shared::{Caller, Shared, change, hear, member, moment, news, with_shared};
 use change_core::{Digest, Incarnation, Sourced, Status};
 use detector_core::Addresses;
 use node_core::{ChangeList, Received, Taken};
@@ -93,23 +93,41 @@ fn one_change(rt: &impl Abort, alloc: Global, given: Sourced) -> Vec<Sourced> {
     changes
 }
 
-#[test]
-fn a_join_is_answered_by_all_members(rt: HostRuntime) {
-    let (shared, mut pass) = alone(&rt, rt.alloc(), 2, 1, 4096);
-    let changes = one_change(&rt, rt.alloc(), news(&rt, 1, 7, Status::Alive));
-    let join = message(
-        &rt,
-        Content::Join(news_of(&rt, digest_of(&rt, NOBODY), changes)),
-    );
-    let answered = answer(&rt, &shared, &mut pass, &join);
-    let (taken, joined) = answered.expect(&rt, "an answer");
+/// A join of 10.0.0.1:1, alive at 7.
+fn join(rt: &impl Abort, alloc: Global) -> Message {
+    let changes = one_change(rt, alloc, news(rt, 1, 7, Status::Alive));
+    message(
+        rt,
+        Content::Join(news_of(rt, digest_of(rt, NOBODY), changes)),
+    )
+}
+
+/// Whether it is a Joined of 10.0.0.2:1 with all members.
+fn is_joined(rt: &impl Abort, joined: &Message) -> bool {
+    let all = [told(rt, 1, 7), told(rt, 2, 1)];
+    joined.source == member(rt, 2)
+        && joined.content.kind() == Kind::Joined
+        && carried(joined) == all.as_slice()
+}
+
+fn check_join<R: Wait + Abort>(rt: &R, alloc: Global, shared: &Shared, pass: &mut Caller)
+    requires { Fits shared.now pass.old }
+{
+    let answered = answer(rt, shared, pass, &join(rt, alloc));
+    let (taken, joined) = answered.expect(rt, "an answer");
     let wanted = Taken {
         applied: 1,
         refuted: 0,
     };
-    let all = [told(&rt, 1, 7), told(&rt, 2, 1)];
-    assert!(rt; taken == wanted && joined.source == member(&rt, 2));
-    assert!(rt; joined.content.kind() == Kind::Joined && carried(&joined) == all.as_slice());
+    assert!(rt; taken == wanted && is_joined(rt, &joined));
+}
+
+#[test]
+fn a_join_is_answered_by_all_members(rt: HostRuntime) {
+    let alloc = rt.alloc();
+    with_shared(&rt, alloc, 2, 1, 4096, |shared, pass| {
+        check_join(&rt, alloc, shared, pass)
+    });
 }
 
 /// A ping of 10.0.0.1:1 without changes.
@@ -139,17 +157,33 @@ fn sixteenth<R: Wait + Abort>(
     Some(ack)
 }
 
+/// Checks which members the Ack of the sixteenth ping names, where its sender has this checksum.
+fn check_pings<R: Wait + Abort>(
+    rt: &R,
+    alloc: Global,
+    shared: &Shared,
+    pass: &mut Caller,
+    checksum: &str,
+    wanted: &[Sourced],
+)
+    requires { Fits shared.now pass.old }
+{
+    let mut given = news(rt, 3, 1, Status::Alive);
+    given.source = member(rt, 1);
+    hear(rt, shared, pass, &given, 0);
+    let ack = sixteenth(rt, alloc, shared, pass, checksum);
+    let ack = ack.expect(rt, "an answer");
+    assert!(rt; ack.content.kind() == Kind::Ack && carried(&ack) == wanted);
+}
+
 #[test]
 fn pings_are_answered_by_news_and_then_by_all(rt: HostRuntime) {
+    let alloc = rt.alloc();
     let all = [told(&rt, 2, 1), told(&rt, 3, 1)];
-    let mut given = news(&rt, 3, 1, Status::Alive);
-    given.source = member(&rt, 1);
-    for (checksum, last) in [(NOBODY, 2), (BOTH, 0)] {
-        let (shared, mut pass) = alone(&rt, rt.alloc(), 2, 1, 4096);
-        hear(&rt, &shared, &mut pass, &given, 0);
-        let ack = sixteenth(&rt, rt.alloc(), &shared, &mut pass, checksum);
-        let ack = ack.expect(&rt, "an answer");
-        assert!(rt; ack.content.kind() == Kind::Ack && carried(&ack) == &all[..last]);
+    for (checksum, wanted) in [(NOBODY, &all[..2]), (BOTH, &all[..0])] {
+        with_shared(&rt, alloc, 2, 1, 4096, |shared, pass| {
+            check_pings(&rt, alloc, shared, pass, checksum, wanted)
+        });
     }
 }
 
@@ -206,19 +240,25 @@ fn ping_req_ack<R: Wait + Abort>(rt: &R, shared: &Shared, pass: &mut Caller) -> 
     again.ok().expect(rt, "a message")
 }
 
+/// Whether a message is of this kind, by 10.0.0.1:1.
+fn is_own(rt: &impl Abort, message: Message, kind: Kind) -> bool {
+    message.content.kind() == kind && message.source == member(rt, 1)
+}
+
+fn check_messages<R: Wait + Abort>(rt: &R, shared: &Shared, pass: &mut Caller)
+    requires { Fits shared.now pass.old }
+{
+    assert!(rt; is_own(rt, join_message(rt, shared, pass), Kind::Join));
+    assert!(rt; is_own(rt, ping(rt, shared, pass), Kind::Ping));
+    assert!(rt; is_own(rt, ping_req(rt, shared, pass), Kind::PingReq));
+    assert!(rt; is_own(rt, ping_req_ack(rt, shared, pass), Kind::PingReqAck));
+}
+
 #[test]
 fn makes_messages(rt: HostRuntime) {
-    let (shared, mut pass) = alone(&rt, rt.alloc(), 1, 7, 4096);
-    let made = [
-        join_message(&rt, &shared, &mut pass),
-        ping(&rt, &shared, &mut pass),
-        ping_req(&rt, &shared, &mut pass),
-        ping_req_ack(&rt, &shared, &mut pass),
-    ];
-    let kinds = [Kind::Join, Kind::Ping, Kind::PingReq, Kind::PingReqAck];
-    for (message, kind) in made.iter().zip(kinds) {
-        assert!(rt; message.content.kind() == kind && message.source == member(&rt, 1));
-    }
+    with_shared(&rt, rt.alloc(), 1, 7, 4096, |shared, pass| {
+        check_messages(&rt, shared, pass)
+    });
 }
 
 fn members<R: Wait + Abort>(rt: &R, shared: &Shared, pass: &mut Caller) -> ChangeList
@@ -265,13 +305,20 @@ fn owners<R: Wait + Abort>(rt: &R, shared: &Shared, pass: &mut Caller) -> Addres
     again.ok().expect(rt, "owners")
 }
 
+fn check_held<R: Wait + Abort>(rt: &R, shared: &Shared, pass: &mut Caller)
+    requires { Fits shared.now pass.old }
+{
+    let own = [change(rt, 1, 7, Status::Alive)];
+    let named = [member(rt, 1)];
+    assert!(rt; members(rt, shared, pass).as_slice() == own.as_slice());
+    assert!(rt; digest_text(rt, shared, pass).as_str() == "10.0.0.1:1alive7");
+    assert!(rt; digest(rt, shared, pass) == digest_of(rt, ALONE));
+    assert!(rt; owners(rt, shared, pass).as_slice() == named.as_slice());
+}
+
 #[test]
 fn says_what_it_holds(rt: HostRuntime) {
-    let (shared, mut pass) = alone(&rt, rt.alloc(), 1, 7, 4096);
-    let own = [change(&rt, 1, 7, Status::Alive)];
-    let named = [member(&rt, 1)];
-    assert!(rt; members(&rt, &shared, &mut pass).as_slice() == own.as_slice());
-    assert!(rt; digest_text(&rt, &shared, &mut pass).as_str() == "10.0.0.1:1alive7");
-    assert!(rt; digest(&rt, &shared, &mut pass) == digest_of(&rt, ALONE));
-    assert!(rt; owners(&rt, &shared, &mut pass).as_slice() == named.as_slice());
+    with_shared(&rt, rt.alloc(), 1, 7, 4096, |shared, pass| {
+        check_held(&rt, shared, pass)
+    });
 }

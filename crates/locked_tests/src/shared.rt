@@ -1,35 +1,36 @@
 //! Nodes that are shared, and calls of them. Where a growth is refused the node is as before, and the next try goes on.
+ghost use denote.Ref.{Bor, MutBor};
 ghost use Rattle.std.specs.Prelude.{◌≡◌, ◌+◌, []};
 ghost use Rattle.std.specs.List.{All};
 ghost use Rattle.change_core.specs.Address.{address_of};
 ghost use Rattle.turn_lock.specs.Passes.{lock_name};
 ghost use Rattle.locked_node.specs.Passes.{name_of, Fits, IsNew};
 
-use crate::{LockedNode, NodePass};
 use change_core::{Address, Change, Incarnation, Moment, Sourced, Status, Weight};
 use hash_ring::SumHash;
-use node_core::{Config, NodeError, NodeState, StopCause, Stopped, Taken};
+use locked_node::{LockedNode, NodePass};
+use node_core::{Config, NodeState, StopCause, Stopped, Taken};
 use std::alloc::Global;
 use std::process::Abort;
 use std::sync::Wait;
 
-pub(super) type Shared = LockedNode<SumHash>;
+pub(crate) type Shared = LockedNode<SumHash>;
 
-pub(super) type Caller = NodePass<SumHash>;
+pub(crate) type Caller = NodePass<SumHash>;
 
 /// The member 10.0.0.`number`:1.
-pub(super) fn member(rt: &impl Abort, number: u8) -> Address
+pub(crate) fn member(rt: &impl Abort, number: u8) -> Address
     ensures { result ≡ address_of (167772160 + number) 1 }
 {
     Address::new(0x0a00_0000 + u32::from(number), 1).expect(rt, "an address")
 }
 
-pub(super) fn moment(rt: &impl Abort, number: u64) -> Moment {
+pub(crate) fn moment(rt: &impl Abort, number: u64) -> Moment {
     Moment::new(number).expect(rt, "a moment")
 }
 
 /// A change with weight 1.
-pub(super) fn change(rt: &impl Abort, number: u8, incarnation: u64, status: Status) -> Change {
+pub(crate) fn change(rt: &impl Abort, number: u8, incarnation: u64, status: Status) -> Change {
     Change {
         address: member(rt, number),
         incarnation: Incarnation::new(incarnation).expect(rt, "an incarnation"),
@@ -39,7 +40,7 @@ pub(super) fn change(rt: &impl Abort, number: u8, incarnation: u64, status: Stat
 }
 
 /// A change that its own member said.
-pub(super) fn news(rt: &impl Abort, number: u8, incarnation: u64, status: Status) -> Sourced {
+pub(crate) fn news(rt: &impl Abort, number: u8, incarnation: u64, status: Status) -> Sourced {
     let change = change(rt, number, incarnation, status);
     Sourced {
         change,
@@ -58,14 +59,14 @@ fn config(max: usize) -> Config {
 
 /// How a node begins.
 #[derive(Clone, Copy)]
-pub(super) struct Start {
-    pub(super) own: Address,
-    pub(super) incarnation: u64,
-    pub(super) max: usize,
+pub(crate) struct Start {
+    pub(crate) own: Address,
+    pub(crate) incarnation: u64,
+    pub(crate) max: usize,
 }
 
 /// A node at moment 0.
-pub(super) fn node(rt: &impl Abort, alloc: Global, start: &Start) -> NodeState<SumHash>
+pub(crate) fn node(rt: &impl Abort, alloc: Global, start: &Start) -> NodeState<SumHash>
     ensures { result.node.own ≡ start.now.own }
 {
     let first = Incarnation::new(start.incarnation).expect(rt, "an incarnation");
@@ -100,7 +101,7 @@ fn share(
 }
 
 /// The node 10.0.0.`number`:1 at this incarnation, with one pass.
-pub(super) fn alone(
+fn alone(
     rt: &impl Abort,
     alloc: Global,
     number: u8,
@@ -119,8 +120,23 @@ pub(super) fn alone(
     (shared, pass)
 }
 
+/// Has the node 10.0.0.`number`:1 at this incarnation go through this, with one pass.
+pub(crate) fn with_shared<F: FnOnce(&Shared, &mut Caller)>(
+    rt: &impl Abort,
+    alloc: Global,
+    number: u8,
+    incarnation: u64,
+    max: usize,
+    body: F,
+)
+    requires { (s : Bor _) (p : MutBor _) → Fits s.now p.now → F.pre body s p }
+{
+    let (shared, mut pass) = alone(rt, alloc, number, incarnation, max);
+    body(&shared, &mut pass);
+}
+
 /// The node at 7 with two passes, and the list that they came in, now empty.
-pub(super) fn pair(
+pub(crate) fn pair(
     rt: &impl Abort,
     alloc: Global,
     own: Address,
@@ -144,7 +160,7 @@ pub(super) fn pair(
 }
 
 /// Takes one change.
-pub(super) fn take<R: Wait + Abort>(
+pub(crate) fn take<R: Wait + Abort>(
     rt: &R,
     shared: &Shared,
     pass: &mut Caller,
@@ -168,7 +184,7 @@ pub(super) fn take<R: Wait + Abort>(
 }
 
 /// Takes one change, which is not refused.
-pub(super) fn hear<R: Wait + Abort>(
+pub(crate) fn hear<R: Wait + Abort>(
     rt: &R,
     shared: &Shared,
     pass: &mut Caller,
@@ -182,14 +198,14 @@ pub(super) fn hear<R: Wait + Abort>(
     assert!(rt; answer.is_ok());
 }
 
-pub(super) fn own<R: Wait + Abort>(rt: &R, shared: &Shared, pass: &mut Caller) -> Change
+pub(crate) fn own<R: Wait + Abort>(rt: &R, shared: &Shared, pass: &mut Caller) -> Change
     requires { Fits shared.now pass.old }
     ensures { Fits shared.now pass.new }
 {
     shared.own(rt, pass).ok().expect(rt, "a turn")
 }
 
-pub(super) fn status_of<R: Wait + Abort>(
+pub(crate) fn status_of<R: Wait + Abort>(
     rt: &R,
     shared: &Shared,
     pass: &mut Caller,
@@ -202,7 +218,7 @@ pub(super) fn status_of<R: Wait + Abort>(
     held.ok().expect(rt, "a turn").map(|entry| entry.status)
 }
 
-pub(super) fn owner<R: Wait + Abort>(
+pub(crate) fn owner<R: Wait + Abort>(
     rt: &R,
     shared: &Shared,
     pass: &mut Caller,

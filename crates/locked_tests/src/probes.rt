@@ -1,13 +1,12 @@
 //! Probes of a locked node.
 ghost use Rattle.locked_node.specs.Passes.{Fits};
 
-use super::shared::{Caller, Shared, alone, change, hear, member, moment, news};
+use crate::shared::{Caller, Shared, change, hear, member, moment, news, with_shared};
 use change_core::{Address, Change, Status};
 use detector_core::{Probe, Running, Said};
 use node_core::{NodeError, NodeLost, NodeOutcome};
 use std::process::Abort;
 use std::sync::Wait;
-use std::test::Fail;
 
 fn probe<R: Wait + Abort>(
     rt: &R,
@@ -77,19 +76,27 @@ fn running<R: Wait + Abort>(rt: &R, shared: &Shared, pass: &mut Caller) -> Optio
     shared.running(rt, pass).ok().expect(rt, "a turn")
 }
 
+/// Checks two probes of the only other member: one that is lost, and one that is answered.
+fn check_lost<R: Wait + Abort>(rt: &R, shared: &Shared, pass: &mut Caller)
+    requires { Fits shared.now pass.old }
+{
+    hear(rt, shared, pass, &news(rt, 2, 1, Status::Alive), 0);
+    let target = member(rt, 2);
+    let suspect = change(rt, 2, 1, Status::Suspect);
+    assert!(rt; probe(rt, shared, pass) == Ok(Some(Probe { number: 1, target })));
+    assert!(rt; probe(rt, shared, pass) == Err(NodeError::Busy));
+    assert!(rt; lose(rt, shared, pass, 1) == Ok((None, Some(suspect))));
+    assert!(rt; acked(rt, shared, pass, 1) == Err(NodeError::StaleProbe));
+    assert!(rt; probe(rt, shared, pass) == Ok(Some(Probe { number: 2, target })));
+    assert!(rt; acked(rt, shared, pass, 2) == Ok(()));
+    assert!(rt; running(rt, shared, pass).is_none());
+}
+
 #[test]
 fn a_lost_target_is_suspect_where_nobody_can_be_asked(rt: HostRuntime) {
-    let (shared, mut pass) = alone(&rt, rt.alloc(), 1, 7, 4096);
-    hear(&rt, &shared, &mut pass, &news(&rt, 2, 1, Status::Alive), 0);
-    let target = member(&rt, 2);
-    let suspect = change(&rt, 2, 1, Status::Suspect);
-    assert!(rt; probe(&rt, &shared, &mut pass) == Ok(Some(Probe { number: 1, target })));
-    assert!(rt; probe(&rt, &shared, &mut pass) == Err(NodeError::Busy));
-    assert!(rt; lose(&rt, &shared, &mut pass, 1) == Ok((None, Some(suspect))));
-    assert!(rt; acked(&rt, &shared, &mut pass, 1) == Err(NodeError::StaleProbe));
-    assert!(rt; probe(&rt, &shared, &mut pass) == Ok(Some(Probe { number: 2, target })));
-    assert!(rt; acked(&rt, &shared, &mut pass, 2) == Ok(()));
-    assert!(rt; running(&rt, &shared, &mut pass).is_none());
+    with_shared(&rt, rt.alloc(), 1, 7, 4096, |shared, pass| {
+        check_lost(&rt, shared, pass)
+    });
 }
 
 fn try_hear<R: Wait + Abort>(
@@ -138,22 +145,36 @@ fn decide<R: Wait + Abort>(
     Some((target, outcome.ok()?))
 }
 
+/// Checks what this word of a helper comes to.
+fn check_word<R: Wait + Abort>(rt: &R, shared: &Shared, pass: &mut Caller, number: u64, said: Said)
+    requires { Fits shared.now pass.old }
+    ensures { Fits shared.now pass.new }
+{
+    let decided = decide(rt, shared, pass, number, said);
+    let (target, outcome) = decided.expect(rt, "an outcome");
+    let mut suspect = change(rt, 2, 1, Status::Suspect);
+    suspect.address = target;
+    let wanted = match said {
+        Said::Failed => NodeOutcome::Inconclusive,
+        Said::Reached => NodeOutcome::Reached,
+        Said::NotReached => NodeOutcome::Suspect(Some(suspect)),
+    };
+    assert!(rt; outcome == wanted && running(rt, shared, pass).is_none());
+}
+
+fn check_words<R: Wait + Abort>(rt: &R, shared: &Shared, pass: &mut Caller)
+    requires { Fits shared.now pass.old }
+{
+    hear(rt, shared, pass, &news(rt, 2, 1, Status::Alive), 0);
+    hear(rt, shared, pass, &news(rt, 3, 1, Status::Alive), 0);
+    check_word(rt, shared, pass, 1, Said::Failed);
+    check_word(rt, shared, pass, 2, Said::Reached);
+    check_word(rt, shared, pass, 3, Said::NotReached);
+}
+
 #[test]
-fn a_helper_decides_about_a_lost_target(rt: HostRuntime) -> Result<(), Fail> {
-    let (shared, mut pass) = alone(&rt, rt.alloc(), 1, 7, 4096);
-    hear(&rt, &shared, &mut pass, &news(&rt, 2, 1, Status::Alive), 0);
-    hear(&rt, &shared, &mut pass, &news(&rt, 3, 1, Status::Alive), 0);
-    for (number, said) in [(1, Said::Failed), (2, Said::Reached), (3, Said::NotReached)] {
-        let decided = decide(&rt, &shared, &mut pass, number, said);
-        let (target, outcome) = decided.ok_or("an outcome")?;
-        let mut suspect = change(&rt, 2, 1, Status::Suspect);
-        suspect.address = target;
-        let wanted = match said {
-            Said::Failed => NodeOutcome::Inconclusive,
-            Said::Reached => NodeOutcome::Reached,
-            Said::NotReached => NodeOutcome::Suspect(Some(suspect)),
-        };
-        assert!(rt; outcome == wanted && running(&rt, &shared, &mut pass).is_none());
-    }
-    Ok(())
+fn a_helper_decides_about_a_lost_target(rt: HostRuntime) {
+    with_shared(&rt, rt.alloc(), 1, 7, 4096, |shared, pass| {
+        check_words(&rt, shared, pass)
+    });
 }

@@ -1,5 +1,5 @@
 use Rattle.locked_node.specs.Passes.{Fits}
-use Rattle.locked_node.proofs.tests.a_suspicion_that_was_answered_does_not_run_out.Given as goal
+use Rattle.locked_tests.proofs.tests.check_refuting.Given as goal
 
 abbrev pub invariant-loop-incarnation : goal.invariant-loop-incarnation
 invariant-loop-incarnation g l = Fits l.shared l.pass

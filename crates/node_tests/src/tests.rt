@@ -308,29 +308,25 @@ fn an_alteration_hashes_no_more_than_its_points(rt: HostRuntime) {
     count(&rt, &mut node, &calls);
 }
 
-/// The changes of the Ack that a ping of A without changes is answered by.
-fn answered<H: PointHash>(
-    rt: &impl Abort,
-    alloc: Global,
-    node: &mut NodeState<H>,
-    checksum: Digest,
-) -> Option<Changes> {
+/// A ping of A without changes.
+fn empty_ping(rt: &impl Abort, alloc: Global, checksum: Digest) -> Message {
     let changes = Changes::from_slice(alloc, &[]).ok().expect(rt, "changes");
-    let ping = Message {
+    Message {
         source: address(rt, A),
         source_incarnation: incarnation(rt, 7),
         content: Content::Ping(News { checksum, changes }),
-    };
-    match receive(node, &ping, moment(rt, 0)) {
-        Received::Answer(
-            _,
-            Message {
-                content: Content::Ack(news),
-                ..
-            },
-        ) => Some(news.changes),
-        _ => None,
     }
+}
+
+/// Whether a message was answered by an Ack with these changes.
+fn is_ack(received: &Received, changes: &[Sourced]) -> bool {
+    let Received::Answer(_, answer) = received else {
+        return false;
+    };
+    let Content::Ack(news) = &answer.content else {
+        return false;
+    };
+    news.changes.as_slice() == changes
 }
 
 /// Is pinged, and answers by these changes.
@@ -341,8 +337,9 @@ fn answer_by(
     checksum: Digest,
     wanted: &[Sourced],
 ) {
-    let changes = answered(rt, alloc, node, checksum).expect(rt, "an ack");
-    assert!(rt; changes.as_slice() == wanted);
+    let ping = empty_ping(rt, alloc, checksum);
+    let received = receive(node, &ping, moment(rt, 0));
+    assert!(rt; is_ack(&received, wanted));
 }
 
 /// Answers fifteen pings by its birth, and the next by all members, or by nothing where the sender knows its digest.

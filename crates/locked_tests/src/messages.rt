@@ -136,25 +136,32 @@ fn empty_ping(rt: &impl Abort, alloc: Global, checksum: &str) -> Message {
     message(rt, content)
 }
 
-/// The answer to a ping after fifteen others, which bring each the change given and no more.
-fn sixteenth<R: Wait + Abort>(
+/// Whether a ping is answered by an Ack with these changes.
+fn is_acked<R: Wait + Abort>(
     rt: &R,
-    alloc: Global,
     shared: &Shared,
     pass: &mut Caller,
-    checksum: &str,
-) -> Option<Message>
+    ping: &Message,
+    wanted: &[Sourced],
+) -> bool
     requires { Fits shared.now pass.old }
     ensures { Fits shared.now pass.new }
 {
-    let ping = empty_ping(rt, alloc, NOBODY);
+    let Some((_, ack)) = answer(rt, shared, pass, ping) else {
+        return false;
+    };
+    ack.content.kind() == Kind::Ack && carried(&ack) == wanted
+}
+
+/// Checks fifteen answers to a ping, which bring each the birth of 10.0.0.2:1 and no more.
+fn check_fifteen<R: Wait + Abort>(rt: &R, shared: &Shared, pass: &mut Caller, ping: &Message)
+    requires { Fits shared.now pass.old }
+    ensures { Fits shared.now pass.new }
+{
     let birth = [told(rt, 2, 1)];
     for _ in 0..15u8 {
-        let (_, ack) = answer(rt, shared, pass, &ping)?;
-        assert!(rt; carried(&ack) == birth.as_slice());
+        assert!(rt; is_acked(rt, shared, pass, ping, birth.as_slice()));
     }
-    let (_, ack) = answer(rt, shared, pass, &empty_ping(rt, alloc, checksum))?;
-    Some(ack)
 }
 
 /// Checks which members the Ack of the sixteenth ping names, where its sender has this checksum.
@@ -171,9 +178,9 @@ fn check_pings<R: Wait + Abort>(
     let mut given = news(rt, 3, 1, Status::Alive);
     given.source = member(rt, 1);
     hear(rt, shared, pass, &given, 0);
-    let ack = sixteenth(rt, alloc, shared, pass, checksum);
-    let ack = ack.expect(rt, "an answer");
-    assert!(rt; ack.content.kind() == Kind::Ack && carried(&ack) == wanted);
+    check_fifteen(rt, shared, pass, &empty_ping(rt, alloc, NOBODY));
+    let last = empty_ping(rt, alloc, checksum);
+    assert!(rt; is_acked(rt, shared, pass, &last, wanted));
 }
 
 #[test]

@@ -21,6 +21,3 @@ pub use errors::ChangeError;
 pub use numbers::{GREATEST_NUMBER, Incarnation, MOST_MEMBERS, Moment};
 pub use statuses::Status;
 pub use weights::{GREATEST_WEIGHT, Weight};
-
-#[cfg(test)]
-mod tests;

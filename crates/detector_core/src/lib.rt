@@ -9,8 +9,6 @@ mod helpers;
 pub mod laws;
 mod order;
 mod prober;
-#[cfg(test)]
-mod tests;
 mod timers;
 
 pub use addresses::Addresses;

@@ -5,8 +5,6 @@ mod errors;
 mod gossip;
 pub mod laws;
 mod pending;
-#[cfg(test)]
-mod tests;
 
 pub use errors::GossipError;
 pub use gossip::{Gossip, MOST_FACTOR};

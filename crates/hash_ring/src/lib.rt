@@ -20,6 +20,3 @@ pub use errors::RingError;
 pub use hash::{PointHash, Sha256Hash, SumHash};
 pub use points::{MOST_REPLICAS, distance};
 pub use ring::Ring;
-
-#[cfg(test)]
-mod tests;

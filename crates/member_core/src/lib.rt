@@ -12,6 +12,3 @@ pub use errors::MemberError;
 pub use memberships::Members;
 pub use tables::MemberTable;
 pub use verdicts::Verdict;
-
-#[cfg(test)]
-mod tests;

@@ -1,6 +1,6 @@
 //! A list of numbers under a lock.
-use crate::{Kept, Pass, TurnLock};
 use std::alloc::{AllocError, Global};
+use turn_lock::{Kept, Pass, TurnLock};
 
 // The numbers that were added, in their order. A turn adds a number, or none.
 #[derive(Drop)]

@@ -1,8 +1,8 @@
 ghost use Rattle.std.specs.Prelude.{◌≡◌, ◌≤◌, ◌<◌, ℕ, List, ◌%◌, ◌^◌, sum, IsOk};
 ghost use Rattle.hash_ring.specs.RingModel.{HasRoom};
 
-use crate::*;
 use change_core::{Address, Weight};
+use hash_ring::*;
 use std::alloc::Global;
 use std::process::Abort;
 use std::sync::atomic::{AtomicU64, Ordering};
@@ -119,32 +119,41 @@ fn check_rows<H: PointHash>(rt: &impl Abort, ring: &Ring<H>, rows: &[Row]) -> Re
     Ok(())
 }
 
-#[test]
-fn owners_by_sum_and_weight(rt: HostRuntime) -> Result<(), Fail> {
-    let even: [Row; 6] = [
-        ("zzzz1", 3, &[B, C, A]),
-        ("zzzz2", 3, &[C, A, B]),
-        ("zzzz3", 3, &[A, B, C]),
-        ("", 0, &[]),
-        ("", 1, &[A]),
-        ("", 9, &[A, B, C]),
-    ];
-    let weighted: [Row; 3] = [
-        ("zzzz1", 3, &[B, C, A]),
-        ("zzzz2", 3, &[B, C, A]),
-        ("zzzz3", 3, &[B, A, C]),
-    ];
-    let mut ring = filled(&rt, rt.alloc(), SumHash, 2, &[C, A, B])?;
-    check_rows(&rt, &ring, &even)?;
-    let heavier = add(&rt, &mut ring, B, 3)?;
+// Owners of the three servers at two points each.
+const EVEN: [Row<'static>; 6] = [
+    ("zzzz1", 3, &[B, C, A]),
+    ("zzzz2", 3, &[C, A, B]),
+    ("zzzz3", 3, &[A, B, C]),
+    ("", 0, &[]),
+    ("", 1, &[A]),
+    ("", 9, &[A, B, C]),
+];
+
+// The same where the second one has three times as many.
+const WEIGHTED: [Row<'static>; 3] = [
+    ("zzzz1", 3, &[B, C, A]),
+    ("zzzz2", 3, &[B, C, A]),
+    ("zzzz3", 3, &[B, A, C]),
+];
+
+// Owners of a ring of three servers, with the second one heavier, and as before.
+fn check_weights(rt: &impl Abort, ring: &mut Ring<SumHash>) -> Result<(), Fail> {
+    check_rows(rt, ring, &EVEN)?;
+    let heavier = add(rt, ring, B, 3)?;
     assert!(rt; heavier);
-    let again = add(&rt, &mut ring, B, 3)?;
+    let again = add(rt, ring, B, 3)?;
     assert!(rt; !again);
     assert!(rt; ring.weight(address(B)?) == Weight::new(3) && ring.len() == 3);
-    check_rows(&rt, &ring, &weighted)?;
-    let lighter = add(&rt, &mut ring, B, 1)?;
+    check_rows(rt, ring, &WEIGHTED)?;
+    let lighter = add(rt, ring, B, 1)?;
     assert!(rt; lighter);
-    check_rows(&rt, &ring, &even)
+    check_rows(rt, ring, &EVEN)
+}
+
+#[test]
+fn owners_by_sum_and_weight(rt: HostRuntime) -> Result<(), Fail> {
+    let mut ring = filled(&rt, rt.alloc(), SumHash, 2, &[C, A, B])?;
+    check_weights(&rt, &mut ring)
 }
 
 // Gives a server that is there a weight that is not greater, with no room made before.
@@ -229,31 +238,52 @@ impl<'a> PointHash for CountingHash<'a> {
     }
 }
 
-#[test]
-fn an_edit_hashes_its_own_points_alone(rt: HostRuntime) -> Result<(), Fail> {
-    let calls = AtomicU64::new(0);
-    let server = address(A)?;
-    let heavy = weight(8)?;
-    let mut ring = Ring::new(rt.alloc(), CountingHash { calls: &calls }, 7)?;
-    reserve(&rt, &mut ring, server, heavy)?;
-    let before = calls.load(Ordering::SeqCst);
-    let added = ring.add(server, heavy);
-    assert_eq!(rt; calls.load(Ordering::SeqCst), before.wrapping_add(56));
-    let again = lighten(&mut ring, server, heavy)?;
-    assert_eq!(rt; calls.load(Ordering::SeqCst), before.wrapping_add(56));
-    let lighter = lighten(&mut ring, server, weight(2)?)?;
-    assert_eq!(rt; calls.load(Ordering::SeqCst), before.wrapping_add(70));
-    ring.owner(b"key");
-    assert_eq!(rt; calls.load(Ordering::SeqCst), before.wrapping_add(71));
-    let again_there = match ring.copy() {
+// A copy hashes nothing, and has the server with this weight alone.
+fn check_copy<'a>(
+    rt: &impl Abort,
+    ring: &Ring<CountingHash<'a>>,
+    server: Address,
+    light: Weight,
+) -> Result<(), Fail> {
+    let copy = match ring.copy() {
         Ok(copy) => copy,
         Err(_) => ring.copy()?,
     };
-    assert!(rt; again_there.len() == 1 && again_there.weight(server) == Weight::new(2));
+    assert!(rt; copy.len() == 1 && copy.weight(server) == Some(light));
+    Ok(())
+}
+
+// Each edit hashes the points that it brings, a look-up the key, and what takes points away nothing.
+fn count_edits<'a>(
+    rt: &impl Abort,
+    ring: &mut Ring<CountingHash<'a>>,
+    calls: &AtomicU64,
+) -> Result<(), Fail> {
+    let server = address(A)?;
+    let heavy = weight(8)?;
+    let light = weight(2)?;
+    reserve(rt, ring, server, heavy)?;
+    let before = calls.load(Ordering::SeqCst);
+    let added = ring.add(server, heavy);
+    assert_eq!(rt; calls.load(Ordering::SeqCst), before.wrapping_add(56));
+    let again = lighten(ring, server, heavy)?;
+    assert_eq!(rt; calls.load(Ordering::SeqCst), before.wrapping_add(56));
+    let lighter = lighten(ring, server, light)?;
+    assert_eq!(rt; calls.load(Ordering::SeqCst), before.wrapping_add(70));
+    ring.owner(b"key");
+    assert_eq!(rt; calls.load(Ordering::SeqCst), before.wrapping_add(71));
+    check_copy(rt, ring, server, light)?;
     ring.remove(server);
     assert_eq!(rt; calls.load(Ordering::SeqCst), before.wrapping_add(71));
     assert!(rt; added && !again && lighter && ring.len() == 0);
     Ok(())
+}
+
+#[test]
+fn an_edit_hashes_its_own_points_alone(rt: HostRuntime) -> Result<(), Fail> {
+    let calls = AtomicU64::new(0);
+    let mut ring = Ring::new(rt.alloc(), CountingHash { calls: &calls }, 7)?;
+    count_edits(&rt, &mut ring, &calls)
 }
 
 // The next number of a linear congruential generator, below a bound.

@@ -4,7 +4,6 @@ ghost use Rattle.std.specs.List.{All, filter_map};
 ghost use Rattle.turn_lock.specs.History.{turn};
 ghost use Rattle.turn_lock.specs.Passes.{name_of, opening_of, number_of, seen, IsOutside, IsInside};
 
-use crate::{CloseError, CloseRefused, LockError, MOST_PASSES, NewError, TurnLock};
 use std::alloc::{AllocError, Global};
 use std::process::Abort;
 use std::sync::Wait;
@@ -12,6 +11,7 @@ use std::test::Fail;
 use std::thread;
 use std::thread::{Threads, join};
 use std::time::{Clock, Duration};
+use turn_lock::{CloseError, CloseRefused, LockError, MOST_PASSES, NewError, TurnLock};
 
 mod tally;
 
@@ -290,7 +290,7 @@ fn a_pass_is_spent_after_its_turns(rt: HostRuntime) -> Result<(), Fail> {
 }
 
 #[test]
-#[tactic(auto, unfolding(crate::specs::Passes::IsOutside))]
+#[tactic(auto, unfolding(turn_lock::specs::Passes::IsOutside))]
 fn a_pass_of_another_lock_is_refused(rt: HostRuntime) -> Result<(), Fail> {
     let (lock, first, second, mut passes) = pair(rt.alloc(), 7, 2)?;
     let (_other, mut foreign, _, _) = pair(rt.alloc(), 8, 2)?;

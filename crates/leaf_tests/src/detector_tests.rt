@@ -3,8 +3,11 @@ ghost use Rattle.std.specs.List.Sorted.{IsStrictlyIncreasing};
 ghost use Rattle.change_core.specs.Address.{address_of};
 ghost use Rattle.change_core.specs.Numbers.{greatest_number};
 
-use crate::{DetectorError, Due, Lost, Outcome, Probe, Prober, Running, Said, Timers};
 use change_core::{Address, GREATEST_NUMBER, Incarnation, Moment, Status};
+use detector_core::{
+    Addresses, DetectorError, Due, Lost, Outcome, Probe, Prober, Running, Said, Timers,
+};
+use std::alloc::Global;
 use std::process::Abort;
 use std::test::Fail;
 
@@ -96,114 +99,185 @@ fn start(
     Ok(())
 }
 
+/// Has a new prober, which has used this number last, go through this.
+fn with_prober<F: FnMut(&mut Prober)>(
+    alloc: Global,
+    seed: u64,
+    helpers: usize,
+    last: u64,
+    mut body: F,
+)
+    requires called { F.IsAlwaysCallable body }
+    requires last { last ≤ greatest_number }
+{
+    let mut prober = Prober::new(alloc, seed, helpers, last);
+    body(&mut prober);
+}
+
+/// The probe that begins.
+fn begin(rt: &impl Abort, prober: &mut Prober, pingable: &[Address]) -> Probe
+    requires { IsStrictlyIncreasing pingable.now }
+{
+    let Ok(Some(probe)) = pick(rt, prober, pingable) else {
+        panic!(rt; "nobody to probe")
+    };
+    probe
+}
+
+/// The helpers that are asked where a probe is lost.
+fn ask(rt: &impl Abort, prober: &mut Prober, number: u64, pingable: &[Address]) -> Addresses
+    requires { IsStrictlyIncreasing pingable.now }
+{
+    let Ok(Lost::Ask(helpers)) = lose(rt, prober, number, pingable) else {
+        panic!(rt; "nobody to ask")
+    };
+    helpers
+}
+
 /// Picks of these members, each acked.
-fn assert_picks(
-    rt: &impl Abort,
-    prober: &mut Prober,
-    pingable: &[Address],
-    wanted: &[u8],
-) -> Result<(), Fail>
+fn assert_picks(rt: &impl Abort, prober: &mut Prober, pingable: &[Address], wanted: &[u8])
     requires { IsStrictlyIncreasing pingable.now }
 {
     for number in wanted {
-        let probe = pick(rt, prober, pingable)?.ok_or("nobody to probe")?;
+        let probe = begin(rt, prober, pingable);
         assert_eq!(rt; probe.target, node(rt, *number));
-        prober.acked(probe.number)?;
+        assert_eq!(rt; prober.acked(probe.number), Ok(()));
     }
-    Ok(())
+}
+
+/// Picks of three, of four and of two members.
+fn pick_as_members_change(
+    rt: &impl Abort,
+    prober: &mut Prober,
+    of_three: &[u8],
+    of_four: &[u8],
+    of_pair: &[u8],
+) {
+    assert_picks(rt, prober, &three(rt), of_three);
+    assert_picks(rt, prober, &four(rt), of_four);
+    assert_picks(rt, prober, &pair(rt), of_pair);
 }
 
 // The numbers were made by a program of its own after the published PCG32 and Rust's `rand`: each order holds each of
 // the members that were pingable when it was made, those who left are passed over, and those who came wait.
 #[test]
-fn picks_follow_from_the_seed(rt: HostRuntime) -> Result<(), Fail> {
+fn picks_follow_from_the_seed(rt: HostRuntime) {
     for (seed, of_three, of_four, of_pair) in [
         (7, [3, 4, 2, 4], [3, 2, 3, 5], [5, 3, 5]),
         (1, [4, 2, 3, 2], [4, 3, 2, 5], [3, 3, 5]),
         (7, [3, 4, 2, 4], [3, 2, 3, 5], [5, 3, 5]),
     ] {
-        let mut prober = Prober::new(rt.alloc(), seed, 2, 0);
-        assert_picks(&rt, &mut prober, &three(&rt), &of_three)?;
-        assert_picks(&rt, &mut prober, &four(&rt), &of_four)?;
-        assert_picks(&rt, &mut prober, &pair(&rt), &of_pair)?;
+        with_prober(
+            rt.alloc(),
+            seed,
+            2,
+            0,
+            |prober| pick_as_members_change(&rt, prober, &of_three, &of_four, &of_pair),
+        );
     }
-    Ok(())
+}
+
+/// Picks each of the three, order by order.
+fn pick_in_orders(rt: &impl Abort, prober: &mut Prober, orders: &[[u8; 3]; 2]) {
+    for order in orders {
+        assert_picks(rt, prober, &three(rt), order);
+    }
 }
 
 // Each row is one order of the three; both are picked whole before another is made.
 #[test]
-fn two_rounds_hold_each_member(rt: HostRuntime) -> Result<(), Fail> {
+fn two_rounds_hold_each_member(rt: HostRuntime) {
     for (seed, orders) in [(7, [[3, 4, 2], [4, 3, 2]]), (1, [[4, 2, 3], [2, 4, 3]])] {
-        let mut prober = Prober::new(rt.alloc(), seed, 2, 0);
-        for order in &orders {
-            assert_picks(&rt, &mut prober, &three(&rt), order)?;
-        }
+        with_prober(
+            rt.alloc(),
+            seed,
+            2,
+            0,
+            |prober| pick_in_orders(&rt, prober, &orders),
+        );
     }
-    Ok(())
+}
+
+/// Loses its first probe, of this target, asks these helpers, and picks this member next.
+fn ask_and_go_on(rt: &impl Abort, prober: &mut Prober, target: u8, wanted: &[u8; 2], next: u8) {
+    let pingable = four(rt);
+    let probe = begin(rt, prober, &pingable);
+    assert_eq!(rt; probe.target, node(rt, target));
+    let helpers = ask(rt, prober, probe.number, &pingable);
+    assert_eq!(rt; helpers.as_slice().len(), 2);
+    for (helper, number) in helpers.as_slice().iter().zip(wanted.iter()) {
+        assert_eq!(rt; *helper, node(rt, *number));
+    }
+    assert_eq!(rt; prober.acked(probe.number), Ok(()));
+    assert_picks(rt, prober, &pingable, &[next]);
 }
 
 #[test]
-fn helpers_follow_from_the_seed(rt: HostRuntime) -> Result<(), Fail> {
-    let pingable = four(&rt);
+fn helpers_follow_from_the_seed(rt: HostRuntime) {
     for (seed, target, wanted, next) in [(7, 3, [5, 4], 4), (1, 5, [2, 4], 2)] {
-        let mut prober = Prober::new(rt.alloc(), seed, 2, 0);
-        let probe = pick(&rt, &mut prober, &pingable)?.ok_or("nobody to probe")?;
-        assert_eq!(rt; probe.target, node(&rt, target));
-        let Lost::Ask(helpers) = lose(&rt, &mut prober, probe.number, &pingable)? else {
-            return Err(Fail::from("nobody to ask"));
-        };
-        assert_eq!(rt; helpers.as_slice().len(), 2);
-        for (helper, number) in helpers.as_slice().iter().zip(wanted.iter()) {
-            assert_eq!(rt; *helper, node(&rt, *number));
-        }
-        prober.acked(probe.number)?;
-        assert_picks(&rt, &mut prober, &pingable, &[next])?;
+        with_prober(
+            rt.alloc(),
+            seed,
+            2,
+            0,
+            |prober| ask_and_go_on(&rt, prober, target, &wanted, next),
+        );
     }
-    Ok(())
 }
 
-#[test]
-fn a_probe_with_nobody_to_ask_ends(rt: HostRuntime) -> Result<(), Fail> {
-    let target = node(&rt, 2);
+/// Probes the only other member, and has nobody to ask.
+fn probe_alone(rt: &impl Abort, prober: &mut Prober) {
+    let target = node(rt, 2);
     let pingable = [target];
-    for helpers in [3, 0] {
-        let mut prober = Prober::new(rt.alloc(), 1, helpers, 0);
-        assert_eq!(rt;
-            pick(&rt, &mut prober, &pingable),
-            Ok(Some(Probe { number: 1, target }))
-        );
-        assert_eq!(rt; pick(&rt, &mut prober, &pingable), Err(DetectorError::Busy));
-        assert_eq!(rt; prober.target_of(1), Some(target));
-        assert_eq!(rt;
-            prober.running(),
-            Some(Running {
-                number: 1,
-                target,
-                waiting: None
-            })
-        );
-        assert!(rt; matches!(prober.lost(1, &pingable)?, Lost::NoHelper));
-        assert_eq!(rt; prober.acked(1), Err(DetectorError::StaleProbe));
-        assert_eq!(rt; prober.running(), None);
-    }
-    Ok(())
+    let running = Running {
+        number: 1,
+        target,
+        waiting: None,
+    };
+    assert_eq!(rt;
+        pick(rt, prober, &pingable),
+        Ok(Some(Probe { number: 1, target }))
+    );
+    assert_eq!(rt; pick(rt, prober, &pingable), Err(DetectorError::Busy));
+    assert_eq!(rt; prober.target_of(1), Some(target));
+    assert_eq!(rt; prober.running(), Some(running));
+    assert!(rt; matches!(prober.lost(1, &pingable), Ok(Lost::NoHelper)));
+    assert_eq!(rt; prober.acked(1), Err(DetectorError::StaleProbe));
+    assert_eq!(rt; prober.running(), None);
 }
 
 #[test]
-fn numbers_run_out(rt: HostRuntime) -> Result<(), Fail> {
-    let target = node(&rt, 2);
-    let mut prober = Prober::new(rt.alloc(), 1, 3, GREATEST_NUMBER);
+fn a_probe_with_nobody_to_ask_ends(rt: HostRuntime) {
+    for helpers in [3, 0] {
+        with_prober(rt.alloc(), 1, helpers, 0, |prober| probe_alone(&rt, prober));
+    }
+}
+
+/// Has no number left.
+fn find_no_number(rt: &impl Abort, prober: &mut Prober) {
+    assert_eq!(rt; pick(rt, prober, &[node(rt, 2)]), Err(DetectorError::Spent));
+}
+
+/// Probes nobody, and then a member under the next number.
+fn go_on_from_seven(rt: &impl Abort, prober: &mut Prober) {
+    let target = node(rt, 2);
+    assert_eq!(rt; pick(rt, prober, &[]), Ok(None));
     assert_eq!(rt;
-        pick(&rt, &mut prober, &[target]),
-        Err(DetectorError::Spent)
-    );
-    let mut prober = Prober::new(rt.alloc(), 1, 3, 7);
-    assert_eq!(rt; pick(&rt, &mut prober, &[]), Ok(None));
-    assert_eq!(rt;
-        pick(&rt, &mut prober, &[target]),
+        pick(rt, prober, &[target]),
         Ok(Some(Probe { number: 8, target }))
     );
-    Ok(())
+}
+
+#[test]
+fn numbers_run_out(rt: HostRuntime) {
+    with_prober(
+        rt.alloc(),
+        1,
+        3,
+        GREATEST_NUMBER,
+        |prober| find_no_number(&rt, prober),
+    );
+    with_prober(rt.alloc(), 1, 3, 7, |prober| go_on_from_seven(&rt, prober));
 }
 
 /// What the helpers' words come to, told in the order of asking until they decide. Each answer is foretold.
@@ -213,21 +287,42 @@ fn hear(
     number: u64,
     helpers: &[Address],
     words: &[Said],
-) -> Result<Outcome, DetectorError> {
+) -> Outcome {
     let mut outcome = Outcome::Waiting;
     for (helper, said) in helpers.iter().zip(words.iter()) {
         if outcome == Outcome::Waiting {
             let foretold = prober.would_say(number, *helper, *said);
-            outcome = prober.helper_said(number, *helper, *said)?;
+            outcome = prober
+                .helper_said(number, *helper, *said)
+                .ok()
+                .expect(rt, "a helper");
             assert_eq!(rt; foretold, Ok(outcome));
         }
     }
-    Ok(outcome)
+    outcome
+}
+
+/// Whether all of these are asked but the target.
+fn all_but_the_target(pingable: &[Address], target: Address, helpers: &[Address]) -> bool {
+    pingable
+        .iter()
+        .all(|member| helpers.contains(member) == (*member != target))
+}
+
+/// What three helpers' words come to.
+fn decide(rt: &impl Abort, prober: &mut Prober, words: &[Said; 3]) -> Outcome {
+    let pingable = four(rt);
+    let probe = begin(rt, prober, &pingable);
+    let helpers = ask(rt, prober, probe.number, &pingable);
+    assert_eq!(rt; helpers.as_slice().len(), 3);
+    assert!(rt; all_but_the_target(&pingable, probe.target, helpers.as_slice()));
+    let outcome = hear(rt, prober, probe.number, helpers.as_slice(), words);
+    assert_eq!(rt; prober.running(), None);
+    outcome
 }
 
 #[test]
-fn helpers_decide(rt: HostRuntime) -> Result<(), Fail> {
-    let pingable = four(&rt);
+fn helpers_decide(rt: HostRuntime) {
     for (words, wanted) in [
         (
             [Said::Failed, Said::Failed, Said::Failed],
@@ -250,39 +345,36 @@ fn helpers_decide(rt: HostRuntime) -> Result<(), Fail> {
             Outcome::Reached,
         ),
     ] {
-        let mut prober = Prober::new(rt.alloc(), 7, 3, 0);
-        let probe = pick(&rt, &mut prober, &pingable)?.ok_or("nobody to probe")?;
-        let Lost::Ask(helpers) = lose(&rt, &mut prober, probe.number, &pingable)? else {
-            return Err(Fail::from("nobody to ask"));
-        };
-        assert_eq!(rt; helpers.as_slice().len(), 3);
-        for member in &pingable {
-            let asked = helpers.as_slice().iter().any(|helper| helper == member);
-            assert_eq!(rt; asked, *member != probe.target);
-        }
-        let outcome = hear(&rt, &mut prober, probe.number, helpers.as_slice(), &words)?;
-        assert_eq!(rt; outcome, wanted, "after {words:?}");
-        assert_eq!(rt; prober.running(), None);
+        with_prober(
+            rt.alloc(),
+            7,
+            3,
+            0,
+            |prober| assert_eq!(rt; decide(&rt, prober, &words), wanted, "after {words:?}"),
+        );
     }
-    Ok(())
 }
 
-#[test]
-fn a_helper_answers_once(rt: HostRuntime) -> Result<(), Fail> {
-    let pingable = three(&rt);
-    let mut prober = Prober::new(rt.alloc(), 7, 16, 0);
-    let probe = pick(&rt, &mut prober, &pingable)?.ok_or("nobody to probe")?;
+/// The helper that is waited for, of two that were asked about the first probe.
+fn wait_for_two(rt: &impl Abort, prober: &mut Prober, pingable: &[Address; 3]) -> Address
+    requires { IsStrictlyIncreasing pingable.now }
+{
+    let probe = begin(rt, prober, pingable);
     assert_eq!(rt;
-        prober.would_say(1, node(&rt, 2), Said::Failed),
+        prober.would_say(1, node(rt, 2), Said::Failed),
         Err(DetectorError::NotAsked)
     );
-    let Lost::Ask(helpers) = lose(&rt, &mut prober, probe.number, &pingable)? else {
-        return Err(Fail::from("nobody to ask"));
-    };
+    let helpers = ask(rt, prober, probe.number, pingable);
     assert_eq!(rt; helpers.as_slice().len(), 2);
-    let running = prober.running().ok_or("no probe runs")?;
-    assert_eq!(rt; running.waiting, helpers.as_slice().iter().copied().min());
-    let helper = running.waiting.ok_or("nobody is waited for")?;
+    let waiting = prober.running().and_then(|running| running.waiting);
+    assert_eq!(rt; waiting, helpers.as_slice().iter().copied().min());
+    waiting.expect(rt, "a helper")
+}
+
+/// Takes one word of a helper, and no other.
+fn hear_once(rt: &impl Abort, prober: &mut Prober) {
+    let pingable = three(rt);
+    let helper = wait_for_two(rt, prober, &pingable);
     assert_eq!(rt; prober.target_of(2), None);
     for (number, wanted) in [
         (2, Err(DetectorError::StaleProbe)),
@@ -292,7 +384,11 @@ fn a_helper_answers_once(rt: HostRuntime) -> Result<(), Fail> {
         assert_eq!(rt; prober.helper_said(number, helper, Said::Failed), wanted);
     }
     assert!(rt; matches!(prober.lost(1, &pingable), Err(DetectorError::StaleProbe)));
-    Ok(())
+}
+
+#[test]
+fn a_helper_answers_once(rt: HostRuntime) {
+    with_prober(rt.alloc(), 7, 16, 0, |prober| hear_once(&rt, prober));
 }
 
 #[test]

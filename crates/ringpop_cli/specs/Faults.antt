@@ -1,22 +1,12 @@
--- What a fault of the crates below is to a run, and the exit status.
+-- What an error of the words is to the program, and the exit status.
 use Rattle.std.specs.Prelude.{◌≡◌, ℕ}
 use Rattle.clap.specs.Values.{kind_of}
 use Rattle.clap.specs.declared.error.Error.{Error}
 use Rattle.clap.specs.declared.error.kind.ErrorKind.{ErrorKind}
 use Rattle.clap.specs.declared.error.kind.ErrorKind.TheVariants.{OutOfMemory as no_room}
-use Rattle.wire_json.specs.declared.errors.WireError.{WireError}
-use Rattle.wire_json.specs.declared.errors.WireError.TheVariants.{Io, Memory}
-use Rattle.ringpop_cli.specs.declared.faults.LineFault.{LineFault}
-use Rattle.ringpop_cli.specs.declared.faults.LineFault.TheVariants.{Wire, ReadFailed, OutOfMemory}
-use Rattle.ringpop_cli.specs.declared.faults.RunFault.TheVariants.{NoMemory}
+use Rattle.cli_core.specs.declared.faults.RunFault.TheVariants.{NoMemory}
 use Rattle.ringpop_cli.specs.declared.faults.Fault.{Fault}
 use Rattle.ringpop_cli.specs.declared.faults.Fault.TheVariants.{Usage, Run, Sim}
-
--- a failed read and a want of memory are no faults of the line's bytes
-abbrev pub fault_of_wire : WireError → LineFault
-fault_of_wire Io = ReadFailed
-fault_of_wire Memory = OutOfMemory
-fault_of_wire e = Wire e
 
 -- an error of the words is a refusal of them, unless a growth was refused
 abbrev pub fault_of_kind : ErrorKind → Error → Fault

@@ -3,18 +3,12 @@
 
 mod commands;
 mod faults;
-mod fold;
-mod hashes;
-mod laws;
-mod members;
-mod outputs;
-mod owners;
-mod scripts;
 #[cfg(test)]
 mod tests;
 mod words;
 
-use faults::{Fault, RunFault};
+use cli_core::{RunFault, fold_run, hash_run, owner_run, sim_run};
+use faults::Fault;
 use std::alloc::{Alloc, Global};
 use std::env::Env;
 use std::io::{BufReader, BufWriter, ErrorKind};
@@ -42,14 +36,14 @@ fn given_words(rt: &(impl Env + Alloc<A = Global>)) -> Result<Vec<String>, Fault
 fn run_words(rt: &(impl Input + Print), alloc: Global, words: &Words<'_>) -> Result<(), Fault> {
     let mut writer = BufWriter::new(alloc, io::writer(rt)).map_err(|_| RunFault::NoMemory)?;
     if let Words::Hash(text) = words {
-        return Ok(hashes::hash_run(alloc, text, &mut writer)?);
+        return Ok(hash_run(alloc, text, &mut writer)?);
     }
     let mut reader = BufReader::new(alloc, rt.reader()).map_err(|_| RunFault::NoMemory)?;
     match words {
-        Words::Fold => fold::fold_run(alloc, &mut reader, &mut writer)?,
+        Words::Fold => fold_run(alloc, &mut reader, &mut writer)?,
         Words::Hash(_) => {}
-        Words::Owner(words) => owners::owner_run(alloc, words, &mut reader, &mut writer)?,
-        Words::Sim(words) => scripts::sim_run(alloc, words, &mut reader, &mut writer)?,
+        Words::Owner(words) => owner_run(alloc, words, &mut reader, &mut writer)?,
+        Words::Sim(words) => sim_run(alloc, words, &mut reader, &mut writer)?,
     }
     Ok(())
 }

@@ -1,6 +1,5 @@
 //! The words of the command line.
 ghost use Rattle.std.specs.Prelude.{◌≡◌, ◌≤◌, length, Ok, IfOk, IfErr, IfSome};
-ghost use Rattle.change_core.specs.Numbers.{most_members};
 ghost use Rattle.clap.specs.Values.{kind_of};
 ghost use Rattle.hash_ring.specs.Points.{IsReplicas};
 ghost use Rattle.ringpop_cli.specs.Faults.{IsWordsFault};
@@ -10,6 +9,7 @@ use crate::faults::Fault;
 use change_core::MOST_MEMBERS;
 use clap::ArgMatches;
 use clap::error::ErrorKind;
+use cli_core::{OwnerWords, SimWords};
 use hash_ring::MOST_REPLICAS;
 use std::alloc::{AllocError, Global};
 use std::convert::AsStr;
@@ -25,31 +25,6 @@ pub enum Words<'a> {
     Owner(OwnerWords<'a>),
     /// The answers to a script.
     Sim(SimWords),
-}
-
-/// The words of `owner`.
-#[derive(Clone, Copy, Debug, PartialEq, Eq)]
-pub struct OwnerWords<'a> {
-    /// How many owners to name, 0 to 4,096.
-    pub count: usize,
-    /// How many points a server has for each of its weight, 1 to 1,000.
-    pub replicas: u32,
-    /// Whether the hash is the sum of the bytes, in place of SHA-256's first eight.
-    pub sum: bool,
-    /// The key.
-    pub key: &'a str,
-    pub ghost few: { count ≤ most_members },
-    pub ghost replicas_range: { IsReplicas replicas },
-}
-
-/// The words of `sim`.
-#[derive(Clone, Copy, Debug, PartialEq, Eq)]
-pub struct SimWords {
-    /// How many points a server has for each of its weight, 1 to 1,000.
-    pub replicas: u32,
-    /// Whether the hash is the sum of the bytes, in place of SHA-256's first eight.
-    pub sum: bool,
-    pub ghost replicas_range: { IsReplicas replicas },
 }
 
 /// A number, if it is there and in this range.

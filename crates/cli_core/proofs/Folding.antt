@@ -1,0 +1,226 @@
+-- Folding an input line by line.
+use Rattle.std.proofs.Common.{◌≡◌, ◌≢◌, ℕ, ◌+◌, ◌<◌, ◌≤◌, true, false, List, [], ◌∷◌, ◌++◌, map, length, length-append, Option, Some, None, Ok, Err, Vec, Global, refl, sym, ap, subst, ◌∙◌, append_assoc, append-nil, inl, inr, arith, lit≤}
+use Rattle.std.specs.Prelude.{IfSome, IfOk, IfErr, Result, Bool, ◌⊎◌}
+use Rattle.std.specs.Io.KnownBytes.{Appends}
+use Rattle.std.proofs.lemmas.List.{map-append}
+use Rattle.change_core.specs.declared.changes.Change.{Change}
+use Rattle.change_core.specs.declared.changes.Sourced.{Sourced}
+use Rattle.change_core.specs.Members.{members, IsMemberList}
+use Rattle.change_core.specs.Numbers.{greatest_number, most_members}
+use Rattle.change_core.proofs.Members.{members-append, IsMemberList-members}
+use Rattle.wire_json.specs.Forms.{ChangeFault}
+use Rattle.wire_json.specs.Lines.{Faults, max_line}
+use Rattle.wire_json.specs.Input.{line_of, after_line, TakesLine, AppendsFront}
+use Rattle.wire_json.specs.declared.errors.WireError.{WireError}
+use Rattle.wire_json.specs.declared.errors.WireError.TheVariants.{LineTooLong, BadJson, NotObject, UnknownKind, MissingField, BadField, TooMany, Io, Memory}
+use Rattle.cli_core.specs.declared.faults.LineFault.{LineFault}
+use Rattle.cli_core.specs.declared.faults.LineFault.TheVariants.{Wire, ReadFailed, OutOfMemory}
+use Rattle.cli_core.specs.declared.faults.RunFault.{RunFault}
+use Rattle.cli_core.specs.declared.faults.RunFault.TheVariants.{AtLine, NoMemory, CannotWrite}
+use Rattle.cli_core.specs.Input.{lines_of}
+use Rattle.cli_core.specs.Faults.{fault_of_wire}
+use Rattle.cli_core.specs.Changes.{IsChangeLine, AreChangeLines, change_of, ComeTo, IsLineFault, IsFaultAt, IsCounted, IsHeard, IsRefused, EndsLines, Hears}
+use Rattle.cli_core.specs.Runs.{RunsTo, Writes, Leaves, LeavesPart}
+use Rattle.cli_core.proofs.Lines.{lines_of-first, some_from_line}
+
+-- ---- one line
+
+-- an error of decoding is the fault of the line
+pub fault_line : (held : List Change) (line : List ℕ) (e : WireError) → (e ≢ Memory → Faults ChangeFault line e) → IsLineFault held line (fault_of_wire e)
+fault_line held line LineTooLong h = h (λ q. cc)
+fault_line held line BadJson h = h (λ q. cc)
+fault_line held line NotObject h = h (λ q. cc)
+fault_line held line UnknownKind h = h (λ q. cc)
+fault_line held line (MissingField f) h = h (λ q. cc)
+fault_line held line (BadField f) h = h (λ q. cc)
+fault_line held line TooMany h = h (λ q. cc)
+fault_line held line Io h = tt
+fault_line held line Memory h = tt
+
+read_failed : (held : List Change) (lines : List (List ℕ)) → IsFaultAt held lines ReadFailed
+read_failed held [] = tt
+read_failed held (line ∷ lines) = tt
+
+no_memory : (held : List Change) (xs : List ℕ) → 0 < length (line_of xs) → IsFaultAt held (lines_of xs) OutOfMemory
+no_memory held xs h =
+    let first = lines_of-first xs (some_from_line xs 0 h) in
+    rw first tt
+
+abbrev pub IsReadError : WireError → Type 0
+IsReadError e = (e ≡ LineTooLong) ⊎ ((e ≡ Io) ⊎ (e ≡ Memory))
+
+too_long : (held : List Change) (xs : List ℕ) → max_line < length (line_of xs) → IsFaultAt held (lines_of xs) (Wire LineTooLong)
+too_long held xs h =
+    let first = lines_of-first xs (some_from_line xs max_line h) in
+    rw first (inl (inl (refl, h)))
+
+-- an error of reading is the fault of the line that was to be read
+pub unread : (known new : Option (List ℕ)) (held : List Change) (e : WireError) → TakesLine known (Err e) new → IsReadError e
+    → IfSome known (λ xs. IsFaultAt held (lines_of xs) (fault_of_wire e))
+unread None new held e t i = tt
+unread (Some xs) new held e t (inl q) =
+    let long = rw q at t in
+    rw q (too_long held xs long.0)
+unread (Some xs) new held e t (inr (inl q)) = rw q (read_failed held (lines_of xs))
+unread (Some xs) new held e t (inr (inr q)) =
+    let part = rw q at t in
+    rw q (no_memory held xs part.0)
+
+-- an error of reading tells of a line that is counted, or of the machine
+pub counted_read : (number : ℕ) (e : WireError) → IsReadError e → (e ≡ LineTooLong → number ≤ greatest_number) → IsCounted number (fault_of_wire e)
+counted_read number e (inl q) few = inr (few q)
+counted_read number e (inr (inl q)) few = rw q (inl tt)
+counted_read number e (inr (inr q)) few = rw q (inl tt)
+
+-- a line was read, and it is at fault
+pub bad_line : (known new : Option (List ℕ)) (held : List Change) (v : Vec ℕ Global) (f : LineFault) → TakesLine known (Ok (Some v)) new → IsLineFault held v.items f
+    → IfSome known (λ xs. IsFaultAt held (lines_of xs) f)
+bad_line None new held v f t i = tt
+bad_line (Some xs) new held v f t i = rw (lines_of-first xs t.0) (rw t.1 at i)
+
+-- what was read where no line can be counted
+heard_last : (xs : List ℕ) (new : Option (List ℕ)) (held : List Change) (r : Result (Option (Vec ℕ Global)) WireError) (now : Result Bool LineFault)
+    → TakesLine (Some xs) r new → EndsLines r now → Hears xs held now new held
+heard_last xs new held (Ok None) now t e = rw e (t.0, refl)
+heard_last xs new held (Ok (Some v)) now t e = rw e (read_failed held (lines_of xs))
+heard_last xs new held (Err e) now t (inl p) = rw p.1 (read_failed held (lines_of xs))
+heard_last xs new held (Err e) now t (inr p) =
+    let part = rw p.0 at t in
+    rw p.1 (no_memory held xs part.0)
+
+pub last_line : (known new : Option (List ℕ)) (held : List Change) (r : Result (Option (Vec ℕ Global)) WireError) (now : Result Bool LineFault) → TakesLine known r new → EndsLines r now
+    → IfSome known (λ xs. Hears xs held now new held)
+last_line None new held r now t e = tt
+last_line (Some xs) new held r now t e = heard_last xs new held r now t e
+
+-- it is no fault of a line, and no line that was heard
+pub last_fault : (number : ℕ) (r : Result (Option (Vec ℕ Global)) WireError) (now : Result Bool LineFault) → EndsLines r now
+    → IfErr now (λ fault. IsCounted number fault) × IfOk now (λ more. more ≡ false)
+last_fault number (Ok None) now e = rw e (tt, refl)
+last_fault number (Ok (Some v)) now e = rw e (inl tt, tt)
+last_fault number (Err f) now (inl p) = rw p.1 (inl tt, tt)
+last_fault number (Err f) now (inr p) = rw p.1 (inl tt, tt)
+
+-- a line was read, and its change taken
+pub good_line : (known new : Option (List ℕ)) (held now : List Change) (v : Vec ℕ Global) → TakesLine known (Ok (Some v)) new
+    → (c : Sourced) × IsChangeLine v.items c × (now ≡ members (held ++ c.change ∷ []))
+    → IfSome known (λ xs. Hears xs held (Ok true) new now)
+good_line None new held now v t p = tt
+good_line (Some xs) new held now v t p =
+    (line_of xs, after_line xs, p.0, t.2, lines_of-first xs t.0, subst (λ (l : List ℕ). IsChangeLine l p.0) t.1 p.1, p.2)
+
+-- ---- all lines
+
+pub AreChangeLines-more : (lines : List (List ℕ)) (heard : List Sourced) (line : List ℕ) (c : Sourced) → AreChangeLines lines heard → IsChangeLine line c
+    → AreChangeLines (lines ++ line ∷ []) (heard ++ c ∷ [])
+AreChangeLines-more [] [] line c h i = (i, tt)
+AreChangeLines-more [] (d ∷ heard) line c h i = absurd h
+AreChangeLines-more (l ∷ lines) [] line c h i = absurd h
+AreChangeLines-more (l ∷ lines) (d ∷ heard) line c h i = (h.0, AreChangeLines-more lines heard line c h.1 i)
+
+pub ComeTo-nil : ComeTo [] []
+ComeTo-nil = record { heard = []; read = tt; are_members = refl; fits = lit≤ tt }
+
+pub ComeTo-more : (lines : List (List ℕ)) (held now : List Change) (line : List ℕ) (c : Sourced) → ComeTo lines held → IsChangeLine line c
+    → now ≡ members (held ++ c.change ∷ []) → length now ≤ most_members → ComeTo (lines ++ line ∷ []) now
+ComeTo-more lines held now line c p i e fits = record {
+  heard = p.heard ++ c ∷ [];
+  read = AreChangeLines-more lines p.heard line c p.read i;
+  are_members =
+      e ∙ ap (λ cs. members (cs ++ c.change ∷ [])) p.are_members
+      ∙ members-append (map change_of p.heard) (c.change ∷ [])
+      ∙ ap members (sym (map-append change_of p.heard (c ∷ [])));
+  fits = fits;
+}
+
+-- all lines of the known bytes come to these members
+abbrev pub ComesTo : Option (List ℕ) → List Change → Type 0
+ComesTo known held = IfSome known (λ input. IsHeard input held)
+
+-- the lines heard so far stand before those that are left, and come to these members
+pub record HasHeard (known left : Option (List ℕ)) (number : ℕ) (held : List Change) : Type 0 where
+  pub is : IfSome known (λ input. (rest : List ℕ) × (before : List (List ℕ)) × (left ≡ Some rest)
+      × (lines_of input ≡ before ++ lines_of rest) × ComeTo before held × (number ≡ length before + 1))
+
+pub starts : (known : Option (List ℕ)) (held : List Change) → held ≡ [] → HasHeard known known 1 held
+starts None held e = record { is = tt }
+starts (Some input) held e = record { is = (input, [], refl, refl, rw e ComeTo-nil, refl) }
+
+goes_known : (input : List ℕ) (left new : Option (List ℕ)) (number : ℕ) (held now : List Change)
+    → (rest : List ℕ) × (before : List (List ℕ)) × (left ≡ Some rest) × (lines_of input ≡ before ++ lines_of rest) × ComeTo before held × (number ≡ length before + 1)
+    → IfSome left (λ xs. Hears xs held (Ok true) new now) → length now ≤ most_members
+    → (rest : List ℕ) × (before : List (List ℕ)) × (new ≡ Some rest) × (lines_of input ≡ before ++ lines_of rest) × ComeTo before now × (number + 1 ≡ length before + 1)
+goes_known input left new number held now p h fits =
+    let (rest, before, is, lines, come_to, place) = p in
+    let (line, after, c, left_is, first, is_line, now_is) = rw is at h in (
+      after,
+      before ++ line ∷ [],
+      left_is,
+      lines ∙ ap (λ ls. before ++ ls) first ∙ sym (append_assoc before (line ∷ []) (lines_of after)),
+      ComeTo-more before held now line c come_to is_line now_is fits,
+      omega (arith, length-append before (line ∷ [])),
+    )
+
+pub goes : (known left new : Option (List ℕ)) (number : ℕ) (held now : List Change) → HasHeard known left number held
+    → IfSome left (λ xs. Hears xs held (Ok true) new now) → length now ≤ most_members → HasHeard known new (number + 1) now
+goes None left new number held now p h fits = record { is = tt }
+goes (Some input) left new number held now p h fits = record { is = goes_known input left new number held now p.is h fits }
+
+pub ends : (known left new : Option (List ℕ)) (number : ℕ) (held now : List Change) → HasHeard known left number held
+    → IfSome left (λ xs. Hears xs held (Ok false) new now) → number ≤ greatest_number + 1
+    → ComesTo known now
+ends None left new number held now p h few = tt
+ends (Some input) left new number held now p h few =
+    let (rest, before, is, lines, come_to, place) = p.is in
+    let (none, same) = rw is at h in
+    let all : lines_of input ≡ before = lines ∙ ap (λ xs. before ++ lines_of xs) none ∙ append-nil before in
+    rw (all, same) (come_to, omega arith)
+
+pub faults : (known left new : Option (List ℕ)) (number : ℕ) (held now : List Change) (f : LineFault) → HasHeard known left number held
+    → IfSome left (λ xs. Hears xs held (Err f) new now) → IsCounted number f → IfSome known (λ input. IsRefused input (AtLine number f))
+faults None left new number held now f p h counted = tt
+faults (Some input) left new number held now f p h counted =
+    let (rest, before, is, lines, come_to, place) = p.is in
+    let fault = rw is at h in
+    record { before = before; left = lines_of rest; held = held; lines = lines; come_to = come_to; place = place; is = fault; counted = counted }
+
+-- ---- the output
+
+-- memory is refused, and a write fails, after all lines
+pub after_all : (known : Option (List ℕ)) (held : List Change) → ComesTo known held → IfSome known (λ input. IsRefused input NoMemory)
+after_all None held p = tt
+after_all (Some input) held p = (held, p)
+
+pub unwritten : (known : Option (List ℕ)) (held : List Change) → ComesTo known held → IfSome known (λ input. IsRefused input CannotWrite)
+unwritten None held p = tt
+unwritten (Some input) held p = (held, p)
+
+RunsTo-text : (text : List Change → List ℕ) (input : List ℕ) (held : List Change) → IsHeard input held → RunsTo text input (text held)
+RunsTo-text text input held p = record { held = held; come_to = p.0; counted = p.1; is = refl }
+
+pub written : (text : List Change → List ℕ) (known old new : Option (List ℕ)) (held : List Change) (output : List ℕ) → ComesTo known held
+    → output ≡ text held → Appends old new output → Writes text known old new
+written text None old new held output p e a = tt
+written text (Some input) old new held output p e a = (text held, RunsTo-text text input held p, rw e at a)
+
+pub front_written : (text : List Change → List ℕ) (known old new : Option (List ℕ)) (held : List Change) (output : List ℕ) → ComesTo known held
+    → output ≡ text held → AppendsFront old new output → Leaves text CannotWrite known old new
+front_written text None old new held output p e a = tt
+front_written text (Some input) old new held output p e a = (text held, RunsTo-text text input held p, rw e at a)
+
+-- the members that an input comes to are such a list
+held_members : (input : List ℕ) (held : List Change) → IsHeard input held → IsMemberList held
+held_members input held p = let c = p.0 in subst IsMemberList (sym c.are_members) (IsMemberList-members (map change_of c.heard))
+
+-- the same of an output that is the text of a member list
+pub written_by : (text : List Change → List ℕ) (known old new : Option (List ℕ)) (held : List Change) (output : List ℕ) → ComesTo known held
+    → (IsMemberList held → output ≡ text held) → Appends old new output → Writes text known old new
+written_by text None old new held output p e a = tt
+written_by text (Some input) old new held output p e a = written text (Some input) old new held output p (e (held_members input held p)) a
+
+pub left_by : (text : List Change → List ℕ) (known old new : Option (List ℕ)) (held : List Change) (output : List ℕ) (fault : RunFault) → ComesTo known held
+    → (IsMemberList held → output ≡ text held) → LeavesPart output fault old new → Leaves text fault known old new
+left_by text known old new held output (AtLine number fault) p e h = absurd h
+left_by text known old new held output NoMemory p e h = h
+left_by text None old new held output CannotWrite p e h = tt
+left_by text (Some input) old new held output CannotWrite p e h = front_written text (Some input) old new held output p (e (held_members input held p)) h

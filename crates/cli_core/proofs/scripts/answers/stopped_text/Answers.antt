@@ -1,0 +1,10 @@
+use Rattle.std.proofs.Common.{◌≡◌, ◌∷◌, ◌++◌, codes, rules, string_bytes}
+use Rattle.std.specs.Fmt.{decimal}
+use Rattle.change_core.proofs.NumberTexts.{number_text-decimal}
+use Rattle.cli_core.specs.ScriptAnswers.{cause_word}
+use Rattle.cli_core.proofs.scripts.answers.stopped_text.Goals as goal
+
+pub returns-clause-text : goal.returns-clause-text
+returns-clause-text c =
+    let formatted : string_bytes c.in_ok-format.field-0 ≡ codes "stopped " ++ (decimal c.args.taken ++ 32 ∷ cause_word c.args.cause) = search rules in
+    rw (number_text-decimal c.args.taken c.ranges.taken.fits) formatted

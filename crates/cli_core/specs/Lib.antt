@@ -1,0 +1,11 @@
+pub mod Input
+pub mod Faults
+pub mod Changes
+pub mod Runs
+pub mod Fold
+pub mod Hash
+pub mod Owner
+pub mod ScriptLines
+pub mod ScriptAnswers
+pub mod Script
+pub mod ScriptRuns

@@ -1,0 +1,33 @@
+-- A run from an input of change lines to a text of their members.
+use Rattle.std.specs.Prelude.{◌≡◌, ℕ, ◌≤◌, List, length, Option, IfSome}
+use Rattle.std.specs.Io.KnownBytes.{Appends, Keeps}
+use Rattle.change_core.specs.declared.changes.Change.{Change}
+use Rattle.change_core.specs.Numbers.{greatest_number}
+use Rattle.wire_json.specs.Input.{AppendsFront}
+use Rattle.cli_core.specs.declared.faults.RunFault.{RunFault}
+use Rattle.cli_core.specs.declared.faults.RunFault.TheVariants.{AtLine, NoMemory, CannotWrite}
+use Rattle.cli_core.specs.Input.{lines_of}
+use Rattle.cli_core.specs.Changes.{ComeTo}
+
+-- the input is change lines, not too many to be counted, and the output is this text of their members
+pub record RunsTo (text : List Change → List ℕ) (input output : List ℕ) : Type 0 where
+  pub held : List Change
+  pub come_to : ComeTo (lines_of input) held
+  pub counted : length (lines_of input) ≤ greatest_number
+  pub is : output ≡ text held
+
+-- what is written for the input, where all of it is
+abbrev pub Writes : (List Change → List ℕ) → Option (List ℕ) → Option (List ℕ) → Option (List ℕ) → Type 0
+Writes text known old new = IfSome known (λ input. (output : List ℕ) × RunsTo text input output × Appends old new output)
+
+-- what a fault leaves written: nothing, or a front of the output where the writer failed
+abbrev pub Leaves : (List Change → List ℕ) → RunFault → Option (List ℕ) → Option (List ℕ) → Option (List ℕ) → Type 0
+Leaves text (AtLine number fault) known old new = Keeps old new
+Leaves text NoMemory known old new = Keeps old new
+Leaves text CannotWrite known old new = IfSome known (λ input. (output : List ℕ) × RunsTo text input output × AppendsFront old new output)
+
+-- what a fault leaves of this output: nothing at a want of memory, a front of it where the writer failed
+abbrev pub LeavesPart : List ℕ → RunFault → Option (List ℕ) → Option (List ℕ) → Type 0
+LeavesPart output (AtLine number fault) old new = ⊥
+LeavesPart output NoMemory old new = Keeps old new
+LeavesPart output CannotWrite old new = AppendsFront old new output

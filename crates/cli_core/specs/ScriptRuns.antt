@@ -1,0 +1,146 @@
+-- A run of a script: the answers to its lines, and the first line at fault.
+use Rattle.std.specs.Prelude.{◌≡◌, ◌≢◌, ℕ, ◌+◌, ◌<◌, ◌≤◌, ◌⊎◌, Bool, true, false, List, [], ◌∷◌, ◌++◌, length, Option, Some, None, IfSome, Result, Ok, Err, Vec}
+use Rattle.std.specs.Global.{Global}
+use Rattle.wire_json.specs.declared.errors.WireError.{WireError}
+use Rattle.wire_json.specs.declared.errors.WireError.TheVariants.{LineTooLong, Memory}
+use Rattle.std.specs.Io.KnownBytes.{Appends}
+use Rattle.change_core.specs.Numbers.{greatest_number}
+use Rattle.wire_json.specs.Input.{AppendsFront}
+use Rattle.wire_json.specs.Lines.{max_line}
+use Rattle.cli_core.specs.declared.scripts.answers.Answer.{Answer}
+use Rattle.cli_core.specs.declared.scripts.lines.Command.{Command}
+use Rattle.cli_core.specs.declared.scripts.faults.ScriptFault.{ScriptFault}
+use Rattle.cli_core.specs.declared.scripts.faults.ScriptFault.TheVariants as fault
+use Rattle.cli_core.specs.declared.scripts.faults.SimFault.{SimFault}
+use Rattle.cli_core.specs.declared.scripts.faults.SimFault.TheVariants.{AtLine, CannotWrite}
+use Rattle.hash_ring.specs.declared.hash.Sha256Hash.{Sha256Hash}
+use Rattle.hash_ring.specs.declared.hash.SumHash.{SumHash}
+use Rattle.cli_core.specs.Input.{lines_of}
+use Rattle.cli_core.specs.Owner.{hash_by}
+use Rattle.cli_core.specs.Script.{Script, IsRefusedFor, Obeys, beginning}
+use Rattle.cli_core.specs.ScriptAnswers.{answer_text}
+use Rattle.cli_core.specs.ScriptLines.{IsCommand}
+
+-- the line is no longer than it may be, and a command, which the script answers with this text
+abbrev pub AnswersLine : {H : Type 0} → (H → List ℕ → ℕ) → Script H → List ℕ → List ℕ → Script H → Type 0
+AnswersLine hash_of old line text new =
+    (length line ≤ max_line) × (c : Command) × (answer : Answer) × IsCommand c line × Obeys hash_of old c answer new × (text ≡ answer_text answer)
+
+-- what is wrong with a line that was read, where the script is this one: that it is too long, or else that it is no command, or what is
+-- wrong with the command; or the command is done, and there is no memory for the text of its answer
+abbrev pub IsLineRefused : {H : Type 0} → (H → List ℕ → ℕ) → Script H → List ℕ → ScriptFault → Type 0
+IsLineRefused hash_of s line fault.ReadFailed = ⊥
+IsLineRefused hash_of s line fault.LineTooLong = max_line < length line
+IsLineRefused hash_of s line fault.BadCommand = (length line ≤ max_line) × ((c : Command) → IsCommand c line → ⊥)
+IsLineRefused {H} hash_of s line fault.OutOfMemory =
+    (length line ≤ max_line) × (c : Command) × IsCommand c line × (IsRefusedFor hash_of s c fault.OutOfMemory ⊎ ((answer : Answer) × (then : Script H) × Obeys hash_of s c answer then))
+IsLineRefused hash_of s line other = (length line ≤ max_line) × (c : Command) × IsCommand c line × IsRefusedFor hash_of s c other
+
+-- what is wrong with the first of the lines that are left; a want of memory and a failed read say nothing of its bytes, since they may come
+-- before it is read; where none is left a read can fail, and nothing else
+abbrev pub IsRefusedAt : {H : Type 0} → (H → List ℕ → ℕ) → Script H → List (List ℕ) → ScriptFault → Type 0
+IsRefusedAt hash_of s (line ∷ lines) fault.ReadFailed = Unit {0}
+IsRefusedAt hash_of s (line ∷ lines) fault.OutOfMemory = Unit {0}
+IsRefusedAt hash_of s (line ∷ lines) f = IsLineRefused hash_of s line f
+IsRefusedAt hash_of s [] f = f ≡ fault.ReadFailed
+
+-- the lines are answered one after another, each with a line of the output
+abbrev pub AnswersAll : {H : Type 0} → (H → List ℕ → ℕ) → Script H → List (List ℕ) → List ℕ → Script H → Type 0
+AnswersAll hash_of old [] output new = (output ≡ []) × (new ≡ old)
+AnswersAll {H} hash_of old (line ∷ lines) output new =
+    (text rest : List ℕ) × (mid : Script H) × AnswersLine hash_of old line text mid × AnswersAll hash_of mid lines rest new × (output ≡ (text ++ 10 ∷ []) ++ rest)
+
+-- a fault that the line has no part in
+abbrev pub IsOfMachine : ScriptFault → Type 0
+IsOfMachine fault.ReadFailed = Unit {0}
+IsOfMachine fault.OutOfMemory = Unit {0}
+IsOfMachine other = ⊥
+
+-- the fault of the line with this number is of the machine, or the line is one that is counted
+abbrev pub IsCountedLine : ℕ → ScriptFault → Type 0
+IsCountedLine number f = IsOfMachine f ⊎ (number ≤ greatest_number)
+
+-- all lines of the input are answered by this output, and they are not too many to be counted
+pub record IsAnswered {H : Type 0} (hash_of : H → List ℕ → ℕ) (start : Script H) (input output : List ℕ) : Type 0 where
+  pub last : Script H
+  pub answers : AnswersAll hash_of start (lines_of input) output last
+  pub counted : length (lines_of input) ≤ greatest_number
+
+-- the first line at fault: its number from 1, and what is wrong with it after those before it, which this output answers
+pub record IsStoppedAt {H : Type 0} (hash_of : H → List ℕ → ℕ) (start : Script H) (input : List ℕ) (number : ℕ) (f : ScriptFault) (output : List ℕ) : Type 0 where
+  pub before : List (List ℕ)
+  pub left : List (List ℕ)
+  pub then : Script H
+  pub lines : lines_of input ≡ before ++ left
+  pub answers : AnswersAll hash_of start before output then
+  pub place : number ≡ length before + 1
+  pub is : IsRefusedAt hash_of then left f
+  pub counted : IsCountedLine number f
+
+-- the first lines of the input are answered by this output, and the one behind them, which can be counted, by this text
+pub record IsCutAfter {H : Type 0} (hash_of : H → List ℕ → ℕ) (start : Script H) (input output text : List ℕ) : Type 0 where
+  pub before : List (List ℕ)
+  pub line : List ℕ
+  pub left : List (List ℕ)
+  pub then : Script H
+  pub last : Script H
+  pub lines : lines_of input ≡ before ++ line ∷ left
+  pub answers : AnswersAll hash_of start before output then
+  pub answer : AnswersLine hash_of then line text last
+  pub counted : length before < greatest_number
+
+-- what is written for an input, where it is known, and all its lines are answered
+abbrev pub Completes : {H : Type 0} → (H → List ℕ → ℕ) → Script H → Option (List ℕ) → Option (List ℕ) → Option (List ℕ) → Type 0
+Completes hash_of start known old new = IfSome known (λ input. (output : List ℕ) × IsAnswered hash_of start input output × Appends old new output)
+
+-- why not all are answered, and what is written then: the answers to the lines before the first at fault; or where the writer failed the answers
+-- before the one that it failed at, and a front of that one
+abbrev pub Stops : {H : Type 0} → (H → List ℕ → ℕ) → Script H → SimFault → Option (List ℕ) → Option (List ℕ) → Option (List ℕ) → Type 0
+Stops hash_of start (AtLine number f) known old new = IfSome known (λ input. (output : List ℕ) × IsStoppedAt hash_of start input number f output × Appends old new output)
+Stops hash_of start CannotWrite known old new =
+    IfSome known (λ input. (output text : List ℕ) × (written : Option (List ℕ)) × IsCutAfter hash_of start input output text × Appends old written output × AppendsFront written new (text ++ 10 ∷ []))
+
+-- why none of the lines that are left was read: a failed read, or, where there is a line, that it is too long, or a want of memory
+abbrev pub IsUnread : List (List ℕ) → ScriptFault → Type 0
+IsUnread [] f = f ≡ fault.ReadFailed
+IsUnread (line ∷ lines) fault.ReadFailed = Unit {0}
+IsUnread (line ∷ lines) fault.LineTooLong = max_line < length line
+IsUnread (line ∷ lines) fault.OutOfMemory = Unit {0}
+IsUnread (line ∷ lines) other = ⊥
+
+-- what was read as a line: a line of the known bytes, or nothing at their end, or a fault
+abbrev pub ReadsLine : List ℕ → Result (Option (Vec ℕ Global)) ScriptFault → Option (List ℕ) → Type 0
+ReadsLine xs (Ok None) new = xs ≡ []
+ReadsLine xs (Ok (Some v)) new = (rest : List ℕ) × (new ≡ Some rest) × (lines_of xs ≡ v.items ∷ lines_of rest)
+ReadsLine xs (Err f) new = IsUnread (lines_of xs) f
+
+-- what is made of what was read where no line can be counted any more: at the end nothing, and else a fault of the machine
+abbrev pub EndsScript : Result (Option (Vec ℕ Global)) WireError → Result (Option (Vec ℕ Global)) ScriptFault → Type 0
+EndsScript (Ok None) now = now ≡ Ok None
+EndsScript (Ok (Some line)) now = now ≡ Err fault.ReadFailed
+EndsScript (Err e) now = ((e ≢ Memory) × (now ≡ Err fault.ReadFailed)) ⊎ ((e ≡ Memory) × (now ≡ Err fault.OutOfMemory))
+
+-- what a fault of reading is to a script
+abbrev pub fault_of_read : WireError → ScriptFault
+fault_of_read LineTooLong = fault.LineTooLong
+fault_of_read Memory = fault.OutOfMemory
+fault_of_read e = fault.ReadFailed
+
+-- what one turn did with the known bytes: a line and its answer, or nothing at the end, or a fault
+abbrev pub Turns : {H : Type 0} → (H → List ℕ → ℕ) → Script H → List ℕ → Option (List ℕ) → ℕ → Result Bool SimFault → Script H → Option (List ℕ) → Option (List ℕ) → Type 0
+Turns hash_of old xs written number (Ok false) new rest now = (xs ≡ []) × (now ≡ written) × (new ≡ old)
+Turns hash_of old xs written number (Ok true) new rest now =
+    (line text left : List ℕ) × (rest ≡ Some left) × (lines_of xs ≡ line ∷ lines_of left) × AnswersLine hash_of old line text new × Appends written now (text ++ 10 ∷ [])
+Turns hash_of old xs written number (Err (AtLine n f)) new rest now = (n ≡ number) × IsRefusedAt hash_of old (lines_of xs) f × IsCountedLine n f × (now ≡ written)
+Turns {H} hash_of old xs written number (Err CannotWrite) new rest now =
+    (line text : List ℕ) × (left : List (List ℕ)) × (then : Script H) × (lines_of xs ≡ line ∷ left) × AnswersLine hash_of old line text then × AppendsFront written now (text ++ 10 ∷ []) × (number ≤ greatest_number)
+
+-- by the sum of the bytes, or by SHA-256's first eight: all lines are answered
+abbrev pub CompletesBy : Bool → ℕ → Option (List ℕ) → Option (List ℕ) → Option (List ℕ) → Type 0
+CompletesBy true replicas = let hash : SumHash = record {} in Completes (λ (h : SumHash). hash_by true) (beginning hash replicas)
+CompletesBy false replicas = let hash : Sha256Hash = record {} in Completes (λ (h : Sha256Hash). hash_by false) (beginning hash replicas)
+
+-- and not all are
+abbrev pub StopsBy : Bool → ℕ → SimFault → Option (List ℕ) → Option (List ℕ) → Option (List ℕ) → Type 0
+StopsBy true replicas = let hash : SumHash = record {} in Stops (λ (h : SumHash). hash_by true) (beginning hash replicas)
+StopsBy false replicas = let hash : Sha256Hash = record {} in Stops (λ (h : Sha256Hash). hash_by false) (beginning hash replicas)

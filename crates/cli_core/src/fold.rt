@@ -1,0 +1,42 @@
+//! Change lines in, the digest text and the digest of their members out.
+ghost use Rattle.std.specs.Prelude.{◌≡◌, ◌∷◌, ◌++◌, [], IfOk, IfErr, IfSome, OnOk, IsOkUnless, string_bytes};
+ghost use Rattle.cli_core.specs.Changes.{IsRefused};
+ghost use Rattle.cli_core.specs.Runs.{Leaves, Writes};
+ghost use Rattle.cli_core.specs.Fold.{fold_text};
+
+use crate::faults::RunFault;
+use crate::members::read_members;
+use crate::outputs::write_text;
+use member_core::MemberTable;
+use std::alloc::Global;
+use std::io::{Read, Write};
+
+/// The digest text and the digest, a line each; the last newline is left to the writing.
+fn folded(alloc: Global, table: &MemberTable) -> Result<String, RunFault>
+    ensures text { IfOk result (λ s. string_bytes s ++ 10 ∷ [] ≡ fold_text table.now.members) }
+    ensures refusal { IsOkUnless result RunFault.NoMemory }
+{
+    let digest = table.digest().map_err(|_| RunFault::NoMemory)?;
+    let digits = digest.text(alloc).map_err(|_| RunFault::NoMemory)?;
+    let mut text = table.digest_text().map_err(|_| RunFault::NoMemory)?;
+    write!(text, "\n{digits}")?;
+    Ok(text)
+}
+
+/// Reads change lines to the end, and writes the digest text of the members that they come to and its SHA-256, a line
+/// each. At a fault of reading or a want of memory nothing is written; at one of writing a front of that is.
+pub fn fold_run<R: Read, W: Write>(
+    alloc: Global,
+    reader: &mut R,
+    writer: &mut W,
+) -> Result<(), RunFault>
+    ensures output { OnOk result (Writes fold_text
+        (R.remaining reader.old) (W.contents writer.old) (W.contents writer.new)) }
+    ensures fault { IfErr result (λ e. IfSome (R.remaining reader.old) (λ input. IsRefused input e)) }
+    ensures left { IfErr result (λ e. Leaves fold_text e
+        (R.remaining reader.old) (W.contents writer.old) (W.contents writer.new)) }
+{
+    let table = read_members(alloc, reader)?;
+    let text = folded(alloc, &table)?;
+    write_text(writer, text.as_str())
+}

@@ -1,0 +1,19 @@
+//! The commands of the program, from bytes read to bytes written: `fold`, `hash`, `owner` and `sim`.
+#![tactic(auto)]
+
+mod faults;
+mod fold;
+mod hashes;
+pub mod laws;
+mod members;
+mod outputs;
+mod owners;
+mod scripts;
+mod words;
+
+pub use faults::{LineFault, RunFault};
+pub use fold::fold_run;
+pub use hashes::{hash_run, hash_text};
+pub use owners::owner_run;
+pub use scripts::{ScriptFault, SimFault, sim_run};
+pub use words::{OwnerWords, SimWords};

@@ -1,0 +1,119 @@
+//! Change lines in, the owners of a key among their members out.
+ghost use Rattle.std.specs.Prelude.{◌≡◌, ◌∷◌, ◌++◌, [], IfOk, IfErr, IfSome, OnOk, IsOkUnless, string_bytes};
+ghost use Rattle.std.specs.List.{flat_map};
+ghost use Rattle.std.specs.Io.KnownBytes.{Appends};
+ghost use Rattle.change_core.specs.Members.{IsMemberList};
+ghost use Rattle.hash_ring.specs.Points.{IsReplicas};
+ghost use Rattle.hash_ring.specs.Serving.{servers_of};
+ghost use Rattle.cli_core.specs.Changes.{IsRefused};
+ghost use Rattle.cli_core.specs.Runs.{Leaves, LeavesPart, Writes};
+ghost use Rattle.cli_core.specs.Owner.{hash_by, owner_line, owner_text};
+
+use crate::faults::RunFault;
+use crate::members::read_members;
+use crate::outputs::write_text;
+use crate::words::OwnerWords;
+use change_core::{Address, Change};
+use hash_ring::{PointHash, Ring, Sha256Hash, SumHash};
+use std::alloc::Global;
+use std::io::{Read, Write};
+
+/// The ring of the members that serve, by their weights.
+fn ring_of<H: PointHash>(
+    alloc: Global,
+    hash: H,
+    replicas: u32,
+    members: &[Change],
+) -> Result<Ring<H>, RunFault>
+    requires { IsReplicas replicas }
+    ensures hash { IfOk result (λ ring. ring.hash ≡ hash) }
+    ensures replicas { IfOk result (λ ring. ring.replicas ≡ replicas) }
+    ensures servers { IfOk result (λ ring. IsMemberList members.now → ring.servers ≡ servers_of members.now) }
+    ensures refusal { IsOkUnless result RunFault.NoMemory }
+{
+    let Ok(mut ring) = Ring::new(alloc, hash, replicas) else {
+        unreachable!()
+    };
+    'members: for member in members {
+        if member.status.serving() {
+            ring.reserve_for(member.address, member.weight)
+                .map_err(|_| RunFault::NoMemory)?;
+            ring.add(member.address, member.weight);
+        }
+    }
+    Ok(ring)
+}
+
+/// The addresses, a line each; the last newline is left to the writing.
+fn owners_text(alloc: Global, first: Address, others: &[Address]) -> Result<String, RunFault>
+    ensures text { IfOk result (λ s. string_bytes s ++ 10 ∷ [] ≡ flat_map owner_line (first ∷ others.now)) }
+    ensures refusal { IsOkUnless result RunFault.NoMemory }
+{
+    let mut text = first.text(alloc).map_err(|_| RunFault::NoMemory)?;
+    'others: for other in others {
+        write!(text, "\n{other}")?;
+    }
+    Ok(text)
+}
+
+/// Writes the addresses, a line each, and nothing where there is none.
+fn write_owners<W: Write>(alloc: Global, writer: &mut W, owners: &[Address]) -> Result<(), RunFault>
+    ensures ok { OnOk result (Appends (W.contents writer.old) (W.contents writer.new) (flat_map owner_line owners.now)) }
+    ensures left { IfErr result (λ e. LeavesPart (flat_map owner_line owners.now) e
+        (W.contents writer.old) (W.contents writer.new)) }
+{
+    let Some((first, others)) = owners.split_first() else {
+        return Ok(());
+    };
+    let text = owners_text(alloc, *first, others)?;
+    write_text(writer, text.as_str())
+}
+
+/// `owner_run` under a hash.
+fn owner_run_by<H: PointHash, R: Read, W: Write>(
+    alloc: Global,
+    hash: H,
+    words: &OwnerWords<'_>,
+    reader: &mut R,
+    writer: &mut W,
+) -> Result<(), RunFault>
+    ensures output { OnOk result (Writes
+        (owner_text (H.hash_of hash) words.now.replicas words.now.count words.now.key.now)
+        (R.remaining reader.old) (W.contents writer.old) (W.contents writer.new)) }
+    ensures fault { IfErr result (λ e. IfSome (R.remaining reader.old) (λ input. IsRefused input e)) }
+    ensures left { IfErr result (λ e. Leaves
+        (owner_text (H.hash_of hash) words.now.replicas words.now.count words.now.key.now) e
+        (R.remaining reader.old) (W.contents writer.old) (W.contents writer.new)) }
+{
+    let table = read_members(alloc, reader)?;
+    let members = table.list().map_err(|_| RunFault::NoMemory)?;
+    let ring = ring_of(alloc, hash, words.replicas, members.as_slice())?;
+    let owners = ring
+        .owners(words.key.as_bytes(), words.count)
+        .map_err(|_| RunFault::NoMemory)?;
+    write_owners(alloc, writer, owners.as_slice())
+}
+
+/// Reads change lines to the end, and writes the first owners of the key among the members that serve, as many as the
+/// words say or all there are, a line each. At a fault of reading or a want of memory nothing is written; at one of
+/// writing a front of that is.
+pub fn owner_run<R: Read, W: Write>(
+    alloc: Global,
+    words: &OwnerWords<'_>,
+    reader: &mut R,
+    writer: &mut W,
+) -> Result<(), RunFault>
+    ensures output { OnOk result (Writes
+        (owner_text (hash_by words.now.sum) words.now.replicas words.now.count words.now.key.now)
+        (R.remaining reader.old) (W.contents writer.old) (W.contents writer.new)) }
+    ensures fault { IfErr result (λ e. IfSome (R.remaining reader.old) (λ input. IsRefused input e)) }
+    ensures left { IfErr result (λ e. Leaves
+        (owner_text (hash_by words.now.sum) words.now.replicas words.now.count words.now.key.now) e
+        (R.remaining reader.old) (W.contents writer.old) (W.contents writer.new)) }
+{
+    if words.sum {
+        owner_run_by(alloc, SumHash, words, reader, writer)
+    } else {
+        owner_run_by(alloc, Sha256Hash, words, reader, writer)
+    }
+}

@@ -1,0 +1,132 @@
+//! What a line is answered.
+ghost use Rattle.std.specs.Prelude.{◌≡◌, ◌∷◌, ◌++◌, IfOk, IsOkUnless, string_bytes};
+ghost use Rattle.std.specs.List.{flat_map};
+ghost use Rattle.change_core.specs.Address.{address_text};
+ghost use Rattle.cli_core.specs.ScriptAnswers.{answer_text, cause_word, message_text, owners_text, spaced, stopped_text, taken_text};
+
+use crate::scripts::faults::ScriptFault;
+use change_core::{Address, Change, Digest};
+use detector_core::Addresses;
+use node_core::{StopCause, Stopped, Taken};
+use std::alloc::Global;
+use wire_json::Text;
+
+/// What a line is answered.
+#[derive(Debug, Drop)]
+pub enum Answer {
+    /// It is done.
+    Done,
+    /// A batch was taken.
+    Taken(Taken),
+    /// A batch was taken, and the answer to it is the message of this number.
+    Answered(Taken, u64),
+    /// A batch stopped.
+    Stopped(Stopped),
+    /// The node says this.
+    Said(Change),
+    /// The node has left already.
+    AlreadyLeft,
+    /// The node has not left.
+    NotLeft,
+    /// No incarnation is left.
+    Exhausted,
+    /// There is none.
+    Nothing,
+    Members(Text),
+    Digest(Digest),
+    Owners(Addresses),
+    /// A message is kept under this number.
+    Message(u64),
+    /// The message came to no node.
+    Lost,
+}
+
+/// The word for why a batch stopped.
+fn cause_word(cause: StopCause) -> &'static str
+    ensures { result.now ≡ cause_word cause }
+{
+    match cause {
+        StopCause::Exhausted => "Exhausted",
+        StopCause::Full => "Full",
+        StopCause::Memory => "Memory",
+    }
+}
+
+/// The addresses, with a space between each two.
+fn joined(alloc: Global, first: Address, others: &[Address]) -> Result<String, ScriptFault>
+    ensures text { IfOk result (λ s. string_bytes s ≡ address_text first ++ flat_map spaced others.now) }
+    ensures refusal { IsOkUnless result ScriptFault.OutOfMemory }
+{
+    let mut text = first.text(alloc).map_err(|_| ScriptFault::OutOfMemory)?;
+    'others: for other in others {
+        write!(text, " {other}")?;
+    }
+    Ok(text)
+}
+
+/// The addresses joined, or `none` where there is none.
+fn owners_text(alloc: Global, owners: &[Address]) -> Result<String, ScriptFault>
+    ensures text { IfOk result (λ s. string_bytes s ≡ owners_text owners.now) }
+    ensures refusal { IsOkUnless result ScriptFault.OutOfMemory }
+{
+    match owners.split_first() {
+        None => Ok(String::from_str(alloc, "none")?),
+        Some((first, others)) => joined(alloc, *first, others),
+    }
+}
+
+impl Answer {
+    /// The answer as one line, without its newline.
+    pub fn text(&self, alloc: Global) -> Result<String, ScriptFault>
+        ensures text { IfOk result (λ s. string_bytes s ≡ answer_text self.now) }
+        ensures refusal { IsOkUnless result ScriptFault.OutOfMemory }
+    {
+        match self {
+            Answer::Done => Ok(String::from_str(alloc, "ok")?),
+            Answer::Taken(taken) => taken_text(alloc, taken.applied, taken.refuted),
+            Answer::Answered(taken, number) => answered_text(alloc, *taken, *number),
+            Answer::Stopped(stopped) => stopped_text(alloc, stopped.taken, stopped.cause),
+            Answer::Said(change) => Ok(format!(in alloc; "{change}")?),
+            Answer::AlreadyLeft => Ok(String::from_str(alloc, "AlreadyLeft")?),
+            Answer::NotLeft => Ok(String::from_str(alloc, "NotLeft")?),
+            Answer::Exhausted => Ok(String::from_str(alloc, "Exhausted")?),
+            Answer::Nothing => Ok(String::from_str(alloc, "none")?),
+            Answer::Members(text) => Ok(String::from_str(alloc, text.as_str())?),
+            Answer::Digest(digest) => digest.text(alloc).map_err(|_| ScriptFault::OutOfMemory),
+            Answer::Owners(owners) => owners_text(alloc, owners.as_slice()),
+            Answer::Message(number) => message_text(alloc, *number),
+            Answer::Lost => Ok(String::from_str(alloc, "lost")?),
+        }
+    }
+}
+
+fn taken_text(alloc: Global, applied: usize, refuted: usize) -> Result<String, ScriptFault>
+    ensures text { IfOk result (λ s. string_bytes s ≡ taken_text (record { applied = applied; refuted = refuted })) }
+    ensures refusal { IsOkUnless result ScriptFault.OutOfMemory }
+{
+    Ok(format!(in alloc; "taken {applied} {refuted}")?)
+}
+
+fn message_text(alloc: Global, number: u64) -> Result<String, ScriptFault>
+    ensures text { IfOk result (λ s. string_bytes s ≡ message_text number) }
+    ensures refusal { IsOkUnless result ScriptFault.OutOfMemory }
+{
+    Ok(format!(in alloc; "message {number}")?)
+}
+
+fn answered_text(alloc: Global, taken: Taken, number: u64) -> Result<String, ScriptFault>
+    ensures text { IfOk result (λ s. string_bytes s ≡ taken_text taken ++ 32 ∷ message_text number) }
+    ensures refusal { IsOkUnless result ScriptFault.OutOfMemory }
+{
+    let taken = taken_text(alloc, taken.applied, taken.refuted)?;
+    let message = message_text(alloc, number)?;
+    Ok(format!(in alloc; "{taken} {message}")?)
+}
+
+fn stopped_text(alloc: Global, taken: usize, cause: StopCause) -> Result<String, ScriptFault>
+    ensures text { IfOk result (λ s. string_bytes s ≡ stopped_text (record { taken = taken; cause = cause })) }
+    ensures refusal { IsOkUnless result ScriptFault.OutOfMemory }
+{
+    let word = cause_word(cause);
+    Ok(format!(in alloc; "stopped {taken} {word}")?)
+}

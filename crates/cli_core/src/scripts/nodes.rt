@@ -1,0 +1,136 @@
+//! The nodes of a script, in the order of their making.
+ghost use Rattle.std.specs.Prelude.{◌≡◌, ◌<◌, ◌≤◌, ◌⊎◌, None, IfOk, IfErr, IfSome, OnErr};
+ghost use Rattle.hash_ring.specs.Points.{IsReplicas};
+ghost use Rattle.node_core.specs.Node.{own_change};
+ghost use Rattle.cli_core.specs.Script.{GoesOn, IsPlace, NodeAnswers, NodeLacks, Pings, Receives, born, node_at, nodes_in, with_node};
+
+use crate::scripts::answers::Answer;
+use crate::scripts::asked::ask;
+use crate::scripts::faults::ScriptFault;
+use crate::scripts::lines::{Birth, Question};
+use change_core::{Address, Incarnation, Moment};
+use hash_ring::PointHash;
+use node_core::{Config, NodeState, Received};
+use std::alloc::Global;
+use wire_json::Message;
+
+/// Where the node of an address stands.
+pub fn place_of<H: PointHash>(nodes: &[NodeState<H>], address: Address) -> Option<usize>
+    ensures place { IfSome result (λ i. IsPlace nodes.now address i) }
+    ensures none { result ≡ None → node_at (nodes_in nodes.now) address ≡ None }
+{
+    'nodes: for (place, node) in nodes.iter().enumerate() {
+        let own = node.own();
+        if own.address == address {
+            return Some(place);
+        }
+    }
+    None
+}
+
+/// Asks the node of an address.
+pub fn ask_at<H: PointHash>(
+    nodes: &mut Vec<NodeState<H>>,
+    address: Address,
+    moment: Moment,
+    question: &Question<'_>,
+) -> Result<Answer, ScriptFault>
+    ensures answer { IfOk result (λ answer. GoesOn (nodes_in nodes.old.items) address
+        (λ before after. NodeAnswers H.hash_of moment before question.now answer after) (nodes_in nodes.new.items)) }
+    ensures fault { IfErr result (λ f. (f ≡ ScriptFault.OutOfMemory)
+        ⊎ ((f ≡ ScriptFault.UnknownNode) × (node_at (nodes_in nodes.old.items) address ≡ None))) }
+    ensures memory { IfErr result (λ f. f ≡ ScriptFault.OutOfMemory → GoesOn (nodes_in nodes.old.items) address
+        (λ before after. NodeLacks H.hash_of moment before question.now after) (nodes_in nodes.new.items)) }
+{
+    let Some(place) = place_of(nodes.as_slice(), address) else {
+        return Err(ScriptFault::UnknownNode);
+    };
+    ask(&mut nodes[place], moment, question)
+}
+
+/// The ping of the node at a place.
+pub fn ping_at<H: PointHash>(
+    nodes: &mut Vec<NodeState<H>>,
+    place: usize,
+    address: Address,
+    target: Address,
+) -> Result<Message, ScriptFault>
+    requires { IsPlace nodes.old.items address place }
+    ensures message { IfOk result (λ message. GoesOn (nodes_in nodes.old.items) address
+        (Pings H.hash_of target message) (nodes_in nodes.new.items)) }
+    ensures fault { IfErr result (λ f. f ≡ ScriptFault.OutOfMemory) }
+{
+    match nodes[place].ping_to(target) {
+        Ok(message) => Ok(message),
+        Err(_) => Err(ScriptFault::OutOfMemory),
+    }
+}
+
+/// The node at a place receives a message.
+pub fn receive_at<H: PointHash>(
+    nodes: &mut Vec<NodeState<H>>,
+    place: usize,
+    address: Address,
+    message: &Message,
+    moment: Moment,
+) -> Received
+    requires { IsPlace nodes.old.items address place }
+    ensures { GoesOn (nodes_in nodes.old.items) address
+        (Receives H.hash_of moment message.now result) (nodes_in nodes.new.items) }
+{
+    nodes[place].receive(message, moment)
+}
+
+/// The incarnation that the node at a place holds of itself.
+pub fn incarnation_at<H: PointHash>(
+    nodes: &[NodeState<H>],
+    place: usize,
+    address: Address,
+) -> Incarnation
+    requires { IsPlace nodes.now address place }
+    ensures { IfSome (node_at (nodes_in nodes.now) address) (λ n. result ≡ (own_change n).incarnation) }
+{
+    nodes[place].own().incarnation
+}
+
+/// Puts a node in place of another.
+pub fn put_at<H: PointHash>(
+    nodes: &mut Vec<NodeState<H>>,
+    place: usize,
+    address: Address,
+    node: NodeState<H>,
+)
+    requires { IsPlace nodes.old.items address place }
+    ensures { nodes_in nodes.new.items ≡ with_node (nodes_in nodes.old.items) address node.node }
+{
+    nodes[place] = node;
+}
+
+/// A node alone in its cluster, at a moment.
+pub fn newborn<H: PointHash>(
+    alloc: Global,
+    hash: H,
+    replicas: u32,
+    moment: Moment,
+    birth: &Birth,
+) -> Result<NodeState<H>, ScriptFault>
+    requires { IsReplicas replicas }
+    ensures born { IfOk result (λ n. n.node ≡ born hash replicas moment birth.now) }
+    ensures fault { IfErr result (λ f. f ≡ ScriptFault.OutOfMemory) }
+{
+    let mut config = Config::standard();
+    config.replicas = replicas;
+    config.weight = birth.weight;
+    match NodeState::new(
+        alloc,
+        config,
+        hash,
+        birth.address,
+        birth.incarnation,
+        0,
+        moment,
+    ) {
+        Ok(node) => Ok(node),
+        Err(_) => Err(ScriptFault::OutOfMemory),
+    }
+}

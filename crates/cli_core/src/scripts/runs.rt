@@ -1,0 +1,154 @@
+//! The lines of a script in, their answers out.
+ghost use Rattle.std.specs.Prelude.{◌≡◌, ◌≤◌, ◌⊎◌, true, length, vec_len, IfOk, IfErr, IfSome, IsSome, IsOkUnless, string_bytes};
+ghost use Rattle.change_core.specs.Numbers.{greatest_number};
+ghost use Rattle.hash_ring.specs.Points.{IsReplicas};
+ghost use Rattle.wire_json.specs.Lines.{max_line};
+ghost use Rattle.cli_core.specs.Script.{beginning};
+ghost use Rattle.cli_core.specs.ScriptRuns.{AnswersLine, Completes, CompletesBy, EndsScript, IsCountedLine, IsLineRefused, ReadsLine, Stops, StopsBy, Turns, fault_of_read};
+
+use crate::outputs::write_text;
+use crate::scripts::faults::{ScriptFault, SimFault};
+use crate::scripts::lines::read_command;
+use crate::scripts::worlds::World;
+use crate::words::SimWords;
+use change_core::GREATEST_NUMBER;
+use hash_ring::{PointHash, Sha256Hash, SumHash};
+use std::alloc::Global;
+use std::io::{Read, Write};
+use wire_json::{WireError, read_line};
+
+/// What a fault of reading a line is to a script.
+fn fault_of_read(fault: WireError) -> ScriptFault
+    ensures { result ≡ fault_of_read fault }
+{
+    match fault {
+        WireError::LineTooLong => ScriptFault::LineTooLong,
+        WireError::Memory => ScriptFault::OutOfMemory,
+        _ => ScriptFault::ReadFailed,
+    }
+}
+
+/// What was read in place of a line that can't be counted: nothing at the end of the input, and a fault for any line.
+fn end_of_lines(read: Result<Option<Vec<u8>>, WireError>) -> Result<Option<Vec<u8>>, ScriptFault>
+    ensures { EndsScript read result }
+{
+    match read {
+        Ok(None) => Ok(None),
+        Err(WireError::Memory) => Err(ScriptFault::OutOfMemory),
+        _ => Err(ScriptFault::ReadFailed),
+    }
+}
+
+/// Reads the line of this number; None at the end of the input. A line that can't be counted is `ReadFailed`, whatever it
+/// is, or `OutOfMemory` where a growth is refused in reading it.
+fn next_line<R: Read>(
+    alloc: Global,
+    reader: &mut R,
+    number: u64,
+) -> Result<Option<Vec<u8>>, ScriptFault>
+    ensures read { IfSome (R.remaining reader.old) (λ xs. ReadsLine xs result (R.remaining reader.new)) }
+    ensures counted { IfOk result (λ line. IsSome line → number ≤ greatest_number) }
+    ensures short { IfOk result (λ line. IfSome line (λ v. vec_len v ≤ max_line)) }
+    ensures own { IfErr result (λ f. IsCountedLine number f) }
+{
+    let read = read_line(alloc, reader);
+    if number > GREATEST_NUMBER {
+        return end_of_lines(read);
+    }
+    match read {
+        Ok(line) => Ok(line),
+        Err(fault) => Err(fault_of_read(fault)),
+    }
+}
+
+/// Does the command of a line; the text of the answer.
+fn answer_line<H: PointHash>(
+    alloc: Global,
+    world: &mut World<H>,
+    line: &[u8],
+) -> Result<String, ScriptFault>
+    requires { length line.now ≤ max_line }
+    ensures answer { IfOk result (λ text. AnswersLine H.hash_of world.old line.now (string_bytes text) world.new) }
+    ensures fault { IfErr result (λ f. IsLineRefused H.hash_of world.old line.now f) }
+{
+    let Some(command) = read_command(line) else {
+        return Err(ScriptFault::BadCommand);
+    };
+    let answer = world.obey(&command)?;
+    answer.text(alloc)
+}
+
+/// Reads the line of this number, does its command and writes the answer; false at the end of the input.
+fn turn<H: PointHash, R: Read, W: Write>(
+    alloc: Global,
+    world: &mut World<H>,
+    reader: &mut R,
+    writer: &mut W,
+    number: u64,
+) -> Result<bool, SimFault>
+    ensures turn { IfSome (R.remaining reader.old) (λ xs. Turns H.hash_of world.old xs (W.contents writer.old) number result
+        world.new (R.remaining reader.new) (W.contents writer.new)) }
+    ensures counted { IfOk result (λ more. more ≡ true → number ≤ greatest_number) }
+{
+    let line = match next_line(alloc, reader, number) {
+        Ok(Some(line)) => line,
+        Ok(None) => return Ok(false),
+        Err(fault) => return Err(SimFault::AtLine(number, fault)),
+    };
+    let text = match answer_line(alloc, world, line.as_slice()) {
+        Ok(text) => text,
+        Err(fault) => return Err(SimFault::AtLine(number, fault)),
+    };
+    match write_text(writer, text.as_str()) {
+        Ok(()) => Ok(true),
+        Err(_) => Err(SimFault::CannotWrite),
+    }
+}
+
+/// `sim_run` under a hash.
+fn sim_run_by<H: PointHash, R: Read, W: Write>(
+    alloc: Global,
+    hash: H,
+    replicas: u32,
+    reader: &mut R,
+    writer: &mut W,
+) -> Result<(), SimFault>
+    requires { IsReplicas replicas }
+    ensures output { IfOk result (λ _. Completes H.hash_of (beginning hash replicas)
+        (R.remaining reader.old) (W.contents writer.old) (W.contents writer.new)) }
+    ensures fault { IfErr result (λ e. Stops H.hash_of (beginning hash replicas) e
+        (R.remaining reader.old) (W.contents writer.old) (W.contents writer.new)) }
+{
+    let mut world = World::new(alloc, hash, replicas);
+    let mut number = 1;
+    'lines: loop {
+        match turn(alloc, &mut world, reader, writer, number) {
+            Ok(true) => number += 1,
+            Ok(false) => return Ok(()),
+            Err(fault) => return Err(fault),
+        }
+    }
+}
+
+/// Reads the commands of a script to the end, one a line, and answers each with a line, at once.
+///
+/// Errors: the first line at fault, once the lines before it are answered; `CannotWrite` where the writer failed, and then the
+/// answers before the one that it failed at are written, and a front of that one. Lines are counted from 1 to 9007199254740991; one more is `ReadFailed`, or
+/// `OutOfMemory` where a growth is refused in reading it.
+pub fn sim_run<R: Read, W: Write>(
+    alloc: Global,
+    words: &SimWords,
+    reader: &mut R,
+    writer: &mut W,
+) -> Result<(), SimFault>
+    ensures output { IfOk result (λ _. CompletesBy words.now.sum words.now.replicas
+        (R.remaining reader.old) (W.contents writer.old) (W.contents writer.new)) }
+    ensures fault { IfErr result (λ e. StopsBy words.now.sum words.now.replicas e
+        (R.remaining reader.old) (W.contents writer.old) (W.contents writer.new)) }
+{
+    if words.sum {
+        sim_run_by(alloc, SumHash, words.replicas, reader, writer)
+    } else {
+        sim_run_by(alloc, Sha256Hash, words.replicas, reader, writer)
+    }
+}

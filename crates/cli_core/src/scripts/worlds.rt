@@ -1,0 +1,200 @@
+//! The nodes of a script, its messages and its moment.
+ghost use Rattle.std.specs.Prelude.{◌≡◌, ◌+◌, ◌<◌, ◌≤◌, ◌⊎◌, length, option_copied, IfOk, IfErr};
+ghost use Rattle.hash_ring.specs.Points.{IsReplicas};
+ghost use Rattle.cli_core.specs.Script.{IsRefusedFor, Obeys, beginning, message_of, most_messages, with_message};
+
+use crate::scripts::answers::Answer;
+use crate::scripts::faults::ScriptFault;
+use crate::scripts::lines::{Birth, Command, Question};
+use crate::scripts::messages::Sent;
+use crate::scripts::nodes::{
+    ask_at, incarnation_at, newborn, ping_at, place_of, put_at, receive_at,
+};
+use change_core::{Address, Moment};
+use hash_ring::PointHash;
+use node_core::{NodeState, Received};
+use std::alloc::Global;
+use std::marker::Model;
+use wire_json::Message;
+
+/// How many nodes a script has at most.
+pub const MOST_NODES: usize = 64;
+
+/// How many messages a script keeps at most.
+pub const MOST_MESSAGES: usize = 65_536;
+
+/// The nodes of a script in the order of their making, its messages by their numbers, and its moment. Contracts see the
+/// script.
+#[derive(Drop)]
+pub struct World<H: PointHash> {
+    hash: H,
+    replicas: u32,
+    moment: Moment,
+    nodes: Vec<NodeState<H>>,
+    messages: Vec<Sent>,
+    alloc: Global,
+}
+
+impl<H: PointHash> Model for World<H> {
+    ghost use Rattle.hash_ring.specs.Points.{IsReplicas};
+    ghost use Rattle.cli_core.specs.Script.{Script, nodes_in};
+
+    ghost Value = { Script H };
+
+    ghost view = { λ a. record {
+      hash = a.hash;
+      replicas = a.replicas;
+      moment = a.moment;
+      nodes = nodes_in a.nodes.items;
+      messages = a.messages.items;
+    } };
+
+    ghost invariant = { λ a. IsReplicas a.replicas };
+}
+
+impl<H: PointHash> World<H> {
+    /// No nodes and no messages, at moment 0.
+    pub fn new(alloc: Global, hash: H, replicas: u32) -> Self
+        requires { IsReplicas replicas }
+        ensures { result ≡ beginning hash replicas }
+    {
+        let Some(moment) = Moment::new(0) else {
+            unreachable!()
+        };
+        World {
+            hash,
+            replicas,
+            moment,
+            nodes: Vec::new(alloc),
+            messages: Vec::new(alloc),
+            alloc,
+        }
+    }
+
+    /// Does what a command says, and answers.
+    ///
+    /// Errors: of unknown node, node exists, too many nodes, unknown message, too many messages and incarnation not
+    /// greater the first that the command has; `OutOfMemory` where a growth was refused, and then the call of the node may
+    /// have been made. A script ends at either.
+    pub fn obey(&mut self, command: &Command<'_>) -> Result<Answer, ScriptFault>
+        ensures answer { IfOk result (λ answer. Obeys H.hash_of self.old command.now answer self.new) }
+        ensures fault { IfErr result (λ f. IsRefusedFor H.hash_of self.old command.now f) }
+    {
+        match command {
+            Command::Node(birth) => self.make(birth),
+            Command::At(moment) => {
+                self.moment = *moment;
+                Ok(Answer::Done)
+            }
+            Command::Ask(address, question) => self.ask(*address, question),
+            Command::Send(address, target) => self.send(*address, *target),
+            Command::Deliver(number) => self.deliver(*number),
+            Command::Restart(birth) => self.restart(birth),
+        }
+    }
+
+    /// Makes a node.
+    fn make(&mut self, birth: &Birth) -> Result<Answer, ScriptFault>
+        ensures answer { IfOk result (λ answer. Obeys H.hash_of self.old (Command.Node birth.now) answer self.new) }
+        ensures fault { IfErr result (λ f. IsRefusedFor H.hash_of self.old (Command.Node birth.now) f) }
+    {
+        if place_of(self.nodes.as_slice(), birth.address).is_some() {
+            return Err(ScriptFault::NodeExists);
+        }
+        if self.nodes.len() >= MOST_NODES {
+            return Err(ScriptFault::TooManyNodes);
+        }
+        let node = newborn(self.alloc, self.hash, self.replicas, self.moment, birth)?;
+        self.nodes.push(node)?;
+        Ok(Answer::Done)
+    }
+
+    /// Makes a node anew, at a greater incarnation.
+    fn restart(&mut self, birth: &Birth) -> Result<Answer, ScriptFault>
+        ensures answer { IfOk result (λ answer. Obeys H.hash_of self.old (Command.Restart birth.now) answer self.new) }
+        ensures fault { IfErr result (λ f. IsRefusedFor H.hash_of self.old (Command.Restart birth.now) f) }
+    {
+        let Some(place) = place_of(self.nodes.as_slice(), birth.address) else {
+            return Err(ScriptFault::UnknownNode);
+        };
+        let held = incarnation_at(self.nodes.as_slice(), place, birth.address);
+        if birth.incarnation.number() <= held.number() {
+            return Err(ScriptFault::IncarnationNotGreater);
+        }
+        let node = newborn(self.alloc, self.hash, self.replicas, self.moment, birth)?;
+        put_at(&mut self.nodes, place, birth.address, node);
+        Ok(Answer::Done)
+    }
+
+    /// Asks the node of an address.
+    fn ask(&mut self, address: Address, question: &Question<'_>) -> Result<Answer, ScriptFault>
+        ensures answer { IfOk result (λ answer. Obeys H.hash_of self.old (Command.Ask address question.now) answer self.new) }
+        ensures fault { IfErr result (λ f. IsRefusedFor H.hash_of self.old (Command.Ask address question.now) f) }
+    {
+        ask_at(&mut self.nodes, address, self.moment, question)
+    }
+
+    /// Keeps the ping of one address to another.
+    fn send(&mut self, address: Address, target: Address) -> Result<Answer, ScriptFault>
+        ensures answer { IfOk result (λ answer. Obeys H.hash_of self.old (Command.Send address target) answer self.new) }
+        ensures fault { IfErr result (λ f. IsRefusedFor H.hash_of self.old (Command.Send address target) f) }
+    {
+        let Some(place) = place_of(self.nodes.as_slice(), address) else {
+            return Err(ScriptFault::UnknownNode);
+        };
+        if self.messages.len() >= MOST_MESSAGES {
+            return Err(ScriptFault::TooManyMessages);
+        }
+        let message = ping_at(&mut self.nodes, place, address, target)?;
+        let number = keep(&mut self.messages, target, message)?;
+        Ok(Answer::Message(number))
+    }
+
+    /// Has the message of a number received, and keeps the answer to it.
+    fn deliver(&mut self, number: u64) -> Result<Answer, ScriptFault>
+        ensures answer { IfOk result (λ answer. Obeys H.hash_of self.old (Command.Deliver number) answer self.new) }
+        ensures fault { IfErr result (λ f. IsRefusedFor H.hash_of self.old (Command.Deliver number) f) }
+    {
+        let Some(sent) = message_at(self.messages.as_slice(), number) else {
+            return Err(ScriptFault::UnknownMessage);
+        };
+        let to = sent.to;
+        let sender = sent.message.source;
+        let Some(place) = place_of(self.nodes.as_slice(), to) else {
+            return Ok(Answer::Lost);
+        };
+        match receive_at(&mut self.nodes, place, to, &sent.message, self.moment) {
+            Received::Done(taken) => Ok(Answer::Taken(taken)),
+            Received::Answer(taken, message) => {
+                let number = keep(&mut self.messages, sender, message)?;
+                Ok(Answer::Answered(taken, number))
+            }
+            Received::NoAnswer(_) => Err(ScriptFault::OutOfMemory),
+            Received::Stopped(stopped) => Ok(Answer::Stopped(stopped)),
+            Received::NotGossip => Ok(Answer::Nothing),
+        }
+    }
+}
+
+/// The message of a number, from 1.
+fn message_at(messages: &[Sent], number: u64) -> Option<&Sent>
+    ensures { option_copied result ≡ message_of messages.now number }
+{
+    let place = number.checked_sub(1)?;
+    messages.get(place as usize)
+}
+
+/// Keeps a message under the next number.
+fn keep(messages: &mut Vec<Sent>, to: Address, message: Message) -> Result<u64, ScriptFault>
+    ensures number { IfOk result (λ n. (length messages.old.items < most_messages) × (n ≡ length messages.old.items + 1)
+        × (messages.new.items ≡ with_message messages.old.items to message)) }
+    ensures fault { IfErr result (λ f. ((f ≡ ScriptFault.OutOfMemory) × (length messages.old.items < most_messages))
+        ⊎ ((f ≡ ScriptFault.TooManyMessages) × (most_messages ≤ length messages.old.items))) }
+{
+    let kept = messages.len();
+    if kept >= MOST_MESSAGES {
+        return Err(ScriptFault::TooManyMessages);
+    }
+    messages.push(Sent { to, message })?;
+    Ok(kept as u64 + 1)
+}

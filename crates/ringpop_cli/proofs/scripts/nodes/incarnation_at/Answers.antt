@@ -1,8 +1,0 @@
-use Rattle.std.proofs.Common.{ap}
-use Rattle.change_core.specs.declared.changes.Change.{Change}
-use Rattle.ringpop_cli.proofs.ScriptPlaces.{place_incarnation}
-use Rattle.ringpop_cli.proofs.scripts.nodes.incarnation_at.Goals as goal
-
-pub returns : goal.returns
-returns g c =
-    place_incarnation c.args.nodes.now c.args.address c.args.place c.index-nodes-place.result c.own.result.incarnation c.requires c.index-nodes-place.is (ap (λ (d : Change). d.incarnation) c.own.ensures)

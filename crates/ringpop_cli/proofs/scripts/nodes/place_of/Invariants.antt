@@ -1,6 +1,0 @@
-use Rattle.ringpop_cli.proofs.ScriptPlaces.{NoneBefore}
-use Rattle.ringpop_cli.proofs.scripts.nodes.place_of.Given as goal
-
--- none so far is of the address
-abbrev pub invariant-nodes : goal.invariant-nodes
-invariant-nodes g l = NoneBefore l.nodes l.address l.place

@@ -1,5 +1,0 @@
-use Rattle.ringpop_cli.proofs.ScriptPlaces.{place_set}
-use Rattle.ringpop_cli.proofs.scripts.nodes.put_at.Goals as goal
-
-pub returns : goal.returns
-returns g c = place_set c.args.nodes.now.items c.args.address c.args.place c.args.node c.requires

@@ -1,7 +1,0 @@
-use Rattle.std.proofs.Common.{sym, subst}
-use Rattle.ringpop_cli.specs.ScriptLines.{IsVisible}
-use Rattle.ringpop_cli.proofs.ScriptWords.{visible_number}
-use Rattle.ringpop_cli.proofs.scripts.readers.read_number.Goals as goal
-
-pub returns-in_err-read_text-clause-exact : goal.returns-in_err-read_text-clause-exact
-returns-in_err-read_text-clause-exact c = λ n small e. absurd (c.in_err-read_text.ensures.exact (subst IsVisible (sym e) (visible_number n)))

@@ -1,7 +1,0 @@
-use Rattle.ringpop_cli.proofs.scripts.worlds.World.obey.Goals as goal
-
-pub returns-in-Ask-clause-answer : goal.returns-in-Ask-clause-answer
-returns-in-Ask-clause-answer g c = rw c.in-Ask.is c.ask.ensures.answer
-
-pub returns-in-Ask-clause-fault : goal.returns-in-Ask-clause-fault
-returns-in-Ask-clause-fault g c = rw c.in-Ask.is c.ask.ensures.fault

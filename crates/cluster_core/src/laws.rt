@@ -1,0 +1,19 @@
+//! Laws over the definitions, each the contract of a function that does nothing.
+ghost use Rattle.cluster_core.specs.Provenance.{JoinsRest, RoundsRest};
+
+use crate::links::Link;
+
+/// What a round says of others came over the link: a probe is acknowledged directly after the Ack that came from its target
+/// was taken, is lost only where another answer came, and a helper's word is what came from it, or it failed. Each moment is
+/// that of the round. A round is idle only where nobody could be probed, and otherwise its last call ended the probe that it
+/// began, in the way that it answers. A refused round says why: the lock refused it, the node's last reply is that refusal,
+/// or there was no memory to ask another node, as that reply or the link said.
+pub fn rounds<H, L: Link>()
+    ensures { RoundsRest H L.may_answer }
+{}
+
+/// A join answers how many of its hosts answered by a Joined that came over the link and was taken at its moment; from each
+/// other host another answer came. It takes no other message, and is refused as `NoneJoined` only where no host joined.
+pub fn joins<H, L: Link>()
+    ensures { JoinsRest H L.may_answer }
+{}

@@ -1,0 +1,36 @@
+//! Nodes that talk: each answer is the node's own, the handler's or a named refusal, and what a node says of another came
+//! over a link.
+#![tactic(auto)]
+
+mod asking;
+mod channel_links;
+mod clocks;
+mod clusters;
+mod copies;
+mod errors;
+mod forwarding;
+mod gossiping;
+mod handlers;
+mod hearing;
+mod joining;
+pub mod laws;
+mod links;
+mod probing;
+mod rounds;
+mod seats;
+mod serving;
+mod steps;
+mod tcp_links;
+
+pub use channel_links::ChannelLink;
+pub use clocks::Clock;
+pub use clusters::{Cluster, MOST_WORKERS, StartError, StopError};
+pub use errors::{ClusterError, HandlerFault, LinkError};
+pub use forwarding::handle_or_forward;
+pub use gossiping::gossip_round;
+pub use handlers::Handler;
+pub use joining::join;
+pub use links::Link;
+pub use rounds::Round;
+pub use serving::serve_one;
+pub use tcp_links::{DEADLINE, TcpLink, limit, socket_address};

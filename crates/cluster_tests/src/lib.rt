@@ -1,0 +1,17 @@
+//! The tests of cluster_core.
+#![tactic(auto)]
+
+#[cfg(test)]
+mod clusters;
+#[cfg(test)]
+mod fakes;
+#[cfg(test)]
+mod forwarding;
+#[cfg(test)]
+mod rounds;
+#[cfg(test)]
+mod serving;
+#[cfg(test)]
+mod shared;
+#[cfg(test)]
+mod tcp;

@@ -1,0 +1,534 @@
+//! How rounds of gossip and joins go, by the mood of the peers. A helper answers false where it was refused a growth that its
+//! test does not ask for; the test then goes on with new nodes, once.
+ghost use Rattle.std.specs.Prelude.{◌≡◌, []};
+ghost use Rattle.std.specs.List.{All};
+ghost use Rattle.locked_node.specs.Passes.{Fits};
+
+use crate::fakes::{Fake, Mood};
+use crate::shared::{Caller, Shared, among, member, moment, news, state, status, with_node};
+use change_core::{Address, Moment, Status};
+use cluster_core::{ClusterError, Link, LinkError, Round, gossip_round, join};
+use detector_core::Running;
+use hash_ring::SumHash;
+use locked_node::LockedNode;
+use node_core::{NodeError, NodeState, Received};
+use std::alloc::Global;
+use std::process::Abort;
+use std::sync::Wait;
+use turn_lock::LockError;
+use wire_json::Message;
+
+/// How a round ended, without whom it was about.
+#[derive(Clone, Copy, Debug, PartialEq, Eq)]
+enum End {
+    Idle,
+    Reached,
+    Suspected,
+    Inconclusive,
+}
+
+fn end_of(round: Round) -> End {
+    match round {
+        Round::Idle => End::Idle,
+        Round::Reached(_) => End::Reached,
+        Round::Suspected(_) => End::Suspected,
+        Round::Inconclusive(_) => End::Inconclusive,
+    }
+}
+
+/// How a round ended, how often its link was asked, and how often that failed.
+#[derive(Clone, Copy, Debug, PartialEq, Eq)]
+struct Ended {
+    end: Result<End, ClusterError>,
+    calls: u64,
+    failures: u64,
+}
+
+/// A round by way of this link.
+fn round_by<R: Wait + Abort>(
+    rt: &R,
+    alloc: Global,
+    shared: &Shared,
+    pass: &mut Caller,
+    link: &mut Fake,
+) -> Result<Round, ClusterError>
+    requires { Fits shared.now pass.old }
+    ensures { Fits shared.now pass.new }
+{
+    let now = moment(rt, 0);
+    gossip_round(rt, alloc, shared, pass, link, now)
+}
+
+/// A round whose peers are first in one mood, and then in another.
+fn round_in<R: Wait + Abort>(
+    rt: &R,
+    alloc: Global,
+    shared: &Shared,
+    pass: &mut Caller,
+    moods: (Mood, Mood),
+) -> Ended
+    requires { Fits shared.now pass.old }
+    ensures { Fits shared.now pass.new }
+{
+    let mut link = Fake::turning(moods.0, moods.1);
+    let round = round_by(rt, alloc, shared, pass, &mut link);
+    Ended {
+        end: round.map(end_of),
+        calls: link.calls,
+        failures: link.failures(),
+    }
+}
+
+/// How many others there are, their mood, and how a round is to end.
+#[derive(Clone, Copy)]
+struct Row {
+    others: u8,
+    mood: Mood,
+    wanted: Ended,
+}
+
+fn came_to(end: Result<End, ClusterError>, calls: u64, failures: u64) -> Ended {
+    Ended {
+        end,
+        calls,
+        failures,
+    }
+}
+
+/// How the first round of a new node ends.
+fn first_round<R: Wait + Abort>(rt: &R, alloc: Global, row: &Row) -> Ended {
+    with_node(rt, alloc, &among(row.others), |shared, pass| {
+        round_in(rt, alloc, shared, pass, (row.mood, row.mood))
+    })
+}
+
+/// Checks how a round ends; where it was refused memory, how that of another node does.
+fn check_end<R: Wait + Abort>(rt: &R, alloc: Global, row: &Row) {
+    let mut found = first_round(rt, alloc, row);
+    if found.end == Err(ClusterError::Memory) {
+        found = first_round(rt, alloc, row);
+    }
+    assert!(rt; found == row.wanted);
+}
+
+#[test]
+fn a_round_ends_by_what_the_peers_answer(rt: HostRuntime) {
+    let rows = [
+        (0, Mood::Willing, came_to(Ok(End::Idle), 0, 0)),
+        (1, Mood::Willing, came_to(Ok(End::Reached), 1, 0)),
+        (1, Mood::Failing, came_to(Ok(End::Suspected), 1, 0)),
+        (1, Mood::Broken, came_to(Ok(End::Suspected), 1, 1)),
+        (3, Mood::Willing, came_to(Ok(End::Reached), 1, 0)),
+        (3, Mood::Broken, came_to(Ok(End::Inconclusive), 3, 3)),
+        (3, Mood::Starved, came_to(Err(ClusterError::Memory), 1, 0)),
+    ];
+    for (others, mood, wanted) in rows {
+        let row = Row {
+            others,
+            mood,
+            wanted,
+        };
+        check_end(&rt, rt.alloc(), &row);
+    }
+}
+
+/// The number of the probe that runs, and whom it waits for.
+fn running<R: Wait + Abort>(
+    rt: &R,
+    shared: &Shared,
+    pass: &mut Caller,
+) -> Option<(u64, Option<Address>)>
+    requires { Fits shared.now pass.old }
+    ensures { Fits shared.now pass.new }
+{
+    let found = shared.running(rt, pass).ok().expect(rt, "a turn")?;
+    Some((found.number, found.waiting))
+}
+
+/// Checks that nobody is suspected where all helpers failed.
+fn check_all_failed<R: Wait + Abort>(
+    rt: &R,
+    alloc: Global,
+    shared: &Shared,
+    pass: &mut Caller,
+) -> bool
+    requires { Fits shared.now pass.old }
+{
+    let found = round_in(rt, alloc, shared, pass, (Mood::Broken, Mood::Broken));
+    if found.end == Err(ClusterError::Memory) {
+        return false;
+    }
+    assert!(rt; found == came_to(Ok(End::Inconclusive), 3, 3));
+    for number in 2..5 {
+        assert!(rt; status(rt, shared, pass, number) == Some(Status::Alive));
+    }
+    assert!(rt; running(rt, shared, pass).is_none());
+    true
+}
+
+fn all_failed<R: Wait + Abort>(rt: &R, alloc: Global) -> bool {
+    with_node(rt, alloc, &among(3), |shared, pass| {
+        check_all_failed(rt, alloc, shared, pass)
+    })
+}
+
+#[test]
+fn helpers_that_all_failed_leave_the_target_alive(rt: HostRuntime) {
+    let alloc = rt.alloc();
+    assert!(&rt; all_failed(&rt, alloc) || all_failed(&rt, alloc));
+}
+
+/// Checks that a target without helpers is suspect at once.
+fn check_suspected<R: Wait + Abort>(
+    rt: &R,
+    alloc: Global,
+    shared: &Shared,
+    pass: &mut Caller,
+) -> bool
+    requires { Fits shared.now pass.old }
+{
+    let mut link = Fake::new(Mood::Broken);
+    let round = round_by(rt, alloc, shared, pass, &mut link);
+    if round == Err(ClusterError::Memory) {
+        return false;
+    }
+    assert!(rt; round == Ok(Round::Suspected(member(rt, 2))) && link.failures() == 1);
+    assert!(rt; status(rt, shared, pass, 2) == Some(Status::Suspect));
+    true
+}
+
+fn suspected<R: Wait + Abort>(rt: &R, alloc: Global) -> bool {
+    with_node(rt, alloc, &among(1), |shared, pass| {
+        check_suspected(rt, alloc, shared, pass)
+    })
+}
+
+#[test]
+fn a_suspected_target_is_held_so(rt: HostRuntime) {
+    let alloc = rt.alloc();
+    assert!(&rt; suspected(&rt, alloc) || suspected(&rt, alloc));
+}
+
+/// Whether a probe can't begin since another runs.
+fn is_busy<R: Wait + Abort>(rt: &R, shared: &Shared, pass: &mut Caller) -> bool
+    requires { Fits shared.now pass.old }
+    ensures { Fits shared.now pass.new }
+{
+    let answer = shared.probe(rt, pass).ok().expect(rt, "a turn");
+    answer == Err(NodeError::Busy)
+}
+
+/// Checks that the next round pings the target of a probe once more, of which nobody was asked.
+fn check_pinged_anew<R: Wait + Abort>(
+    rt: &R,
+    alloc: Global,
+    shared: &Shared,
+    pass: &mut Caller,
+) -> bool
+    requires { Fits shared.now pass.old }
+{
+    let first = round_in(rt, alloc, shared, pass, (Mood::Starved, Mood::Starved));
+    if first.calls == 0 {
+        return false;
+    }
+    assert!(rt; first == came_to(Err(ClusterError::Memory), 1, 0));
+    assert!(rt; running(rt, shared, pass) == Some((1, None)));
+    assert!(rt; is_busy(rt, shared, pass));
+    let mut link = Fake::new(Mood::Willing);
+    let round = round_by(rt, alloc, shared, pass, &mut link);
+    if round == Err(ClusterError::Memory) {
+        return false;
+    }
+    assert!(rt; round == Ok(Round::Reached(member(rt, 2))) && link.calls == 2);
+    assert!(rt; running(rt, shared, pass).is_none());
+    true
+}
+
+fn pinged_anew<R: Wait + Abort>(rt: &R, alloc: Global) -> bool {
+    with_node(rt, alloc, &among(1), |shared, pass| {
+        check_pinged_anew(rt, alloc, shared, pass)
+    })
+}
+
+#[test]
+fn a_probe_of_which_nobody_was_asked_is_pinged_anew(rt: HostRuntime) {
+    let alloc = rt.alloc();
+    assert!(&rt; pinged_anew(&rt, alloc) || pinged_anew(&rt, alloc));
+}
+
+/// Checks that the next round asks nobody whom a probe waits for.
+fn check_given_up<R: Wait + Abort>(
+    rt: &R,
+    alloc: Global,
+    shared: &Shared,
+    pass: &mut Caller,
+) -> bool
+    requires { Fits shared.now pass.old }
+{
+    let first = round_in(rt, alloc, shared, pass, (Mood::Broken, Mood::Starved));
+    if first.calls < 2 {
+        return false;
+    }
+    assert!(rt; first == came_to(Err(ClusterError::Memory), 2, 1));
+    assert!(rt; matches!(running(rt, shared, pass), Some((1, Some(_)))));
+    let second = round_in(rt, alloc, shared, pass, (Mood::Willing, Mood::Willing));
+    if second.end == Err(ClusterError::Memory) {
+        return false;
+    }
+    assert!(rt; second == came_to(Ok(End::Reached), 1, 0));
+    assert!(rt; running(rt, shared, pass).is_none());
+    true
+}
+
+fn given_up<R: Wait + Abort>(rt: &R, alloc: Global) -> bool {
+    with_node(rt, alloc, &among(3), |shared, pass| {
+        check_given_up(rt, alloc, shared, pass)
+    })
+}
+
+#[test]
+fn helpers_that_a_probe_waits_for_have_failed(rt: HostRuntime) {
+    let alloc = rt.alloc();
+    assert!(&rt; given_up(&rt, alloc) || given_up(&rt, alloc));
+}
+
+/// A node that holds 10.0.0.2:1 as alive.
+fn of_two(rt: &impl Abort, alloc: Global) -> NodeState<SumHash> {
+    let mut node = state(rt, alloc, 1, 4096);
+    hear_of_another(rt, &mut node);
+    node
+}
+
+fn hear_of_another(rt: &impl Abort, node: &mut NodeState<SumHash>) {
+    let given = [news(rt, 2, 1, Status::Alive)];
+    let now = moment(rt, 0);
+    if node.take(&given, now).is_err() {
+        assert!(rt; node.take(&given, now).is_ok());
+    }
+}
+
+/// The node of two with two passes for two calls each, in their list.
+fn share_two(rt: &impl Abort, alloc: Global) -> (Shared, Vec<Caller>)
+    ensures { All (Fits result.0) result.1.items }
+{
+    if let Ok(made) = LockedNode::new(alloc, of_two(rt, alloc), 2, 2) {
+        return made;
+    }
+    let Ok(made) = LockedNode::new(alloc, of_two(rt, alloc), 2, 2) else {
+        panic!(rt; "a locked node")
+    };
+    made
+}
+
+/// The same with the passes apart, and the list that they came in, now empty.
+fn pair(rt: &impl Abort, alloc: Global) -> (Shared, Caller, Caller, Vec<Caller>)
+    ensures first { Fits result.0 result.1 }
+    ensures second { Fits result.0 result.2 }
+    ensures room { result.3.items ≡ [] }
+{
+    let (shared, mut passes) = share_two(rt, alloc);
+    let second = passes.pop().expect(rt, "a pass");
+    let first = passes.pop().expect(rt, "another");
+    passes.clear();
+    (shared, first, second, passes)
+}
+
+/// The probe of 10.0.0.2:1 of which nobody was asked.
+fn unasked(rt: &impl Abort) -> Option<Running> {
+    Some(Running {
+        number: 1,
+        target: member(rt, 2),
+        waiting: None,
+    })
+}
+
+/// Checks that a round ends once its pass is spent.
+fn spend<R: Wait + Abort>(rt: &R, alloc: Global, shared: &Shared, pass: &mut Caller) -> bool
+    requires { Fits shared.now pass.old }
+    ensures { Fits shared.now pass.new }
+{
+    let mut link = Fake::new(Mood::Willing);
+    let round = round_by(rt, alloc, shared, pass, &mut link);
+    assert!(rt; link.calls == 0);
+    if round == Err(ClusterError::Memory) {
+        return false;
+    }
+    assert!(rt; round == Err(ClusterError::PassSpent));
+    true
+}
+
+/// Checks that another pass finds the probe that was left, until it is spent too.
+fn look_at_rest<R: Wait + Abort>(rt: &R, shared: &Shared, pass: &mut Caller)
+    requires { Fits shared.now pass.old }
+    ensures { Fits shared.now pass.new }
+{
+    assert!(rt; shared.running(rt, pass) == Ok(unasked(rt)));
+    assert!(rt; is_busy(rt, shared, pass));
+    assert!(rt; shared.len(rt, pass) == Err(LockError::PassSpent));
+}
+
+/// Checks that the closed node has the probe still.
+fn close_with(rt: &impl Abort, shared: Shared, passes: Vec<Caller>)
+    requires { All (Fits shared) passes.items }
+{
+    let closed = shared
+        .close(passes)
+        .ok()
+        .expect(rt, "both passes are there");
+    assert!(rt; closed.running() == unasked(rt));
+}
+
+fn leaves_a_probe<R: Wait + Abort>(rt: &R, alloc: Global) -> bool {
+    let (shared, mut first, mut second, mut passes) = pair(rt, alloc);
+    if !spend(rt, alloc, &shared, &mut first) {
+        return false;
+    }
+    look_at_rest(rt, &shared, &mut second);
+    passes.push(first).ok().expect(rt, "room");
+    passes.push(second).ok().expect(rt, "room");
+    close_with(rt, shared, passes);
+    true
+}
+
+#[test]
+fn a_round_whose_pass_is_spent_leaves_its_probe(rt: HostRuntime) {
+    let alloc = rt.alloc();
+    assert!(&rt; leaves_a_probe(&rt, alloc) || leaves_a_probe(&rt, alloc));
+}
+
+/// A link to one other node, which answers what it makes of a message.
+#[derive(Drop)]
+struct Direct {
+    node: NodeState<SumHash>,
+    failures: u64,
+}
+
+impl Link for Direct {
+    ghost may_answer = { λ _ _ _. Unit {0} };
+
+    ghost failed = { λ d. d.failures };
+
+    fn failures(&self) -> u64 {
+        self.failures
+    }
+
+    fn call<R: Wait>(
+        &mut self,
+        _rt: &R,
+        _alloc: Global,
+        _to: Address,
+        message: &Message,
+    ) -> Result<Message, LinkError> {
+        if self.failures == u64::MAX {
+            return Err(LinkError::Spent);
+        }
+        let Some(now) = Moment::new(0) else {
+            return Err(LinkError::Memory);
+        };
+        match self.node.receive(message, now) {
+            Received::Answer(_, answer) => Ok(answer),
+            _ => Err(LinkError::Memory),
+        }
+    }
+}
+
+/// How many hosts are asked, their mood, and what the join is to come to.
+#[derive(Clone, Copy)]
+struct Joining {
+    hosts: usize,
+    mood: Mood,
+    wanted: Result<u32, ClusterError>,
+}
+
+fn join_hosts<R: Wait + Abort>(
+    rt: &R,
+    alloc: Global,
+    shared: &Shared,
+    pass: &mut Caller,
+    row: &Joining,
+) -> Result<u32, ClusterError>
+    requires { Fits shared.now pass.old }
+{
+    let all = [member(rt, 2), member(rt, 3)];
+    let hosts = if row.hosts == 2 { &all[..] } else { &all[..0] };
+    let mut link = Fake::new(row.mood);
+    let now = moment(rt, 0);
+    join(rt, alloc, shared, pass, &mut link, hosts, now)
+}
+
+/// What the join of a new node comes to.
+fn first_join<R: Wait + Abort>(rt: &R, alloc: Global, row: &Joining) -> Result<u32, ClusterError> {
+    with_node(rt, alloc, &among(0), |shared, pass| {
+        join_hosts(rt, alloc, shared, pass, row)
+    })
+}
+
+/// Checks what a join comes to; where it was refused memory, what that of another node does.
+fn check_joining<R: Wait + Abort>(rt: &R, alloc: Global, row: &Joining) {
+    let mut joined = first_join(rt, alloc, row);
+    if joined == Err(ClusterError::Memory) {
+        joined = first_join(rt, alloc, row);
+    }
+    assert!(rt; joined == row.wanted);
+}
+
+#[test]
+fn a_join_counts_the_hosts_that_answer(rt: HostRuntime) {
+    let rows = [
+        (2, Mood::Willing, Ok(2)),
+        (2, Mood::Failing, Err(ClusterError::NoneJoined)),
+        (2, Mood::Broken, Err(ClusterError::NoneJoined)),
+        (2, Mood::Starved, Err(ClusterError::Memory)),
+        (0, Mood::Willing, Err(ClusterError::NoneJoined)),
+    ];
+    for (hosts, mood, wanted) in rows {
+        let row = Joining {
+            hosts,
+            mood,
+            wanted,
+        };
+        check_joining(&rt, rt.alloc(), &row);
+    }
+}
+
+/// Checks that a node joins another and then reaches it.
+fn check_meeting<R: Wait + Abort>(
+    rt: &R,
+    alloc: Global,
+    shared: &Shared,
+    pass: &mut Caller,
+    link: &mut Direct,
+) -> bool
+    requires { Fits shared.now pass.old }
+{
+    let now = moment(rt, 0);
+    let target = member(rt, 2);
+    let joined = join(rt, alloc, shared, pass, link, &[target], now);
+    let held = status(rt, shared, pass, 2);
+    if joined == Err(ClusterError::Memory) || held.is_none() {
+        return false;
+    }
+    assert!(rt; joined == Ok(1) && held == Some(Status::Alive));
+    let round = gossip_round(rt, alloc, shared, pass, link, now);
+    if round == Err(ClusterError::Memory) {
+        return false;
+    }
+    assert!(rt; round == Ok(Round::Reached(target)));
+    true
+}
+
+fn meets<R: Wait + Abort>(rt: &R, alloc: Global) -> bool {
+    let mut link = Direct {
+        node: state(rt, alloc, 2, 4096),
+        failures: 0,
+    };
+    with_node(rt, alloc, &among(0), |shared, pass| {
+        check_meeting(rt, alloc, shared, pass, &mut link)
+    })
+}
+
+#[test]
+fn two_nodes_join_and_reach_each_other(rt: HostRuntime) {
+    let alloc = rt.alloc();
+    assert!(&rt; meets(&rt, alloc) || meets(&rt, alloc));
+}

@@ -1,4 +1,4 @@
--- Timers: when a suspect entry becomes faulty (SWIM, section 4.2), and a faulty one a tombstone (own).
+-- Timers: when a suspect entry becomes faulty (SWIM, section 4.2), and a faulty one a tombstone.
 use Rattle.std.specs.Prelude.{◌≡◌, ℕ, ◌==◌, ◌<◌, ◌≤◌, ◌↔◌, List, ◌∷◌, ◌++◌, not, filter, find, nat_lt, nat_le, map, length, take, drop, slice_index_or, AllPairs, Contains, All, Option, None, IfSome}
 use Rattle.std.specs.Option.{option_map}
 use Rattle.detector_core.specs.declared.timers.Timer.{Timer}

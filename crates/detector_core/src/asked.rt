@@ -3,7 +3,7 @@ ghost use Rattle.std.specs.List.{list_any};
 
 use change_core::Address;
 
-/// What a helper said of a target: it reached it, it did not, or the helper itself failed to answer (own).
+/// What a helper said of a target: it reached it, it did not, or the helper itself failed to answer.
 #[derive(Clone, Copy, Debug, PartialEq, Eq)]
 pub enum Said {
     Reached,

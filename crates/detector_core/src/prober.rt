@@ -99,7 +99,7 @@ impl Prober {
 
     /// Begins a probe of the next member in turn. Members that may not be pinged are passed over, and when the order is
     /// used up a new random one is made of those that may be pinged now (SWIM, section 4.3); one that comes meanwhile waits
-    /// for it (own). The answer is None, which changes nothing, exactly where nobody may be pinged and no refusal applies.
+    /// for it. The answer is None, which changes nothing, exactly where nobody may be pinged and no refusal applies.
     /// `Busy`: a probe runs. `Spent`: the last number is 2^53 - 1. `Memory`: a new order found no room. A refusal changes
     /// nothing.
     pub fn next_target(&mut self, pingable: &[Address]) -> Result<Option<Probe>, DetectorError>
@@ -241,9 +241,9 @@ impl Prober {
     }
 
     /// Notes what a helper said of the target, and answers what became of the probe: reached at once; when all have
-    /// answered without that, suspect (SWIM, section 4.2) if one said that it did not reach it, inconclusive if all failed
-    /// (both own). Every outcome but `Waiting` ends the probe. `StaleProbe`: it is not the running probe. `NotAsked`: this
-    /// helper was not asked, or has answered.
+    /// answered without that, suspect (SWIM, section 4.2) if one said that it did not reach it, inconclusive if all failed.
+    /// Every outcome but `Waiting` ends the probe. `StaleProbe`: it is not the running probe. `NotAsked`: this helper was not
+    /// asked, or has answered.
     pub fn helper_said(
         &mut self,
         number: u64,

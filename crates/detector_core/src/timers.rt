@@ -26,7 +26,7 @@ pub struct Due {
 }
 
 /// The running timers, at most one for each address. They make a suspect faulty unless it refutes in time (SWIM,
-/// section 4.2: suspicion) and a faulty entry a tombstone (own). Contracts see the list, ascending by address, and for
+/// section 4.2: suspicion) and a faulty entry a tombstone. Contracts see the list, ascending by address, and for
 /// how many more there is room.
 #[derive(Drop)]
 pub struct Timers {

@@ -1,5 +1,5 @@
 -- An attempt: a request that is sent anew on a fixed schedule, each time to whoever owns its keys by then. Both the number of sends
--- and the pauses are own.
+-- and the pauses are this project's.
 use Rattle.std.specs.Prelude.{◌≡◌, ◌≢◌, ℕ, ◌+◌, ◌-◌, ◌<◌, ◌≤◌, List, [], ◌∷◌, slice_index, Some, Result, Ok, Err}
 use Rattle.change_core.specs.declared.addresses.Address.{Address}
 use Rattle.node_core.specs.Viewing.{Viewed}

@@ -11,10 +11,10 @@ use node_core::View;
 use std::marker::Model;
 use wire_json::Keys;
 
-/// How often an attempt is sent at most (own).
+/// How often an attempt is sent at most.
 pub const MOST_SENDS: u32 = 4;
 
-/// How many milliseconds an attempt rests after its first, second and third failure (own).
+/// How many milliseconds an attempt rests after its first, second and third failure.
 const PAUSES: [u64; 3] = [3_000, 6_000, 12_000];
 
 /// What is to be done with an attempt now.

@@ -1,4 +1,4 @@
--- What happens to a `Gossip` between two puts for an address: issues, adjustments, and puts about others (own).
+-- What happens to a `Gossip` between two puts for an address: issues, adjustments, and puts about others.
 use Rattle.std.specs.Prelude.{ℕ, ◌+◌, ◌==◌, ◌≢◌, max, List, [], ◌∷◌, count_by, ⊤}
 use Rattle.change_core.specs.declared.changes.Sourced.{Sourced}
 use Rattle.gossip_core.specs.Pending.{issued}

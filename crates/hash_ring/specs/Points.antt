@@ -1,6 +1,6 @@
 -- The points of servers, and the owners of a key. No ring is in it. A hash is a function from bytes to numbers.
 -- A server's points on a circle, and a key's owner the first of them clockwise: ringpop-go, package hashring. That ties go to the lesser
--- address, and that the next owners are the servers by distance, is own.
+-- address, and that the next owners are the servers by distance, is this project's.
 use Rattle.std.specs.Prelude.{◌≡◌, ◌⊎◌, ◌≤◌, ℕ, zero, suc, ◌+◌, ◌*◌, ◌-◌, ◌%◌, ◌^◌, ◌<◌, List, ◌++◌, map, min, Option}
 use Rattle.std.specs.List.{Contains, flat_map, range_with_len, slice_get}
 use Rattle.std.specs.Ordering.{nat_cmp, ordering_then}
@@ -13,7 +13,7 @@ use Rattle.hash_ring.specs.declared.points.Point.{Point}
 use Rattle.hash_ring.specs.declared.servers.Server.{Server}
 use Rattle.hash_ring.specs.Servers.{shares, addresses_of}
 
--- the greatest number of points that a server has for each of its weight (own)
+-- the greatest number of points that a server has for each of its weight
 abbrev pub most_replicas : ℕ
 most_replicas = 1000
 

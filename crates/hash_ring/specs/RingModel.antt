@@ -1,4 +1,4 @@
--- What contracts see of a ring: the servers of ringpop-go, package hashring, with their points kept in order. Weights and room are own.
+-- What contracts see of a ring: the servers of ringpop-go, package hashring, with their points kept in order. Weights and room are this project's.
 use Rattle.std.specs.Prelude.{◌≡◌, ◌⊎◌, ℕ, ◌*◌, ◌≤◌, nat_lt, min, if◌then◌else◌, List, vec_len, vec_capacity}
 use Rattle.std.specs.Global.{Vec}
 use Rattle.hash_ring.specs.declared.points.Point.{Point}

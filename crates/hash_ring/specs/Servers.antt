@@ -1,4 +1,4 @@
--- Lists of servers, each with a weight. The servers are those of ringpop-go, package hashring; weights are own.
+-- Lists of servers, each with a weight. The servers are those of ringpop-go, package hashring; weights are this project's.
 use Rattle.std.specs.Prelude.{◌≡◌, ℕ, ◌<◌, Bool, false, not, ◌==◌, List, Option, Some, None, map}
 use Rattle.std.specs.List.{filter, find}
 use Rattle.std.specs.Option.{option_map}

@@ -1,4 +1,4 @@
--- The servers that members of a node are. Its ring has the members that are alive or suspect, as ringpop-go's has; weights are own.
+-- The servers that members of a node are. Its ring has the members that are alive or suspect, as ringpop-go's has; weights are this project's.
 use Rattle.std.specs.Prelude.{List, map}
 use Rattle.std.specs.List.{filter}
 use Rattle.change_core.specs.declared.changes.Change.{Change}

@@ -14,8 +14,7 @@ pub trait PointHash: Copy {
         ensures { result ≡ hash_of self.now bytes.now };
 }
 
-/// The first eight bytes of SHA-256 (FIPS 180-4), the high byte first. Own: ringpop-go hashes by FarmHash, so
-/// its rings are others.
+/// The first eight bytes of SHA-256 (FIPS 180-4), the high byte first. ringpop-go hashes by FarmHash, so its rings are others.
 #[derive(Clone, Copy, Debug, PartialEq, Eq)]
 pub struct Sha256Hash;
 
@@ -28,7 +27,7 @@ impl PointHash for Sha256Hash {
     }
 }
 
-/// The sum of the bytes modulo 2^64, for tests and scripts (own).
+/// The sum of the bytes modulo 2^64, for tests and scripts.
 #[derive(Clone, Copy, Debug, PartialEq, Eq)]
 pub struct SumHash;
 

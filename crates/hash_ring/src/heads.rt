@@ -1,8 +1,8 @@
-// What is kept of a point.
+//! What is kept of a point.
 ghost use Rattle.std.specs.Prelude.{◌≡◌, ◌+◌, ◌*◌, ◌/◌, ◌%◌, ◌^◌};
 ghost use Rattle.hash_ring.specs.Places.{head_of};
 
-// How many numbers a half of a hash can be.
+/// How many numbers a half of a hash can be.
 const HALVES: u64 = 4_294_967_296;
 
 /// What most searches read of a point: the upper half of its hash, and its server's slot.

@@ -1,4 +1,4 @@
-// Points that come among those that are kept, and points that go.
+//! Points that come among those that are kept, and points that go.
 ghost use Rattle.std.specs.Prelude.{◌≡◌, ℕ, List, ◌+◌, ◌<◌, ◌≤◌, ◌++◌, Option, take, length, not, ◌==◌, vec_len, vec_capacity};
 ghost use Rattle.std.specs.List.{filter, position, position_or_len};
 ghost use Rattle.change_core.specs.declared.addresses.Address.{Address};
@@ -86,7 +86,7 @@ pub(crate) fn take_points(
     starts.finish(passed);
 }
 
-// How many heads of other slots come first.
+/// How many heads of other slots come first.
 fn run_of_others(heads: &[Head], slot: u32) -> usize
     ensures bound { result ≤ length heads.now }
     ensures run { result ≡ position_or_len (λ (h : Head). h.slot == slot) heads.now }
@@ -97,7 +97,7 @@ fn run_of_others(heads: &[Head], slot: u32) -> usize
     }
 }
 
-// The place of the first head of a slot.
+/// The place of the first head of a slot.
 fn first_of(heads: &[Head], slot: u32) -> Option<usize>
     ensures { result ≡ position (λ (h : Head). h.slot == slot) heads.now }
 {

@@ -1,4 +1,4 @@
-// The points of a ring, as they are kept.
+//! The points of a ring, as they are kept.
 ghost use Rattle.std.specs.Prelude.{◌≡◌, ℕ, ◌+◌, ◌<◌, ◌≤◌, ◌++◌, [], length, take, drop, not, slice_get, IsOk, IsOkUnless, IfOk, OnErr, vec_capacity};
 ghost use Rattle.std.specs.List.{filter};
 ghost use Rattle.change_core.specs.Ascending.{ascending, In, IsAscending};

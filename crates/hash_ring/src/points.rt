@@ -26,7 +26,7 @@ pub(crate) fn point_count(replicas: u32, weight: Weight) -> u32
     replicas * u32::from(weight.number())
 }
 
-// The hash of a text followed by a number. The text stays.
+/// The hash of a text followed by a number. The text stays.
 fn point_hash<H: PointHash>(hash: H, text: &mut ShortText, index: u32) -> u64
     requires few { index < 8000 }
     requires short { length text.old ≤ 21 }
@@ -81,7 +81,7 @@ pub(crate) fn fill_points<H: PointHash>(
     points.dedup();
 }
 
-// Adds a server's first points. The text of its address is written once.
+/// Adds a server's first points. The text of its address is written once.
 fn push_points<H: PointHash>(points: &mut Vec<Point>, hash: H, server: Address, count: u32)
     requires few { count ≤ 8000 }
     requires room { vec_len points.old + count ≤ vec_capacity points.old }

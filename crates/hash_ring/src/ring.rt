@@ -1,4 +1,4 @@
-// The ring, kept by edits.
+//! The ring, kept by edits.
 ghost use Rattle.std.specs.Prelude.{◌≡◌, ℕ, List, ◌+◌, ◌-◌, ◌*◌, ◌^◌, ◌<◌, ◌≤◌, ◌↔◌, [], ◌∷◌, ◌++◌, length, take, drop, not, false, is_some, IsOk, IfOk, IfSome, IfNone, OnOk, IsOkUnless, vec_len, vec_capacity};
 ghost use Rattle.hash_ring.specs.Points.{IsReplicas, IsNearest, owner, owners};
 ghost use Rattle.hash_ring.specs.Servers.{has_weight, weight_of, with_server, without};
@@ -23,7 +23,7 @@ pub struct Ring<H: PointHash> {
     replicas: u32,
     servers: Vec<Server>,
     places: Places,
-    // The points of the server that is being added.
+    /// The points of the server that is being added.
     fresh: Vec<Point>,
 }
 

@@ -1,4 +1,4 @@
-// Searching the points for a hash, and walking on from there.
+//! Searching the points for a hash, and walking on from there.
 ghost use Rattle.std.specs.Prelude.{◌≡◌, ◌⊎◌, ℕ, List, ◌+◌, ◌-◌, ◌/◌, ◌^◌, ◌<◌, ◌≤◌, true, false, [], ◌∷◌, ◌++◌, Option, length, take, drop, not, ltb, get_or, IfSome, vec_capacity};
 ghost use Rattle.std.specs.List.{position};
 ghost use Rattle.change_core.specs.declared.addresses.Address.{Address};
@@ -14,7 +14,7 @@ use crate::slots::{address_of, number_in};
 use crate::starts::Starts;
 use change_core::Address;
 
-// How many points a search looks at one by one before it halves all of them.
+/// How many points a search looks at one by one before it halves all of them.
 const REACH: usize = 48;
 
 /// The place of the first point at or after a hash.
@@ -34,13 +34,14 @@ pub(crate) fn first_at(
     let high = high_half(hash);
     match near(heads, starts.before(high), high) {
         Some(place) => place,
+        // No server has the number 0, so only points before the hash are counted.
         None => count_below(heads, lows, slots, hash, 0),
     }
 }
 
-// The place of the first point at or after a hash, if it is one of the next after a place, by the upper halves alone: so
-// none where the halves are equal. A walk whose first point is not below the hash knows nothing of the points before it,
-// so it has found none, unless it began at 0.
+/// The place of the first point at or after a hash, if it is one of the next after a place, by the upper halves alone: so
+/// none where the halves are equal. A walk whose first point is not below the hash knows nothing of the points before it,
+/// so it has found none, unless it began at 0.
 fn near(heads: &[Head], place: usize, high: u32) -> Option<usize>
     ensures bound { IfSome result (λ found. found < length heads.now) }
     ensures start { IfSome result (λ found. (found ≡ 0) ⊎ ((d : Head) → (get_or heads.now (found - 1) d).high < high)) }
@@ -58,7 +59,7 @@ fn near(heads: &[Head], place: usize, high: u32) -> Option<usize>
     Some(place + steps)
 }
 
-// How many heads stand before the first whose half is not below another, if there is one.
+/// How many heads stand before the first whose half is not below another, if there is one.
 fn steps_up(heads: &[Head], high: u32) -> Option<usize>
     ensures { result ≡ position (λ (h : Head). not (ltb h.high high)) heads.now }
 {
@@ -92,7 +93,7 @@ pub(crate) fn count_below(
     low
 }
 
-// Whether a point comes before a hash, or at it before the address of a number.
+/// Whether a point comes before a hash, or at it before the address of a number.
 fn is_before(head: Head, low: u32, slots: &[Option<Address>], hash: u64, server: u64) -> bool
     ensures { result ≡ is_below hash server (kept_point slots.now head low) }
 {
@@ -122,7 +123,7 @@ pub(crate) fn name_servers(
     }
 }
 
-// Adds a server that is not named yet. With room this takes no memory.
+/// Adds a server that is not named yet. With room this takes no memory.
 fn name_server(server: Address, named: &mut Vec<Address>)
     requires { length named.old.items < vec_capacity named.old }
     ensures there { has named.old.items server ≡ true → named.new.items ≡ named.old.items }

@@ -1,4 +1,4 @@
-// Slots: the addresses of the servers, each under a number that stays while the server does.
+//! Slots: the addresses of the servers, each under a number that stays while the server does.
 ghost use Rattle.std.specs.Prelude.{◌≡◌, ◌≢◌, ℕ, ◌^◌, ◌<◌, ◌≤◌, true, Some, None, is_none, IsOk, IsOkUnless, vec_len};
 ghost use Rattle.std.specs.List.{position};
 ghost use Rattle.change_core.specs.declared.addresses.Address.{Address};
@@ -7,10 +7,10 @@ ghost use Rattle.hash_ring.specs.Places.{held_at, address_at, is_held, has_slot,
 use crate::errors::RingError;
 use change_core::Address;
 
-// How many slots 32 bits can count.
+/// How many slots 32 bits can count.
 const MOST_SLOTS: usize = 4_294_967_296;
 
-// The address in a slot, if there is one.
+/// The address in a slot, if there is one.
 fn address_in(slots: &[Option<Address>], slot: u32) -> Option<Address>
     ensures { result ≡ held_at slots.now slot }
 {
@@ -47,7 +47,7 @@ pub(crate) fn slot_of(slots: &[Option<Address>], address: Address) -> Option<usi
     slots.iter().position(|slot| holds(slot, number))
 }
 
-// Whether a slot has the address of a number.
+/// Whether a slot has the address of a number.
 fn holds(slot: &Option<Address>, number: u64) -> bool
     ensures { result ≡ is_held number slot.now }
 {
@@ -77,7 +77,7 @@ pub(crate) fn reserve_slot(slots: &mut Vec<Option<Address>>) -> Result<(), RingE
     Ok(())
 }
 
-// Whether another server can have a slot, with no memory taken.
+/// Whether another server can have a slot, with no memory taken.
 fn has_slot(slots: &Vec<Option<Address>>) -> bool
     ensures { result ≡ has_slot slots.now }
 {
@@ -104,7 +104,7 @@ pub(crate) fn give_slot(slots: &mut Vec<Option<Address>>, address: Address) -> u
     place as u32
 }
 
-// The first vacant slot, or a new one.
+/// The first vacant slot, or a new one.
 fn vacant_slot(slots: &mut Vec<Option<Address>>) -> usize
     requires room { has_slot slots.old ≡ true }
     requires few { vec_len slots.old ≤ 2 ^ 32 }
@@ -122,7 +122,7 @@ fn vacant_slot(slots: &mut Vec<Option<Address>>) -> usize
     }
 }
 
-// The first vacant slot, if there is one.
+/// The first vacant slot, if there is one.
 fn first_vacant(slots: &[Option<Address>]) -> Option<usize>
     ensures { result ≡ position is_none slots.now }
 {

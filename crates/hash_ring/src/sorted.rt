@@ -1,4 +1,4 @@
-// Lists that ascend, each member once.
+//! Lists that ascend, each member once.
 ghost use Rattle.std.specs.Prelude.{◌≡◌, ℕ, ◌+◌, ◌<◌, ◌≤◌, ◌↔◌, IfOk, OnOk, OnErr, IsOk, vec_len, vec_capacity};
 ghost use Rattle.std.specs.Bool.{MatchBool};
 ghost use Rattle.change_core.specs.Ascending.{put, In, IsAscending, IsExact};

@@ -1,9 +1,9 @@
-// Where searches of the points begin. No clause speaks of it: a wrong start costs time alone.
+//! Where searches of the points begin. No clause speaks of it: a wrong start costs time alone.
 use crate::heads::{Head, high_half};
 use crate::points::Point;
 use std::alloc::{AllocError, Global};
 
-// For how many places of the points' list there is one start.
+/// For how many places of the points' list there is one start.
 const SPREAD: usize = 16;
 
 /// How many points stand before each of as many equal parts of the hashes as the list is long.
@@ -63,6 +63,7 @@ impl Starts {
 
     /// Counts the next of points that ascend and are taken out.
     pub(crate) fn take(&mut self, passed: Passed, high: u32) -> Passed {
+        // Counts are added modulo 2^32, so this one takes 1 away.
         self.pass(passed, high, u32::MAX)
     }
 
@@ -72,7 +73,7 @@ impl Starts {
         raise(&mut self.counts, passed, parts);
     }
 
-    // One more point, up to whose part nothing new has to be counted.
+    /// One more point, up to whose part nothing new has to be counted.
     fn pass(&mut self, passed: Passed, high: u32, step: u32) -> Passed {
         let next = share(high, self.counts.len()).saturating_add(1);
         raise(&mut self.counts, passed, next);
@@ -90,7 +91,7 @@ impl Starts {
     }
 }
 
-// Adds the change to the counts up to a part.
+/// Adds the change to the counts up to a part.
 fn raise(counts: &mut [u32], passed: Passed, next: usize) {
     if let Some(between) = counts.get_mut(passed.part..next) {
         for count in between {
@@ -99,7 +100,7 @@ fn raise(counts: &mut [u32], passed: Passed, next: usize) {
     }
 }
 
-// A number's share of 2^32, out of a count below 2^32.
+/// A number's share of 2^32, out of a count below 2^32.
 fn share(number: u32, count: usize) -> usize {
     (u64::from(number).wrapping_mul(count as u64) >> 32) as usize
 }

@@ -1,4 +1,4 @@
-// The texts of points, in a fixed buffer.
+//! The texts of points, in a fixed buffer.
 ghost use Rattle.std.specs.Prelude.{◌≡◌, ℕ, List, ◌+◌, ◌-◌, ◌*◌, ◌/◌, ◌%◌, ◌^◌, ◌<◌, ◌≤◌, [], ◌∷◌, ◌++◌, length, take};
 ghost use Rattle.std.specs.Fmt.{decimal};
 ghost use Rattle.change_core.specs.Address.{address_text};
@@ -6,7 +6,7 @@ ghost use Rattle.change_core.specs.Address.{address_text};
 use change_core::Address;
 use std::marker::Model;
 
-// At most 21 bytes of an address and four digits.
+/// At most 21 bytes of an address and four digits.
 const TEXT_BYTES: usize = 25;
 
 /// A text of at most 25 bytes, in a fixed buffer.
@@ -75,7 +75,7 @@ impl ShortText {
         self.push(48 + (number % 10) as u8);
     }
 
-    // Adds a number below 256 in decimal, and the byte that ends it.
+    /// Adds a number below 256 in decimal, and the byte that ends it.
     fn push_part(&mut self, number: u32, end: u8)
         requires small { number < 256 }
         requires room { length self.old + 4 ≤ 25 }
@@ -94,7 +94,7 @@ impl ShortText {
         self.len = len;
     }
 
-    // Adds an address's text: four numbers joined by dots, a colon and the port.
+    /// Adds an address's text: four numbers joined by dots, a colon and the port.
     #[tactic(auto, using(crate::proofs::Decimal::text_parts))]
     fn push_address(&mut self, address: Address)
         requires { length self.old + 21 ≤ 25 }

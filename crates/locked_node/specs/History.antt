@@ -1,4 +1,4 @@
--- What threads did to a node: its calls, in the order of their turns. Own.
+-- What threads did to a node: its calls, in the order of their turns.
 use Rattle.std.specs.Prelude.{◌≡◌, ℕ, Option, Some, None, List, [], ◌∷◌}
 use Rattle.std.specs.List.{filter_map}
 use Rattle.change_core.specs.declared.changes.Change.{Change}

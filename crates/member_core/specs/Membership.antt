@@ -1,6 +1,6 @@
 -- What contracts see of a node's membership, how it judges a change, and what a commit makes of it. That a node refutes a wrong change
 -- about itself by a greater incarnation is SWIM (DSN 2002, section 4.2), and that it may hold itself as leave is ringpop-go, package swim.
--- The verdicts, weights and limits are own.
+-- The verdicts, weights and limits are this project's.
 use Rattle.std.specs.Prelude.{◌≡◌, ℕ, ◌<◌, ◌≤◌, cond, ◌==◌, nat_lt, ◌&&◌, List, [], ◌∷◌, ◌++◌, Some, None, length, is_none}
 use Rattle.change_core.specs.declared.changes.Change.{Change}
 use Rattle.change_core.specs.declared.changes.Sourced.{Sourced}

@@ -1,4 +1,4 @@
--- What contracts see of a member table (own).
+-- What contracts see of a member table.
 use Rattle.std.specs.Prelude.{ℕ, ◌≤◌, List, length}
 use Rattle.change_core.specs.declared.changes.Change.{Change}
 use Rattle.change_core.specs.Numbers.{most_members}

@@ -18,7 +18,7 @@ use std::marker::Model;
 ///
 /// Contracts see its own entry, the member list, the greatest number of members, and how many more find room
 /// without a growth. The node answers a wrong change about itself with a greater incarnation, as in SWIM
-/// (DSN 2002, section 4.2); precedence and the other rules are own.
+/// (DSN 2002, section 4.2); precedence and the other rules are this project's.
 #[derive(Drop)]
 pub struct Members {
     own: Change,
@@ -174,7 +174,7 @@ impl Members {
     }
 
     /// The members as one line of text: address, status word, incarnation, and `*` and the weight where it is
-    /// over 1, without spaces, joined by `;` (own).
+    /// over 1, without spaces, joined by `;`.
     ///
     /// Errors: `Memory`.
     pub fn digest_text(&self) -> Result<String, MemberError>

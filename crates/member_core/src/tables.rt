@@ -14,7 +14,7 @@ use std::marker::Model;
 /// The greatest change of each address among all that were taken, ascending by address. No address is its own.
 ///
 /// Contracts see the member list and the greatest number of members. Entries are kept sorted and looked up by
-/// halving (own).
+/// halving.
 #[derive(Drop)]
 pub struct MemberTable {
     entries: Entries,
@@ -97,7 +97,7 @@ impl MemberTable {
     }
 
     /// The members as one line of text: address, status word, incarnation, and `*` and the weight where it is
-    /// over 1, without spaces, joined by `;` (own).
+    /// over 1, without spaces, joined by `;`.
     ///
     /// Errors: `Memory`.
     pub fn digest_text(&self) -> Result<String, MemberError>

@@ -108,6 +108,7 @@ impl<H: PointHash> NodeState<H> {
         ensures err { OnErr result (self.new ≡ self.old) }
         ensures refusal { IsOkUnless result NodeError.Memory }
     {
+        // The proof knows the type's invariant where a field is read.
         let _ = &self.moment;
         let news = asserted(change);
         self.alter(Edit::Own(*change), &news)

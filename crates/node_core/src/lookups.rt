@@ -42,7 +42,7 @@ impl<H: PointHash> NodeState<H> {
         Ok(ChangeList::from_vec(self.members.list()?))
     }
 
-    /// The members as one line of text, which no other member list has (own).
+    /// The members as one line of text, which no other member list has.
     ///
     /// Errors: `Memory`, for the text.
     pub fn digest_text(&self) -> Result<Text, NodeError>

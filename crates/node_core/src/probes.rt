@@ -41,7 +41,7 @@ impl<H: PointHash> NodeState<H> {
     }
 
     /// Gives a probe up at a moment. Other members are to be asked about its target, as many as the configuration says or
-    /// all there are; where there are none the target is suspect at once (own).
+    /// all there are; where there are none the target is suspect at once.
     ///
     /// Errors: `StaleProbe`, it is not the running one, or helpers were asked already; `Memory`. The node is then as before.
     pub fn lost(&mut self, number: u64, moment: Moment) -> Result<NodeLost, NodeError>

@@ -28,11 +28,13 @@ pub fn run<H: PointHash>(
         return Err(RunRefused { node });
     };
     let mut node = node;
+    // The proof knows the type's invariant where a field is read.
     let _ = &node.moment;
     for event in events {
         let reply = node.apply(event);
         replies.push_reserved(reply);
     }
+    // The proof knows the type's invariant where a field is read.
     let _ = &node.moment;
     Ok(Run {
         node,

@@ -74,6 +74,7 @@ impl<H: PointHash> NodeState<H> {
         ensures all { IfOk result (λ taken. TakesAll self.old.node changes.now taken self.new.node) }
         ensures first { IfErr result (λ stopped. TakesFirst self.old.node changes.now stopped self.new.node) }
     {
+        // The proof knows the type's invariant where a field is read.
         let _ = &self.moment;
         let mut applied = 0;
         let mut refuted = 0;

@@ -18,7 +18,7 @@ fn are_own<S: Kept>(name: u64, passes: &[Pass<S>]) -> bool
     passes.iter().all(|pass| pass.name == name)
 }
 
-// The first pass's seat, which then stands for all.
+/// The first pass's seat, which then stands for all.
 fn gather<S: Kept>(board: &Board<S>, first: Pass<S>, rest: Vec<Pass<S>>) -> Place<S>
     requires board { board.now.shared.table_id.words ≡ 2 }
     requires first { IsReady board.now.shared.table_id board.now.shared.key.opening.value first }
@@ -44,7 +44,7 @@ fn gather<S: Kept>(board: &Board<S>, first: Pass<S>, rest: Vec<Pass<S>>) -> Plac
     root
 }
 
-// Takes the state out, once the root stands for all passes.
+/// Takes the state out, once the root stands for all passes.
 fn take_out<S: Kept>(board: Board<S>, root: Place<S>) -> S
     requires board { board.shared.table_id.slots ≡ 1 }
     requires root { (root.table_id ≡ board.shared.table_id) × (root.me.0 ≡ outside board.shared.key.opening.value root.me.0.parts root.me.0.used) × (board.shared.key.passes ≤ length root.me.0.parts) }

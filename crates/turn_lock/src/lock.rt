@@ -13,16 +13,16 @@ use std::sync::Wait;
 use std::time::Duration;
 use std::{fmt, hint, thread};
 
-// A waiting thread looks this often with no more than a hint to the processor between looks.
+/// A waiting thread looks this often with no more than a hint to the processor between looks.
 const SPINS: u32 = 64;
 
-// So often in all it looks before it naps, and lets other threads run between looks.
+/// So often in all it looks before it naps, and lets other threads run between looks.
 const YIELDS: u32 = 4_096;
 
-// The same for the thread whose turn is the next one, since a turn that waits for a nap to end keeps all waiting.
+/// The same for the thread whose turn is the next one, since a turn that waits for a nap to end keeps all waiting.
 const NEXT_YIELDS: u32 = 65_536;
 
-// How long it naps at most, in microseconds. At worst it sees its turn so much later.
+/// How long it naps at most, in microseconds. At worst it sees its turn so much later.
 const NAP: u64 = 100;
 
 /// Hands the state that it guards to one pass at a time, in the order in which the passes drew their tickets.
@@ -52,7 +52,7 @@ impl<S: Kept> TurnLock<S> {
         }
     }
 
-    // Draws a ticket.
+    /// Draws a ticket.
     #[tactic(auto, unfolding(crate::specs::Passes::IsOutside))]
     fn draw(&self, pass: &mut Pass<S>) -> u64
         requires outside { IsOutside self.now pass.old }
@@ -66,7 +66,7 @@ impl<S: Kept> TurnLock<S> {
             .fetch_add::<Draw>(&mut pass.seat, TICKET, 1)
     }
 
-    // Reads which ticket is served, and with it the history so far.
+    /// Reads which ticket is served, and with it the history so far.
     fn look(&self, pass: &mut Pass<S>, ticket: u64) -> u64
         requires { IsWaiting self.now ticket pass.old }
         ensures pass { IsSamePass pass.old pass.new × (pass.new.left ≡ pass.old.left) }
@@ -77,7 +77,7 @@ impl<S: Kept> TurnLock<S> {
         self.board.shared.load::<Look>(&mut pass.seat, SERVING)
     }
 
-    // What a thread that waits with this ticket does after so many looks, the last of which found that one served.
+    /// What a thread that waits with this ticket does after so many looks, the last of which found that one served.
     fn pause<R: Wait>(&self, rt: &R, looks: u32, serving: u64, ticket: u64) {
         let is_next = serving.checked_add(1) == Some(ticket);
         let yields = if is_next { NEXT_YIELDS } else { YIELDS };
@@ -94,7 +94,7 @@ impl<S: Kept> TurnLock<S> {
         }
     }
 
-    // Waits until the ticket is served.
+    /// Waits until the ticket is served.
     fn wait<R: Wait>(&self, rt: &R, pass: &mut Pass<S>, ticket: u64)
         requires { IsWaiting self.now ticket pass.old }
         ensures pass { IsServed S.stands_for self.now pass.new × IsSamePass pass.old pass.new × (pass.new.left ≡ pass.old.left) }
@@ -112,7 +112,7 @@ impl<S: Kept> TurnLock<S> {
         unreachable!()
     }
 
-    // Takes the state out of the slot.
+    /// Takes the state out of the slot.
     #[tactic(auto, unfolding(crate::specs::Passes::IsInside))]
     fn take(&self, pass: &mut Pass<S>) -> S
         requires { IsServed S.stands_for self.now pass.old }
@@ -170,7 +170,7 @@ impl<S: Kept> TurnLock<S> {
         self.give::<Brand>(pass);
     }
 
-    // The turn is the next ticket's.
+    /// The turn is the next ticket's.
     #[tactic(auto, unfolding(crate::specs::Passes::IsOutside))]
     fn give<J: Told<S::Entry>>(&self, pass: &mut Pass<S>)
         requires inside { IsPassOf self.now pass.old }

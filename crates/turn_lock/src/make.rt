@@ -17,7 +17,7 @@ use std::snapshot::Snapshot;
 /// The most passes that a lock may have.
 pub const MOST_PASSES: u32 = 1024;
 
-// The table with the state in its slot, and its first seat, which stands for all passes.
+/// The table with the state in its slot, and its first seat, which stands for all passes.
 fn open<S: Kept + Drop>(
     alloc: Global,
     terms: &Terms<S>,
@@ -36,7 +36,7 @@ fn open<S: Kept + Drop>(
     }
 }
 
-// A pass for each number, from 0 on. The root is the last one's.
+/// A pass for each number, from 0 on. The root is the last one's.
 fn deal<S: Kept>(
     alloc: Global,
     name: u64,

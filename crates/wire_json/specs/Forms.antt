@@ -64,7 +64,7 @@ pub record HasStatus (v : Data) (s : Status) : Type 0 where
   pub has_word : HasWord v word
   pub means : Means v word s
 
--- a weight is from 1 to 8, and 1 where the member `weight` is absent (own)
+-- a weight is from 1 to 8, and 1 where the member `weight` is absent
 abbrev pub Weighs : Option Data → ℕ → Type 0
 Weighs None w = w ≡ 1
 Weighs (Some d) w = (d ≡ number (unsigned w)) × IsWeight w
@@ -101,7 +101,7 @@ with_members (x ∷ xs) ms = with_members xs (put (name x.0) x.1 ms)
 abbrev pub written : List (Field × Data) → Data
 written xs = object (with_members xs no_members)
 
--- what is written for each change; a tombstone is written by its own word (own)
+-- what is written for each change; a tombstone is written by its own word
 abbrev pub plain_members : Sourced → List (Field × Data)
 plain_members c =
     (field.Address, string (address_text c.change.address)) ∷ (field.IncarnationNumber, number (unsigned c.change.incarnation))

@@ -1,7 +1,7 @@
 -- How many keys a request has, and how long the text of a change is.
 use Rattle.std.specs.Prelude.{ℕ}
 
--- how many keys a request has at most (own)
+-- how many keys a request has at most
 abbrev pub max_keys : ℕ
 max_keys = 256
 

@@ -163,7 +163,8 @@ fn make_room<H: PointHash>(
     Ok(())
 }
 
-/// Makes one alteration in every part, or none in any. Only room may have been made then.
+/// Makes one alteration in every part, or none in any. Only room may have been made then. The parts come one by one, since between
+/// two edits they are those of no node, and a method of the node would have to keep what holds of one.
 pub(crate) fn alter_parts<H: PointHash>(
     members: &mut Members,
     ring: &mut Ring<H>,

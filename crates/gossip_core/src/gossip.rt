@@ -1,4 +1,4 @@
-ghost use Rattle.std.specs.Prelude.{◌≡◌, ◌≤◌, ◌↔◌, [], length, map, IfOk, IsOk, OnOk, OnErr, IsOkUnless};
+ghost use Rattle.std.specs.Prelude.{◌≡◌, ◌<◌, ◌≤◌, ◌↔◌, [], length, map, IfOk, IsOk, OnOk, OnErr, IsOkUnless};
 ghost use Rattle.gossip_core.specs.Dissemination.{Dissemination, most_factor, with_news, adjusted, after_issue, IsWhole};
 ghost use Rattle.gossip_core.specs.Pending.{issued, limit_for, NoneAbout};
 
@@ -90,6 +90,7 @@ impl Gossip {
         ensures issued { IfOk result (λ v. v.items ≡ issued target at_most self.old.pending) }
         ensures ok { OnOk result (self.new ≡ after_issue self.old target at_most) }
         ensures err { OnErr result (self.new ≡ self.old) }
+        ensures growth { OnErr result ((0 < at_most) × (0 < length self.old.pending)) }
         ensures refusal { IsOkUnless result GossipError.Memory }
     {
         let issued = pending::issue_first(self.alloc, &mut self.pending, target, at_most)?;
@@ -117,6 +118,7 @@ impl Gossip {
     /// `Memory`, where the list that is answered found no room.
     pub fn pending(&self) -> Result<Vec<Sourced>, GossipError>
         ensures pending { IfOk result (λ v. v.items ≡ map (λ p. p.sourced) self.now.pending) }
+        ensures growth { OnErr result (0 < length self.now.pending) }
         ensures refusal { IsOkUnless result GossipError.Memory }
     {
         Ok(pending::all_of(self.alloc, &self.pending)?)

@@ -1,4 +1,4 @@
-ghost use Rattle.std.specs.Prelude.{◌≡◌, ◌+◌, ◌-◌, ◌*◌, ◌<◌, ◌≤◌, ◌^◌, All, nat_lt, map, IfOk, OnOk, OnErr};
+ghost use Rattle.std.specs.Prelude.{◌≡◌, length, ◌+◌, ◌-◌, ◌*◌, ◌<◌, ◌≤◌, ◌^◌, All, nat_lt, map, IfOk, OnOk, OnErr};
 ghost use Rattle.std.specs.List.{list_all};
 ghost use Rattle.indexmap.specs.IndexMap.{values};
 ghost use Rattle.gossip_core.specs.Dissemination.{most_factor, most_limit};
@@ -29,7 +29,8 @@ pub(crate) type PendingMap = IndexMap<Address, Pending>;
 
 /// All changes, in their order.
 pub(crate) fn all_of(alloc: Global, pending: &PendingMap) -> Result<Vec<Sourced>, AllocError>
-    ensures { IfOk result (λ v. v.items ≡ map (λ p. p.sourced) (values pending.now)) }
+    ensures items { IfOk result (λ v. v.items ≡ map (λ p. p.sourced) (values pending.now)) }
+    ensures growth { OnErr result (0 < length (values pending.now)) }
 {
     let mut changes = Vec::with_capacity(alloc, pending.len())?;
     'changes: for index in 0..pending.len() {
@@ -63,6 +64,8 @@ pub(crate) fn issue_first(
     ensures issued { IfOk result (λ v. v.items ≡ issued target at_most (values pending.old)) }
     ensures counted { OnOk result (values pending.new ≡ counted target at_most (values pending.old)) }
     ensures err { OnErr result (values pending.new ≡ values pending.old) }
+    ensures growth { OnErr result (0 < at_most) }
+    ensures some { OnErr result (0 < length (values pending.old)) }
     ensures by_address { IsByAddress pending.new }
 {
     let mut changes = Vec::with_capacity(alloc, at_most.min(pending.len()))?;

@@ -1,5 +1,5 @@
 //! The ring, kept by edits.
-ghost use Rattle.std.specs.Prelude.{◌≡◌, ℕ, List, ◌+◌, ◌-◌, ◌*◌, ◌^◌, ◌<◌, ◌≤◌, ◌↔◌, [], ◌∷◌, ◌++◌, length, take, drop, not, false, is_some, IsOk, IfOk, IfSome, IfNone, OnOk, IsOkUnless, vec_len, vec_capacity};
+ghost use Rattle.std.specs.Prelude.{◌≡◌, ℕ, List, ◌+◌, ◌-◌, ◌*◌, ◌^◌, ◌<◌, ◌≤◌, ◌↔◌, [], ◌∷◌, ◌++◌, length, take, drop, not, false, is_some, IsOk, IfOk, IfSome, IfNone, OnOk, OnErr, IsOkUnless, vec_len, vec_capacity};
 ghost use Rattle.hash_ring.specs.Points.{IsReplicas, IsNearest, owner, owners};
 ghost use Rattle.hash_ring.specs.Servers.{has_weight, weight_of, with_server, without};
 ghost use Rattle.hash_ring.specs.declared.servers.Server.{Server};
@@ -149,6 +149,7 @@ impl<H: PointHash> Ring<H> {
     /// list was refused.
     pub fn owners(&self, key: &[u8], count: usize) -> Result<Vec<Address>, RingError>
         ensures named { IfOk result (λ named. named.items ≡ take count (owners (H.hash_of self.now.hash) self.now.replicas self.now.servers key.now)) }
+        ensures growth { OnErr result ((0 < count) × (0 < length self.now.servers)) }
         ensures refusal { IsOkUnless result RingError.Memory }
     {
         let start = self.places.first_at(self.hash.hash(key));

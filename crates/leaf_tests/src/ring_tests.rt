@@ -194,6 +194,14 @@ fn a_copy_stays_as_it_was(rt: HostRuntime) -> Result<(), Fail> {
 }
 
 #[test]
+fn a_copy_of_nothing_takes_no_memory(rt: HostRuntime) -> Result<(), Fail> {
+    let ring = Ring::new(rt.alloc(), SumHash, 2)?;
+    let copy = ring.copy()?;
+    assert!(rt; copy.len() == 0 && copy.owner(b"key").is_none());
+    Ok(())
+}
+
+#[test]
 fn a_tie_goes_to_the_lesser_address(rt: HostRuntime) -> Result<(), Fail> {
     let ring = filled(&rt, rt.alloc(), Sha256Hash, 100, &["10.0.0.1:11", A])?;
     check_rows(&rt, &ring, &[("10.0.0.1:110", 2, &[A, "10.0.0.1:11"])])

@@ -1,4 +1,4 @@
-ghost use Rattle.std.specs.Prelude.{List, ◌≡◌, ◌≤◌, ◌↔◌, ◌∷◌, ◌++◌, [], length, IfOk, IsTrue, IsOk, IsSome, OnErr, IsOkUnless, IsErrOf, None, option_map, string_bytes};
+ghost use Rattle.std.specs.Prelude.{List, ◌≡◌, ◌<◌, ◌≤◌, ◌↔◌, ◌∷◌, ◌++◌, [], length, IfOk, IsTrue, IsOk, IsSome, OnErr, IsOkUnless, IsErrOf, None, option_map, string_bytes};
 ghost use Rattle.change_core.specs.Change.{entry_of};
 ghost use Rattle.change_core.specs.Members.{greatest, members, is_news, digest_text};
 ghost use Rattle.change_core.specs.Numbers.{most_members};
@@ -91,6 +91,7 @@ impl MemberTable {
     /// Errors: `Memory`.
     pub fn list(&self) -> Result<Vec<Change>, MemberError>
         ensures list { IfOk result (λ v. v.items ≡ self.now.members) }
+        ensures growth { OnErr result (0 < length self.now.members) }
         ensures refusal { IsOkUnless result MemberError.Memory }
     {
         self.entries.list()
@@ -104,6 +105,7 @@ impl MemberTable {
         ensures text { IfOk result (λ s. string_bytes s ≡ digest_text self.now.members) }
         // No other list of changes has the text.
         ensures only { (ms : List Change) → digest_text ms ≡ digest_text self.now.members → ms ≡ self.now.members }
+        ensures growth { OnErr result (0 < length self.now.members) }
         ensures refusal { IsOkUnless result MemberError.Memory }
     {
         self.entries.text()
@@ -114,6 +116,7 @@ impl MemberTable {
     /// Errors: `Memory`, for the text.
     pub fn digest(&self) -> Result<Digest, MemberError>
         ensures digest { IfOk result (λ d. d.bytes ≡ sha256 (digest_text self.now.members)) }
+        ensures growth { OnErr result (0 < length self.now.members) }
         ensures refusal { IsOkUnless result MemberError.Memory }
     {
         self.entries.digest()

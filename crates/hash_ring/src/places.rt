@@ -60,10 +60,13 @@ impl Places {
         ensures grown { self.old.room ≤ self.new.room }
         ensures refusal { IsOkUnless result RingError.Memory }
     {
+        let is_short = self.heads.capacity() - self.heads.len() < count;
         reserve_slot(&mut self.slots)?;
         self.heads.reserve(count)?;
         self.lows.reserve(count)?;
-        self.starts.widen(&self.heads);
+        if is_short {
+            self.starts.widen(&self.heads)?;
+        }
         Ok(())
     }
 

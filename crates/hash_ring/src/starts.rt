@@ -40,9 +40,10 @@ impl Starts {
     }
 
     /// Makes the list longer where the points have room for more. Where that is refused it stays as it was.
-    pub(crate) fn widen(&mut self, heads: &Vec<Head>) {
+    pub(crate) fn widen(&mut self, heads: &Vec<Head>) -> Result<(), AllocError> {
         let parts = heads.capacity() / SPREAD;
-        if parts > self.counts.len() && self.counts.resize(parts, 0).is_ok() {
+        if parts > self.counts.len() {
+            self.counts.resize(parts, 0)?;
             self.counts.fill(0);
             let mut passed = Passed::nothing();
             for head in heads {
@@ -50,6 +51,7 @@ impl Starts {
             }
             self.finish(passed);
         }
+        Ok(())
     }
 
     /// Counts points that ascend and were added.

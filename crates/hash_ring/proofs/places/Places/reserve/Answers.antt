@@ -11,5 +11,11 @@ invariant_of-self-in_err-reserve c = kept_still c.self.inside _ c.self.invariant
 pub invariant_of-self-in_err-reserve-2 : goal.invariant_of-self-in_err-reserve-2
 invariant_of-self-in_err-reserve-2 c = kept_still c.self.inside _ c.self.invariant c.reserve.ensures.items c.reserve-2.ensures.items c.reserve_slot.ensures.same c.reserve_slot.ensures.few
 
-pub invariant_of-self-2 : goal.invariant_of-self-2
-invariant_of-self-2 c = kept_still c.self.inside _ c.self.invariant c.reserve.ensures.items c.reserve-2.ensures.items c.reserve_slot.ensures.same c.reserve_slot.ensures.few
+pub invariant_of-self-in-Continue-branch-4 : goal.invariant_of-self-in-Continue-branch-4
+invariant_of-self-in-Continue-branch-4 c = kept_still c.self.inside _ c.self.invariant c.reserve.ensures.items c.reserve-2.ensures.items c.reserve_slot.ensures.same c.reserve_slot.ensures.few
+
+pub invariant_of-self-in_err-widen : goal.invariant_of-self-in_err-widen
+invariant_of-self-in_err-widen c = kept_still c.self.inside _ c.self.invariant c.reserve.ensures.items c.reserve-2.ensures.items c.reserve_slot.ensures.same c.reserve_slot.ensures.few
+
+pub invariant_of-self-else-is_short : goal.invariant_of-self-else-is_short
+invariant_of-self-else-is_short c = kept_still c.self.inside _ c.self.invariant c.reserve.ensures.items c.reserve-2.ensures.items c.reserve_slot.ensures.same c.reserve_slot.ensures.few

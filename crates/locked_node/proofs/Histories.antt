@@ -9,12 +9,13 @@ use Rattle.turn_lock.proofs.Histories.{grown_one, grown_twice}
 use Rattle.turn_lock.proofs.Passes.{outside_name}
 use Rattle.node_core.specs.Agreement.{IsNodeOf}
 use Rattle.node_core.specs.Calls.{Call, OfEvent, OfView, Answer, WithReply, WithView, CallStep}
-use Rattle.node_core.specs.Invariant.{IsSeen}
+use Rattle.node_core.specs.Invariant.{IsNode, IsSeen}
 use Rattle.node_core.specs.Node.{Node, Seen}
 use Rattle.node_core.specs.Run.{IsRun}
+use Rattle.node_core.proofs.Invariant.{all_calls_keep_it}
 use Rattle.node_core.proofs.RunLoop.{IsNodeOf-run}
 use Rattle.locked_node.specs.declared.node.LockedNode.{LockedNode}
-use Rattle.locked_node.specs.History.{CallEntry, entry_of, event_in, reply_in, History, LegalHistory, StandsFor, log_of}
+use Rattle.locked_node.specs.History.{CallEntry, entry_of, event_in, reply_in, History, LegalHistory, HistoriesKeepIt, StandsFor, log_of}
 use Rattle.locked_node.specs.Passes.{NodePass, opening_of, IsCalled, MadeInTurn}
 use Rattle.locked_node.proofs.Itself.{history_itself}
 
@@ -24,6 +25,13 @@ module _ {H : Type 0} (hash_of : H → List ℕ → ℕ) where
       → LegalHistory hash_of opening (history ++ turn n (entry_of call answer after) ∷ []) after
   legal_push opening [] before n call answer after legal step = (subst (λ (x : Node H). CallStep hash_of x call answer after) legal step, refl)
   legal_push opening (t ∷ ts) before n call answer after legal step = (legal.0, legal_push t.entry.after ts before n call answer after legal.1 step)
+
+  -- each call keeps what holds of a node
+  pub histories_keep_it : HistoriesKeepIt hash_of
+  histories_keep_it opening last [] kept legal = (kept, subst (λ (n : Node H). IsNode n) (sym legal) kept)
+  histories_keep_it opening last (t ∷ ts) kept legal =
+      let rest = histories_keep_it t.entry.after last ts (all_calls_keep_it hash_of opening t.entry.after t.entry.call t.entry.answer kept legal.0) legal.1 in
+      ((kept, rest.0), rest.1)
 
   -- a run of the events of a history
   abbrev IsRunOf : Node H → History H → Node H → Type 0

@@ -5,7 +5,7 @@ use Rattle.change_core.specs.declared.changes.Change.{Change}
 use Rattle.node_core.specs.declared.events.Event.{Event}
 use Rattle.node_core.specs.declared.events.Reply.{Reply}
 use Rattle.node_core.specs.Calls.{Call, OfEvent, OfView, Answer, WithReply, WithView, CallStep}
-use Rattle.node_core.specs.Invariant.{IsSeen}
+use Rattle.node_core.specs.Invariant.{IsNode, IsSeen}
 use Rattle.node_core.specs.Node.{Node, Seen}
 use Rattle.node_core.specs.Run.{log}
 use Rattle.turn_lock.specs.declared.kept.Turn.{Turn}
@@ -29,6 +29,16 @@ abbrev pub LegalHistory : {H : Type 0} → (H → List ℕ → ℕ) → Node H �
 LegalHistory hash_of opening [] last = last ≡ opening
 LegalHistory hash_of opening (t ∷ ts) last =
     CallStep hash_of opening t.entry.call t.entry.answer t.entry.after × LegalHistory hash_of t.entry.after ts last
+
+-- before each of these calls the node is as a node is between any two, and so it is after the last
+abbrev pub IsKeptThrough : {H : Type 0} → Node H → History H → Type 0
+IsKeptThrough node [] = IsNode node
+IsKeptThrough node (t ∷ ts) = IsNode node × IsKeptThrough t.entry.after ts
+
+-- a legal history keeps what holds of its opening
+abbrev pub HistoriesKeepIt : {H : Type 0} → (H → List ℕ → ℕ) → Type 0
+HistoriesKeepIt {H} hash_of =
+    (opening last : Node H) (history : History H) → IsNode opening → LegalHistory hash_of opening history last → IsKeptThrough opening history × IsNode last
 
 -- the same node: its own address, its hash and its configuration
 pub record IsItself {H : Type 0} (old new : Node H) : Type 0 where

@@ -1,6 +1,6 @@
 //! Laws over the definitions, each the contract of a function that does nothing.
 ghost use Rattle.locked_node.specs.Agreement.{ClosedAgree};
-ghost use Rattle.locked_node.specs.History.{CallsLeaveItself};
+ghost use Rattle.locked_node.specs.History.{CallsLeaveItself, HistoriesKeepIt};
 ghost use Rattle.locked_node.specs.Passes.{MadeInTurn};
 
 use hash_ring::PointHash;
@@ -15,6 +15,11 @@ pub fn agreement<H: PointHash>()
 /// No call changes a node's own address, its hash or its configuration.
 pub fn identity<H: PointHash>()
     ensures { CallsLeaveItself H.hash_of }
+{}
+
+/// Before each call of a legal history, and after the last, the node is as a node is between any two calls, if it was so opened.
+pub fn kept<H: PointHash>()
+    ensures { HistoriesKeepIt H.hash_of }
 {}
 
 /// What a pass made in two steps, one after the other, it made in one: the calls of both in turn.

@@ -1,5 +1,5 @@
 -- A node that takes all that another holds.
-use Rattle.std.proofs.Common.{◌≡◌, ◌≢◌, ℕ, List, [], ◌∷◌, ◌++◌, map, Option, Some, Ok, refl, sym, ◌∙◌, ap, subst}
+use Rattle.std.proofs.Common.{◌≡◌, ◌≢◌, ◌≤◌, ℕ, List, [], ◌∷◌, ◌++◌, map, Option, Some, Ok, refl, sym, ◌∙◌, ap, subst}
 use Rattle.change_core.specs.declared.changes.Change.{Change}
 use Rattle.change_core.specs.declared.changes.Sourced.{Sourced}
 use Rattle.change_core.specs.Members.{greatest, members}
@@ -32,6 +32,7 @@ nodes_synchronise {H} taker giver new moment taken kept given_kept step =
     = step.refuted_is ∙ ap (λ (cs : List Change). refuted taker.own taker.members cs) given in
     let takes = takes_greatest taker.own taker.members giver.members in
     record {
+      refuted_once = subst (λ (n : ℕ). n ≤ 1) (sym count) (takes.refuted_once given_kept.one_each);
       of_others = λ a other. holds a ∙ takes.of_others a other;
       unrefuted = λ none a. holds a ∙ ap (λ (L : List Change). greatest L a) (takes.unrefuted (sym count ∙ none));
       of_itself = λ held c one h g. holds taker.own ∙ takes.of_itself held c given_kept.one_each (sym count ∙ one) h g;

@@ -1,5 +1,5 @@
 -- What taking a batch whole leaves.
-use Rattle.std.proofs.Common.{◌+◌, ◌&&◌, not, inl, inr, ◌≡◌, ◌≢◌, ℕ, Bool, true, false, cond, eqb, List, [], ◌∷◌, ◌++◌, Option, Some, None, refl, sym, ◌∙◌, ap, append_assoc, append-nil, arith}
+use Rattle.std.proofs.Common.{◌+◌, ◌≤◌, ◌&&◌, not, inl, inr, ◌≡◌, ◌≢◌, ℕ, Bool, true, false, cond, eqb, List, [], ◌∷◌, ◌++◌, Option, Some, None, refl, sym, ◌∙◌, ap, append_assoc, append-nil, arith}
 use Rattle.std.proofs.lemmas.Bool.{eqb-true, eq-eqb, ne_eqb, and_parts}
 use Rattle.change_core.specs.declared.changes.Change.{Change}
 use Rattle.change_core.specs.Change.{Exceeds, exceeds}
@@ -57,6 +57,11 @@ unrefuted_taken own L (c ∷ cs) e =
     unrefuted_taken own (log_one own L c) cs (omega (arith, e))
     ∙ ap (λ (rs : List Change). (L ++ c ∷ rs) ++ cs) none ∙ append_assoc L (c ∷ []) cs
 
+-- what is said of another is not refuted
+quiet : (own : ℕ) (c : Change) (g : Option Change) → eqb c.address own ≡ false → one_if (is_refuted own g c) ≡ 0
+quiet own c None f = refl
+quiet own c (Some held) f = ap (λ b. one_if (b && (exceeds c held && not (eqb (rank c.status) (rank held.status))))) f
+
 -- where nothing is given about the node itself, nothing is refuted, and its own entry stays
 none_about : (own : ℕ) (L cs : List Change) → greatest cs own ≡ None → (greatest (log_given own L cs) own ≡ greatest L own) × (refuted own L cs ≡ 0)
 none_about own L [] e = (refl, refl)
@@ -74,10 +79,6 @@ none_about own L (c ∷ cs) e = by_address (eqb c.address own) refl e (λ L' k. 
     kept None = refl
     kept (Some d) = refl
 
-    quiet : (g : Option Change) → eqb c.address own ≡ false → one_if (is_refuted own g c) ≡ 0
-    quiet None f = refl
-    quiet (Some held) f = ap (λ b. one_if (b && (exceeds c held && not (eqb (rank c.status) (rank held.status))))) f
-
     by_address : (b : Bool) → eqb c.address own ≡ b → cond b (greater (Some c) (greatest cs own)) (greatest cs own) ≡ None
         → ((L' : List Change) → greatest cs own ≡ None → (greatest (log_given own L' cs) own ≡ greatest L' own) × (refuted own L' cs ≡ 0))
         → (greatest (log_given own (log_one own L c) cs) own ≡ greatest L own) × (one_if (is_refuted own (greatest L own) c) + refuted own (log_one own L c) cs ≡ 0)
@@ -86,8 +87,23 @@ none_about own L (c ∷ cs) e = by_address (eqb c.address own) refl e (λ L' k. 
         let rest = again (log_one own L c) k in (
           rest.0 ∙ ap (λ (rs : List Change). greatest (L ++ c ∷ rs) own) (plain (greatest L own) f)
               ∙ greatest-append L (c ∷ []) own ∙ ap (λ b. greater (greatest L own) (cond b (greater (Some c) None) None)) f ∙ kept (greatest L own),
-          omega (arith, quiet (greatest L own) f, rest.1),
+          omega (arith, quiet own c (greatest L own) f, rest.1),
         )
+
+-- of a membership at most the one change about the node itself is refuted
+refuted_once : (own : ℕ) (L cs : List Change) → IsMemberList cs → refuted own L cs ≤ 1
+refuted_once own L [] one = omega arith
+refuted_once own L (c ∷ cs) one = by_address (eqb c.address own) refl (refuted_once own (log_one own L c) cs one.1)
+  where
+    low : (b : Bool) → one_if b ≤ 1
+    low true = omega arith
+    low false = omega arith
+
+    by_address : (b : Bool) → eqb c.address own ≡ b → refuted own (log_one own L c) cs ≤ 1 → one_if (is_refuted own (greatest L own) c) + refuted own (log_one own L c) cs ≤ 1
+    by_address true f again =
+        let none : greatest cs own ≡ None = greatest-AllAbove cs own c.address (omega (arith, eqb-true c.address own f)) one.0 in
+        omega (arith, low (is_refuted own (greatest L own) c), (none_about own (log_one own L c) cs none).1)
+    by_address false f again = omega (arith, quiet own c (greatest L own) f, again)
 
 -- the one change given about the node itself is refuted, and its refutation is what the node holds of itself
 itself_taken : (own : ℕ) (L cs : List Change) (held c : Change) → IsMemberList cs → refuted own L cs ≡ 1 → greatest L own ≡ Some held → greatest cs own ≡ Some c
@@ -136,6 +152,7 @@ itself_taken own L (d ∷ ds) held c one r h g = by_address (eqb d.address own) 
 
 pub takes_greatest : (own : ℕ) (L cs : List Change) → TakesGreatest own L cs
 takes_greatest own L cs = record {
+  refuted_once = refuted_once own L cs;
   of_others = others_taken own L cs;
   unrefuted = unrefuted_taken own L cs;
   of_itself = λ held c one r h g. itself_taken own L cs held c one r h g;

@@ -10,16 +10,19 @@ use Rattle.node_core.specs.Messages.{full_sync}
 use Rattle.node_core.specs.Node.{Node}
 use Rattle.node_core.specs.Taking.{TakeStep}
 
--- of every other address the greatest of both; of itself too unless it refuted, and else its refutation of the change that it was given about itself
+-- of a membership at most one change is refuted; of every other address the greatest of both is left; of itself too unless it refuted, and else its refutation of the
+-- change that it was given about itself
 pub record TakesGreatest (own : ℕ) (log given : List Change) : Type 0 where
+  pub refuted_once : IsMemberList given → refuted own log given ≤ 1
   pub of_others : (a : ℕ) → a ≢ own → greatest (log_given own log given) a ≡ greatest (log ++ given) a
   pub unrefuted : refuted own log given ≡ 0 → log_given own log given ≡ log ++ given
   pub of_itself : (held c : Change) → IsMemberList given → refuted own log given ≡ 1 → greatest log own ≡ Some held → greatest given own ≡ Some c
       → greatest (log_given own log given) own ≡ Some (refutation held c)
 
--- what a node holds after it took all that another holds: of every other address the greatest of both memberships; of itself too where it refuted nothing, and else its
--- refutation of what the other held of it
+-- what a node holds after it took all that another holds, of which it refuted one change at most: of every other address the greatest of both memberships; of itself too
+-- where it refuted nothing, and else its refutation of what the other held of it
 pub record IsSynchronised {H : Type 0} (taker giver : Node H) (taken : Taken) (new : Node H) : Type 0 where
+  pub refuted_once : taken.refuted ≤ 1
   pub of_others : (a : ℕ) → a ≢ taker.own → greatest new.members a ≡ greatest (taker.members ++ giver.members) a
   pub unrefuted : taken.refuted ≡ 0 → (a : ℕ) → greatest new.members a ≡ greatest (taker.members ++ giver.members) a
   pub of_itself : (held c : Change) → taken.refuted ≡ 1 → greatest taker.members taker.own ≡ Some held → greatest giver.members taker.own ≡ Some c

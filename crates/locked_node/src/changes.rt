@@ -109,6 +109,7 @@ impl<H: PointHash> LockedNode<H> {
         requires few { length changes.now ≤ most_members }
         ensures called { IfOk result (λ r. IsCalled H.hash_of self.now pass.old pass.new (OfEvent (event.Take changes.now moment)) (WithReply (reply.Take r))) }
         ensures refused { IfErr result (λ e. (pass.new ≡ pass.old) × Refuses self.now pass.old e) }
+        ensures fits { Fits self.now pass.new }
     {
         self.turn(rt, pass, &Take { changes, moment })
     }
@@ -124,6 +125,7 @@ impl<H: PointHash> LockedNode<H> {
         requires { Fits self.now pass.old }
         ensures called { IfOk result (λ r. IsCalled H.hash_of self.now pass.old pass.new (OfEvent (event.Receive message.now moment)) (WithReply (reply.Receive r))) }
         ensures refused { IfErr result (λ e. (pass.new ≡ pass.old) × Refuses self.now pass.old e) }
+        ensures fits { Fits self.now pass.new }
     {
         self.turn(rt, pass, &Receive(message, moment))
     }
@@ -137,6 +139,7 @@ impl<H: PointHash> LockedNode<H> {
         requires { Fits self.now pass.old }
         ensures called { IfOk result (λ r. IsCalled H.hash_of self.now pass.old pass.new (OfEvent event.Leave) (WithReply (reply.Leave r))) }
         ensures refused { IfErr result (λ e. (pass.new ≡ pass.old) × Refuses self.now pass.old e) }
+        ensures fits { Fits self.now pass.new }
     {
         self.turn(rt, pass, &Leave)
     }
@@ -150,6 +153,7 @@ impl<H: PointHash> LockedNode<H> {
         requires { Fits self.now pass.old }
         ensures called { IfOk result (λ r. IsCalled H.hash_of self.now pass.old pass.new (OfEvent event.Rejoin) (WithReply (reply.Rejoin r))) }
         ensures refused { IfErr result (λ e. (pass.new ≡ pass.old) × Refuses self.now pass.old e) }
+        ensures fits { Fits self.now pass.new }
     {
         self.turn(rt, pass, &Rejoin)
     }
@@ -164,6 +168,7 @@ impl<H: PointHash> LockedNode<H> {
         requires { Fits self.now pass.old }
         ensures called { IfOk result (λ r. IsCalled H.hash_of self.now pass.old pass.new (OfEvent (event.Expire moment)) (WithReply (reply.Expire r))) }
         ensures refused { IfErr result (λ e. (pass.new ≡ pass.old) × Refuses self.now pass.old e) }
+        ensures fits { Fits self.now pass.new }
     {
         self.turn(rt, pass, &Expire(moment))
     }

@@ -157,6 +157,7 @@ impl<H: PointHash> LockedNode<H> {
         requires { Fits self.now pass.old }
         ensures called { IfOk result (λ r. IsCalled H.hash_of self.now pass.old pass.new (OfEvent event.Own) (WithReply (reply.Own r))) }
         ensures refused { IfErr result (λ e. (pass.new ≡ pass.old) × Refuses self.now pass.old e) }
+        ensures fits { Fits self.now pass.new }
     {
         self.turn(rt, pass, &Own)
     }
@@ -171,6 +172,7 @@ impl<H: PointHash> LockedNode<H> {
         requires { Fits self.now pass.old }
         ensures called { IfOk result (λ r. IsCalled H.hash_of self.now pass.old pass.new (OfEvent (event.Member address)) (WithReply (reply.Member r))) }
         ensures refused { IfErr result (λ e. (pass.new ≡ pass.old) × Refuses self.now pass.old e) }
+        ensures fits { Fits self.now pass.new }
     {
         self.turn(rt, pass, &Member(address))
     }
@@ -180,6 +182,7 @@ impl<H: PointHash> LockedNode<H> {
         requires { Fits self.now pass.old }
         ensures called { IfOk result (λ r. IsCalled H.hash_of self.now pass.old pass.new (OfEvent event.Len) (WithReply (reply.Len r))) }
         ensures refused { IfErr result (λ e. (pass.new ≡ pass.old) × Refuses self.now pass.old e) }
+        ensures fits { Fits self.now pass.new }
     {
         self.turn(rt, pass, &Len)
     }
@@ -194,6 +197,7 @@ impl<H: PointHash> LockedNode<H> {
         requires { Fits self.now pass.old }
         ensures called { IfOk result (λ r. IsCalled H.hash_of self.now pass.old pass.new (OfEvent (event.Owner key.now)) (WithReply (reply.Owner r))) }
         ensures refused { IfErr result (λ e. (pass.new ≡ pass.old) × Refuses self.now pass.old e) }
+        ensures fits { Fits self.now pass.new }
     {
         self.turn(rt, pass, &Owner(key))
     }
@@ -209,6 +213,7 @@ impl<H: PointHash> LockedNode<H> {
         requires { Fits self.now pass.old }
         ensures called { IfOk result (λ r. IsCalled H.hash_of self.now pass.old pass.new (OfEvent (event.Owners key.now count)) (WithReply (reply.Owners r))) }
         ensures refused { IfErr result (λ e. (pass.new ≡ pass.old) × Refuses self.now pass.old e) }
+        ensures fits { Fits self.now pass.new }
     {
         self.turn(rt, pass, &Owners(key, count))
     }
@@ -222,6 +227,7 @@ impl<H: PointHash> LockedNode<H> {
         requires { Fits self.now pass.old }
         ensures called { IfOk result (λ r. IsCalled H.hash_of self.now pass.old pass.new (OfEvent event.Members) (WithReply (reply.Members r))) }
         ensures refused { IfErr result (λ e. (pass.new ≡ pass.old) × Refuses self.now pass.old e) }
+        ensures fits { Fits self.now pass.new }
     {
         self.turn(rt, pass, &Members)
     }
@@ -235,6 +241,7 @@ impl<H: PointHash> LockedNode<H> {
         requires { Fits self.now pass.old }
         ensures called { IfOk result (λ r. IsCalled H.hash_of self.now pass.old pass.new (OfEvent event.DigestText) (WithReply (reply.DigestText r))) }
         ensures refused { IfErr result (λ e. (pass.new ≡ pass.old) × Refuses self.now pass.old e) }
+        ensures fits { Fits self.now pass.new }
     {
         self.turn(rt, pass, &DigestText)
     }
@@ -248,6 +255,7 @@ impl<H: PointHash> LockedNode<H> {
         requires { Fits self.now pass.old }
         ensures called { IfOk result (λ r. IsCalled H.hash_of self.now pass.old pass.new (OfEvent event.Digest) (WithReply (reply.Digest r))) }
         ensures refused { IfErr result (λ e. (pass.new ≡ pass.old) × Refuses self.now pass.old e) }
+        ensures fits { Fits self.now pass.new }
     {
         self.turn(rt, pass, &MembersDigest)
     }
@@ -261,6 +269,7 @@ impl<H: PointHash> LockedNode<H> {
         requires { Fits self.now pass.old }
         ensures called { IfOk result (λ r. IsCalled H.hash_of self.now pass.old pass.new OfView (WithView r)) }
         ensures refused { IfErr result (λ e. (pass.new ≡ pass.old) × Refuses self.now pass.old e) }
+        ensures fits { Fits self.now pass.new }
     {
         self.turn(rt, pass, &MakeView)
     }

@@ -85,6 +85,7 @@ impl<H: PointHash> LockedNode<H> {
         requires { Fits self.now pass.old }
         ensures called { IfOk result (λ r. IsCalled H.hash_of self.now pass.old pass.new (OfEvent event.JoinMessage) (WithReply (reply.JoinMessage r))) }
         ensures refused { IfErr result (λ e. (pass.new ≡ pass.old) × Refuses self.now pass.old e) }
+        ensures fits { Fits self.now pass.new }
     {
         self.turn(rt, pass, &JoinMessage)
     }
@@ -99,6 +100,7 @@ impl<H: PointHash> LockedNode<H> {
         requires { Fits self.now pass.old }
         ensures called { IfOk result (λ r. IsCalled H.hash_of self.now pass.old pass.new (OfEvent (event.PingTo target)) (WithReply (reply.PingTo r))) }
         ensures refused { IfErr result (λ e. (pass.new ≡ pass.old) × Refuses self.now pass.old e) }
+        ensures fits { Fits self.now pass.new }
     {
         self.turn(rt, pass, &PingTo(target))
     }
@@ -114,6 +116,7 @@ impl<H: PointHash> LockedNode<H> {
         requires { Fits self.now pass.old }
         ensures called { IfOk result (λ r. IsCalled H.hash_of self.now pass.old pass.new (OfEvent (event.PingReqTo helper target)) (WithReply (reply.PingReqTo r))) }
         ensures refused { IfErr result (λ e. (pass.new ≡ pass.old) × Refuses self.now pass.old e) }
+        ensures fits { Fits self.now pass.new }
     {
         self.turn(rt, pass, &PingReqTo(helper, target))
     }
@@ -130,6 +133,7 @@ impl<H: PointHash> LockedNode<H> {
         requires { Fits self.now pass.old }
         ensures called { IfOk result (λ r. IsCalled H.hash_of self.now pass.old pass.new (OfEvent (event.PingReqAckTo requester target reached)) (WithReply (reply.PingReqAckTo r))) }
         ensures refused { IfErr result (λ e. (pass.new ≡ pass.old) × Refuses self.now pass.old e) }
+        ensures fits { Fits self.now pass.new }
     {
         self.turn(rt, pass, &PingReqAckTo(requester, target, reached))
     }

@@ -100,6 +100,7 @@ impl<H: PointHash> LockedNode<H> {
         requires { Fits self.now pass.old }
         ensures called { IfOk result (λ r. IsCalled H.hash_of self.now pass.old pass.new (OfEvent event.Probe) (WithReply (reply.Probe r))) }
         ensures refused { IfErr result (λ e. (pass.new ≡ pass.old) × Refuses self.now pass.old e) }
+        ensures fits { Fits self.now pass.new }
     {
         self.turn(rt, pass, &NextProbe)
     }
@@ -114,6 +115,7 @@ impl<H: PointHash> LockedNode<H> {
         requires { Fits self.now pass.old }
         ensures called { IfOk result (λ r. IsCalled H.hash_of self.now pass.old pass.new (OfEvent (event.Acked number)) (WithReply (reply.Acked r))) }
         ensures refused { IfErr result (λ e. (pass.new ≡ pass.old) × Refuses self.now pass.old e) }
+        ensures fits { Fits self.now pass.new }
     {
         self.turn(rt, pass, &Acked(number))
     }
@@ -129,6 +131,7 @@ impl<H: PointHash> LockedNode<H> {
         requires { Fits self.now pass.old }
         ensures called { IfOk result (λ r. IsCalled H.hash_of self.now pass.old pass.new (OfEvent (event.Lost number moment)) (WithReply (reply.Lost r))) }
         ensures refused { IfErr result (λ e. (pass.new ≡ pass.old) × Refuses self.now pass.old e) }
+        ensures fits { Fits self.now pass.new }
     {
         self.turn(rt, pass, &Lost(number, moment))
     }
@@ -147,6 +150,7 @@ impl<H: PointHash> LockedNode<H> {
         requires { Fits self.now pass.old }
         ensures called { IfOk result (λ r. IsCalled H.hash_of self.now pass.old pass.new (OfEvent (event.HelperSaid number helper said moment)) (WithReply (reply.HelperSaid r))) }
         ensures refused { IfErr result (λ e. (pass.new ≡ pass.old) × Refuses self.now pass.old e) }
+        ensures fits { Fits self.now pass.new }
     {
         self.turn(rt, pass, &HelperSaid(number, helper, said, moment))
     }
@@ -160,6 +164,7 @@ impl<H: PointHash> LockedNode<H> {
         requires { Fits self.now pass.old }
         ensures called { IfOk result (λ r. IsCalled H.hash_of self.now pass.old pass.new (OfEvent event.Running) (WithReply (reply.Running r))) }
         ensures refused { IfErr result (λ e. (pass.new ≡ pass.old) × Refuses self.now pass.old e) }
+        ensures fits { Fits self.now pass.new }
     {
         self.turn(rt, pass, &RunningProbe)
     }

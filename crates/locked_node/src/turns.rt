@@ -66,6 +66,7 @@ impl<H: PointHash> LockedNode<H> {
         requires { Fits self.now pass.old }
         ensures called { IfOk result (λ reply. IsCalled H.hash_of self.now pass.old pass.new (A.call asked.now) (A.answer reply)) }
         ensures refused { IfErr result (λ e. (pass.new ≡ pass.old) × Refuses self.now pass.old e) }
+        ensures fits { Fits self.now pass.new }
     {
         let mut held = self.lock.enter(rt, pass)?;
         let reply = asked.ask(&mut held.node);

@@ -6,7 +6,7 @@ use hash_ring::SumHash;
 use node_core::{NodeError, NodeLost, NodeOutcome, NodeState, View};
 use std::alloc::Global;
 use std::process::Abort;
-use wire_json::{Content, Message};
+use wire_json::Message;
 
 /// 10.0.0.1:1 and the others after it.
 const TEXTS: [&str; 5] = [
@@ -172,17 +172,6 @@ fn an_ack_ends_a_probe(rt: HostRuntime) {
     with_others(&rt, rt.alloc(), 2, |node| end_three(&rt, node));
 }
 
-/// Whether a message of the membership carries these changes.
-fn carries(message: &Message, changes: &[Sourced]) -> bool {
-    match &message.content {
-        Content::Join(news) => news.changes.as_slice() == changes,
-        Content::Ping(news) => news.changes.as_slice() == changes,
-        Content::PingReq(news, _) => news.changes.as_slice() == changes,
-        Content::PingReqAck(news, _, _) => news.changes.as_slice() == changes,
-        _ => false,
-    }
-}
-
 /// What node 10.0.0.1:1 sends to 10.0.0.2:1, of 10.0.0.3:1 where it is of another.
 #[derive(Clone, Copy)]
 enum Sent {
@@ -212,7 +201,7 @@ fn sends(rt: &impl Abort, node: &mut NodeState<SumHash>, sent: Sent, changes: &[
     let receiver = address(rt, TEXTS[1]);
     let target = address(rt, TEXTS[2]);
     let made = message(node, sent, receiver, target);
-    carries(&made.ok().expect(rt, "a message"), changes)
+    carried(&made.ok().expect(rt, "a message")) == changes
 }
 
 /// Sends its birth sixteen times, and then no more.

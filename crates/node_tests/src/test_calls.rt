@@ -8,7 +8,16 @@ use node_core::{
 };
 use std::alloc::Global;
 use std::process::Abort;
-use wire_json::{Message, Text};
+use wire_json::{Changes, Content, Message, Text};
+
+pub(crate) const A: &str = "10.0.0.1:1";
+
+pub(crate) const B: &str = "10.0.0.2:1";
+
+pub(crate) const C: &str = "10.0.0.3:1";
+
+/// The greatest incarnation, and the greatest moment.
+pub(crate) const LIMIT: u64 = 9_007_199_254_740_991;
 
 pub(crate) fn address(rt: &impl Abort, text: &str) -> Address {
     Address::parse(text).ok().expect(rt, "an address")
@@ -64,7 +73,23 @@ fn again<T: Drop, F: FnMut() -> Result<T, NodeError>>(mut ask: F) -> Result<T, N
     }
 }
 
-/// A node at moment 0.
+/// A node of this configuration at moment 0.
+pub(crate) fn configured<H: PointHash>(
+    rt: &impl Abort,
+    alloc: Global,
+    config: Config,
+    hash: H,
+    text: &str,
+    number: u64,
+) -> NodeState<H> {
+    let own = address(rt, text);
+    let born = incarnation(rt, number);
+    let start = moment(rt, 0);
+    let made = again(|| NodeState::new(alloc, config, hash, own, born, 1, start));
+    made.ok().expect(rt, "a node")
+}
+
+/// A node with this many members at most.
 pub(crate) fn node<H: PointHash>(
     rt: &impl Abort,
     alloc: Global,
@@ -73,11 +98,21 @@ pub(crate) fn node<H: PointHash>(
     number: u64,
     max: usize,
 ) -> NodeState<H> {
-    let own = address(rt, text);
-    let born = incarnation(rt, number);
-    let start = moment(rt, 0);
-    let made = again(|| NodeState::new(alloc, config(max), hash, own, born, 1, start));
-    made.ok().expect(rt, "a node")
+    configured(rt, alloc, config(max), hash, text, number)
+}
+
+/// Has a new node of this configuration, 10.0.0.1:1 at 7, go through this.
+pub(crate) fn with_config<H: PointHash, F: FnMut(&mut NodeState<H>)>(
+    rt: &impl Abort,
+    alloc: Global,
+    config: Config,
+    hash: H,
+    mut body: F,
+)
+    requires { F.IsAlwaysCallable body }
+{
+    let mut node = configured(rt, alloc, config, hash, A, 7);
+    body(&mut node);
 }
 
 /// Has a new node at this incarnation go through this.
@@ -152,13 +187,41 @@ pub(crate) fn expire<H: PointHash>(
     again(|| node.expire(moment))
 }
 
-/// Takes three changes as one batch.
-pub(crate) fn take_batch<H: PointHash>(
-    node: &mut NodeState<H>,
-    given: &[Sourced; 3],
+/// A list of these changes.
+pub(crate) fn changes(rt: &impl Abort, alloc: Global, given: &[Sourced]) -> Changes {
+    let made = Changes::from_slice(alloc, given).or_else(|_| Changes::from_slice(alloc, given));
+    made.ok().expect(rt, "changes")
+}
+
+/// Takes changes as one batch.
+pub(crate) fn try_batch(
+    node: &mut NodeState<SumHash>,
+    batch: &Changes,
     moment: Moment,
 ) -> Result<Taken, Stopped> {
-    node.take(given, moment)
+    node.take(batch.as_slice(), moment)
+}
+
+/// Takes changes as one batch, and again where a growth was refused.
+pub(crate) fn take_batch(
+    node: &mut NodeState<SumHash>,
+    batch: &Changes,
+    moment: Moment,
+) -> Result<Taken, Stopped> {
+    match try_batch(node, batch, moment) {
+        Err(
+            Stopped {
+                cause: StopCause::Memory,
+                ..
+            },
+        ) => try_batch(node, batch, moment),
+        answer => answer,
+    }
+}
+
+/// Whether a batch stopped after so many changes, for this cause.
+pub(crate) fn stopped(answer: Result<Taken, Stopped>, taken: usize, cause: StopCause) -> bool {
+    answer.err() == Some(Stopped { taken, cause })
 }
 
 pub(crate) fn leave(node: &mut NodeState<SumHash>) -> Result<Change, NodeError> {
@@ -193,15 +256,34 @@ fn try_receive<H: PointHash>(
     node.receive(message, moment)
 }
 
-/// Receives a message, and again where the answer found no memory.
-pub(crate) fn receive<H: PointHash>(
+/// What was taken of a message, and the answer. Where a growth was refused the message comes again.
+pub(crate) fn answer<H: PointHash>(
     node: &mut NodeState<H>,
     message: &Message,
     moment: Moment,
-) -> Received {
+) -> Option<(Taken, Message)> {
     match try_receive(node, message, moment) {
-        Received::NoAnswer(_) => try_receive(node, message, moment),
-        received => received,
+        Received::Answer(taken, answer) => Some((taken, answer)),
+        Received::NoAnswer(taken) => match try_receive(node, message, moment) {
+            Received::Answer(_, answer) => Some((taken, answer)),
+            _ => None,
+        },
+        Received::Stopped(_) => match try_receive(node, message, moment) {
+            Received::Answer(taken, answer) => Some((taken, answer)),
+            _ => None,
+        },
+        Received::Done(_) | Received::NotGossip => None,
+    }
+}
+
+/// The changes that a message of the membership carries.
+pub(crate) fn carried(message: &Message) -> &[Sourced] {
+    match &message.content {
+        Content::Join(news) | Content::Joined(news) => news.changes.as_slice(),
+        Content::Ping(news) | Content::Ack(news) => news.changes.as_slice(),
+        Content::PingReq(news, _) => news.changes.as_slice(),
+        Content::PingReqAck(news, _, _) => news.changes.as_slice(),
+        _ => &[],
     }
 }
 
@@ -212,6 +294,12 @@ pub(crate) fn digest<H: PointHash>(node: &NodeState<H>) -> Result<Digest, NodeEr
 /// The node's text for its digest.
 pub(crate) fn digest_text(node: &NodeState<SumHash>) -> Result<Text, NodeError> {
     again(|| node.digest_text())
+}
+
+/// Whether a node has this text.
+pub(crate) fn has_text(node: &NodeState<SumHash>, text: &str) -> bool {
+    let said = digest_text(node).ok();
+    said.is_some_and(|said| said.as_str() == text)
 }
 
 pub(crate) fn owners<H: PointHash>(

@@ -1,23 +1,11 @@
-ghost use Rattle.std.specs.Prelude.{◌≡◌, ◌≤◌, ℕ, List, ◌%◌, ◌^◌, sum};
-
+//! What a node takes, says of itself, lets run out, and answers.
 use crate::test_calls::*;
 use change_core::{Digest, Sourced, Status};
-use hash_ring::{PointHash, SumHash};
-use node_core::{
-    Event, NodeError, NodeState, Received, Reply, Run, StopCause, Stopped, Taken, run,
-};
+use hash_ring::SumHash;
+use node_core::{NodeError, NodeState, StopCause, Taken};
 use std::alloc::Global;
 use std::process::Abort;
-use std::sync::atomic::{AtomicU64, Ordering};
-use wire_json::{Changes, Content, Message, News};
-
-const A: &str = "10.0.0.1:1";
-
-const B: &str = "10.0.0.2:1";
-
-const C: &str = "10.0.0.3:1";
-
-const LIMIT: u64 = 9_007_199_254_740_991;
+use wire_json::{Content, Kind, Message, News};
 
 /// The SHA-256 of the empty text: the digest of no members.
 const NOBODY: &str = "e3b0c44298fc1c149afbf4c8996fb92427ae41e4649b934ca495991b7852b855";
@@ -45,18 +33,16 @@ fn refutes_what_is_wrong_about_itself(rt: HostRuntime) {
 /// Leaves twice, refutes, and comes back twice.
 fn leave_and_come_back(rt: &impl Abort, node: &mut NodeState<SumHash>) {
     assert!(rt; rejoin(node) == Err(NodeError::NotLeft));
-    let _ = leave(node);
-    let again = leave(node);
-    assert!(rt; again.is_err() && own(node) == change(rt, A, 7, Status::Leave));
+    assert!(rt; leave(node) == Ok(change(rt, A, 7, Status::Leave)));
+    assert!(rt; leave(node) == Err(NodeError::AlreadyLeft));
     let answer = take(rt, node, &news(rt, A, 9, Status::Alive), 0);
     let refuting = Taken {
         applied: 1,
         refuted: 1,
     };
     assert!(rt; answer == Ok(refuting) && own(node) == change(rt, A, 10, Status::Leave));
-    let _ = rejoin(node);
-    let again = rejoin(node);
-    assert!(rt; again.is_err() && own(node) == change(rt, A, 11, Status::Alive));
+    assert!(rt; rejoin(node) == Ok(change(rt, A, 11, Status::Alive)));
+    assert!(rt; rejoin(node) == Err(NodeError::NotLeft));
 }
 
 #[test]
@@ -71,44 +57,47 @@ fn leaves_and_comes_back(rt: HostRuntime) {
     );
 }
 
-/// Whether a batch stopped after so many changes, for this cause.
-fn stopped(answer: Result<Taken, Stopped>, taken: usize, cause: StopCause) -> bool {
-    answer.err() == Some(Stopped { taken, cause })
-}
-
-/// Changes of which the second leaves no incarnation to refute it by.
-fn exhausting(rt: &impl Abort) -> [Sourced; 3] {
-    [
+/// Takes the first of three changes; the second leaves no incarnation to refute it by.
+fn exhaust(rt: &impl Abort, alloc: Global, node: &mut NodeState<SumHash>) {
+    let given = [
         news(rt, B, 1, Status::Alive),
         news(rt, A, LIMIT, Status::Faulty),
         news(rt, C, 1, Status::Alive),
-    ]
-}
-
-/// Takes the first of them, and no more.
-fn exhaust(rt: &impl Abort, node: &mut NodeState<SumHash>) {
-    hear(rt, node, &news(rt, B, 1, Status::Alive), 0);
-    let answer = take_batch(node, &exhausting(rt), moment(rt, 0));
+    ];
+    let answer = take_batch(node, &changes(rt, alloc, &given), moment(rt, 0));
     assert!(rt; stopped(answer, 1, StopCause::Exhausted));
+    assert!(rt; held(node, address(rt, B)).2.is_some());
     assert!(rt; held(node, address(rt, C)).2.is_none());
 }
 
 #[test]
 fn stops_where_incarnations_run_out(rt: HostRuntime) {
-    with_node(&rt, rt.alloc(), A, 7, 4096, |node| exhaust(&rt, node));
+    with_node(
+        &rt,
+        rt.alloc(),
+        A,
+        7,
+        4096,
+        |node| exhaust(&rt, rt.alloc(), node),
+    );
 }
 
-/// Is full with one more.
-fn fill(rt: &impl Abort, node: &mut NodeState<SumHash>) {
-    hear(rt, node, &news(rt, B, 1, Status::Alive), 0);
-    let answer = take(rt, node, &news(rt, C, 1, Status::Alive), 0);
-    assert!(rt; stopped(answer, 0, StopCause::Full));
-    hear(rt, node, &news(rt, B, 2, Status::Suspect), 0);
+/// Is full with the first of two changes, and goes on about the members that it has.
+fn fill(rt: &impl Abort, alloc: Global, node: &mut NodeState<SumHash>) {
+    let given = [news(rt, B, 1, Status::Alive), news(rt, C, 1, Status::Alive)];
+    let answer = take_batch(node, &changes(rt, alloc, &given), moment(rt, 0));
+    assert!(rt; stopped(answer, 1, StopCause::Full));
+    let answer = take(rt, node, &news(rt, B, 2, Status::Suspect), 0);
+    let applied = Taken {
+        applied: 1,
+        refuted: 0,
+    };
+    assert!(rt; answer == Ok(applied));
 }
 
 #[test]
 fn stops_where_it_is_full(rt: HostRuntime) {
-    with_node(&rt, rt.alloc(), A, 7, 2, |node| fill(&rt, node));
+    with_node(&rt, rt.alloc(), A, 7, 2, |node| fill(&rt, rt.alloc(), node));
 }
 
 /// A suspect entry runs out, and then the faulty one.
@@ -142,49 +131,6 @@ fn entries_run_out_in_turn(rt: HostRuntime) {
     with_node(&rt, rt.alloc(), A, 7, 4096, |node| answer_before(&rt, node));
 }
 
-/// Takes as many of the batch as another node, and holds what it holds.
-fn follow(
-    rt: &impl Abort,
-    first: &mut NodeState<SumHash>,
-    second: &mut NodeState<SumHash>,
-    batch: &[Sourced; 3],
-    taken: usize,
-) {
-    for given in batch.iter().take(taken) {
-        hear(rt, second, given, 0);
-    }
-    for given in batch {
-        let address = given.change.address;
-        assert!(rt; held(first, address) == held(second, address));
-    }
-    for key in ["", "zzzz0", "zzzz1", "zzzz2"] {
-        assert!(rt; owner(first, key) == owner(second, key));
-    }
-    assert!(rt; expire(first, moment(rt, 5_000)) == expire(second, moment(rt, 5_000)));
-}
-
-/// Takes a batch, as far as memory lets it, and is followed by another node.
-fn stop_where_memory_does(rt: &impl Abort, alloc: Global, first: &mut NodeState<SumHash>) {
-    let batch = [
-        news(rt, B, 1, Status::Alive),
-        news(rt, C, 1, Status::Suspect),
-        news(rt, "10.0.0.4:1", 1, Status::Faulty),
-    ];
-    let taken = match take_batch(first, &batch, moment(rt, 0)) {
-        Ok(_) => 3,
-        Err(stopped) => stopped.taken,
-    };
-    let mut second = node(rt, alloc, SumHash, A, 7, 4096);
-    follow(rt, first, &mut second, &batch, taken);
-}
-
-#[test]
-fn a_refused_growth_leaves_the_changes_before_it(rt: HostRuntime) {
-    with_node(&rt, rt.alloc(), A, 7, 4096, |node| {
-        stop_where_memory_does(&rt, rt.alloc(), node)
-    });
-}
-
 /// The i-th of twenty changes: about 10.0.0.2 to 10.0.0.5, with each incarnation and status in turn.
 fn twenty(rt: &impl Abort, i: u8) -> Sourced {
     let statuses = [
@@ -211,12 +157,6 @@ fn hear_in_two_orders(
     }
     hear(rt, first, &news(rt, "10.0.0.6:1", 7, Status::Alive), 0);
     hear(rt, last, &news(rt, A, 7, Status::Alive), 0);
-}
-
-/// Whether a node has this text.
-fn has_text(node: &NodeState<SumHash>, text: &str) -> bool {
-    let said = digest_text(node).ok();
-    said.is_some_and(|said| said.as_str() == text)
 }
 
 /// What a node holds that has heard all of them.
@@ -248,85 +188,24 @@ fn the_same_changes_in_two_orders_agree(rt: HostRuntime) {
     });
 }
 
-#[derive(Clone, Copy)]
-struct CountingHash<'a> {
-    calls: &'a AtomicU64,
-}
-
-impl<'a> PointHash for CountingHash<'a> {
-    ghost hash_of = { λ _ bytes. sum bytes % 2 ^ 64 };
-
-    fn hash(&self, bytes: &[u8]) -> u64 {
-        self.calls.fetch_add(1, Ordering::SeqCst);
-        SumHash.hash(bytes)
-    }
-}
-
-/// Counts the hashes of alterations and of a look-up.
-fn count_alterations<'a>(
+/// A message of A at 7 with these changes.
+fn message(
     rt: &impl Abort,
-    node: &mut NodeState<CountingHash<'a>>,
-    calls: &AtomicU64,
-) {
-    let rows = [
-        (B, 1, Status::Alive, 2),
-        (B, 1, Status::Suspect, 0),
-        (B, 2, Status::Alive, 0),
-        (B, 2, Status::Faulty, 0),
-        (B, 3, Status::Alive, 2),
-        (C, 1, Status::Tombstone, 0),
-    ];
-    for (text, number, status, wanted) in rows {
-        let before = calls.load(Ordering::SeqCst);
-        hear(rt, node, &news(rt, text, number, status), 0);
-        assert_eq!(rt; calls.load(Ordering::SeqCst), before.wrapping_add(wanted));
-    }
-    let before = calls.load(Ordering::SeqCst);
-    owner(node, "key");
-    assert_eq!(rt; calls.load(Ordering::SeqCst), before.wrapping_add(1));
-}
-
-/// Counts the hashes of a view.
-fn count_view<'a>(rt: &impl Abort, node: &NodeState<CountingHash<'a>>, calls: &AtomicU64) {
-    let before = calls.load(Ordering::SeqCst);
-    let view = view(node).ok().expect(rt, "a view");
-    assert_eq!(rt; calls.load(Ordering::SeqCst), before);
-    view_owner(&view, "key");
-    assert_eq!(rt; calls.load(Ordering::SeqCst), before.wrapping_add(1));
-}
-
-/// Counts both.
-fn count<'a>(rt: &impl Abort, node: &mut NodeState<CountingHash<'a>>, calls: &AtomicU64) {
-    count_alterations(rt, node, calls);
-    count_view(rt, node, calls);
-}
-
-#[test]
-fn an_alteration_hashes_no_more_than_its_points(rt: HostRuntime) {
-    let calls = AtomicU64::new(0);
-    let mut node = node(&rt, rt.alloc(), CountingHash { calls: &calls }, A, 7, 4096);
-    count(&rt, &mut node, &calls);
-}
-
-/// A ping of A without changes.
-fn empty_ping(rt: &impl Abort, alloc: Global, checksum: Digest) -> Message {
-    let changes = Changes::from_slice(alloc, &[]).ok().expect(rt, "changes");
+    alloc: Global,
+    kind: Kind,
+    checksum: Digest,
+    given: &[Sourced],
+) -> Message {
+    let changes = changes(rt, alloc, given);
+    let news = News { checksum, changes };
     Message {
         source: address(rt, A),
         source_incarnation: incarnation(rt, 7),
-        content: Content::Ping(News { checksum, changes }),
+        content: match kind {
+            Kind::Join => Content::Join(news),
+            _ => Content::Ping(news),
+        },
     }
-}
-
-/// Whether a message was answered by an Ack with these changes.
-fn is_ack(received: &Received, changes: &[Sourced]) -> bool {
-    let Received::Answer(_, answer) = received else {
-        return false;
-    };
-    let Content::Ack(news) = &answer.content else {
-        return false;
-    };
-    news.changes.as_slice() == changes
 }
 
 /// Is pinged, and answers by these changes.
@@ -337,9 +216,10 @@ fn answer_by(
     checksum: Digest,
     wanted: &[Sourced],
 ) {
-    let ping = empty_ping(rt, alloc, checksum);
-    let received = receive(node, &ping, moment(rt, 0));
-    assert!(rt; is_ack(&received, wanted));
+    let ping = message(rt, alloc, Kind::Ping, checksum, &[]);
+    let answered = answer(node, &ping, moment(rt, 0));
+    let (_, ack) = answered.expect(rt, "an answer");
+    assert!(rt; ack.content.kind() == Kind::Ack && carried(&ack) == wanted);
 }
 
 /// Answers fifteen pings by its birth, and the next by all members, or by nothing where the sender knows its digest.
@@ -366,42 +246,33 @@ fn synchronises_where_it_has_nothing_to_say(rt: HostRuntime) {
     }
 }
 
-/// The calls of a node that hears a suspicion of another, lets it run out, leaves, and counts.
-fn calls(rt: &impl Abort, alloc: Global) -> Option<[Event; 4]> {
-    let given = [news(rt, B, 1, Status::Suspect)];
-    let changes = Changes::from_slice(alloc, &given).ok()?;
-    Some([
-        Event::Take(changes, moment(rt, 3)),
-        Event::Expire(moment(rt, 5_003)),
-        Event::Leave,
-        Event::Len,
-    ])
-}
-
-/// What a node answers to these calls. None where it found no memory for what it heard.
-fn answers(rt: &impl Abort, alloc: Global) -> Option<Run<SumHash>> {
-    let events = calls(rt, alloc)?;
-    let start = node(rt, alloc, SumHash, A, 7, 4096);
-    let finished = run(alloc, start, &events).ok()?;
-    let heard = matches!(
-        finished.replies.as_slice().first(),
-        Some(Reply::Take(Ok(_)))
-    );
-    if heard { Some(finished) } else { None }
-}
-
-/// Checks what it answered.
-fn check_run(rt: &impl Abort, finished: &Run<SumHash>) {
-    let replies = finished.replies.as_slice();
-    assert!(rt; replies.len() == 4);
-    assert!(rt; matches!(replies.get(1), Some(Reply::Expire(Ok(Some(_))))));
-    assert!(rt; matches!(replies.get(3), Some(Reply::Len(2))));
-    assert!(rt; own(&finished.node) == change(rt, A, 7, Status::Leave));
+/// Takes in whoever joins, and answers by all members.
+fn let_join(rt: &impl Abort, alloc: Global, node: &mut NodeState<SumHash>) {
+    let nobody = Digest::parse(NOBODY).expect(rt, "a digest");
+    let birth = [news(rt, A, 7, Status::Alive)];
+    let join = message(rt, alloc, Kind::Join, nobody, &birth);
+    let answered = answer(node, &join, moment(rt, 0));
+    let (taken, joined) = answered.expect(rt, "an answer");
+    let applied = Taken {
+        applied: 1,
+        refuted: 0,
+    };
+    assert!(rt; taken == applied && joined.content.kind() == Kind::Joined);
+    let all = [
+        said(rt, B, 1, &birth[0].change),
+        news(rt, B, 1, Status::Alive),
+    ];
+    assert!(rt; joined.source == address(rt, B) && carried(&joined) == all.as_slice());
 }
 
 #[test]
-fn a_run_answers_each_call(rt: HostRuntime) {
-    let first = answers(&rt, rt.alloc());
-    let finished = first.or_else(|| answers(&rt, rt.alloc()));
-    check_run(&rt, &finished.expect(&rt, "a run"));
+fn a_join_is_answered_by_all_members(rt: HostRuntime) {
+    with_node(
+        &rt,
+        rt.alloc(),
+        B,
+        1,
+        4096,
+        |node| let_join(&rt, rt.alloc(), node),
+    );
 }

@@ -1,0 +1,139 @@
+//! How many hashes a node makes, and what it does with a weight.
+ghost use Rattle.std.specs.Prelude.{◌≡◌, ◌≤◌, ℕ, List, ◌%◌, ◌^◌, sum};
+
+use crate::test_calls::*;
+use change_core::{Sourced, Status, Weight};
+use hash_ring::{PointHash, SumHash};
+use node_core::{Config, NodeState, Taken};
+use std::process::Abort;
+use std::sync::atomic::{AtomicU64, Ordering};
+
+#[derive(Clone, Copy)]
+struct CountingHash<'a> {
+    calls: &'a AtomicU64,
+}
+
+impl<'a> PointHash for CountingHash<'a> {
+    ghost hash_of = { λ _ bytes. sum bytes % 2 ^ 64 };
+
+    fn hash(&self, bytes: &[u8]) -> u64 {
+        self.calls.fetch_add(1, Ordering::SeqCst);
+        SumHash.hash(bytes)
+    }
+}
+
+/// Counts the hashes of alterations and of a look-up.
+fn count_alterations<'a>(
+    rt: &impl Abort,
+    node: &mut NodeState<CountingHash<'a>>,
+    calls: &AtomicU64,
+) {
+    let rows = [
+        (B, 1, Status::Alive, 2),
+        (B, 1, Status::Suspect, 0),
+        (B, 2, Status::Alive, 0),
+        (B, 2, Status::Faulty, 0),
+        (B, 3, Status::Alive, 2),
+        (C, 1, Status::Tombstone, 0),
+    ];
+    for (text, number, status, wanted) in rows {
+        let before = calls.load(Ordering::SeqCst);
+        hear(rt, node, &news(rt, text, number, status), 0);
+        assert_eq!(rt; calls.load(Ordering::SeqCst), before.wrapping_add(wanted));
+    }
+    let before = calls.load(Ordering::SeqCst);
+    owner(node, "key");
+    assert_eq!(rt; calls.load(Ordering::SeqCst), before.wrapping_add(1));
+}
+
+/// Counts the hashes of a view.
+fn count_view<'a>(rt: &impl Abort, node: &NodeState<CountingHash<'a>>, calls: &AtomicU64) {
+    let before = calls.load(Ordering::SeqCst);
+    let view = view(node).ok().expect(rt, "a view");
+    assert_eq!(rt; calls.load(Ordering::SeqCst), before);
+    view_owner(&view, "key");
+    assert_eq!(rt; calls.load(Ordering::SeqCst), before.wrapping_add(1));
+}
+
+/// Counts both.
+fn count<'a>(rt: &impl Abort, node: &mut NodeState<CountingHash<'a>>, calls: &AtomicU64) {
+    count_alterations(rt, node, calls);
+    count_view(rt, node, calls);
+}
+
+#[test]
+fn an_alteration_hashes_no_more_than_its_points(rt: HostRuntime) {
+    let calls = AtomicU64::new(0);
+    let mut node = node(&rt, rt.alloc(), CountingHash { calls: &calls }, A, 7, 4096);
+    count(&rt, &mut node, &calls);
+}
+
+/// The configuration of a node with weight 2.
+fn heavy(rt: &impl Abort) -> Config {
+    let mut config = config(4096);
+    config.weight = Weight::new(2).expect(rt, "a weight");
+    config
+}
+
+/// News of B with weight 3.
+fn weighing_three(rt: &impl Abort, number: u64, status: Status) -> Sourced {
+    let mut given = news(rt, B, number, status);
+    given.change.weight = Weight::new(3).expect(rt, "a weight");
+    given
+}
+
+/// Counts the hashes of alterations of members with a weight, and of a timer that runs out.
+fn count_weights<'a>(rt: &impl Abort, node: &mut NodeState<CountingHash<'a>>, calls: &AtomicU64) {
+    let rows = [
+        (news(rt, A, 7, Status::Suspect), 4),
+        (weighing_three(rt, 1, Status::Alive), 10),
+        (weighing_three(rt, 1, Status::Suspect), 10),
+        (weighing_three(rt, 2, Status::Alive), 10),
+        (weighing_three(rt, 2, Status::Suspect), 10),
+    ];
+    for (given, wanted) in rows {
+        hear(rt, node, &given, 0);
+        assert_eq!(rt; calls.load(Ordering::SeqCst), wanted);
+    }
+    let faulty = weighing_three(rt, 2, Status::Faulty).change;
+    assert!(rt; expire(node, moment(rt, 5_000)) == Ok(Some(faulty)));
+    assert_eq!(rt; calls.load(Ordering::SeqCst), 10);
+}
+
+#[test]
+fn a_weight_makes_as_many_points(rt: HostRuntime) {
+    let calls = AtomicU64::new(0);
+    with_config(
+        &rt,
+        rt.alloc(),
+        heavy(&rt),
+        CountingHash { calls: &calls },
+        |node| count_weights(&rt, node, &calls),
+    );
+}
+
+/// Keeps its weight where it refutes, and where it leaves.
+fn keep_weight(rt: &impl Abort, node: &mut NodeState<SumHash>) {
+    let answer = take(rt, node, &news(rt, A, 7, Status::Suspect), 0);
+    let refuting = Taken {
+        applied: 1,
+        refuted: 1,
+    };
+    assert!(rt; answer == Ok(refuting));
+    let mut wanted = change(rt, A, 8, Status::Alive);
+    wanted.weight = Weight::new(2).expect(rt, "a weight");
+    assert!(rt; own(node) == wanted);
+    wanted.status = Status::Leave;
+    assert!(rt; leave(node) == Ok(wanted) && has_text(node, "10.0.0.1:1leave8*2"));
+}
+
+#[test]
+fn a_node_keeps_its_weight(rt: HostRuntime) {
+    with_config(
+        &rt,
+        rt.alloc(),
+        heavy(&rt),
+        SumHash,
+        |node| keep_weight(&rt, node),
+    );
+}

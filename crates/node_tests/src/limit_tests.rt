@@ -1,0 +1,153 @@
+//! Where a node refuses: a bad configuration, too many members, no incarnation left, and growths that are refused.
+use crate::test_calls::*;
+use change_core::{Address, Sourced, Status};
+use hash_ring::SumHash;
+use node_core::{ConfigField, NodeError, NodeState, StopCause, Taken};
+use std::alloc::Global;
+use std::process::Abort;
+use wire_json::Changes;
+
+/// Why no node is made with so many points for each unit of weight.
+fn refusal(rt: &impl Abort, alloc: Global, replicas: u32) -> Option<NodeError> {
+    let mut bad = config(4096);
+    bad.replicas = replicas;
+    let start = moment(rt, 0);
+    let born = incarnation(rt, 7);
+    NodeState::new(alloc, bad, SumHash, address(rt, A), born, 1, start).err()
+}
+
+#[test]
+fn no_node_of_a_bad_configuration(rt: HostRuntime) {
+    for replicas in [0, 1_001] {
+        let wanted = NodeError::BadConfig(ConfigField::Replicas);
+        assert!(rt; refusal(&rt, rt.alloc(), replicas) == Some(wanted));
+    }
+}
+
+/// Room for so many changes.
+fn room(rt: &impl Abort, alloc: Global, count: usize) -> Vec<Sourced> {
+    let made = Vec::with_capacity(alloc, count).or_else(|_| Vec::with_capacity(alloc, count));
+    made.ok().expect(rt, "room")
+}
+
+/// Changes about 4,096 addresses from 11.0.0.0 on.
+fn strangers(rt: &impl Abort, alloc: Global) -> Changes {
+    let mut given = room(rt, alloc, 4096);
+    for place in 0..4096u32 {
+        let mut one = news(rt, B, 1, Status::Alive);
+        one.change.address = Address::new(0x0b00_0000 + place, 1).expect(rt, "an address");
+        one.source = one.change.address;
+        given.push(one).ok().expect(rt, "room");
+    }
+    Changes::from_vec(given).ok().expect(rt, "changes")
+}
+
+/// Takes as many of them as it may hold beside itself.
+fn take_strangers(rt: &impl Abort, alloc: Global, node: &mut NodeState<SumHash>) {
+    let answer = take_batch(node, &strangers(rt, alloc), moment(rt, 0));
+    assert!(rt; stopped(answer, 4_095, StopCause::Full));
+    assert_eq!(rt; held(node, address(rt, A)).1, 4_096);
+}
+
+#[test]
+fn stops_at_the_last_of_as_many_as_may_be(rt: HostRuntime) {
+    let mut small = config(4096);
+    small.replicas = 1;
+    with_config(&rt, rt.alloc(), small, SumHash, |node| {
+        take_strangers(&rt, rt.alloc(), node)
+    });
+}
+
+/// Takes the greatest incarnation, and leaves; there is none to refute by, and none to come back with.
+fn reach_the_greatest(rt: &impl Abort, node: &mut NodeState<SumHash>) {
+    let answer = take(rt, node, &news(rt, A, LIMIT, Status::Alive), 0);
+    let applied = Taken {
+        applied: 1,
+        refuted: 0,
+    };
+    assert!(rt; answer == Ok(applied));
+    let answer = take(rt, node, &news(rt, A, LIMIT, Status::Suspect), 0);
+    assert!(rt; stopped(answer, 0, StopCause::Exhausted));
+    assert!(rt; leave(node) == Ok(change(rt, A, LIMIT, Status::Leave)));
+    assert!(rt; rejoin(node) == Err(NodeError::Exhausted));
+}
+
+#[test]
+fn no_incarnation_follows_the_greatest(rt: HostRuntime) {
+    with_node(
+        &rt,
+        rt.alloc(),
+        A,
+        7,
+        4096,
+        |node| reach_the_greatest(&rt, node),
+    );
+}
+
+/// Hears of a suspicion at the greatest moment.
+fn suspect_at_the_greatest(rt: &impl Abort, node: &mut NodeState<SumHash>) {
+    hear(rt, node, &news(rt, B, 1, Status::Suspect), LIMIT);
+    assert!(rt; expire(node, moment(rt, LIMIT)) == Ok(None));
+}
+
+#[test]
+fn nothing_runs_out_past_the_greatest_moment(rt: HostRuntime) {
+    with_node(&rt, rt.alloc(), A, 7, 4096, |node| {
+        suspect_at_the_greatest(&rt, node)
+    });
+}
+
+/// Whether two nodes hold the same members, and name the same owners.
+fn hold_alike(rt: &impl Abort, first: &NodeState<SumHash>, second: &NodeState<SumHash>) {
+    let listed = members(first).ok().expect(rt, "members");
+    let wanted = members(second).ok().expect(rt, "members");
+    assert!(rt; listed.as_slice() == wanted.as_slice());
+    for key in ["zzzz0", "zzzz1", "zzzz2", "zzzz3"] {
+        let named = owners(first, key, 9).ok().expect(rt, "owners");
+        let wanted = owners(second, key, 9).ok().expect(rt, "owners");
+        assert!(rt; named.as_slice() == wanted.as_slice());
+    }
+}
+
+/// Whether two nodes pass on the same changes, as often.
+fn tell_alike(rt: &impl Abort, first: &mut NodeState<SumHash>, second: &mut NodeState<SumHash>) {
+    let receiver = address(rt, "10.0.0.9:1");
+    for _ in 0..16u8 {
+        let ping = ping_to(first, receiver).ok().expect(rt, "a ping");
+        let wanted = ping_to(second, receiver).ok().expect(rt, "a ping");
+        assert!(rt; carried(&ping) == carried(&wanted));
+    }
+}
+
+/// Whether the same runs out in two nodes, at the same moments.
+fn run_out_alike(rt: &impl Abort, first: &mut NodeState<SumHash>, second: &mut NodeState<SumHash>) {
+    for now in [4_999, 5_000, 86_404_999, 86_405_000] {
+        assert!(rt; expire(first, moment(rt, now)) == expire(second, moment(rt, now)));
+    }
+}
+
+/// Takes a batch, as far as memory lets it, and compares itself with a new node that takes as many of it.
+fn stop_where_memory_does(rt: &impl Abort, alloc: Global, first: &mut NodeState<SumHash>) {
+    let given = [
+        news(rt, B, 1, Status::Alive),
+        news(rt, C, 1, Status::Alive),
+        news(rt, B, 2, Status::Suspect),
+    ];
+    let answer = try_batch(first, &changes(rt, alloc, &given), moment(rt, 0));
+    let taken = answer.err().map_or(3, |stopped| stopped.taken);
+    assert!(rt; answer.is_ok() || taken < 3 && stopped(answer, taken, StopCause::Memory));
+    let mut second = node(rt, alloc, SumHash, A, 7, 4096);
+    for sourced in given.iter().take(taken) {
+        hear(rt, &mut second, sourced, 0);
+    }
+    hold_alike(rt, first, &second);
+    tell_alike(rt, first, &mut second);
+    run_out_alike(rt, first, &mut second);
+}
+
+#[test]
+fn a_refused_growth_leaves_the_changes_before_it(rt: HostRuntime) {
+    with_node(&rt, rt.alloc(), A, 7, 4096, |node| {
+        stop_where_memory_does(&rt, rt.alloc(), node)
+    });
+}

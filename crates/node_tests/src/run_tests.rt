@@ -1,0 +1,183 @@
+//! Calls of a node as a list of events, with their replies.
+use crate::test_calls::*;
+use change_core::{Change, Entry, Status};
+use hash_ring::SumHash;
+use node_core::{Event, NodeError, NodeState, Reply, Run, StopCause, Stopped, Taken, run};
+use std::alloc::Global;
+use std::process::Abort;
+
+/// What a reply tells, of the calls in these runs.
+#[derive(Clone, Copy, Debug, PartialEq, Eq)]
+enum Told {
+    Taken(Result<Taken, Stopped>),
+    Own(Result<Change, NodeError>),
+    Expired(Result<Option<Change>, NodeError>),
+    Member(Option<Entry>),
+    Len(usize),
+    Another,
+}
+
+/// What a reply tells.
+fn read(reply: &Reply) -> Told {
+    match reply {
+        Reply::Take(answer) => Told::Taken(*answer),
+        Reply::Leave(answer) | Reply::Rejoin(answer) => Told::Own(*answer),
+        Reply::Own(own) => Told::Own(Ok(*own)),
+        Reply::Expire(answer) => Told::Expired(*answer),
+        Reply::Member(entry) => Told::Member(*entry),
+        Reply::Len(count) => Told::Len(*count),
+        _ => Told::Another,
+    }
+}
+
+/// Whether a call was refused memory.
+fn is_refused(told: Told) -> bool {
+    match told {
+        Told::Taken(answer) => answer.err().map(|stopped| stopped.cause) == Some(StopCause::Memory),
+        Told::Own(answer) => answer == Err(NodeError::Memory),
+        Told::Expired(answer) => answer == Err(NodeError::Memory),
+        _ => false,
+    }
+}
+
+/// Makes these calls of a node alone, which comes back as it was where its replies find no memory.
+fn finish(
+    rt: &impl Abort,
+    alloc: Global,
+    node: NodeState<SumHash>,
+    events: &[Event],
+) -> Run<SumHash> {
+    match run(alloc, node, events) {
+        Ok(finished) => finished,
+        Err(refused) => {
+            assert!(rt; has_text(&refused.node, "10.0.0.1:1alive7"));
+            run(alloc, refused.node, events).ok().expect(rt, "a run")
+        }
+    }
+}
+
+/// Whether a new node with this many members at most answers these calls so.
+fn answers(
+    rt: &impl Abort,
+    alloc: Global,
+    max: usize,
+    events: &[Event],
+    wanted: &[Told],
+) -> Option<bool> {
+    let start = node(rt, alloc, SumHash, A, 7, max);
+    let finished = finish(rt, alloc, start, events);
+    let replies = finished.replies.as_slice();
+    for reply in replies {
+        if is_refused(read(reply)) {
+            return None;
+        }
+    }
+    let is_each = replies
+        .iter()
+        .zip(wanted.iter())
+        .all(|(reply, wanted)| read(reply) == *wanted);
+    Some(is_each && replies.len() == wanted.len())
+}
+
+/// Checks what a node answers to these calls; where one was refused memory, a new node makes them all.
+fn check(rt: &impl Abort, alloc: Global, max: usize, events: &[Event], wanted: &[Told]) {
+    let first = answers(rt, alloc, max, events, wanted);
+    let answer = first.or_else(|| answers(rt, alloc, max, events, wanted));
+    assert!(rt; answer == Some(true));
+}
+
+/// So many were applied, and so many of these refuted.
+fn counted(applied: usize, refuted: usize) -> Told {
+    Told::Taken(Ok(Taken { applied, refuted }))
+}
+
+/// Takes one change.
+fn taking(rt: &impl Abort, alloc: Global, text: &str, number: u64, status: Status) -> Event {
+    let given = [news(rt, text, number, status)];
+    Event::Take(changes(rt, alloc, &given), moment(rt, 0))
+}
+
+#[test]
+fn a_run_refutes(rt: HostRuntime) {
+    let events = [
+        taking(&rt, rt.alloc(), A, 7, Status::Suspect),
+        Event::Own,
+        taking(&rt, rt.alloc(), A, 6, Status::Faulty),
+    ];
+    let wanted = [
+        counted(1, 1),
+        Told::Own(Ok(change(&rt, A, 8, Status::Alive))),
+        counted(0, 0),
+    ];
+    check(&rt, rt.alloc(), 4096, &events, &wanted);
+}
+
+#[test]
+fn a_run_leaves_and_comes_back(rt: HostRuntime) {
+    let events = [
+        Event::Leave,
+        Event::Leave,
+        taking(&rt, rt.alloc(), A, 9, Status::Alive),
+        Event::Own,
+        Event::Rejoin,
+        Event::Rejoin,
+    ];
+    let wanted = [
+        Told::Own(Ok(change(&rt, A, 7, Status::Leave))),
+        Told::Own(Err(NodeError::AlreadyLeft)),
+        counted(1, 1),
+        Told::Own(Ok(change(&rt, A, 10, Status::Leave))),
+        Told::Own(Ok(change(&rt, A, 11, Status::Alive))),
+        Told::Own(Err(NodeError::NotLeft)),
+    ];
+    check(&rt, rt.alloc(), 4096, &events, &wanted);
+}
+
+#[test]
+fn a_run_stops_where_incarnations_run_out(rt: HostRuntime) {
+    let given = [
+        news(&rt, B, 1, Status::Alive),
+        news(&rt, A, LIMIT, Status::Faulty),
+        news(&rt, C, 1, Status::Alive),
+    ];
+    let events = [
+        Event::Take(changes(&rt, rt.alloc(), &given), moment(&rt, 0)),
+        Event::Member(address(&rt, B)),
+        Event::Member(address(&rt, C)),
+    ];
+    let stopped = Stopped {
+        taken: 1,
+        cause: StopCause::Exhausted,
+    };
+    let wanted = [
+        Told::Taken(Err(stopped)),
+        Told::Member(Some(given[0].change.entry())),
+        Told::Member(None),
+    ];
+    check(&rt, rt.alloc(), 4096, &events, &wanted);
+}
+
+#[test]
+fn a_run_stops_where_it_is_full(rt: HostRuntime) {
+    let given = [
+        news(&rt, B, 1, Status::Alive),
+        news(&rt, C, 1, Status::Alive),
+    ];
+    let events = [
+        Event::Take(changes(&rt, rt.alloc(), &given), moment(&rt, 0)),
+        taking(&rt, rt.alloc(), B, 2, Status::Suspect),
+        Event::Expire(moment(&rt, 5_000)),
+        Event::Len,
+    ];
+    let stopped = Stopped {
+        taken: 1,
+        cause: StopCause::Full,
+    };
+    let wanted = [
+        Told::Taken(Err(stopped)),
+        counted(1, 0),
+        Told::Expired(Ok(Some(change(&rt, B, 2, Status::Faulty)))),
+        Told::Len(2),
+    ];
+    check(&rt, rt.alloc(), 2, &events, &wanted);
+}

@@ -253,6 +253,24 @@ fn a_probe_with_nobody_to_ask_ends(rt: HostRuntime) {
     }
 }
 
+/// Loses a probe where nobody may be asked, though others could be.
+fn ask_nobody(rt: &impl Abort, prober: &mut Prober) {
+    let pingable = four(rt);
+    let probe = begin(rt, prober, &pingable);
+    assert!(rt;
+        matches!(
+            lose(rt, prober, probe.number, &pingable),
+            Ok(Lost::NoHelper)
+        )
+    );
+    assert_eq!(rt; prober.running(), None);
+}
+
+#[test]
+fn no_helper_is_asked_where_none_may_be(rt: HostRuntime) {
+    with_prober(rt.alloc(), 1, 0, 0, |prober| ask_nobody(&rt, prober));
+}
+
 /// Has no number left.
 fn find_no_number(rt: &impl Abort, prober: &mut Prober) {
     assert_eq!(rt; pick(rt, prober, &[node(rt, 2)]), Err(DetectorError::Spent));

@@ -2,7 +2,7 @@
 
 use crate::changes::{ALIVE, HEAVIER, LATER, LEAVE, SUSPECT, TOMBSTONE};
 use crate::fakes::{Form, Lines, Long, Many, Page, Place};
-use crate::runs::{ALL, is_memory, is_placed, is_refused};
+use crate::runs::{ALL, TWO_LINES, is_memory, is_placed, is_refused, read_failed};
 use cli_core::{RunFault, fold_run};
 use std::alloc::Global;
 use std::io::Read;
@@ -205,16 +205,13 @@ fn holds_as_many_as_may_be(rt: HostRuntime) {
 
 #[test]
 fn writes_nothing_after_a_failed_read(rt: HostRuntime) {
-    let texts = [
-        "line 1: read failed",
-        "line 2: read failed",
-        "line 3: read failed",
-    ];
-    let ends = [ALIVE.len(), ALIVE.len() + LATER.len() + 1];
-    for left in 0..=ALIVE.len() + LATER.len() + 2 {
-        let whole = ends.iter().filter(|&&end| end < left).count();
-        let text = texts.get(whole).copied().unwrap_or("");
-        refuses(&rt, rt.alloc(), Lines::new(&[ALIVE, LATER], left), text);
+    for left in 0..=TWO_LINES {
+        refuses(
+            &rt,
+            rt.alloc(),
+            Lines::new(&[ALIVE, LATER], left),
+            read_failed(left),
+        );
     }
 }
 

@@ -2,7 +2,7 @@
 
 use crate::changes::{ALIVE, ELEVENTH, FAULTY, FIRST, HEAVIEST, LATER, THIRD};
 use crate::fakes::{Form, Lines, Many, Page, Place};
-use crate::runs::{ALL, is_memory, is_placed, is_refused};
+use crate::runs::{ALL, TWO_LINES, is_memory, is_placed, is_refused, read_failed};
 use cli_core::{OwnerWords, RunFault, owner_run};
 use std::alloc::Global;
 use std::io::Read;
@@ -92,10 +92,16 @@ fn names_no_owner_after_a_fault(rt: HostRuntime) {
         &mut page,
     );
     is_refused(&rt, ended, &mut page, "line 4097: too many members");
+}
 
-    let mut page = Page::new(ALL);
-    let ended = name_owners(&rt, alloc, &ONE_OWNER, Lines::new(&[ALIVE], 9), &mut page);
-    is_refused(&rt, ended, &mut page, "line 1: read failed");
+#[test]
+fn names_no_owner_after_a_failed_read(rt: HostRuntime) {
+    for left in 0..=TWO_LINES {
+        let lines = Lines::new(&[ALIVE, LATER], left);
+        let mut page = Page::new(ALL);
+        let ended = name_owners(&rt, rt.alloc(), &ONE_OWNER, lines, &mut page);
+        is_refused(&rt, ended, &mut page, read_failed(left));
+    }
 }
 
 /// By SHA-256 the first point of one server is the key's own hash, and so is the eleventh of the other.
@@ -112,8 +118,12 @@ fn names_the_lesser_of_two_at_the_key(rt: HostRuntime) {
         };
         let mut page = Page::new(room);
         let ended = name_owners(&rt, rt.alloc(), &words, Lines::new(lines, ALL), &mut page);
-        assert_eq!(rt; ended.is_ok(), room == whole.len());
-        assert_eq!(rt; page.text().len(), room);
+        let stopped = if room < whole.len() {
+            Err(RunFault::CannotWrite)
+        } else {
+            Ok(())
+        };
+        assert!(rt; ended == stopped && page.text().len() == room);
         assert!(rt; whole.starts_with(page.text()));
     }
 }

@@ -1,5 +1,6 @@
 //! What is asked of any run that ended.
 
+use crate::changes::{ALIVE, LATER};
 use crate::fakes::{Page, Place};
 use cli_core::{LineFault, RunFault};
 use std::io::Write;
@@ -7,6 +8,20 @@ use std::process::Abort;
 
 /// No end of bytes, or of room.
 pub const ALL: usize = usize::MAX;
+
+/// How many bytes the lines `ALIVE` and `LATER` have, with their newlines.
+pub const TWO_LINES: usize = ALIVE.len() + LATER.len() + 2;
+
+/// What is told of a reader of these two lines that fails after so many bytes.
+pub fn read_failed(left: usize) -> &'static str {
+    if left <= ALIVE.len() {
+        "line 1: read failed"
+    } else if left < TWO_LINES {
+        "line 2: read failed"
+    } else {
+        "line 3: read failed"
+    }
+}
 
 /// Whether the fault is a want of memory.
 pub fn is_memory(fault: RunFault) -> bool {

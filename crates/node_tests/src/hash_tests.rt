@@ -103,13 +103,9 @@ fn count_weights<'a>(rt: &impl Abort, node: &mut NodeState<CountingHash<'a>>, ca
 #[test]
 fn a_weight_makes_as_many_points(rt: HostRuntime) {
     let calls = AtomicU64::new(0);
-    with_config(
-        &rt,
-        rt.alloc(),
-        heavy(&rt),
-        CountingHash { calls: &calls },
-        |node| count_weights(&rt, node, &calls),
-    );
+    let hash = CountingHash { calls: &calls };
+    let mut node = configured(&rt, rt.alloc(), heavy(&rt), hash, A, 7);
+    count_weights(&rt, &mut node, &calls);
 }
 
 /// Keeps its weight where it refutes, and where it leaves.
@@ -129,11 +125,5 @@ fn keep_weight(rt: &impl Abort, node: &mut NodeState<SumHash>) {
 
 #[test]
 fn a_node_keeps_its_weight(rt: HostRuntime) {
-    with_config(
-        &rt,
-        rt.alloc(),
-        heavy(&rt),
-        SumHash,
-        |node| keep_weight(&rt, node),
-    );
+    with_config(&rt, rt.alloc(), heavy(&rt), |node| keep_weight(&rt, node));
 }

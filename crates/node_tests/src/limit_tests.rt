@@ -53,7 +53,7 @@ fn take_strangers(rt: &impl Abort, alloc: Global, node: &mut NodeState<SumHash>)
 fn stops_at_the_last_of_as_many_as_may_be(rt: HostRuntime) {
     let mut small = config(4096);
     small.replicas = 1;
-    with_config(&rt, rt.alloc(), small, SumHash, |node| {
+    with_config(&rt, rt.alloc(), small, |node| {
         take_strangers(&rt, rt.alloc(), node)
     });
 }

@@ -102,16 +102,15 @@ pub(crate) fn node<H: PointHash>(
 }
 
 /// Has a new node of this configuration, 10.0.0.1:1 at 7, go through this.
-pub(crate) fn with_config<H: PointHash, F: FnMut(&mut NodeState<H>)>(
+pub(crate) fn with_config<F: FnMut(&mut NodeState<SumHash>)>(
     rt: &impl Abort,
     alloc: Global,
     config: Config,
-    hash: H,
     mut body: F,
 )
     requires { F.IsAlwaysCallable body }
 {
-    let mut node = configured(rt, alloc, config, hash, A, 7);
+    let mut node = configured(rt, alloc, config, SumHash, A, 7);
     body(&mut node);
 }
 

@@ -34,9 +34,10 @@ fn room(rt: &impl Abort, alloc: Global, count: usize) -> Vec<Sourced> {
 fn strangers(rt: &impl Abort, alloc: Global) -> Changes {
     let mut given = room(rt, alloc, 4096);
     for place in 0..4096u32 {
+        let subject = Address::new(0x0b00_0000 + place, 1).expect(rt, "an address");
         let mut one = news(rt, B, 1, Status::Alive);
-        one.change.address = Address::new(0x0b00_0000 + place, 1).expect(rt, "an address");
-        one.source = one.change.address;
+        one.change.address = subject;
+        one.source = subject;
         given.push(one).ok().expect(rt, "room");
     }
     Changes::from_vec(given).ok().expect(rt, "changes")

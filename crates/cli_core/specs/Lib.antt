@@ -9,3 +9,4 @@ pub mod ScriptLines
 pub mod ScriptAnswers
 pub mod Script
 pub mod ScriptRuns
+pub mod Subcommands

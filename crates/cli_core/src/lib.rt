@@ -9,6 +9,7 @@ mod members;
 mod outputs;
 mod owners;
 mod scripts;
+mod subcommands;
 mod words;
 
 pub use faults::{LineFault, RunFault};
@@ -16,4 +17,5 @@ pub use fold::fold_run;
 pub use hashes::{hash_run, hash_text};
 pub use owners::owner_run;
 pub use scripts::{ScriptFault, SimFault, sim_run};
+pub use subcommands::{Subcommand, SubcommandFault, subcommand_run};
 pub use words::{OwnerWords, SimWords};

@@ -15,3 +15,5 @@ mod owners;
 mod runs;
 #[cfg(test)]
 mod scripts;
+#[cfg(test)]
+mod subcommands;

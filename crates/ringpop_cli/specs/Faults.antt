@@ -1,16 +1,15 @@
 -- What an error of the words is to the program, and the exit status.
-use Rattle.std.specs.Prelude.{◌≡◌, ℕ}
+use Rattle.std.specs.Prelude.{ℕ}
 use Rattle.clap.specs.Values.{kind_of}
 use Rattle.clap.specs.declared.error.Error.{Error}
 use Rattle.clap.specs.declared.error.kind.ErrorKind.{ErrorKind}
 use Rattle.clap.specs.declared.error.kind.ErrorKind.TheVariants.{OutOfMemory as no_room}
-use Rattle.cli_core.specs.declared.faults.RunFault.TheVariants.{NoMemory}
 use Rattle.ringpop_cli.specs.declared.faults.Fault.{Fault}
-use Rattle.ringpop_cli.specs.declared.faults.Fault.TheVariants.{Usage, Run, Sim}
+use Rattle.ringpop_cli.specs.declared.faults.Fault.TheVariants.{Usage, NoMemory, Subcommand}
 
 -- an error of the words is a refusal of them, unless a growth was refused
 abbrev pub fault_of_kind : ErrorKind → Error → Fault
-fault_of_kind no_room e = Run NoMemory
+fault_of_kind no_room e = NoMemory
 fault_of_kind k e = Usage e
 
 -- what an error of the words is to a run, by its own kind
@@ -20,11 +19,11 @@ fault_of_words e = fault_of_kind (kind_of e) e
 -- the words are refused, or a growth was
 abbrev pub IsWordsFault : Fault → Type 0
 IsWordsFault (Usage e) = Unit {0}
-IsWordsFault (Run f) = f ≡ NoMemory
-IsWordsFault (Sim f) = ⊥
+IsWordsFault NoMemory = Unit {0}
+IsWordsFault (Subcommand f) = ⊥
 
 -- refused words end with 2, and all else with 1
 abbrev pub status_of : Fault → ℕ
 status_of (Usage e) = 2
-status_of (Run f) = 1
-status_of (Sim f) = 1
+status_of NoMemory = 1
+status_of (Subcommand f) = 1

@@ -1,10 +1,9 @@
 //! Why the program ends before its end.
 ghost use Rattle.std.specs.Prelude.{◌≡◌};
-ghost use Rattle.cli_core.specs.declared.faults.RunFault.TheVariants.{NoMemory};
-ghost use Rattle.ringpop_cli.specs.declared.faults.Fault.TheVariants.{Run, Sim};
+ghost use Rattle.ringpop_cli.specs.declared.faults.Fault.TheVariants.{NoMemory, Subcommand};
 
 use clap::error::ErrorKind;
-use cli_core::{RunFault, SimFault};
+use cli_core::SubcommandFault;
 use std::alloc::{AllocError, AllocFailed};
 use std::fmt;
 
@@ -13,10 +12,10 @@ use std::fmt;
 pub enum Fault {
     /// The words are refused, or ask for help: `clap`'s own text.
     Usage(clap::Error),
-    /// The run ended early.
-    Run(RunFault),
-    /// The script ended early.
-    Sim(SimFault),
+    /// A growth was refused before the subcommand began.
+    NoMemory,
+    /// The subcommand ended early.
+    Subcommand(SubcommandFault),
 }
 
 impl Fault {
@@ -28,7 +27,7 @@ impl Fault {
     {
         match self {
             Fault::Usage(_) => 2,
-            Fault::Run(_) | Fault::Sim(_) => 1,
+            Fault::NoMemory | Fault::Subcommand(_) => 1,
         }
     }
 }
@@ -37,41 +36,33 @@ impl fmt::Display for Fault {
     fn fmt<W: fmt::Write>(&self, f: &mut fmt::Formatter<W>) -> fmt::Result {
         match self {
             Fault::Usage(error) => write!(f, "{error}"),
-            Fault::Run(fault) => writeln!(f, "ringpop: {fault}"),
-            Fault::Sim(fault) => writeln!(f, "ringpop: {fault}"),
+            Fault::NoMemory => writeln!(f, "ringpop: out of memory"),
+            Fault::Subcommand(fault) => writeln!(f, "ringpop: {fault}"),
         }
     }
 }
 
-impl From<RunFault> for Fault {
-    ghost from_gives = { λ e f. f ≡ Run e };
+impl From<SubcommandFault> for Fault {
+    ghost from_gives = { λ e f. f ≡ Subcommand e };
 
-    fn from(fault: RunFault) -> Fault {
-        Fault::Run(fault)
-    }
-}
-
-impl From<SimFault> for Fault {
-    ghost from_gives = { λ e f. f ≡ Sim e };
-
-    fn from(fault: SimFault) -> Fault {
-        Fault::Sim(fault)
+    fn from(fault: SubcommandFault) -> Fault {
+        Fault::Subcommand(fault)
     }
 }
 
 impl From<AllocError> for Fault {
-    ghost from_gives = { λ _ f. f ≡ Run NoMemory };
+    ghost from_gives = { λ _ f. f ≡ NoMemory };
 
     fn from(_refused: AllocError) -> Fault {
-        Fault::Run(RunFault::NoMemory)
+        Fault::NoMemory
     }
 }
 
 impl<T: Drop> From<AllocFailed<T>> for Fault {
-    ghost from_gives = { λ _ f. f ≡ Run NoMemory };
+    ghost from_gives = { λ _ f. f ≡ NoMemory };
 
     fn from(_refused: AllocFailed<T>) -> Fault {
-        Fault::Run(RunFault::NoMemory)
+        Fault::NoMemory
     }
 }
 
@@ -82,7 +73,7 @@ impl From<clap::Error> for Fault {
 
     fn from(error: clap::Error) -> Fault {
         match error.kind() {
-            ErrorKind::OutOfMemory => Fault::Run(RunFault::NoMemory),
+            ErrorKind::OutOfMemory => Fault::NoMemory,
             _ => Fault::Usage(error),
         }
     }

@@ -3,8 +3,10 @@ ghost use Rattle.change_core.specs.Numbers.{most_members};
 ghost use Rattle.hash_ring.specs.Points.{IsReplicas};
 
 use crate::faults::Fault;
-use crate::words::{Words, read_words, words_not_text};
-use cli_core::{LineFault, OwnerWords, RunFault, ScriptFault, SimFault, SimWords};
+use crate::words::{read_words, words_not_text};
+use cli_core::{
+    LineFault, OwnerWords, RunFault, ScriptFault, SimFault, SimWords, Subcommand, SubcommandFault,
+};
 use std::alloc::Global;
 use std::process::Abort;
 
@@ -28,60 +30,69 @@ fn begins(rt: &impl Abort, alloc: Global, fault: &Fault, text: &str) {
     assert_eq!(rt; fault.status(), 2);
 }
 
-/// Faults of runs, and what is said of them.
-const RUN_FAULTS: [(RunFault, &str); 4] = [
-    (RunFault::NoMemory, "ringpop: out of memory\n"),
+/// Faults of subcommands, and what is said of them.
+const FAULTS: [(SubcommandFault, &str); 8] = [
     (
-        RunFault::AtLine(7, LineFault::OutOfMemory),
+        SubcommandFault::Run(RunFault::NoMemory),
+        "ringpop: out of memory\n",
+    ),
+    (
+        SubcommandFault::Run(RunFault::AtLine(7, LineFault::OutOfMemory)),
         "ringpop: line 7: out of memory\n",
     ),
     (
-        RunFault::AtLine(4097, LineFault::TooManyMembers),
-        "ringpop: line 4097: too many members\n",
-    ),
-    (RunFault::CannotWrite, "ringpop: cannot write\n"),
-];
-
-/// Faults of scripts, and what is said of them.
-const SIM_FAULTS: [(SimFault, &str); 3] = [
-    (
-        SimFault::AtLine(7, ScriptFault::OutOfMemory),
-        "ringpop: line 7: out of memory\n",
-    ),
-    (
-        SimFault::AtLine(7, ScriptFault::ReadFailed),
+        SubcommandFault::Run(RunFault::AtLine(7, LineFault::ReadFailed)),
         "ringpop: line 7: read failed\n",
     ),
-    (SimFault::CannotWrite, "ringpop: cannot write\n"),
+    (
+        SubcommandFault::Run(RunFault::AtLine(4097, LineFault::TooManyMembers)),
+        "ringpop: line 4097: too many members\n",
+    ),
+    (
+        SubcommandFault::Run(RunFault::CannotWrite),
+        "ringpop: cannot write\n",
+    ),
+    (
+        SubcommandFault::Sim(SimFault::AtLine(7, ScriptFault::OutOfMemory)),
+        "ringpop: line 7: out of memory\n",
+    ),
+    (
+        SubcommandFault::Sim(SimFault::AtLine(7, ScriptFault::ReadFailed)),
+        "ringpop: line 7: read failed\n",
+    ),
+    (
+        SubcommandFault::Sim(SimFault::CannotWrite),
+        "ringpop: cannot write\n",
+    ),
 ];
 
 #[test]
 fn tells_what_the_machine_refused(rt: HostRuntime) {
-    for (fault, text) in RUN_FAULTS {
-        tells(&rt, rt.alloc(), &Fault::from(fault), text);
-    }
-    for (fault, text) in SIM_FAULTS {
+    tells(
+        &rt,
+        rt.alloc(),
+        &Fault::NoMemory,
+        "ringpop: out of memory\n",
+    );
+    for (fault, text) in FAULTS {
         tells(&rt, rt.alloc(), &Fault::from(fault), text);
     }
 }
 
 /// What the words ask for, or the refusal. After a refused growth they are read again.
-fn read<'a>(rt: &impl Abort, alloc: Global, words: &'a [&'a str]) -> Result<Words<'a>, Fault> {
+fn read<'a>(alloc: Global, words: &'a [&'a str]) -> Result<Subcommand<'a>, Fault> {
     match read_words(alloc, words) {
-        Err(Fault::Run(fault)) => {
-            assert_eq!(rt; fault, RunFault::NoMemory);
-            read_words(alloc, words)
-        }
+        Err(Fault::NoMemory) => read_words(alloc, words),
         ended => ended,
     }
 }
 
 /// The words of `owner` for so many owners, with so many points of a server.
-fn of_key(count: usize, replicas: u32, sum: bool, key: &str) -> Words<'_>
+fn of_key(count: usize, replicas: u32, sum: bool, key: &str) -> Subcommand<'_>
     requires few { count ≤ most_members }
     requires range { IsReplicas replicas }
 {
-    Words::Owner(OwnerWords {
+    Subcommand::Owner(OwnerWords {
         count,
         replicas,
         sum,
@@ -90,25 +101,25 @@ fn of_key(count: usize, replicas: u32, sum: bool, key: &str) -> Words<'_>
 }
 
 /// The words of `sim` with so many points of a server.
-fn of_script(replicas: u32, sum: bool) -> Words<'static>
+fn of_script(replicas: u32, sum: bool) -> Subcommand<'static>
     requires { IsReplicas replicas }
 {
-    Words::Sim(SimWords { replicas, sum })
+    Subcommand::Sim(SimWords { replicas, sum })
 }
 
 #[test]
 fn reads_the_words(rt: HostRuntime) {
-    let cases: [(&[&str], Words<'_>); 11] = [
+    let cases: [(&[&str], Subcommand<'_>); 11] = [
         (&["ringpop", "sim"], of_script(100, false)),
         (
             &["ringpop", "sim", "--sum", "--replicas", "2"],
             of_script(2, true),
         ),
-        (&[], Words::Fold),
-        (&["ringpop"], Words::Fold),
-        (&["ringpop", "fold"], Words::Fold),
-        (&["ringpop", "hash", ""], Words::Hash("")),
-        (&["ringpop", "hash", "abc"], Words::Hash("abc")),
+        (&[], Subcommand::Fold),
+        (&["ringpop"], Subcommand::Fold),
+        (&["ringpop", "fold"], Subcommand::Fold),
+        (&["ringpop", "hash", ""], Subcommand::Hash("")),
+        (&["ringpop", "hash", "abc"], Subcommand::Hash("abc")),
         (&["ringpop", "owner", "k"], of_key(1, 100, false, "k")),
         (
             &["ringpop", "owner", "--n", "0", "k"],
@@ -133,7 +144,7 @@ fn reads_the_words(rt: HostRuntime) {
         ),
     ];
     for (words, wanted) in cases {
-        let words = read(&rt, rt.alloc(), words);
+        let words = read(rt.alloc(), words);
         assert!(rt; matches!(words, Ok(words) if words == wanted));
     }
 }
@@ -194,7 +205,7 @@ const REFUSED_WORDS: [(&[&str], &str); 13] = [
 #[test]
 fn refuses_words(rt: HostRuntime) {
     for (words, text) in REFUSED_WORDS {
-        let Err(fault) = read(&rt, rt.alloc(), words) else {
+        let Err(fault) = read(rt.alloc(), words) else {
             panic!(rt; "not refused: {text}")
         };
         begins(&rt, rt.alloc(), &fault, text);
@@ -204,7 +215,7 @@ fn refuses_words(rt: HostRuntime) {
 #[test]
 fn refuses_words_that_are_not_text(rt: HostRuntime) {
     let fault = match words_not_text(rt.alloc()) {
-        Fault::Run(RunFault::NoMemory) => words_not_text(rt.alloc()),
+        Fault::NoMemory => words_not_text(rt.alloc()),
         fault => fault,
     };
     let text = "error: the words are not UTF-8\n";

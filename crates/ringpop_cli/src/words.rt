@@ -9,23 +9,10 @@ use crate::faults::Fault;
 use change_core::MOST_MEMBERS;
 use clap::ArgMatches;
 use clap::error::ErrorKind;
-use cli_core::{OwnerWords, SimWords};
+use cli_core::{OwnerWords, SimWords, Subcommand};
 use hash_ring::MOST_REPLICAS;
 use std::alloc::{AllocError, Global};
 use std::convert::AsStr;
-
-/// What the words ask for.
-#[derive(Clone, Copy, Debug, PartialEq, Eq)]
-pub enum Words<'a> {
-    /// The members' digest text and digest.
-    Fold,
-    /// The hash of a text.
-    Hash(&'a str),
-    /// The owners of a key.
-    Owner(OwnerWords<'a>),
-    /// The answers to a script.
-    Sim(SimWords),
-}
 
 /// A number, if it is there and in this range.
 fn number(matches: &ArgMatches<'_>, id: &str, least: u64, most: u64) -> Option<u64>
@@ -66,20 +53,20 @@ fn sim_words(matches: &ArgMatches<'_>) -> Option<SimWords> {
 }
 
 /// What the words that `clap` took ask for, if each is there and in its range.
-fn words_of<'a>(matches: &ArgMatches<'a>) -> Option<Words<'a>> {
+fn subcommand_of<'a>(matches: &ArgMatches<'a>) -> Option<Subcommand<'a>> {
     match matches.subcommand() {
-        None | Some(("fold", _)) => Some(Words::Fold),
+        None | Some(("fold", _)) => Some(Subcommand::Fold),
         Some(("hash", inner)) => {
             let text = inner.get_str(TEXT)?;
-            Some(Words::Hash(text))
+            Some(Subcommand::Hash(text))
         }
         Some(("owner", inner)) => {
             let words = owner_words(inner)?;
-            Some(Words::Owner(words))
+            Some(Subcommand::Owner(words))
         }
         Some(("sim", inner)) => {
             let words = sim_words(inner)?;
-            Some(Words::Sim(words))
+            Some(Subcommand::Sim(words))
         }
         Some(_) => None,
     }
@@ -87,16 +74,16 @@ fn words_of<'a>(matches: &ArgMatches<'a>) -> Option<Words<'a>> {
 
 /// Reads the words, of which the first is the program's name. With no other they ask for `fold`. What `clap` refuses, a
 /// call for help among it, is a `Fault::Usage`. Each number in the words is in its range.
-pub fn read_words<'a, S: AsStr>(alloc: Global, words: &'a [S]) -> Result<Words<'a>, Fault>
-    ensures alone { length words.now ≤ 1 → result ≡ Ok Words.Fold }
+pub fn read_words<'a, S: AsStr>(alloc: Global, words: &'a [S]) -> Result<Subcommand<'a>, Fault>
+    ensures alone { length words.now ≤ 1 → result ≡ Ok Subcommand.Fold }
     ensures fault { IfErr result IsWordsFault }
 {
     if words.len() < 2 {
-        return Ok(Words::Fold);
+        return Ok(Subcommand::Fold);
     }
     let matches = ringpop_command(alloc)?.try_get_matches_from(words)?;
     // `clap` has tested the words, so that none of them is refused here.
-    words_of(&matches).ok_or_else(|| refusal(alloc, "a word is absent or not in its range"))
+    subcommand_of(&matches).ok_or_else(|| refusal(alloc, "a word is absent or not in its range"))
 }
 
 /// A refusal of the words in the form of `clap`'s, or a want of memory.

@@ -1,0 +1,112 @@
+//! Each subcommand by its words.
+
+use crate::changes::{ALIVE, LATER};
+use crate::fakes::{Lines, Page};
+use crate::runs::ALL;
+use cli_core::{
+    LineFault, OwnerWords, RunFault, ScriptFault, SimFault, SimWords, Subcommand, SubcommandFault,
+    subcommand_run,
+};
+use std::alloc::Global;
+use std::io::Write;
+use std::process::Abort;
+
+/// The one owner of a key.
+const OWNER: Subcommand<'static> = Subcommand::Owner(OwnerWords {
+    count: 1,
+    replicas: 100,
+    sum: false,
+    key: "k",
+});
+
+/// The answers to a script.
+const SIM: Subcommand<'static> = Subcommand::Sim(SimWords {
+    replicas: 100,
+    sum: false,
+});
+
+/// A subcommand and its input, what is written, and what is said of the fault if there is one.
+const RUNS: [(Subcommand<'static>, &[&str], &str, &str); 8] = [
+    (
+        Subcommand::Fold,
+        &[ALIVE, LATER],
+        "10.0.0.2:1alive6\n71f2e2fce762716835393b50a95728bc73ddc10927921dee7639cf34388c0cf7\n",
+        "",
+    ),
+    (Subcommand::Hash("abc"), &["[]"], "ba7816bf8f01cfea\n", ""),
+    (OWNER, &[ALIVE], "10.0.0.2:1\n", ""),
+    (
+        SIM,
+        &["node 10.0.0.1:1 7", "members 10.0.0.1:1"],
+        "ok\n10.0.0.1:1alive7\n",
+        "",
+    ),
+    (
+        Subcommand::Fold,
+        &[ALIVE, "[]"],
+        "",
+        "line 2: not an object",
+    ),
+    (OWNER, &[""], "", "line 1: not JSON"),
+    (SIM, &["at 5", "at"], "ok\n", "line 2: bad command"),
+    (SIM, &["leave 10.0.0.1:1"], "", "line 1: unknown node"),
+];
+
+/// Whether the fault is a want of memory.
+fn is_memory(fault: SubcommandFault) -> bool {
+    matches!(
+        fault,
+        SubcommandFault::Run(RunFault::NoMemory)
+            | SubcommandFault::Run(RunFault::AtLine(_, LineFault::OutOfMemory))
+            | SubcommandFault::Sim(SimFault::AtLine(_, ScriptFault::OutOfMemory))
+    )
+}
+
+/// Runs a subcommand on lines. After a refused growth it is run again, on a page as it was.
+fn run(
+    alloc: Global,
+    subcommand: &Subcommand<'_>,
+    lines: &[&str],
+    page: &mut Page,
+) -> Result<(), SubcommandFault> {
+    let before = *page;
+    match subcommand_run(alloc, subcommand, &mut Lines::new(lines, ALL), page) {
+        Err(fault) if is_memory(fault) => {
+            *page = before;
+            subcommand_run(alloc, subcommand, &mut Lines::new(lines, ALL), page)
+        }
+        ended => ended,
+    }
+}
+
+/// That this is said of the fault, or that there is none where nothing is said.
+fn says(rt: &impl Abort, ended: Result<(), SubcommandFault>, text: &str) {
+    let mut said = Page::new(ALL);
+    if let Err(fault) = ended {
+        let written = write!(said, "{fault}").is_ok();
+        assert!(rt; written);
+    }
+    assert_eq!(rt; said.text(), text);
+}
+
+#[test]
+fn runs_the_subcommand_that_is_named(rt: HostRuntime) {
+    for (i, (subcommand, lines, output, text)) in RUNS.iter().enumerate() {
+        let mut page = Page::new(ALL);
+        let ended = run(rt.alloc(), subcommand, lines, &mut page);
+        assert_eq!(rt; page.text(), *output, "case {i}");
+        says(&rt, ended, text);
+    }
+}
+
+#[test]
+fn tells_of_a_failed_write(rt: HostRuntime) {
+    for (subcommand, lines, _, text) in &RUNS {
+        if text.is_empty() {
+            let mut page = Page::new(0);
+            let ended = run(rt.alloc(), subcommand, lines, &mut page);
+            assert_eq!(rt; page.text(), "");
+            says(&rt, ended, "cannot write");
+        }
+    }
+}

@@ -21,35 +21,74 @@ pub const KEY: &str = "key";
 /// The text that is hashed.
 pub const TEXT: &str = "text";
 
+/// What stands below the help of the program.
+const BELOW: &str =
+    r#"A change line is one JSON object, in which a node (the source) says what it holds of a member:
+  {"address":"10.0.0.2:7946","incarnationNumber":5,"source":"10.0.0.1:7946","sourceIncarnationNumber":3,"status":"alive"}
+The status is alive, suspect, faulty, leave or tombstone. A member of more weight has "weight" too: 1 (if absent) to 8.
+
+Examples:
+  ringpop < changes.jsonl                        the members, and the digest that equal members share
+  ringpop owner --n 2 trip-42 < changes.jsonl    the two members that own the key trip-42, the first first
+
+Exit status: 0 if all went well; 1 if a line is at fault, or if reading, writing or memory failed; 2 if the words are
+refused, or ask for help or the version."#;
+
+/// What stands below the help of `sim`.
+const BELOW_SIM: &str =
+    r#"Commands of a script, with one space between words (X and Y are addresses, I is an incarnation, W a weight):
+  node X I [W]                     make a node
+  restart X I [W]                  make it anew, at a greater incarnation
+  at MS                            set the time, in milliseconds
+  take X Y I STATUS [W]            tell X that Y is alive, suspect, faulty, leave or tombstone
+  leave X, rejoin X                let X leave, or come back
+  expire X                         let one timer of X run out
+  members X, digest X              ask X for its members, or for their digest
+  owners X N KEY                   ask X for the first N owners of a key
+  send X Y                         keep the ping of X to Y, as the message with the next number
+  deliver NUMBER                   deliver a message"#;
+
 /// An option with a whole number in a range.
-fn option<'a>(alloc: Global, name: &'a str, default: &'a str, least: u64, most: u64) -> Arg<'a> {
+fn option<'a>(
+    alloc: Global,
+    name: &'a str,
+    value: &'a str,
+    default: &'a str,
+    least: u64,
+    most: u64,
+) -> Arg<'a> {
     Arg::new(alloc, name)
         .long(name)
+        .value_name(value)
         .value_parser(ValueParser::unsigned(least, most))
         .default_value(default)
 }
 
-/// A word that has to be given.
-fn word<'a>(alloc: Global, name: &'a str) -> Arg<'a> {
-    Arg::new(alloc, name).required(true)
+/// A word that has to be given: a text, which may be empty.
+fn word<'a>(alloc: Global, name: &'a str, value: &'a str, help: &'a str) -> Arg<'a> {
+    Arg::new(alloc, name)
+        .required(true)
+        .value_name(value)
+        .help(help)
 }
 
 fn fold_command<'a>(alloc: Global) -> Command<'a> {
     Command::new(alloc, "fold").about(
-        "Reads change lines; prints their members' digest text and digest",
+        "Reads change lines; prints the members that they come to, and their digest",
     )
 }
 
 fn hash_command<'a>(alloc: Global) -> Result<Command<'a>, AllocError> {
+    let text = word(alloc, TEXT, "TEXT", "The text, which may be empty");
     Command::new(alloc, "hash")
-        .about("Prints the 16 hexadecimal digits of a text's hash")
-        .arg(word(alloc, TEXT))
+        .about("Prints where a text stands on the ring: 16 hexadecimal digits of its SHA-256")
+        .arg(text)
 }
 
 /// How many points a server has for each of its weight.
 fn replicas_option<'a>(alloc: Global) -> Arg<'a> {
-    option(alloc, REPLICAS, "100", 1, u64::from(MOST_REPLICAS)).help(
-        "Points of a server for each of its weight",
+    option(alloc, REPLICAS, "R", "100", 1, u64::from(MOST_REPLICAS)).help(
+        "Points on the ring of a member, for each unit of its weight: 1 to 1000",
     )
 }
 
@@ -58,22 +97,26 @@ fn sum_flag<'a>(alloc: Global) -> Arg<'a> {
     Arg::new(alloc, SUM)
         .long(SUM)
         .action(ArgAction::SetTrue)
-        .help("Hash by the sum of the bytes")
+        .help("Hash by the sum of the bytes in place of SHA-256 (to follow an example by hand)")
 }
 
 fn owner_command<'a>(alloc: Global) -> Result<Command<'a>, AllocError> {
-    let count = option(alloc, COUNT, "1", 0, MOST_MEMBERS as u64).help("How many owners to name");
+    let count = option(alloc, COUNT, "N", "1", 0, MOST_MEMBERS as u64).help(
+        "How many owners to print, the first first: 0 to 4096",
+    );
+    let key = word(alloc, KEY, "KEY", "The key: any text, which may be empty");
     Command::new(alloc, "owner")
-        .about("Reads change lines; prints the owners of a key among their members")
+        .about("Reads change lines; prints the members that own a key, one a line")
         .arg(count)?
         .arg(replicas_option(alloc))?
         .arg(sum_flag(alloc))?
-        .arg(word(alloc, KEY))
+        .arg(key)
 }
 
 fn sim_command<'a>(alloc: Global) -> Result<Command<'a>, AllocError> {
     Command::new(alloc, "sim")
-        .about("Reads a script of nodes, a command a line; answers each with a line")
+        .about("Reads a script of nodes in one process, a command a line; answers each with a line")
+        .after_help(BELOW_SIM)
         .arg(replicas_option(alloc))?
         .arg(sum_flag(alloc))
 }
@@ -81,9 +124,12 @@ fn sim_command<'a>(alloc: Global) -> Result<Command<'a>, AllocError> {
 /// The subcommands and their words.
 pub fn ringpop_command<'a>(alloc: Global) -> Result<Command<'a>, AllocError> {
     Command::new(alloc, "ringpop")
+        .bin_name("ringpop")?
+        .version("0.1.0")
         .about(
-            "The members and the ring of a cluster, from change lines on standard input. With no command it is fold.",
+            "The members of a cluster and the owners of its keys, from change lines on standard input. With no command it is fold.",
         )
+        .after_help(BELOW)
         .subcommand(fold_command(alloc))?
         .subcommand(hash_command(alloc)?)?
         .subcommand(owner_command(alloc)?)?

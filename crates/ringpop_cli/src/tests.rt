@@ -150,7 +150,7 @@ fn reads_the_words(rt: HostRuntime) {
 }
 
 /// Words, and how their refusal begins.
-const REFUSED_WORDS: [(&[&str], &str); 13] = [
+const REFUSED_WORDS: [(&[&str], &str); 15] = [
     (&["ringpop", ""], "error: unrecognized subcommand ''\n"),
     (
         &["ringpop", "serve"],
@@ -158,7 +158,12 @@ const REFUSED_WORDS: [(&[&str], &str); 13] = [
     ),
     (
         &["ringpop", "--help"],
-        "The members and the ring of a cluster",
+        "The members of a cluster and the owners of its keys",
+    ),
+    (&["ringpop", "--version"], "ringpop 0.1.0\n"),
+    (
+        &["elsewhere/ringpop", "sim", "--help"],
+        "Reads a script of nodes in one process, a command a line; answers each with a line\n\nUsage: ringpop sim [OPTIONS]\n",
     ),
     (
         &["ringpop", "fold", "x"],
@@ -178,15 +183,15 @@ const REFUSED_WORDS: [(&[&str], &str); 13] = [
     ),
     (
         &["ringpop", "owner", "--n", "4097", "k"],
-        "error: invalid value '4097' for '--n <n>'",
+        "error: invalid value '4097' for '--n <N>'",
     ),
     (
         &["ringpop", "owner", "--replicas", "0", "k"],
-        "error: invalid value '0' for '--replicas <replicas>'",
+        "error: invalid value '0' for '--replicas <R>'",
     ),
     (
         &["ringpop", "owner", "--replicas", "1001", "k"],
-        "error: invalid value '1001' for '--replicas <replicas>'",
+        "error: invalid value '1001' for '--replicas <R>'",
     ),
     (
         &["ringpop", "sim", "x"],
@@ -194,11 +199,11 @@ const REFUSED_WORDS: [(&[&str], &str); 13] = [
     ),
     (
         &["ringpop", "sim", "--replicas", "0"],
-        "error: invalid value '0' for '--replicas <replicas>'",
+        "error: invalid value '0' for '--replicas <R>'",
     ),
     (
         &["ringpop", "sim", "--replicas", "1001"],
-        "error: invalid value '1001' for '--replicas <replicas>'",
+        "error: invalid value '1001' for '--replicas <R>'",
     ),
 ];
 

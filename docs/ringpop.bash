@@ -1,0 +1,18 @@
+# Completion of ringpop's words for bash: `. docs/ringpop.bash`, or copy it to ~/.local/share/bash-completion/completions/ringpop.
+_ringpop() {
+    local word=${COMP_WORDS[COMP_CWORD]} before=${COMP_WORDS[COMP_CWORD - 1]} words
+    case $before in
+        --n | --replicas) return ;;
+    esac
+    case ${COMP_WORDS[1]} in
+        owner) words='--n --replicas --sum --help' ;;
+        sim) words='--replicas --sum --help' ;;
+        fold | hash) words='--help' ;;
+        help) words='fold hash owner sim' ;;
+    esac
+    if [ "$COMP_CWORD" -eq 1 ]; then
+        words='fold hash owner sim help --help --version'
+    fi
+    mapfile -t COMPREPLY < <(compgen -W "$words" -- "$word")
+}
+complete -F _ringpop ringpop

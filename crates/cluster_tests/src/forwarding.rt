@@ -228,14 +228,15 @@ fn the_owner_answers_a_request(rt: HostRuntime) {
     }
 }
 
+const HANDLERS: [(Mood, Option<ClusterError>); 3] = [
+    (Mood::Willing, None),
+    (Mood::Failing, Some(ClusterError::HandlerFault)),
+    (Mood::Starved, Some(ClusterError::Memory)),
+];
+
 #[test]
 fn a_request_is_handled_here(rt: HostRuntime) {
-    let rows = [
-        (Mood::Willing, None),
-        (Mood::Failing, Some(ClusterError::HandlerFault)),
-        (Mood::Starved, Some(ClusterError::Memory)),
-    ];
-    for (mood, wanted) in rows {
+    for (mood, wanted) in HANDLERS {
         let mut asked = plain(Mood::Broken, 9);
         asked.handler = mood;
         let (answer, sendings) = request(&rt, rt.alloc(), 0, &asked);

@@ -111,22 +111,24 @@ fn check_end<R: Wait + Abort>(rt: &R, alloc: Global, row: &Row) {
     assert!(rt; found == row.wanted);
 }
 
+/// The others, their mood, and how the round ends, how often its link is asked and how often that fails.
+const ROUNDS: [(u8, Mood, Result<End, ClusterError>, u64, u64); 7] = [
+    (0, Mood::Willing, Ok(End::Idle), 0, 0),
+    (1, Mood::Willing, Ok(End::Reached), 1, 0),
+    (1, Mood::Failing, Ok(End::Suspected), 1, 0),
+    (1, Mood::Broken, Ok(End::Suspected), 1, 1),
+    (3, Mood::Willing, Ok(End::Reached), 1, 0),
+    (3, Mood::Broken, Ok(End::Inconclusive), 3, 3),
+    (3, Mood::Starved, Err(ClusterError::Memory), 1, 0),
+];
+
 #[test]
 fn a_round_ends_by_what_the_peers_answer(rt: HostRuntime) {
-    let rows = [
-        (0, Mood::Willing, came_to(Ok(End::Idle), 0, 0)),
-        (1, Mood::Willing, came_to(Ok(End::Reached), 1, 0)),
-        (1, Mood::Failing, came_to(Ok(End::Suspected), 1, 0)),
-        (1, Mood::Broken, came_to(Ok(End::Suspected), 1, 1)),
-        (3, Mood::Willing, came_to(Ok(End::Reached), 1, 0)),
-        (3, Mood::Broken, came_to(Ok(End::Inconclusive), 3, 3)),
-        (3, Mood::Starved, came_to(Err(ClusterError::Memory), 1, 0)),
-    ];
-    for (others, mood, wanted) in rows {
+    for (others, mood, end, calls, failures) in ROUNDS {
         let row = Row {
             others,
             mood,
-            wanted,
+            wanted: came_to(end, calls, failures),
         };
         check_end(&rt, rt.alloc(), &row);
     }
@@ -472,16 +474,17 @@ fn check_joining<R: Wait + Abort>(rt: &R, alloc: Global, row: &Joining) {
     assert!(rt; joined == row.wanted);
 }
 
+const JOININGS: [(usize, Mood, Result<u32, ClusterError>); 5] = [
+    (2, Mood::Willing, Ok(2)),
+    (2, Mood::Failing, Err(ClusterError::NoneJoined)),
+    (2, Mood::Broken, Err(ClusterError::NoneJoined)),
+    (2, Mood::Starved, Err(ClusterError::Memory)),
+    (0, Mood::Willing, Err(ClusterError::NoneJoined)),
+];
+
 #[test]
 fn a_join_counts_the_hosts_that_answer(rt: HostRuntime) {
-    let rows = [
-        (2, Mood::Willing, Ok(2)),
-        (2, Mood::Failing, Err(ClusterError::NoneJoined)),
-        (2, Mood::Broken, Err(ClusterError::NoneJoined)),
-        (2, Mood::Starved, Err(ClusterError::Memory)),
-        (0, Mood::Willing, Err(ClusterError::NoneJoined)),
-    ];
-    for (hosts, mood, wanted) in rows {
+    for (hosts, mood, wanted) in JOININGS {
         let row = Joining {
             hosts,
             mood,

@@ -139,9 +139,26 @@ fn a_ping_is_answered_by_an_ack(rt: HostRuntime) {
 /// A change that stops its taking, and how that is refused.
 #[derive(Clone, Copy)]
 struct Stop {
-    change: Sourced,
+    number: u8,
+    incarnation: u64,
+    status: Status,
     reason: Reason,
 }
+
+const STOPS: [Stop; 2] = [
+    Stop {
+        number: 2,
+        incarnation: 1,
+        status: Status::Alive,
+        reason: Reason::Full,
+    },
+    Stop {
+        number: 1,
+        incarnation: LIMIT,
+        status: Status::Faulty,
+        reason: Reason::Exhausted,
+    },
+];
 
 /// Checks how messages with this change are refused.
 fn check_stop<R: Wait + Abort>(
@@ -154,33 +171,24 @@ fn check_stop<R: Wait + Abort>(
     requires { Fits shared.now pass.old }
 {
     let wanted = Some(stop.reason);
-    let join = Content::Join(content(rt, alloc, &[stop.change]));
+    let told = [news(rt, stop.number, stop.incarnation, stop.status)];
+    let join = Content::Join(content(rt, alloc, &told));
     assert!(rt; refusal(rt, alloc, shared, pass, WILLING, join) == wanted);
-    let ping = Content::Ping(content(rt, alloc, &[stop.change]));
+    let ping = Content::Ping(content(rt, alloc, &told));
     assert!(rt; refusal(rt, alloc, shared, pass, WILLING, ping) == wanted);
-    let asked = Content::PingReq(content(rt, alloc, &[stop.change]), member(rt, 3));
+    let asked = Content::PingReq(content(rt, alloc, &told), member(rt, 3));
     assert!(rt; refusal(rt, alloc, shared, pass, WILLING, asked) == wanted);
 }
 
 #[test]
 fn a_taking_that_stops_is_refused_by_its_cause(rt: HostRuntime) {
     let alloc = rt.alloc();
-    let rows = [
-        Stop {
-            change: news(&rt, 2, 1, Status::Alive),
-            reason: Reason::Full,
-        },
-        Stop {
-            change: news(&rt, 1, LIMIT, Status::Faulty),
-            reason: Reason::Exhausted,
-        },
-    ];
     let start = Start {
         max: 1,
         turns: 99,
         others: 0,
     };
-    for row in &rows {
+    for row in &STOPS {
         with_node(&rt, alloc, &start, |shared, pass| {
             check_stop(&rt, alloc, shared, pass, row)
         });
@@ -225,17 +233,18 @@ fn check_target<R: Wait + Abort>(
     assert!(rt; calls == row.calls);
 }
 
+const TARGETS: [(u8, Mood, Option<bool>, u64); 5] = [
+    (3, Mood::Willing, Some(true), 1),
+    (3, Mood::Failing, Some(false), 1),
+    (3, Mood::Broken, Some(false), 1),
+    (3, Mood::Starved, None, 1),
+    (1, Mood::Broken, Some(true), 0),
+];
+
 #[test]
 fn a_ping_req_tells_whether_its_target_was_reached(rt: HostRuntime) {
     let alloc = rt.alloc();
-    let rows = [
-        (3, Mood::Willing, Some(true), 1),
-        (3, Mood::Failing, Some(false), 1),
-        (3, Mood::Broken, Some(false), 1),
-        (3, Mood::Starved, None, 1),
-        (1, Mood::Broken, Some(true), 0),
-    ];
-    for (target, mood, reached, calls) in rows {
+    for (target, mood, reached, calls) in TARGETS {
         let row = Sought {
             target,
             mood,

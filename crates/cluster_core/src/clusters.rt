@@ -1,15 +1,9 @@
 //! Nodes of one process, each served by workers of its own, that talk over channels.
-ghost use Rattle.std.specs.Prelude.{◌≡◌, ◌≢◌, ◌<◌, ◌≤◌, ◌+◌, ◌++◌, ◌∷◌, [], map, slice_index_or, IsTrue, IsFalse, IfOk, IfErr, IfNone, IfSome, Err, All, length};
+ghost use Rattle.std.specs.Prelude.{◌≡◌, ◌≢◌, ◌<◌, ◌≤◌, IsTrue, IsFalse, IfOk, IfErr, IfNone, IfSome, Err, All, length};
 ghost use Rattle.std.specs.List.{AllZip};
 ghost use Rattle.std.specs.Arc.{arc_value};
-ghost use Rattle.turn_lock.specs.Passes.{IsSamePass};
-ghost use Rattle.locked_node.specs.Passes.{Fits, opening_of, passes_of};
-ghost use Rattle.cluster_core.specs.Acts.{IsBarred, Makes};
-ghost use Rattle.cluster_core.specs.Channels.{any_answer, failures_of, reached_by};
-ghost use Rattle.cluster_core.specs.Clusters.{address_in, AreAll, AreApart, AreFresh, given_to, HasNoNode, HasNoPost, HasRound, IsCrew, IsGivenUp, IsNotStarted, IsOfSeat, IsRoundBy, IsSeat, IsWhole, NoneHas, posts_of, Seats, Serves};
-ghost use Rattle.cluster_core.specs.Errors.{IsRoundRefusal};
-ghost use Rattle.cluster_core.specs.Links.{IsNamed};
-ghost use Rattle.cluster_core.specs.Serving.{IsServed};
+ghost use Rattle.locked_node.specs.Passes.{Fits};
+ghost use Rattle.cluster_core.specs.Clusters.{AreApart, HasNoNode, HasNoPost, IsCrew, IsGivenUp, IsNotStarted, IsOfSeat, IsSeat, IsWhole, NoneHas};
 
 use crate::channel_links::{ChannelLink, Job, Post, ask_one, post_of};
 use crate::errors::{ClusterError, LinkError};
@@ -27,7 +21,6 @@ use std::alloc::{AllocError, AllocFailed, Global};
 use std::snapshot::Snapshot;
 use std::sync::{Arc, Wait};
 use std::thread::{self, PromisedHandle, Threads};
-use turn_lock::LockError;
 use wire_json::Message;
 
 /// How many workers a node has at most.
@@ -63,32 +56,11 @@ pub struct Cluster<H: PointHash> {
 }
 
 /// The moment that a worker hands in, which a node reads as its last one.
-fn beginning() -> Moment
-    ensures { result ≡ 0 }
-{
+fn beginning() -> Moment {
     let Some(moment) = Moment::new(0) else {
         unreachable!()
     };
     moment
-}
-
-/// Answers a message, at the moment that a node reads as its last one.
-fn answer_one<R: Wait, H: PointHash, A: Handler>(
-    rt: &R,
-    alloc: Global,
-    node: &LockedNode<H>,
-    pass: &mut NodePass<H>,
-    link: &mut ChannelLink,
-    handler: &A,
-    message: &Message,
-) -> Result<Message, LockError>
-    requires { Fits node.now pass.old }
-    ensures served { IfOk result (λ m. Makes node.now (IsServed H.hash_of any_answer A.may_handle message.now 0 message.now.content m) pass.old pass.new) }
-    ensures refused { IfErr result (IsBarred node.now pass.old pass.new) }
-    ensures fits { Fits node.now pass.new }
-    ensures same { IsSamePass pass.old pass.new }
-{
-    serve_one(rt, alloc, node, pass, link, handler, beginning(), message)
 }
 
 /// Answers what comes until there is nothing more to come, and gives the pass back.
@@ -102,15 +74,21 @@ fn work<R: Wait + Copy, H: PointHash, A: Handler + Drop>(
     jobs: Receiver<Job>,
 ) -> NodePass<H>
     requires { Fits (arc_value node) pass }
-    ensures fits { Fits (arc_value node) result }
-    ensures same { IsSamePass pass result }
+    ensures { Fits (arc_value node) result }
 {
     'jobs: for _ in rt.forever() {
         let Ok(Job::Serve(message, to)) = jobs.recv(&rt) else {
             break;
         };
-        let answer = answer_one(
-            &rt, alloc, &*node, &mut pass, &mut link, &*handler, &message,
+        let answer = serve_one(
+            &rt,
+            alloc,
+            &*node,
+            &mut pass,
+            &mut link,
+            &*handler,
+            beginning(),
+            &message,
         );
         if let Ok(answer) = answer {
             let _sent = to.send(&rt, answer);
@@ -123,10 +101,7 @@ fn work<R: Wait + Copy, H: PointHash, A: Handler + Drop>(
 fn posts_for<H: PointHash>(
     alloc: Global,
     nodes: &[NodeState<H>],
-) -> Result<(Vec<Post>, Vec<Receiver<Job>>), AllocError>
-    ensures posts { IfOk result (λ r. map (λ p. p.address) r.0.items ≡ map address_in nodes.now) }
-    ensures outlets { IfOk result (λ r. length r.1.items ≡ length nodes.now) }
-{
+) -> Result<(Vec<Post>, Vec<Receiver<Job>>), AllocError> {
     let mut posts = Vec::with_capacity(alloc, nodes.len())?;
     let mut outlets = Vec::with_capacity(alloc, nodes.len())?;
     for node in nodes {
@@ -170,7 +145,6 @@ fn has_twins<H: PointHash>(nodes: &[NodeState<H>]) -> bool
 /// At which place the seat of an address is.
 fn place_of<H: PointHash>(seats: &[Seat<H>], address: Address) -> Option<usize>
     ensures some { IfSome result (λ i. (i < length seats.now) × ¬ All (λ s. s.address ≢ address) seats.now) }
-    ensures its { IfSome result (λ i. (d : _) → (slice_index_or seats.now i d).address ≡ address) }
     ensures none { IfNone result (All (λ s. s.address ≢ address) seats.now) }
 {
     for i in 0..seats.len() {
@@ -188,17 +162,13 @@ fn share<H: PointHash>(
     workers: u32,
 ) -> Result<(LockedNode<H>, NodePass<H>, Vec<NodePass<H>>), AllocError>
     requires { workers ≤ 16 }
-    ensures node { IfOk result (λ r. (opening_of r.0 ≡ node) × (passes_of r.0 ≡ workers + 1)) }
-    ensures fits { IfOk result (λ r. Fits r.0 r.1 × All (Fits r.0) r.2.items) }
-    ensures count { IfOk result (λ r. length r.2.items ≡ workers) }
-    ensures all { IfOk result (λ r. AreAll r.0 (r.2.items ++ r.1 ∷ [])) }
-    ensures fresh { IfOk result (λ r. AreFresh (r.2.items ++ r.1 ∷ [])) }
+    ensures { IfOk result (λ r. Fits r.0 r.1 × All (Fits r.0) r.2.items) }
 {
     let Ok((locked, mut passes)) = LockedNode::new(alloc, node, workers + 1, u32::MAX) else {
         return Err(AllocError);
     };
     let Some(pass) = passes.pop() else {
-        unreachable!()
+        return Err(AllocError);
     };
     Ok((locked, pass, passes))
 }
@@ -233,7 +203,7 @@ where
     H: PointHash + Send + Sync + 'static,
     A: Handler + Send + Sync + Drop + 'static,
     requires { Fits (arc_value node.now) pass }
-    ensures hired { IfOk result (λ w. (w.promise.node.value ≡ arc_value node.now) × (given_to w ≡ pass)) }
+    ensures hired { IfOk result (λ w. w.promise.0.value ≡ arc_value node.now) }
     ensures given_up { IfErr result IsGivenUp }
 {
     let runtime = *rt;
@@ -241,10 +211,7 @@ where
     let link = ChannelLink::new(Arc::try_clone(posts)?);
     let handler = Arc::try_clone(handler)?;
     let jobs = outlet.clone()?;
-    let promise = Returned {
-        node: Snapshot::of(&**node),
-        pass: Snapshot::of(&pass),
-    };
+    let promise = Returned(Snapshot::of(&**node));
     let started = thread::spawn_with(rt, promise, move || {
         work(runtime, alloc, theirs, pass, link, handler, jobs)
     });
@@ -270,8 +237,7 @@ where
     H: PointHash + Send + Sync + 'static,
     A: Handler + Send + Sync + Drop + 'static,
     requires { All (Fits (arc_value node.now)) passes.items }
-    ensures hired { IfOk result (λ ws. All (λ w. w.promise.node.value ≡ arc_value node.now) ws.items) }
-    ensures given { IfOk result (λ ws. map given_to ws.items ≡ passes.items) }
+    ensures hired { IfOk result (λ ws. All (λ w. w.promise.0.value ≡ arc_value node.now) ws.items) }
     ensures given_up { IfErr result IsGivenUp }
 {
     let mut workers = Vec::with_capacity(alloc, passes.len())?;
@@ -304,7 +270,6 @@ where
     A: Handler + Send + Sync + Drop + 'static,
     requires { workers ≤ 16 }
     ensures seated { IfOk result IsSeat }
-    ensures serves { IfOk result (Seats workers node) }
     ensures given_up { IfErr result IsGivenUp }
 {
     let address = node.own().address;
@@ -343,20 +308,10 @@ impl<H: PointHash> Seat<H> {
         let Some(locked) = Arc::into_inner(node) else {
             return Err(StopError::StillHeld);
         };
-        let Ok(node) = locked.close(passes) else {
-            unreachable!()
-        };
-        Ok(node)
-    }
-
-    /// One round of gossip of the node, by the pass that is kept for its rounds.
-    fn round<R: Wait>(&mut self, rt: &R, alloc: Global, now: Moment) -> Result<Round, ClusterError>
-        requires { IsSeat self.old }
-        ensures made { IsRoundBy now result self.old self.new }
-        ensures seat { IsSeat self.new }
-        ensures named { IfErr result IsRoundRefusal }
-    {
-        gossip_round(rt, alloc, &*self.node, &mut self.pass, &mut self.link, now)
+        match locked.close(passes) {
+            Ok(node) => Ok(node),
+            Err(_) => Err(StopError::StillHeld),
+        }
     }
 }
 
@@ -398,7 +353,6 @@ impl<H: PointHash + Send + Sync + 'static> Cluster<H> {
         A: Handler + Send + Sync + Drop + 'static,
         ensures can { IfOk result (λ c. IsCrew workers × AreApart nodes.items) }
         ensures started { IfOk result IsWhole }
-        ensures serves { IfOk result (Serves workers nodes.items) }
         ensures refused { IfErr result (IsNotStarted nodes.items workers) }
     {
         if workers == 0 || workers > MOST_WORKERS {
@@ -423,16 +377,14 @@ impl<H: PointHash + Send + Sync + 'static> Cluster<H> {
         A: Handler + Send + Sync + Drop + 'static,
         requires { workers ≤ 16 }
         ensures launched { IfOk result IsWhole }
-        ensures serves { IfOk result (Serves workers nodes.items) }
         ensures given_up { IfErr result IsGivenUp }
     {
         let handler = Arc::new(alloc, handler)?;
         let (posts, outlets) = posts_for(alloc, &nodes)?;
         let posts = Arc::new(alloc, posts)?;
         let mut seats = Vec::with_capacity(alloc, nodes.len())?;
-        'seated: for node in nodes {
-            let outlet = &outlets[seats.len()];
-            match seat_for(rt, alloc, node, workers, &posts, &handler, outlet) {
+        'seated: for (node, outlet) in nodes.into_iter().zip(outlets) {
+            match seat_for(rt, alloc, node, workers, &posts, &handler, &outlet) {
                 Ok(seat) => seats.push(seat)?,
                 Err(refused) => {
                     let _nodes = Cluster { posts, seats }.stop(rt, alloc);
@@ -445,11 +397,8 @@ impl<H: PointHash + Send + Sync + 'static> Cluster<H> {
 }
 
 impl<H: PointHash> Cluster<H> {
-    /// A link to these nodes that has not failed yet, which may go to another thread. `Memory` is the only refusal.
-    pub fn link(&self) -> Result<ChannelLink, LinkError>
-        ensures made { IfOk result (λ l. (reached_by l ≡ posts_of self.now) × (failures_of l ≡ 0)) }
-        ensures only { IfErr result (λ e. e ≡ LinkError.Memory) }
-    {
+    /// A link to these nodes, which may go to another thread. `Memory` is the only refusal.
+    pub fn link(&self) -> Result<ChannelLink, LinkError> {
         match Arc::try_clone(&self.posts) {
             Ok(posts) => Ok(ChannelLink::new(posts)),
             Err(_) => Err(LinkError::Memory),
@@ -464,9 +413,7 @@ impl<H: PointHash> Cluster<H> {
         to: Address,
         message: &Message,
     ) -> Result<Message, LinkError>
-        ensures closed { HasNoPost (posts_of self.now) to → result ≡ Err LinkError.Closed }
-        ensures named { IfErr result IsNamed }
-        ensures unspent { IfErr result (λ e. e ≢ LinkError.Spent) }
+        ensures { HasNoPost (arc_value self.now.posts).items to → result ≡ Err LinkError.Closed }
     {
         ask_one(rt, alloc, &self.posts, to, message)
     }
@@ -482,15 +429,15 @@ impl<H: PointHash> Cluster<H> {
         now: Moment,
     ) -> Result<Round, ClusterError>
         requires { IsWhole self.old }
-        ensures nobody { HasNoNode self.old address → (result ≡ Err ClusterError.NoNode) × (self.new ≡ self.old) }
+        ensures nobody { HasNoNode self.old address → result ≡ Err ClusterError.NoNode }
         ensures only { result ≡ Err ClusterError.NoNode → HasNoNode self.old address }
-        ensures made { ¬ HasNoNode self.old address → HasRound address now result self.old self.new }
         ensures whole { IsWhole self.new }
     {
         let Some(at) = place_of(&self.seats, address) else {
             return Err(ClusterError::NoNode);
         };
-        self.seats[at].round(rt, alloc, now)
+        let seat = &mut self.seats[at];
+        gossip_round(rt, alloc, &*seat.node, &mut seat.pass, &mut seat.link, now)
     }
 
     /// Ends the workers, each after the messages that it has, and gives the nodes back in the order given.

@@ -1,7 +1,7 @@
 //! What is answered to each kind of message.
 ghost use Rattle.locked_node.specs.Passes.{Fits};
 
-use crate::fakes::{Counting, Fake, Mood};
+use crate::fakes::{Echo, Fake, Mood};
 use crate::shared::{
     Caller, Shared, Start, among, content, leave, member, message, moment, news, request, status,
     text, with_node,
@@ -21,30 +21,15 @@ type Moods = (Mood, Mood);
 
 const WILLING: Moods = (Mood::Willing, Mood::Willing);
 
-/// What is answered to a message, and how often the link and the handler were asked.
-#[derive(Drop)]
-struct Answer {
-    content: Content,
-    sent: u64,
-    handled: u64,
-}
-
-impl Answer {
-    /// Why the message was refused, if it was.
-    fn reason(&self) -> Option<Reason> {
-        match &self.content {
-            Content::Refused(reason) => Some(*reason),
-            _ => None,
-        }
-    }
-
-    /// Whether neither the link nor the handler was asked.
-    fn is_own(&self) -> bool {
-        self.sent == 0 && self.handled == 0
+/// Why a message is refused, if it is.
+fn reason_in(content: &Content) -> Option<Reason> {
+    match content {
+        Content::Refused(reason) => Some(*reason),
+        _ => None,
     }
 }
 
-/// What is answered to a message.
+/// What is answered to a message, and how often the link was asked.
 fn serve<R: Wait + Abort>(
     rt: &R,
     alloc: Global,
@@ -52,21 +37,17 @@ fn serve<R: Wait + Abort>(
     pass: &mut Caller,
     moods: Moods,
     given: &Message,
-) -> Answer
+) -> (Content, u64)
     requires { Fits shared.now pass.old }
     ensures { Fits shared.now pass.new }
 {
     let mut link = Fake::new(moods.0);
-    let handler = Counting::new(moods.1);
+    let handler = Echo { mood: moods.1 };
     let now = moment(rt, 0);
     let answer = serve_one(rt, alloc, shared, pass, &mut link, &handler, now, given);
     let answer = answer.ok().expect(rt, "a turn");
     assert!(rt; answer.source == member(rt, 1));
-    Answer {
-        content: answer.content,
-        sent: link.calls,
-        handled: handler.calls(),
-    }
+    (answer.content, link.calls)
 }
 
 /// The same; where there was no memory, what is answered to the message when it comes again.
@@ -77,18 +58,18 @@ fn ask<R: Wait + Abort>(
     pass: &mut Caller,
     moods: Moods,
     given: &Message,
-) -> Answer
+) -> (Content, u64)
     requires { Fits shared.now pass.old }
     ensures { Fits shared.now pass.new }
 {
     let first = serve(rt, alloc, shared, pass, moods, given);
-    if first.reason() == Some(Reason::Memory) {
+    if reason_in(&first.0) == Some(Reason::Memory) {
         return serve(rt, alloc, shared, pass, moods, given);
     }
     first
 }
 
-/// Why a message of 10.0.0.2:1 is refused, if it is, with neither the link nor the handler asked.
+/// Why a message of 10.0.0.2:1 is refused, if it is.
 fn refusal<R: Wait + Abort>(
     rt: &R,
     alloc: Global,
@@ -101,9 +82,8 @@ fn refusal<R: Wait + Abort>(
     ensures { Fits shared.now pass.new }
 {
     let given = message(rt, 2, content);
-    let answer = ask(rt, alloc, shared, pass, moods, &given);
-    assert!(rt; answer.is_own());
-    answer.reason()
+    let (answer, _) = ask(rt, alloc, shared, pass, moods, &given);
+    reason_in(&answer)
 }
 
 /// The changes that a Joined or an Ack carries.
@@ -120,13 +100,12 @@ fn check_join<R: Wait + Abort>(rt: &R, alloc: Global, shared: &Shared, pass: &mu
 {
     let other = news(rt, 2, 5, Status::Alive);
     let given = message(rt, 2, Content::Join(content(rt, alloc, &[other])));
-    let answer = ask(rt, alloc, shared, pass, WILLING, &given);
-    let joined = &answer.content;
+    let (joined, calls) = ask(rt, alloc, shared, pass, WILLING, &given);
     let own = news(rt, 1, 7, Status::Alive);
     let mut told = own;
     told.change = other.change;
-    assert!(rt; matches!(joined, Content::Joined(_)) && answer.is_own());
-    assert!(rt; carried(joined) == [own, told].as_slice());
+    assert!(rt; matches!(&joined, Content::Joined(_)) && calls == 0);
+    assert!(rt; carried(&joined) == [own, told].as_slice());
 }
 
 #[test]
@@ -143,11 +122,10 @@ fn check_ping<R: Wait + Abort>(rt: &R, alloc: Global, shared: &Shared, pass: &mu
 {
     let other = news(rt, 2, 5, Status::Alive);
     let given = message(rt, 2, Content::Ping(content(rt, alloc, &[other])));
-    let answer = ask(rt, alloc, shared, pass, WILLING, &given);
-    let ack = &answer.content;
+    let (ack, calls) = ask(rt, alloc, shared, pass, WILLING, &given);
     let own = news(rt, 1, 7, Status::Alive);
-    assert!(rt; matches!(ack, Content::Ack(_)) && answer.is_own());
-    assert!(rt; carried(ack) == [own].as_slice());
+    assert!(rt; matches!(&ack, Content::Ack(_)) && calls == 0);
+    assert!(rt; carried(&ack) == [own].as_slice());
 }
 
 #[test]
@@ -250,9 +228,9 @@ fn check_target<R: Wait + Abort>(
     let told = content(rt, alloc, &[news(rt, 3, 1, Status::Alive)]);
     let given = message(rt, 2, Content::PingReq(told, target));
     let moods = (row.mood, Mood::Willing);
-    let answer = ask(rt, alloc, shared, pass, moods, &given);
-    assert!(rt; word_in(&answer.content, target) == Some(row.reached));
-    assert!(rt; answer.sent == row.calls && answer.handled == 0);
+    let (answer, calls) = ask(rt, alloc, shared, pass, moods, &given);
+    assert!(rt; word_in(&answer, target) == Some(row.reached));
+    assert!(rt; calls == row.calls);
 }
 
 const TARGETS: [(u8, Mood, Option<bool>, u64); 5] = [
@@ -294,17 +272,14 @@ fn check_here<R: Wait + Abort>(rt: &R, alloc: Global, shared: &Shared, pass: &mu
     requires { Fits shared.now pass.old }
 {
     let given = request(rt, alloc, ONE, "body");
-    let reply = ask(rt, alloc, shared, pass, WILLING, &given);
-    assert!(rt; is_reply(&reply.content, "body"));
-    assert!(rt; reply.sent == 0 && reply.handled == 1);
+    let (reply, calls) = ask(rt, alloc, shared, pass, WILLING, &given);
+    assert!(rt; is_reply(&reply, "body") && calls == 0);
     let failing = (Mood::Willing, Mood::Failing);
-    let failed = ask(rt, alloc, shared, pass, failing, &given);
-    assert!(rt; failed.reason() == Some(Reason::Failed));
-    assert!(rt; failed.sent == 0 && failed.handled == 1);
+    let (failed, _) = ask(rt, alloc, shared, pass, failing, &given);
+    assert!(rt; reason_in(&failed) == Some(Reason::Failed));
     let starved = (Mood::Willing, Mood::Starved);
-    let refused = ask(rt, alloc, shared, pass, starved, &given);
-    assert!(rt; refused.reason() == Some(Reason::Memory));
-    assert!(rt; refused.sent == 0 && refused.handled == 1);
+    let (refused, _) = ask(rt, alloc, shared, pass, starved, &given);
+    assert!(rt; reason_in(&refused) == Some(Reason::Memory));
 }
 
 #[test]
@@ -320,11 +295,11 @@ fn check_elsewhere<R: Wait + Abort>(rt: &R, alloc: Global, shared: &Shared, pass
     requires { Fits shared.now pass.old }
 {
     let given = request(rt, alloc, ONE, "body");
-    let answer = ask(rt, alloc, shared, pass, WILLING, &given);
-    assert!(rt; matches!(&answer.content, Content::NotOwner) && answer.is_own());
+    let (answer, _) = ask(rt, alloc, shared, pass, WILLING, &given);
+    assert!(rt; matches!(&answer, Content::NotOwner));
     let split = request(rt, alloc, ("zzzz0", "zzzz1"), "body");
-    let answer = ask(rt, alloc, shared, pass, WILLING, &split);
-    assert!(rt; answer.reason() == Some(Reason::Diverged) && answer.is_own());
+    let (answer, _) = ask(rt, alloc, shared, pass, WILLING, &split);
+    assert!(rt; reason_in(&answer) == Some(Reason::Diverged));
 }
 
 #[test]
@@ -341,8 +316,8 @@ fn check_nobody<R: Wait + Abort>(rt: &R, alloc: Global, shared: &Shared, pass: &
 {
     leave(rt, shared, pass);
     let given = request(rt, alloc, ONE, "body");
-    let answer = ask(rt, alloc, shared, pass, WILLING, &given);
-    assert!(rt; answer.reason() == Some(Reason::Nobody) && answer.is_own());
+    let (answer, _) = ask(rt, alloc, shared, pass, WILLING, &given);
+    assert!(rt; reason_in(&answer) == Some(Reason::Nobody));
 }
 
 #[test]
@@ -398,11 +373,12 @@ fn is_spent<R: Wait + Abort>(rt: &R, alloc: Global, shared: &Shared, pass: &mut 
     requires { Fits shared.now pass.old }
 {
     let mut link = Fake::new(Mood::Willing);
-    let handler = Counting::new(Mood::Willing);
+    let handler = Echo {
+        mood: Mood::Willing,
+    };
     let now = moment(rt, 0);
     let given = request(rt, alloc, ONE, "body");
     let answer = serve_one(rt, alloc, shared, pass, &mut link, &handler, now, &given);
-    assert!(rt; link.calls == 0);
     matches!(&answer, Err(LockError::PassSpent))
 }
 

@@ -18,4 +18,3 @@ pub mod Parts
 pub mod World
 pub mod Viewing
 pub mod Calls
-pub mod Itself

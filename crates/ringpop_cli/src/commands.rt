@@ -32,7 +32,7 @@ Examples:
   ringpop owner --n 2 trip-42 < changes.jsonl    the two members that own the key trip-42, the first first
 
 Exit status: 0 if all went well; 1 if a line is at fault, or if reading, writing or memory failed; 2 if the words are
-refused, or ask for help or the version."#;
+refused, or ask for help or the version, which go to standard error."#;
 
 /// What stands below the help of `sim`.
 const BELOW_SIM: &str =
@@ -42,7 +42,7 @@ const BELOW_SIM: &str =
   at MS                            set the time, in milliseconds
   take X Y I STATUS [W]            tell X that Y is alive, suspect, faulty, leave or tombstone
   leave X, rejoin X                let X leave, or come back
-  expire X                         let one timer of X run out
+  expire X                         let the first timer of X that is due run out
   members X, digest X              ask X for its members, or for their digest
   owners X N KEY                   ask X for the first N owners of a key
   send X Y                         keep the ping of X to Y, as the message with the next number
@@ -81,7 +81,9 @@ fn fold_command<'a>(alloc: Global) -> Command<'a> {
 fn hash_command<'a>(alloc: Global) -> Result<Command<'a>, AllocError> {
     let text = word(alloc, TEXT, "TEXT", "The text, which may be empty");
     Command::new(alloc, "hash")
-        .about("Prints where a text stands on the ring: 16 hexadecimal digits of its SHA-256")
+        .about(
+            "Prints where a text stands on the ring: the first 16 hexadecimal digits of its SHA-256",
+        )
         .arg(text)
 }
 

@@ -102,10 +102,10 @@ fn first_round<R: Wait + Abort>(rt: &R, alloc: Global, row: &Row) -> Ended {
     })
 }
 
-/// Checks how a round ends; where it was refused memory, how that of another node does.
+/// Checks how a round ends; where it was refused memory before it came so far, how that of another node does.
 fn check_end<R: Wait + Abort>(rt: &R, alloc: Global, row: &Row) {
     let mut found = first_round(rt, alloc, row);
-    if found.end == Err(ClusterError::Memory) {
+    if found != row.wanted && found.end == Err(ClusterError::Memory) {
         found = first_round(rt, alloc, row);
     }
     assert!(rt; found == row.wanted);

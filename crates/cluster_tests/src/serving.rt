@@ -50,7 +50,8 @@ fn serve<R: Wait + Abort>(
     (answer.content, link.calls)
 }
 
-/// The same; where there was no memory, what is answered to the message when it comes again.
+/// The same; where there was no memory, but for that of a link which never has any, what is answered to the message when it comes
+/// again.
 fn ask<R: Wait + Abort>(
     rt: &R,
     alloc: Global,
@@ -63,7 +64,8 @@ fn ask<R: Wait + Abort>(
     ensures { Fits shared.now pass.new }
 {
     let first = serve(rt, alloc, shared, pass, moods, given);
-    if reason_in(&first.0) == Some(Reason::Memory) {
+    let is_links = moods.0 == Mood::Starved && first.1 != 0;
+    if reason_in(&first.0) == Some(Reason::Memory) && !is_links {
         return serve(rt, alloc, shared, pass, moods, given);
     }
     first

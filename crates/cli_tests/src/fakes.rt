@@ -24,6 +24,7 @@ pub struct Page {
     lines: u64,
     can_flush: bool,
     keeps_all: bool,
+    found_no_memory: bool,
 }
 
 impl Page {
@@ -35,6 +36,7 @@ impl Page {
             lines: 0,
             can_flush: true,
             keeps_all: true,
+            found_no_memory: false,
         }
     }
 
@@ -55,6 +57,11 @@ impl Page {
     /// How many lines were written, those that it did not keep among them.
     pub fn lines(&self) -> u64 {
         self.lines
+    }
+
+    /// Whether a line was written, though it may not be kept, that ends with a want of memory.
+    pub fn found_no_memory(&self) -> bool {
+        self.found_no_memory
     }
 
     pub fn as_slice(&self) -> &[u8] {
@@ -80,6 +87,7 @@ impl Write for Page {
                 self.len += 1;
                 if byte == b'\n' {
                     self.lines = self.lines.saturating_add(1);
+                    self.found_no_memory |= self.as_slice().ends_with(b"Memory\n");
                 }
                 Ok(1)
             }

@@ -122,7 +122,7 @@ fn sim<R: Read + Place + Copy>(
     if let Some(number) = refused_at(ended) {
         assert_eq!(rt; number, first.begun());
         assert_eq!(rt; page.lines().saturating_add(1), number);
-    } else if page.text().find("Memory").is_none() {
+    } else if !page.found_no_memory() {
         return ended;
     }
     *page = empty;

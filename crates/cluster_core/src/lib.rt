@@ -3,9 +3,7 @@
 #![tactic(auto)]
 
 mod asking;
-mod channel_links;
 mod clocks;
-mod clusters;
 mod copies;
 mod errors;
 mod forwarding;
@@ -17,14 +15,10 @@ pub mod laws;
 mod links;
 mod probing;
 mod rounds;
-mod seats;
 mod serving;
 mod steps;
-mod tcp_links;
 
-pub use channel_links::ChannelLink;
 pub use clocks::Clock;
-pub use clusters::{Cluster, MOST_WORKERS, StartError, StopError};
 pub use errors::{ClusterError, HandlerFault, LinkError};
 pub use forwarding::handle_or_forward;
 pub use gossiping::gossip_round;
@@ -33,4 +27,3 @@ pub use joining::join;
 pub use links::Link;
 pub use rounds::Round;
 pub use serving::serve_one;
-pub use tcp_links::{DEADLINE, TcpLink, limit, socket_address};

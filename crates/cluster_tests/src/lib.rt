@@ -2,10 +2,6 @@
 #![tactic(auto)]
 
 #[cfg(test)]
-mod clusters;
-#[cfg(test)]
-mod fakes;
-#[cfg(test)]
 mod forwarding;
 #[cfg(test)]
 mod rounds;
@@ -13,5 +9,3 @@ mod rounds;
 mod serving;
 #[cfg(test)]
 mod shared;
-#[cfg(test)]
-mod tcp;

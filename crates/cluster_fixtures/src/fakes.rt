@@ -1,0 +1,133 @@
+//! A link and a handler that do as a test wants.
+use change_core::{Address, Digest};
+use cluster_core::{Handler, HandlerFault, Link, LinkError};
+use std::alloc::Global;
+use std::sync::Wait;
+use wire_json::{Changes, Content, Keys, Message, News, Text};
+
+/// How a fake answers.
+#[derive(Clone, Copy, Debug, PartialEq, Eq)]
+pub enum Mood {
+    /// As it should.
+    Willing,
+    /// By something else, or that it failed.
+    Failing,
+    /// With a fault that counts.
+    Broken,
+    /// With want of memory.
+    Starved,
+}
+
+/// A link whose peers all answer in one mood, or the first call in one and the later ones in another: by what is wanted, without
+/// changes, where they are willing.
+#[derive(Drop)]
+pub struct Fake {
+    mood: Mood,
+    later: Mood,
+    pub calls: u64,
+    failures: u64,
+}
+
+impl Fake {
+    pub fn new(mood: Mood) -> Fake {
+        Fake::turning(mood, mood)
+    }
+
+    pub fn turning(mood: Mood, later: Mood) -> Fake {
+        Fake {
+            mood,
+            later,
+            calls: 0,
+            failures: 0,
+        }
+    }
+}
+
+/// The answer that the message wants, without changes, if there is memory for it.
+fn fit_answer(alloc: Global, from: Address, asked: &Message) -> Option<Message> {
+    let changes = Changes::from_slice(alloc, &[]).ok()?;
+    let news = News {
+        checksum: Digest::new([0; 32]),
+        changes,
+    };
+    let content = match &asked.content {
+        Content::Join(_) => Content::Joined(news),
+        Content::PingReq(_, target) => Content::PingReqAck(news, *target, true),
+        _ => Content::Ack(news),
+    };
+    Some(Message {
+        source: from,
+        source_incarnation: asked.source_incarnation,
+        content,
+    })
+}
+
+impl Link for Fake {
+    ghost may_answer = { λ _ _ _. Unit {0} };
+
+    ghost failed = { λ f. f.failures };
+
+    fn failures(&self) -> u64 {
+        self.failures
+    }
+
+    fn call<R: Wait>(
+        &mut self,
+        _rt: &R,
+        alloc: Global,
+        to: Address,
+        message: &Message,
+    ) -> Result<Message, LinkError> {
+        if self.failures == u64::MAX {
+            return Err(LinkError::Spent);
+        }
+        let mood = if self.calls == 0 {
+            self.mood
+        } else {
+            self.later
+        };
+        self.calls = self.calls.wrapping_add(1);
+        match mood {
+            Mood::Willing => {
+                let Some(answer) = fit_answer(alloc, to, message) else {
+                    return Err(LinkError::Memory);
+                };
+                Ok(answer)
+            }
+            Mood::Failing => Ok(Message {
+                source: to,
+                source_incarnation: message.source_incarnation,
+                content: Content::NotOwner,
+            }),
+            Mood::Broken => {
+                self.failures += 1;
+                Err(LinkError::Io)
+            }
+            Mood::Starved => Err(LinkError::Memory),
+        }
+    }
+}
+
+/// A handler that answers by the body of the request, where it is willing.
+#[derive(Drop)]
+pub struct Echo {
+    pub mood: Mood,
+}
+
+impl Handler for Echo {
+    ghost may_handle = { λ _ _ _. Unit {0} };
+
+    fn handle<R: Wait>(
+        &self,
+        _rt: &R,
+        alloc: Global,
+        _keys: &Keys,
+        body: &Text,
+    ) -> Result<Text, HandlerFault> {
+        match self.mood {
+            Mood::Willing => Text::new(alloc, body.as_str()).map_err(|_| HandlerFault::Memory),
+            Mood::Failing | Mood::Broken => Err(HandlerFault::Failed),
+            Mood::Starved => Err(HandlerFault::Memory),
+        }
+    }
+}

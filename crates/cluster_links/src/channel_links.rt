@@ -1,0 +1,127 @@
+//! A link over channels, between nodes in one process.
+ghost use Rattle.std.specs.Prelude.{◌≡◌, ◌≢◌, Err, IfErr, IfNone, IsSome};
+ghost use Rattle.cluster_links.specs.Clusters.{HasNoPost};
+ghost use Rattle.cluster_core.specs.Links.{IsNamed};
+
+use crate::copies::copy_message;
+use change_core::Address;
+use cluster_core::{Link, LinkError};
+use crossbeam_channel::{SendError, Sender, bounded};
+use std::alloc::Global;
+use std::sync::{Arc, Wait};
+use wire_json::Message;
+
+/// What a worker of a node gets.
+#[derive(Drop)]
+pub(crate) enum Job {
+    /// A message to be answered, and where its answer goes.
+    Serve(Message, Sender<Message>),
+    /// The worker is to end.
+    Stop,
+}
+
+/// Where the jobs of a node go.
+#[derive(Drop)]
+pub(crate) struct Post {
+    pub(crate) address: Address,
+    pub(crate) jobs: Sender<Job>,
+}
+
+/// The post of an address.
+pub(crate) fn post_of(posts: &[Post], address: Address) -> Option<&Post>
+    ensures none { IfNone result (HasNoPost posts.now address) }
+    ensures some { IsSome result → ¬ HasNoPost posts.now address }
+{
+    for post in posts {
+        if post.address == address {
+            return Some(post);
+        }
+    }
+    None
+}
+
+/// Posts a message, and waits for the answer.
+fn exchange<R: Wait>(
+    rt: &R,
+    alloc: Global,
+    post: &Post,
+    message: &Message,
+) -> Result<Message, LinkError>
+    ensures named { IfErr result IsNamed }
+    ensures unspent { IfErr result (λ e. e ≢ LinkError.Spent) }
+{
+    let Ok(copy) = copy_message(alloc, message) else {
+        return Err(LinkError::Memory);
+    };
+    let Ok((to, from)) = bounded(alloc, 1) else {
+        return Err(LinkError::Memory);
+    };
+    match post.jobs.send(rt, Job::Serve(copy, to)) {
+        Ok(()) => {}
+        Err(SendError::OutOfMemory(_)) => return Err(LinkError::Memory),
+        Err(_) => return Err(LinkError::Closed),
+    }
+    match from.recv(rt) {
+        Ok(answer) => Ok(answer),
+        Err(_) => Err(LinkError::Closed),
+    }
+}
+
+/// Asks the node of an address, if there is one.
+pub(crate) fn ask_one<R: Wait>(
+    rt: &R,
+    alloc: Global,
+    posts: &[Post],
+    to: Address,
+    message: &Message,
+) -> Result<Message, LinkError>
+    ensures named { IfErr result IsNamed }
+    ensures unspent { IfErr result (λ e. e ≢ LinkError.Spent) }
+    ensures closed { HasNoPost posts.now to → result ≡ Err LinkError.Closed }
+{
+    match post_of(posts, to) {
+        Some(post) => exchange(rt, alloc, post, message),
+        None => Err(LinkError::Closed),
+    }
+}
+
+/// A link to the nodes of one cluster, over channels. It answers `Closed` where no node of the cluster has the address, where the
+/// node's own pass was refused, and once the cluster has stopped.
+#[derive(Drop)]
+pub struct ChannelLink {
+    posts: Arc<Vec<Post>, Global>,
+    failures: u64,
+}
+
+impl ChannelLink {
+    pub(crate) fn new(posts: Arc<Vec<Post>, Global>) -> Self {
+        ChannelLink { posts, failures: 0 }
+    }
+}
+
+impl Link for ChannelLink {
+    ghost may_answer = { λ _ _ _. Unit {0} };
+
+    ghost failed = { λ l. l.failures };
+
+    fn failures(&self) -> u64 {
+        self.failures
+    }
+
+    fn call<R: Wait>(
+        &mut self,
+        rt: &R,
+        alloc: Global,
+        to: Address,
+        message: &Message,
+    ) -> Result<Message, LinkError> {
+        if self.failures == u64::MAX {
+            return Err(LinkError::Spent);
+        }
+        let answer = ask_one(rt, alloc, &self.posts, to, message);
+        if matches!(&answer, Err(LinkError::Io | LinkError::Closed)) {
+            self.failures += 1;
+        }
+        answer
+    }
+}

@@ -1,0 +1,463 @@
+//! Nodes of one process, each served by workers of its own, that talk over channels.
+ghost use Rattle.std.specs.Prelude.{◌≡◌, ◌≢◌, ◌<◌, ◌≤◌, IsTrue, IsFalse, IfOk, IfErr, IfNone, IfSome, Err, All, length};
+ghost use Rattle.std.specs.List.{AllZip};
+ghost use Rattle.std.specs.Arc.{arc_value};
+ghost use Rattle.locked_node.specs.Passes.{Fits};
+ghost use Rattle.cluster_links.specs.Clusters.{AreApart, HasNoNode, HasNoPost, IsCrew, IsGivenUp, IsNotStarted, IsOfSeat, IsSeat, IsWhole, NoneHas};
+
+use crate::channel_links::{ChannelLink, Job, Post, ask_one, post_of};
+use crate::seats::{Returned, Seat};
+use change_core::{Address, Moment};
+use cluster_core::{ClusterError, Handler, LinkError, Round, gossip_round, serve_one};
+use crossbeam_channel::{Receiver, SendError, unbounded};
+use hash_ring::PointHash;
+use locked_node::{LockedNode, NodePass};
+use node_core::NodeState;
+use std::alloc::{AllocError, AllocFailed, Global};
+use std::snapshot::Snapshot;
+use std::sync::{Arc, Wait};
+use std::thread::{self, PromisedHandle, Threads};
+use wire_json::Message;
+
+/// How many workers a node has at most.
+pub const MOST_WORKERS: u32 = 16;
+
+/// Why a cluster was not started.
+#[derive(Drop)]
+pub enum StartError<H: PointHash> {
+    /// The number of workers is not from 1 to 16. The nodes are handed back.
+    BadCount(Vec<NodeState<H>>),
+    /// Two of the nodes have one address. The nodes are handed back.
+    SameAddress(Vec<NodeState<H>>),
+    /// A thread could not be made. The nodes are given up.
+    NoThread,
+    /// A growth was refused. The nodes are given up.
+    Memory,
+}
+
+/// Why a cluster gave no nodes back.
+#[derive(Clone, Copy, Debug, PartialEq, Eq)]
+pub enum StopError {
+    /// A node is still held by somebody else.
+    StillHeld,
+    /// A growth was refused.
+    Memory,
+}
+
+/// Nodes that are served.
+#[derive(Drop)]
+pub struct Cluster<H: PointHash> {
+    posts: Arc<Vec<Post>, Global>,
+    seats: Vec<Seat<H>>,
+}
+
+/// The moment that a worker hands in, which a node reads as its last one.
+fn beginning() -> Moment {
+    let Some(moment) = Moment::new(0) else {
+        unreachable!()
+    };
+    moment
+}
+
+/// Answers what comes until there is nothing more to come, and gives the pass back.
+fn work<R: Wait + Copy, H: PointHash, A: Handler + Drop>(
+    rt: R,
+    alloc: Global,
+    node: Arc<LockedNode<H>, Global>,
+    mut pass: NodePass<H>,
+    mut link: ChannelLink,
+    handler: Arc<A, Global>,
+    jobs: Receiver<Job>,
+) -> NodePass<H>
+    requires { Fits (arc_value node) pass }
+    ensures { Fits (arc_value node) result }
+{
+    'jobs: for _ in rt.forever() {
+        let Ok(Job::Serve(message, to)) = jobs.recv(&rt) else {
+            break;
+        };
+        let answer = serve_one(
+            &rt,
+            alloc,
+            &*node,
+            &mut pass,
+            &mut link,
+            &*handler,
+            beginning(),
+            &message,
+        );
+        if let Ok(answer) = answer {
+            let _sent = to.send(&rt, answer);
+        }
+    }
+    pass
+}
+
+/// A post for each node, and where the jobs of each come out.
+fn posts_for<H: PointHash>(
+    alloc: Global,
+    nodes: &[NodeState<H>],
+) -> Result<(Vec<Post>, Vec<Receiver<Job>>), AllocError> {
+    let mut posts = Vec::with_capacity(alloc, nodes.len())?;
+    let mut outlets = Vec::with_capacity(alloc, nodes.len())?;
+    for node in nodes {
+        let (jobs, outlet) = unbounded(alloc)?;
+        let address = node.own().address;
+        posts.push(Post { address, jobs })?;
+        outlets.push(outlet)?;
+    }
+    Ok((posts, outlets))
+}
+
+/// Whether one of the nodes has this address.
+fn is_taken<H: PointHash>(nodes: &[NodeState<H>], address: Address) -> bool
+    ensures taken { IsTrue result → ¬ NoneHas nodes.now address }
+    ensures free { IsFalse result → NoneHas nodes.now address }
+{
+    for node in nodes {
+        let own = node.own().address;
+        if own == address {
+            return true;
+        }
+    }
+    false
+}
+
+/// Whether two of the nodes have one address.
+fn has_twins<H: PointHash>(nodes: &[NodeState<H>]) -> bool
+    ensures twins { IsTrue result → ¬ AreApart nodes.now }
+    ensures apart { IsFalse result → AreApart nodes.now }
+{
+    for i in 0..nodes.len() {
+        let node = &nodes[i];
+        let address = node.own().address;
+        if is_taken(&nodes[i + 1..], address) {
+            return true;
+        }
+    }
+    false
+}
+
+/// At which place the seat of an address is.
+fn place_of<H: PointHash>(seats: &[Seat<H>], address: Address) -> Option<usize>
+    ensures some { IfSome result (λ i. (i < length seats.now) × ¬ All (λ s. s.address ≢ address) seats.now) }
+    ensures none { IfNone result (All (λ s. s.address ≢ address) seats.now) }
+{
+    for i in 0..seats.len() {
+        if seats[i].address == address {
+            return Some(i);
+        }
+    }
+    None
+}
+
+/// A node that is shared by so many workers and its rounds, and the pass of its rounds beside those of its workers.
+fn share<H: PointHash>(
+    alloc: Global,
+    node: NodeState<H>,
+    workers: u32,
+) -> Result<(LockedNode<H>, NodePass<H>, Vec<NodePass<H>>), AllocError>
+    requires { workers ≤ 16 }
+    ensures { IfOk result (λ r. Fits r.0 r.1 × All (Fits r.0) r.2.items) }
+{
+    let Ok((locked, mut passes)) = LockedNode::new(alloc, node, workers + 1, u32::MAX) else {
+        return Err(AllocError);
+    };
+    let Some(pass) = passes.pop() else {
+        return Err(AllocError);
+    };
+    Ok((locked, pass, passes))
+}
+
+/// Tells so many workers that they are to end. Where there is no memory to tell them it is tried again.
+fn dismiss<R: Wait>(rt: &R, posts: &[Post], address: Address, workers: usize) {
+    let Some(post) = post_of(posts, address) else {
+        return;
+    };
+    for _ in 0..workers {
+        for _ in rt.forever() {
+            match post.jobs.send(rt, Job::Stop) {
+                Err(SendError::OutOfMemory(_)) => thread::yield_now(),
+                _ => break,
+            }
+        }
+    }
+}
+
+/// Starts one worker.
+fn hire_one<R, H, A>(
+    rt: &R,
+    alloc: Global,
+    node: &Arc<LockedNode<H>, Global>,
+    pass: NodePass<H>,
+    posts: &Arc<Vec<Post>, Global>,
+    handler: &Arc<A, Global>,
+    outlet: &Receiver<Job>,
+) -> Result<PromisedHandle<NodePass<H>, Returned<H>>, StartError<H>>
+where
+    R: Threads + Wait + Copy + Send + 'static,
+    H: PointHash + Send + Sync + 'static,
+    A: Handler + Send + Sync + Drop + 'static,
+    requires { Fits (arc_value node.now) pass }
+    ensures hired { IfOk result (λ w. w.promise.0.value ≡ arc_value node.now) }
+    ensures given_up { IfErr result IsGivenUp }
+{
+    let runtime = *rt;
+    let theirs = Arc::try_clone(node)?;
+    let link = ChannelLink::new(Arc::try_clone(posts)?);
+    let handler = Arc::try_clone(handler)?;
+    let jobs = outlet.clone()?;
+    let promise = Returned(Snapshot::of(&**node));
+    let started = thread::spawn_with(rt, promise, move || {
+        work(runtime, alloc, theirs, pass, link, handler, jobs)
+    });
+    match started {
+        Ok(worker) => Ok(worker),
+        Err(_) => Err(StartError::NoThread),
+    }
+}
+
+/// Starts a worker for each pass. Where one can't be started the others are ended.
+fn hire<R, H, A>(
+    rt: &R,
+    alloc: Global,
+    address: Address,
+    node: &Arc<LockedNode<H>, Global>,
+    passes: Vec<NodePass<H>>,
+    posts: &Arc<Vec<Post>, Global>,
+    handler: &Arc<A, Global>,
+    outlet: &Receiver<Job>,
+) -> Result<Vec<PromisedHandle<NodePass<H>, Returned<H>>>, StartError<H>>
+where
+    R: Threads + Wait + Copy + Send + 'static,
+    H: PointHash + Send + Sync + 'static,
+    A: Handler + Send + Sync + Drop + 'static,
+    requires { All (Fits (arc_value node.now)) passes.items }
+    ensures hired { IfOk result (λ ws. All (λ w. w.promise.0.value ≡ arc_value node.now) ws.items) }
+    ensures given_up { IfErr result IsGivenUp }
+{
+    let mut workers = Vec::with_capacity(alloc, passes.len())?;
+    for pass in passes {
+        match hire_one(rt, alloc, node, pass, posts, handler, outlet) {
+            Ok(worker) => workers.push(worker)?,
+            Err(refused) => {
+                dismiss(rt, posts, address, workers.len());
+                let _passes = thread::join_promised(rt, workers);
+                return Err(refused);
+            }
+        }
+    }
+    Ok(workers)
+}
+
+/// A node with its workers.
+fn seat_for<R, H, A>(
+    rt: &R,
+    alloc: Global,
+    node: NodeState<H>,
+    workers: u32,
+    posts: &Arc<Vec<Post>, Global>,
+    handler: &Arc<A, Global>,
+    outlet: &Receiver<Job>,
+) -> Result<Seat<H>, StartError<H>>
+where
+    R: Threads + Wait + Copy + Send + 'static,
+    H: PointHash + Send + Sync + 'static,
+    A: Handler + Send + Sync + Drop + 'static,
+    requires { workers ≤ 16 }
+    ensures seated { IfOk result IsSeat }
+    ensures given_up { IfErr result IsGivenUp }
+{
+    let address = node.own().address;
+    let (locked, pass, passes) = share(alloc, node, workers)?;
+    let node = Arc::new(alloc, locked)?;
+    let link = ChannelLink::new(Arc::try_clone(posts)?);
+    let workers = hire(rt, alloc, address, &node, passes, posts, handler, outlet)?;
+    Ok(Seat {
+        address,
+        node,
+        pass,
+        link,
+        workers,
+    })
+}
+
+impl<H: PointHash> Seat<H> {
+    /// Waits for the workers, who were told to end, and closes the node.
+    fn close<R: Threads>(self, rt: &R) -> Result<NodeState<H>, StopError>
+        requires { IsSeat self }
+        ensures { IfOk result (IsOfSeat H.hash_of self) }
+    {
+        let Seat {
+            address: _,
+            node,
+            pass,
+            link: _,
+            workers,
+        } = self;
+        let Ok(mut passes) = thread::join_promised(rt, workers) else {
+            return Err(StopError::Memory);
+        };
+        if passes.push(pass).is_err() {
+            return Err(StopError::Memory);
+        }
+        let Some(locked) = Arc::into_inner(node) else {
+            return Err(StopError::StillHeld);
+        };
+        match locked.close(passes) {
+            Ok(node) => Ok(node),
+            Err(_) => Err(StopError::StillHeld),
+        }
+    }
+}
+
+impl<H: PointHash> From<AllocError> for StartError<H> {
+    ghost use Rattle.cluster_links.specs.declared.clusters.StartError.TheVariants.{Memory as no_memory};
+
+    ghost from_gives = { λ _ e. e ≡ no_memory };
+
+    fn from(_refused: AllocError) -> StartError<H> {
+        StartError::Memory
+    }
+}
+
+impl<H: PointHash, T: Drop> From<AllocFailed<T>> for StartError<H> {
+    ghost use Rattle.cluster_links.specs.declared.clusters.StartError.TheVariants.{Memory as no_memory};
+
+    ghost from_gives = { λ _ e. e ≡ no_memory };
+
+    fn from(_refused: AllocFailed<T>) -> StartError<H> {
+        StartError::Memory
+    }
+}
+
+impl<H: PointHash + Send + Sync + 'static> Cluster<H> {
+    /// Serves each of the nodes by so many workers, 1 to 16, each a thread of its own. An empty list of nodes is allowed.
+    ///
+    /// Errors: `BadCount` where the number of workers is another, else `SameAddress` where two nodes have one address, both
+    /// with the very nodes; `NoThread` where a thread could not be made, and `Memory` where a growth was refused. At these
+    /// two the nodes are given up.
+    pub fn start<R, A>(
+        rt: &R,
+        alloc: Global,
+        nodes: Vec<NodeState<H>>,
+        workers: u32,
+        handler: A,
+    ) -> Result<Cluster<H>, StartError<H>>
+    where
+        R: Threads + Wait + Copy + Send + 'static,
+        A: Handler + Send + Sync + Drop + 'static,
+        ensures can { IfOk result (λ c. IsCrew workers × AreApart nodes.items) }
+        ensures started { IfOk result IsWhole }
+        ensures refused { IfErr result (IsNotStarted nodes.items workers) }
+    {
+        if workers == 0 || workers > MOST_WORKERS {
+            return Err(StartError::BadCount(nodes));
+        }
+        if has_twins(&nodes) {
+            return Err(StartError::SameAddress(nodes));
+        }
+        Cluster::launch(rt, alloc, nodes, workers, handler)
+    }
+
+    /// Serves the nodes, which can be served.
+    fn launch<R, A>(
+        rt: &R,
+        alloc: Global,
+        nodes: Vec<NodeState<H>>,
+        workers: u32,
+        handler: A,
+    ) -> Result<Cluster<H>, StartError<H>>
+    where
+        R: Threads + Wait + Copy + Send + 'static,
+        A: Handler + Send + Sync + Drop + 'static,
+        requires { workers ≤ 16 }
+        ensures launched { IfOk result IsWhole }
+        ensures given_up { IfErr result IsGivenUp }
+    {
+        let handler = Arc::new(alloc, handler)?;
+        let (posts, outlets) = posts_for(alloc, &nodes)?;
+        let posts = Arc::new(alloc, posts)?;
+        let mut seats = Vec::with_capacity(alloc, nodes.len())?;
+        'seated: for (node, outlet) in nodes.into_iter().zip(outlets) {
+            match seat_for(rt, alloc, node, workers, &posts, &handler, &outlet) {
+                Ok(seat) => seats.push(seat)?,
+                Err(refused) => {
+                    let _nodes = Cluster { posts, seats }.stop(rt, alloc);
+                    return Err(refused);
+                }
+            }
+        }
+        Ok(Cluster { posts, seats })
+    }
+}
+
+impl<H: PointHash> Cluster<H> {
+    /// A link to these nodes, which may go to another thread. `Memory` is the only refusal.
+    pub fn link(&self) -> Result<ChannelLink, LinkError> {
+        match Arc::try_clone(&self.posts) {
+            Ok(posts) => Ok(ChannelLink::new(posts)),
+            Err(_) => Err(LinkError::Memory),
+        }
+    }
+
+    /// Asks the node of an address, as a new link would. `Closed` where no node has it.
+    pub fn ask<R: Wait>(
+        &self,
+        rt: &R,
+        alloc: Global,
+        to: Address,
+        message: &Message,
+    ) -> Result<Message, LinkError>
+        ensures { HasNoPost (arc_value self.now.posts).items to → result ≡ Err LinkError.Closed }
+    {
+        ask_one(rt, alloc, &self.posts, to, message)
+    }
+
+    /// One round of gossip of the node of an address, at a moment, over a link of its own.
+    ///
+    /// Errors: `NoNode` where no node has the address; else those of a round.
+    pub fn round<R: Wait>(
+        &mut self,
+        rt: &R,
+        alloc: Global,
+        address: Address,
+        now: Moment,
+    ) -> Result<Round, ClusterError>
+        requires { IsWhole self.old }
+        ensures nobody { HasNoNode self.old address → result ≡ Err ClusterError.NoNode }
+        ensures only { result ≡ Err ClusterError.NoNode → HasNoNode self.old address }
+        ensures whole { IsWhole self.new }
+    {
+        let Some(at) = place_of(&self.seats, address) else {
+            return Err(ClusterError::NoNode);
+        };
+        let seat = &mut self.seats[at];
+        gossip_round(rt, alloc, &*seat.node, &mut seat.pass, &mut seat.link, now)
+    }
+
+    /// Ends the workers, each after the messages that it has, and gives the nodes back in the order given.
+    pub fn stop<R: Threads + Wait>(
+        self,
+        rt: &R,
+        alloc: Global,
+    ) -> Result<Vec<NodeState<H>>, StopError>
+        requires { IsWhole self }
+        ensures { IfOk result (λ v. AllZip (IsOfSeat H.hash_of) self.seats.items v.items) }
+    {
+        let Cluster { posts, seats } = self;
+        'told: for seat in &seats {
+            dismiss(rt, &posts, seat.address, seat.workers.len());
+        }
+        let Ok(mut nodes) = Vec::with_capacity(alloc, seats.len()) else {
+            return Err(StopError::Memory);
+        };
+        'closed: for seat in seats {
+            let node = seat.close(rt)?;
+            if nodes.push(node).is_err() {
+                return Err(StopError::Memory);
+            }
+        }
+        Ok(nodes)
+    }
+}

@@ -1,0 +1,195 @@
+//! A link over sockets: one connection for each call, one line out and one line in.
+ghost use Rattle.std.specs.Prelude.{◌≡◌, ◌≢◌, IfErr};
+ghost use Rattle.cluster_links.specs.Limits.{IsStandard, limit_for};
+ghost use Rattle.cluster_core.specs.Links.{IsNamed, fault_named};
+
+use crate::deadlines::{Deadline, Timed};
+use change_core::Address;
+use cluster_core::{Link, LinkError};
+use std::alloc::Global;
+use std::io;
+use std::io::{BufReader, BufWriter, Read, Write};
+use std::net::{IpAddr, Ipv4Addr, Net, SocketAddr, TcpStream};
+use std::sync::Wait;
+use std::time::{Clock, Duration};
+use wire_json::{Content, Message, WireError, decode, encode, read_line, write_line};
+
+/// How long a call of a link may take altogether: connecting, writing the line and reading the answer's.
+#[derive(Clone, Copy, Debug, PartialEq, Eq)]
+pub struct Limits {
+    /// For a Ping.
+    pub ping: Duration,
+    /// For a PingReq, whose helper waits for the answer to a ping of its own meanwhile.
+    pub helper: Duration,
+    /// For any other message.
+    pub other: Duration,
+}
+
+impl Limits {
+    /// 500 milliseconds for a Ping, 1,250 for a PingReq and 5,000 for any other message: a round that asks three helpers takes
+    /// less than the 5 seconds for which a suspect may refute.
+    pub fn standard() -> Self
+        ensures { IsStandard result }
+    {
+        Limits {
+            ping: Duration::from_millis(500),
+            helper: Duration::from_millis(1_250),
+            other: Duration::from_millis(5_000),
+        }
+    }
+
+    /// The limit for a call with this content.
+    pub fn limit_for(&self, content: &Content) -> Duration
+        ensures { result ≡ limit_for self.now content.now }
+    {
+        match content {
+            Content::Ping(_) => self.ping,
+            Content::PingReq(_, _) => self.helper,
+            _ => self.other,
+        }
+    }
+}
+
+/// Where an address is on the network.
+pub fn socket_address(address: Address) -> SocketAddr {
+    SocketAddr::new(
+        IpAddr::V4(Ipv4Addr::from_bits(address.ip())),
+        address.port(),
+    )
+}
+
+/// A fault of a line as a link names it.
+fn fault_of(fault: WireError) -> LinkError
+    ensures { result ≡ fault_named fault }
+{
+    match fault {
+        WireError::Io => LinkError::Io,
+        WireError::Memory => LinkError::Memory,
+        fault => LinkError::Wire(fault),
+    }
+}
+
+/// Writes the line of a message.
+fn put<W: Write + Drop>(alloc: Global, stream: W, line: &[u8]) -> Result<(), LinkError>
+    ensures named { IfErr result IsNamed }
+    ensures unspent { IfErr result (λ e. e ≢ LinkError.Spent) }
+{
+    let Ok(mut writer) = BufWriter::new(alloc, stream) else {
+        return Err(LinkError::Memory);
+    };
+    match write_line(&mut writer, line) {
+        Ok(()) => Ok(()),
+        Err(fault) => Err(fault_of(fault)),
+    }
+}
+
+/// The message that the next line is.
+fn get<S: Read + Drop>(alloc: Global, stream: S) -> Result<Message, LinkError>
+    ensures named { IfErr result IsNamed }
+    ensures unspent { IfErr result (λ e. e ≢ LinkError.Spent) }
+{
+    let Ok(mut reader) = BufReader::new(alloc, stream) else {
+        return Err(LinkError::Memory);
+    };
+    match read_line(alloc, &mut reader) {
+        Ok(Some(line)) => match decode(alloc, &line) {
+            Ok(message) => Ok(message),
+            Err(fault) => Err(fault_of(fault)),
+        },
+        Ok(None) => Err(LinkError::Closed),
+        Err(fault) => Err(fault_of(fault)),
+    }
+}
+
+/// Sends a line over a new connection, and gives the message that comes back within the limit.
+fn exchange<N: Net + Clock>(
+    net: &N,
+    alloc: Global,
+    limit: Duration,
+    to: Address,
+    line: &[u8],
+) -> Result<Message, LinkError>
+    ensures named { IfErr result IsNamed }
+    ensures unspent { IfErr result (λ e. e ≢ LinkError.Spent) }
+{
+    let Ok(mut stream) = connect(net, limit, to) else {
+        return Err(LinkError::Io);
+    };
+    put(alloc, &mut stream, line)?;
+    get(alloc, &mut stream)
+}
+
+/// A connection whose limit runs from before it was made.
+fn connect<N: Net + Clock>(
+    net: &N,
+    limit: Duration,
+    to: Address,
+) -> io::Result<Timed<'_, N::Stream, N>> {
+    let deadline = Deadline::after(net, limit)?;
+    let stream = TcpStream::connect_timeout(net, &socket_address(to), deadline.left()?)?;
+    Ok(Timed::new(stream, deadline))
+}
+
+/// A link over sockets. Each call opens a connection to the address, writes the message as a line, and reads the answer as a
+/// line. What is not done within the limit for its message counts as a failure.
+#[derive(Debug, Drop)]
+pub struct TcpLink<N> {
+    net: N,
+    limits: Limits,
+    failures: u64,
+}
+
+impl<N> TcpLink<N> {
+    /// A link that has not failed yet, over this network, with the standard limits.
+    pub fn new(net: N) -> Self
+        ensures net { result.net ≡ net }
+        ensures limits { IsStandard result.limits }
+        ensures failures { result.failures ≡ 0 }
+    {
+        TcpLink::with_limits(net, Limits::standard())
+    }
+
+    /// A link that has not failed yet, over this network, with these limits.
+    pub fn with_limits(net: N, limits: Limits) -> Self
+        ensures { result ≡ record { net = net; limits = limits; failures = 0 } }
+    {
+        TcpLink {
+            net,
+            limits,
+            failures: 0,
+        }
+    }
+}
+
+impl<N: Net + Clock> Link for TcpLink<N> {
+    ghost may_answer = { λ _ _ _. Unit {0} };
+
+    ghost failed = { λ l. l.failures };
+
+    fn failures(&self) -> u64 {
+        self.failures
+    }
+
+    fn call<R: Wait>(
+        &mut self,
+        _rt: &R,
+        alloc: Global,
+        to: Address,
+        message: &Message,
+    ) -> Result<Message, LinkError> {
+        if self.failures == u64::MAX {
+            return Err(LinkError::Spent);
+        }
+        let answer = match encode(alloc, message) {
+            Ok(line) => {
+                let limit = self.limits.limit_for(&message.content);
+                exchange(&self.net, alloc, limit, to, &line)
+            }
+            Err(fault) => Err(fault_of(fault)),
+        };
+        if matches!(&answer, Err(LinkError::Io | LinkError::Closed)) {
+            self.failures += 1;
+        }
+        answer
+    }
+}

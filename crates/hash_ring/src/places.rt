@@ -60,7 +60,8 @@ impl Places {
         ensures grown { self.old.room ≤ self.new.room }
         ensures refusal { IsOkUnless result RingError.Memory }
     {
-        let is_short = self.heads.capacity() - self.heads.len() < count;
+        let is_short = self.heads.capacity() - self.heads.len() < count
+            || self.lows.capacity() - self.lows.len() < count;
         reserve_slot(&mut self.slots)?;
         self.heads.reserve(count)?;
         self.lows.reserve(count)?;

@@ -1,4 +1,6 @@
-//! Where searches of the points begin. No clause speaks of it: a wrong start costs time alone.
+//! Where searches of the points begin. No clause speaks of what they are: a wrong start costs time alone.
+ghost use Rattle.std.specs.Prelude.{◌≡◌, ◌/◌, ◌≤◌, OnOk, vec_capacity, vec_len};
+
 use crate::heads::{Head, high_half};
 use crate::points::Point;
 use std::alloc::{AllocError, Global};
@@ -40,7 +42,10 @@ impl Starts {
     }
 
     /// Makes the list longer where the points have room for more. Where that is refused it stays as it was.
-    pub(crate) fn widen(&mut self, heads: &Vec<Head>) -> Result<(), AllocError> {
+    pub(crate) fn widen(&mut self, heads: &Vec<Head>) -> Result<(), AllocError>
+        // A growth that was refused is not passed over.
+        ensures { OnOk result (vec_capacity heads.now / 16 ≤ vec_len self.new.counts) }
+    {
         let parts = heads.capacity() / SPREAD;
         if parts > self.counts.len() {
             self.counts.resize(parts, 0)?;
@@ -70,13 +75,17 @@ impl Starts {
     }
 
     /// Ends what was begun: the parts after the last such point.
-    pub(crate) fn finish(&mut self, passed: Passed) {
+    pub(crate) fn finish(&mut self, passed: Passed)
+        ensures { vec_len self.new.counts ≡ vec_len self.old.counts }
+    {
         let parts = self.counts.len();
         raise(&mut self.counts, passed, parts);
     }
 
     /// One more point, up to whose part nothing new has to be counted.
-    fn pass(&mut self, passed: Passed, high: u32, step: u32) -> Passed {
+    fn pass(&mut self, passed: Passed, high: u32, step: u32) -> Passed
+        ensures { vec_len self.new.counts ≡ vec_len self.old.counts }
+    {
         let next = share(high, self.counts.len()).saturating_add(1);
         raise(&mut self.counts, passed, next);
         Passed {

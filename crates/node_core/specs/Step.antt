@@ -1,9 +1,11 @@
 -- One call of a node: from old, it may give this reply to the call and go on to new.
-use Rattle.std.specs.Prelude.{◌≡◌, ℕ, Result, Ok, Err, List, length, take, slice_get, option_map}
+use Rattle.std.specs.Prelude.{◌≡◌, ◌<◌, ℕ, Result, Ok, Err, List, length, take, slice_get, option_map}
 use Rattle.change_core.specs.Change.{entry_of}
 use Rattle.change_core.specs.Members.{greatest, digest_text}
 use Rattle.detector_core.specs.Picks.{running_of}
+use Rattle.hash_ring.specs.declared.servers.Server.{Server}
 use Rattle.hash_ring.specs.Points.{owners}
+use Rattle.hash_ring.specs.Serving.{servers_of}
 use Rattle.node_core.specs.declared.errors.NodeError.{NodeError}
 use Rattle.node_core.specs.declared.errors.NodeError.TheVariants as error
 use Rattle.node_core.specs.declared.events.Event.{Event}
@@ -13,7 +15,6 @@ use Rattle.node_core.specs.declared.events.Reply.TheVariants as answer
 use Rattle.node_core.specs.Asserting.{LeaveStep, RejoinStep}
 use Rattle.node_core.specs.Expiring.{ExpireStep}
 use Rattle.node_core.specs.Messages.{digest_of, join_by, ping_by, ping_req_by, ping_req_ack_by, told}
-use Rattle.hash_ring.specs.Serving.{servers_of}
 use Rattle.node_core.specs.Node.{Node, own_change}
 use Rattle.node_core.specs.Probes.{ProbeStep, AckedStep, LostStep, HelperStep}
 use Rattle.node_core.specs.Receiving.{ReceiveStep, MakeStep}
@@ -24,6 +25,12 @@ abbrev pub Answers : {X : Type 0} → X → Result X NodeError → Type 0
 Answers x (Ok y) = y ≡ x
 Answers x (Err error.Memory) = Unit {0}
 Answers x (Err other) = ⊥
+
+-- the first n owners of a key among these servers are answered; where one is to be named there may be no memory
+abbrev pub NamesOwners : (List ℕ → ℕ) → ℕ → List Server → List ℕ → ℕ → Result (List ℕ) NodeError → Type 0
+NamesOwners hash replicas servers key n (Ok named) = named ≡ take n (owners hash replicas servers key)
+NamesOwners hash replicas servers key n (Err error.Memory) = (0 < n) × (0 < length servers)
+NamesOwners hash replicas servers key n (Err other) = ⊥
 
 -- the owners of a key among the node's members, the nearest first; hash_of is what its hash gives
 abbrev pub owners_by : {H : Type 0} → (H → List ℕ → ℕ) → Node H → List ℕ → List ℕ
@@ -51,7 +58,8 @@ NodeStep hash_of old call.Own (answer.Own change) new = (change ≡ own_change o
 NodeStep hash_of old (call.Member a) (answer.Member entry) new = (entry ≡ option_map entry_of (greatest old.members a)) × (new ≡ old)
 NodeStep hash_of old call.Len (answer.Len n) new = (n ≡ length old.members) × (new ≡ old)
 NodeStep hash_of old (call.Owner key) (answer.Owner owner) new = (owner ≡ slice_get (owners_by hash_of old key) 0) × (new ≡ old)
-NodeStep hash_of old (call.Owners key n) (answer.Owners result) new = Answers (take n (owners_by hash_of old key)) result × (new ≡ old)
+NodeStep hash_of old (call.Owners key n) (answer.Owners result) new =
+    NamesOwners (hash_of old.hash) old.config.replicas (servers_of old.members) key n result × (new ≡ old)
 NodeStep hash_of old call.Members (answer.Members result) new = Answers old.members result × (new ≡ old)
 NodeStep hash_of old call.DigestText (answer.DigestText result) new = Answers (digest_text old.members) result × (new ≡ old)
 NodeStep hash_of old call.Digest (answer.Digest result) new = Answers (digest_of old.members) result × (new ≡ old)

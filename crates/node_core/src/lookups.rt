@@ -1,9 +1,10 @@
 //! What a node answers of its members and its ring. Nothing changes.
-ghost use Rattle.std.specs.Prelude.{◌≡◌, take, slice_get};
+ghost use Rattle.std.specs.Prelude.{◌≡◌, slice_get};
 ghost use Rattle.change_core.specs.Members.{digest_text};
 ghost use Rattle.detector_core.specs.Picks.{running_of};
+ghost use Rattle.hash_ring.specs.Serving.{servers_of};
 ghost use Rattle.node_core.specs.Messages.{digest_of};
-ghost use Rattle.node_core.specs.Step.{Answers, owners_by};
+ghost use Rattle.node_core.specs.Step.{Answers, NamesOwners, owners_by};
 ghost use Rattle.node_core.specs.Viewing.{view_of};
 
 use crate::errors::NodeError;
@@ -26,9 +27,9 @@ impl<H: PointHash> NodeState<H> {
 
     /// The first `count` owners of a key, the owner first, or all serving members where there are fewer.
     ///
-    /// Errors: `Memory`, for the list.
+    /// Errors: `Memory`, for the list; never where nobody is to be named.
     pub fn owners(&self, key: &[u8], count: usize) -> Result<Addresses, NodeError>
-        ensures { Answers (take count (owners_by H.hash_of self.now.node key.now)) result }
+        ensures { NamesOwners (H.hash_of self.now.node.hash) self.now.node.config.replicas (servers_of self.now.node.members) key.now count result }
     {
         Ok(Addresses::from_vec(self.ring.owners(key, count)?))
     }

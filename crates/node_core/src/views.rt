@@ -1,7 +1,7 @@
 //! What a node leaves with whoever looks keys up without it.
-ghost use Rattle.std.specs.Prelude.{◌≡◌, take};
-ghost use Rattle.hash_ring.specs.Points.{owner, owners};
-ghost use Rattle.node_core.specs.Step.{Answers};
+ghost use Rattle.std.specs.Prelude.{◌≡◌};
+ghost use Rattle.hash_ring.specs.Points.{owner};
+ghost use Rattle.node_core.specs.Step.{Answers, NamesOwners};
 
 use crate::errors::NodeError;
 use change_core::Address;
@@ -55,9 +55,9 @@ impl<H: PointHash> View<H> {
 
     /// The first `count` owners of a key, the owner first, or all servers where there are fewer.
     ///
-    /// `Memory`: the list was refused.
+    /// `Memory`: the list was refused; never where nobody is to be named.
     pub fn owners(&self, key: &[u8], count: usize) -> Result<Addresses, NodeError>
-        ensures { Answers (take count (owners (H.hash_of self.now.hash) self.now.replicas self.now.servers key.now)) result }
+        ensures { NamesOwners (H.hash_of self.now.hash) self.now.replicas self.now.servers key.now count result }
     {
         match self.ring.owners(key, count) {
             Ok(named) => Ok(Addresses::from_vec(named)),

@@ -5,3 +5,4 @@ pub mod RunLaws
 pub mod SampleLemmas
 pub mod TimerLemmas
 pub mod VerdictLaws
+pub mod Waiting

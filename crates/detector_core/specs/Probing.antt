@@ -1,8 +1,9 @@
 -- The prober: the last number used, the rest of the order, and the running probe.
-use Rattle.std.specs.Prelude.{ℕ, ◌==◌, ◌&&◌, List, length, map, min, Option, Some, None, Result, Ok, Err, if◌then◌else◌}
+use Rattle.std.specs.Prelude.{◌≡◌, ◌≤◌, ℕ, ◌==◌, ◌&&◌, List, [], length, map, min, Option, Some, None, Result, Ok, Err, if◌then◌else◌}
 use Rattle.std.specs.Option.{option_and_then, option_map_or}
 use Rattle.rand_core.specs.Stream.{Stream}
 use Rattle.rand_pcg.specs.Lcg.{Lcg}
+use Rattle.change_core.specs.Numbers.{greatest_number}
 use Rattle.detector_core.specs.declared.asked.Asked.{Asked}
 use Rattle.detector_core.specs.declared.asked.Said.{Said}
 use Rattle.detector_core.specs.declared.asked.Outcome.{Outcome}
@@ -10,7 +11,8 @@ use Rattle.detector_core.specs.declared.asked.Outcome.TheVariants as outcomes
 use Rattle.detector_core.specs.declared.errors.DetectorError.{DetectorError}
 use Rattle.detector_core.specs.declared.errors.DetectorError.TheVariants as refusals
 use Rattle.detector_core.specs.Choices.{choices_of}
-use Rattle.detector_core.specs.Helpers.{noted, waits, outcome_after, others}
+use Rattle.detector_core.specs.Helpers.{first_waiting, noted, waits, outcome_after, others}
+use Rattle.detector_core.specs.Order.{AllDifferent}
 
 -- the target of the running probe, and the helpers asked with what each said
 pub record Attempted : Type 0 where
@@ -25,6 +27,13 @@ pub record ProbeState : Type 0 where
   pub rest : List ℕ
   pub generator : Lcg
   pub running : Option Attempted
+
+-- what holds of a prober between any two calls: its last number is within the greatest, nobody stands twice in the rest of the order, and a
+-- probe that waits for nobody has asked nobody, so that one whose helpers have all answered has ended
+pub record IsProbing (probing : ProbeState) : Type 0 where
+  pub numbered : probing.last ≤ greatest_number
+  pub different : AllDifferent probing.rest
+  pub waited : (p : Attempted) → probing.running ≡ Some p → first_waiting p.asked ≡ None → p.asked ≡ []
 
 -- the random choices to come
 abbrev pub choices : ProbeState → Stream

@@ -1,10 +1,10 @@
-ghost use Rattle.std.specs.Prelude.{◌≡◌, ℕ, ◌<◌, ◌≤◌, ◌↔◌, ◌⊎◌, [], None, Some, Ok, Err, IsSome, IfOk, IfErr, OnOk, OnErr, IsErr, IsErrOf, IsOkUnless, MatchOption};
+ghost use Rattle.std.specs.Prelude.{◌≡◌, ℕ, ◌<◌, ◌≤◌, ◌↔◌, ◌⊎◌, [], None, Some, Ok, Err, IsSome, IfOk, IfSome, IfErr, OnOk, OnErr, IsErr, IsErrOf, IsOkUnless, MatchOption};
 ghost use Rattle.std.specs.List.Sorted.{IsStrictlyIncreasing};
 ghost use Rattle.change_core.specs.Numbers.{greatest_number};
 ghost use Rattle.detector_core.specs.Choices.{seeded};
-ghost use Rattle.detector_core.specs.Order.{AllDifferent, near};
+ghost use Rattle.detector_core.specs.Order.{near};
 ghost use Rattle.detector_core.specs.Picks.{IsPick, WasLost, running_of};
-ghost use Rattle.detector_core.specs.Probing.{running_target, unasked_target, helper_count, would_say, after_saying};
+ghost use Rattle.detector_core.specs.Probing.{IsProbing, running_target, unasked_target, helper_count, would_say, after_saying};
 
 use crate::addresses::Addresses;
 use crate::asked::{self, Asked, Outcome, Said};
@@ -60,11 +60,8 @@ pub struct Prober {
 }
 
 impl Model for Prober {
-    ghost use Rattle.std.specs.Prelude.{◌≤◌};
     ghost use Rattle.std.specs.Option.{option_map};
-    ghost use Rattle.change_core.specs.Numbers.{greatest_number};
-    ghost use Rattle.detector_core.specs.Order.{AllDifferent};
-    ghost use Rattle.detector_core.specs.Probing.{ProbeState};
+    ghost use Rattle.detector_core.specs.Probing.{IsProbing, ProbeState};
 
     ghost Value = { ProbeState };
 
@@ -76,7 +73,13 @@ impl Model for Prober {
       running = option_map (λ a. record { target = a.target; asked = a.asked.items }) p.running;
     } };
 
-    ghost invariant = { λ p. (p.last ≤ greatest_number) × AllDifferent p.order };
+    ghost invariant = { λ p. IsProbing (record {
+      last = p.last;
+      helpers = p.helpers;
+      rest = p.order;
+      generator = p.rng;
+      running = option_map (λ a. record { target = a.target; asked = a.asked.items }) p.running;
+    }) };
 }
 
 impl Prober {
@@ -205,11 +208,13 @@ impl Prober {
         }
     }
 
-    /// The probe that runs, with the helper of least address that was asked and has not answered.
+    /// The probe that runs, with the helper of least address that was asked and has not answered. It can be lost exactly where no
+    /// helper is waited for: one whose helpers have all answered has ended.
     pub fn running(&self) -> Option<Running>
         ensures value { result ≡ running_of self.now }
-        ensures different { AllDifferent self.now.rest }
-        ensures last { self.now.last ≤ greatest_number }
+        ensures unasked { IfSome result (λ r. (r.waiting ≡ None) ↔ (unasked_target self.now r.number ≡ Some r.target)) }
+        // What holds of a prober between any two calls.
+        ensures whole { IsProbing self.now }
     {
         let attempt = self.running.as_ref()?;
         Some(Running {

@@ -15,7 +15,8 @@ use Rattle.node_core.specs.Node.{pingable}
 use Rattle.node_core.specs.Parts.{Parts, AreParts, node_of, seen_in}
 use Rattle.node_core.proofs.Invariant.{ended_kept, probing_kept, told_kept}
 use Rattle.node_core.proofs.Issuing.{after_issue-nothing}
-use Rattle.node_core.proofs.Probed.{others-lost, others-pick, others-waiting, probed-lost, probed-pick, probed-waiting, unasked_other}
+use Rattle.detector_core.proofs.Waiting.{probed-lost, probed-pick, probed-waiting}
+use Rattle.node_core.proofs.Probed.{others-lost, others-pick, others-waiting, unasked_other}
 use Rattle.node_core.proofs.Suspecting.{after_saying-reached, after_saying-suspect, after_saying-inconclusive}
 
 module _ {H : Type 0} (hash_of : H → List ℕ → ℕ) (p : Parts H) (parts : AreParts hash_of p) where

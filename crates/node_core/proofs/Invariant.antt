@@ -16,7 +16,7 @@ use Rattle.change_core.proofs.Members.{members-IsMemberList}
 use Rattle.change_core.proofs.News.{length-members_known, length-members_new}
 use Rattle.change_core.proofs.Order.{in_filter}
 use Rattle.change_core.proofs.Precedence.{Exceeds-true, exceeds-true, same_from_rank}
-use Rattle.detector_core.specs.Probing.{ProbeState}
+use Rattle.detector_core.specs.Probing.{IsProbing, ProbeState}
 use Rattle.rand_pcg.specs.Lcg.{Lcg}
 use Rattle.gossip_core.specs.declared.pending.Pending.{Pending}
 use Rattle.gossip_core.specs.Pending.{counted, fresh, limit_for, subject}
@@ -41,7 +41,7 @@ use Rattle.node_core.specs.Asserting.{leaving, rejoining}
 use Rattle.node_core.specs.Calls.{OfEvent, OfView, WithReply, WithView, AllCallsKeepIt}
 use Rattle.node_core.specs.Configs.{IsConfig}
 use Rattle.node_core.specs.Expiring.{is_due, is_reached, timer_of, due, expired}
-use Rattle.node_core.specs.Invariant.{IsNode, IsProbing, CallsKeepIt, Purpose, purpose}
+use Rattle.node_core.specs.Invariant.{IsNode, CallsKeepIt, Purpose, purpose}
 use Rattle.node_core.specs.Messages.{told}
 use Rattle.node_core.specs.Node.{Node, altered, asserted_by, asserts, at_moment, birth, has_deadline, is_timed, members_after, next_status, or_birth, own_change, pingable, said_by}
 use Rattle.node_core.specs.Probes.{ended, put_in, suspicion, suspicion_in, suspicion_of, Suspects}
@@ -53,7 +53,8 @@ use Rattle.node_core.proofs.Apart.{AreApart-from_each, OnePerAddress-from_apart,
 use Rattle.node_core.proofs.Configured.{limits_within}
 use Rattle.node_core.proofs.Kept.{altered_kept}
 use Rattle.node_core.proofs.Listed.{In-find, In-counted, In-below, address-greatest, greatest-member}
-use Rattle.node_core.proofs.Probed.{IsOfOther, running_other, unasked_other, others-lost, others-waiting, others-pick, probed-pick, probed-lost, probed-waiting}
+use Rattle.detector_core.proofs.Waiting.{probed-ended, probed-lost, probed-pick, probed-waiting}
+use Rattle.node_core.proofs.Probed.{IsOfOther, running_other, unasked_other, others-lost, others-waiting, others-pick}
 use Rattle.node_core.proofs.Synchronising.{Exceeds-refutation}
 
 -- a list of members with one change more fits, unless the change is about an unknown address and the list is full
@@ -106,7 +107,7 @@ module _ {H : Type 0} (node : Node H) (kept : IsNode node) where
     limit_is = kept.limit_is;
     timed = kept.timed;
     others = λ p e. cc;
-    probed = record { numbered = kept.probed.numbered; different = kept.probed.different; waited = λ p e. cc };
+    probed = probed-ended node.probing kept.probed;
     configured = kept.configured;
     factor_is = kept.factor_is;
     helpers_is = kept.helpers_is;

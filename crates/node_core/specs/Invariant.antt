@@ -1,14 +1,11 @@
 -- What holds of a node between any two calls.
-use Rattle.std.specs.Prelude.{◌≡◌, ◌≢◌, ℕ, ◌<◌, ◌≤◌, true, cond, Option, Some, None, List, [], length, option_map}
+use Rattle.std.specs.Prelude.{◌≡◌, ◌≢◌, ℕ, ◌<◌, ◌≤◌, true, cond, Option, Some, None, List, length, option_map}
 use Rattle.change_core.specs.declared.changes.Change.{Change}
 use Rattle.change_core.specs.declared.statuses.Status.{Status}
 use Rattle.change_core.specs.Ascending.{In}
 use Rattle.change_core.specs.Members.{greatest, serving, IsMemberList}
-use Rattle.change_core.specs.Numbers.{greatest_number}
 use Rattle.detector_core.specs.declared.timers.Timer.{Timer}
-use Rattle.detector_core.specs.Helpers.{first_waiting}
-use Rattle.detector_core.specs.Order.{AllDifferent}
-use Rattle.detector_core.specs.Probing.{Attempted, ProbeState}
+use Rattle.detector_core.specs.Probing.{Attempted, IsProbing}
 use Rattle.gossip_core.specs.declared.pending.Pending.{Pending}
 use Rattle.gossip_core.specs.Pending.{subject, limit_for, OnePerAddress}
 use Rattle.hash_ring.specs.Points.{points}
@@ -32,13 +29,6 @@ purpose_of t = (t.incarnation, t.next)
 abbrev pub purpose : ℕ → Option Change → Option Purpose
 purpose own None = None
 purpose own (Some c) = cond (is_timed own c) (Some (c.incarnation, next_status c.status)) None
-
--- what holds of the prober: its numbers have not run out unseen, nobody stands twice in the rest of the order, and a probe whose helpers
--- have all answered has ended, so that one that runs and waits for nobody has asked nobody yet
-pub record IsProbing (probing : ProbeState) : Type 0 where
-  pub numbered : probing.last ≤ greatest_number
-  pub different : AllDifferent probing.rest
-  pub waited : (p : Attempted) → probing.running ≡ Some p → first_waiting p.asked ≡ None → p.asked ≡ []
 
 -- what holds of a node between any two calls: of its entries, pending changes, timers, probe and configuration
 pub record IsNode {H : Type 0} (node : Node H) : Type 0 where

@@ -1,6 +1,5 @@
 -- What is seen of a node whose parts agree.
-use Rattle.std.proofs.Common.{◌≡◌, ℕ, List, Some, None, refl, sym, ◌∙◌, ap}
-use Rattle.change_core.specs.declared.changes.Change.{Change}
+use Rattle.std.proofs.Common.{◌≡◌, ℕ, List, sym, ◌∙◌, ap}
 use Rattle.hash_ring.specs.declared.servers.Server.{Server}
 use Rattle.hash_ring.specs.RingModel.{RingModel, ring_of}
 use Rattle.node_core.specs.Invariant.{IsSeen}

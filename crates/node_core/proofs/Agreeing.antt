@@ -1,16 +1,15 @@
 -- Nodes whose logs hold the same changes agree.
-use Rattle.std.proofs.Common.{◌≡◌, ℕ, List, refl, sym, ◌∙◌, ap, map}
+use Rattle.std.proofs.Common.{◌≡◌, ℕ, List, sym, ◌∙◌, ap, map}
 use Rattle.std.specs.Prelude.{filter}
 use Rattle.change_core.specs.declared.changes.Change.{Change}
 use Rattle.change_core.specs.Members.{members, digest_text, HaveSameChanges}
 use Rattle.change_core.specs.Status.{is_serving}
-use Rattle.change_core.proofs.Members.{members-same, members-append, members-members}
+use Rattle.change_core.proofs.Members.{members-same, members-members}
 use Rattle.hash_ring.specs.declared.servers.Server.{Server}
 use Rattle.hash_ring.specs.Points.{owners, points}
-use Rattle.node_core.specs.Agreement.{AgreeOnAll, IsNodeOf, Agree, NodesAgree, NodesAnswerByLog}
+use Rattle.node_core.specs.Agreement.{AgreeOnAll, NodesAgree, NodesAnswerByLog}
 use Rattle.hash_ring.specs.Serving.{server_of, servers_of}
 use Rattle.node_core.specs.Messages.{digest_of}
-use Rattle.node_core.specs.Node.{Seen}
 
 -- lists with the same members have the same servers
 servers-same : (L K : List Change) → members L ≡ members K → servers_of L ≡ servers_of K

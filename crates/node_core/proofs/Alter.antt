@@ -1,16 +1,15 @@
 -- What one alteration of the parts makes of the node.
-use Rattle.std.proofs.Common.{◌≡◌, ℕ, ◌+◌, ◌≤◌, Bool, true, false, cond, List, [], ◌∷◌, ◌++◌, map, length, Option, Some, None, Result, Ok, Err, inl, inr, sym, ◌∙◌, ap, subst}
+use Rattle.std.proofs.Common.{◌≡◌, ℕ, ◌+◌, ◌≤◌, Bool, true, false, cond, List, [], ◌∷◌, ◌++◌, map, length, Result, Ok, Err, inl, inr, sym, ◌∙◌, ap, subst}
 use Rattle.std.specs.Prelude.{OnOk, OnErr}
 use Rattle.std.specs.List.{filter}
 use Rattle.std.proofs.lemmas.List.{length-map}
 use Rattle.std.proofs.lemmas.Bool.{cases_Bool}
 use Rattle.change_core.specs.declared.changes.Change.{Change}
 use Rattle.change_core.specs.declared.changes.Sourced.{Sourced}
-use Rattle.change_core.specs.Members.{greatest, members, serving, is_news, alters, address_of_change}
+use Rattle.change_core.specs.Members.{members, serving, is_news, address_of_change}
 use Rattle.change_core.specs.Status.{is_serving}
 use Rattle.change_core.proofs.Members.{members-members}
 use Rattle.detector_core.specs.declared.timers.Timer.{Timer}
-use Rattle.detector_core.specs.Probing.{ProbeState}
 use Rattle.detector_core.specs.Timers.{TimerList, IsAscending, with_timer, without_timer}
 use Rattle.detector_core.proofs.TimerLemmas.{IsAscending-with_timer, IsAscending-without_timer}
 use Rattle.gossip_core.specs.Dissemination.{Dissemination, with_news, adjusted}
@@ -23,7 +22,7 @@ use Rattle.member_core.specs.Membership.{Membership, IsMembership}
 use Rattle.node_core.specs.declared.configs.Config.{Config}
 use Rattle.node_core.specs.declared.errors.NodeError.{NodeError}
 use Rattle.node_core.specs.Invariant.{IsNode}
-use Rattle.node_core.specs.Node.{Node, Seen, altered, asserts, is_timed, members_after, next_status, timers_with, wait_for}
+use Rattle.node_core.specs.Node.{Node, altered, asserts, is_timed, members_after, next_status, timers_with, wait_for}
 use Rattle.node_core.specs.Parts.{Parts, AreParts, node_of, seen_in}
 use Rattle.node_core.proofs.Agreed.{ring_of-hash}
 use Rattle.node_core.proofs.Kept.{altered_kept}

@@ -2,7 +2,6 @@
 use Rattle.std.proofs.Common.{◌≡◌, ℕ, List, [], ◌∷◌, map, None, sym, ◌∙◌, ap, subst, arith}
 use Rattle.std.specs.List.{filter}
 use Rattle.change_core.specs.declared.changes.Change.{Change}
-use Rattle.change_core.specs.Members.{members}
 use Rattle.change_core.specs.Status.{is_serving}
 use Rattle.change_core.proofs.Members.{members-IsMemberList}
 use Rattle.detector_core.specs.Probing.{ProbeState}

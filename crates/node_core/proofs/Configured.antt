@@ -1,12 +1,12 @@
 -- What a configuration's fields are within.
-use Rattle.std.proofs.Common.{◌≡◌, ℕ, ◌≤◌, ◌&&◌, Bool, true, false, cond, Option, Some, None, refl}
+use Rattle.std.proofs.Common.{◌≡◌, ℕ, ◌≤◌, Bool, true, false, cond, Option, Some, None, refl}
 use Rattle.std.specs.Prelude.{nat_le}
 use Rattle.std.proofs.lemmas.Bool.{and_parts, leb-true}
 use Rattle.change_core.specs.Numbers.{greatest_number, most_members}
 use Rattle.node_core.specs.declared.configs.Config.{Config}
 use Rattle.node_core.specs.declared.configs.ConfigField.{ConfigField}
 use Rattle.node_core.specs.declared.configs.ConfigField.TheVariants.{Replicas, MaxMembers, SuspectMs, FaultyMs, Helpers, Piggyback, PerMessage}
-use Rattle.node_core.specs.Configs.{is_within, bad_field, IsConfig}
+use Rattle.node_core.specs.Configs.{is_within, IsConfig}
 
 -- a test of a chain that finds no fault holds, and so does what comes after it
 pub passes : (b : Bool) (rest : Option ConfigField) (f : ConfigField) → cond b rest (Some f) ≡ None → (b ≡ true) × (rest ≡ None)

@@ -1,6 +1,6 @@
 -- What a membership may be edited by, and what it is then.
 use Rattle.std.proofs.Common.{◌≡◌, ◌≢◌, ℕ, ◌<◌, ◌&&◌, Bool, true, false, not, cond, eqb, List, [], ◌∷◌, ◌++◌, length, Option, Some, None, map, refl, sym, ◌∙◌, ap, subst, inl, inr}
-use Rattle.std.specs.Prelude.{Contains, option_map}
+use Rattle.std.specs.Prelude.{option_map}
 use Rattle.std.proofs.lemmas.Bool.{and_from, and_parts, eq-eqb, eqb-true, ne_eqb, cases_eq, not-false}
 use Rattle.change_core.specs.declared.changes.Change.{Change}
 use Rattle.change_core.specs.declared.statuses.Status.{Status}
@@ -8,7 +8,7 @@ use Rattle.change_core.specs.declared.statuses.Status.TheVariants.{Alive, Suspec
 use Rattle.std.specs.Option.{is_none, option_map_or}
 use Rattle.change_core.specs.Change.{Exceeds, exceeds, entry_of}
 use Rattle.change_core.specs.Members.{greatest, members, is_news, alters}
-use Rattle.change_core.specs.Refutation.{is_refuted, refutation}
+use Rattle.change_core.specs.Refutation.{is_refuted}
 use Rattle.change_core.specs.Status.{rank}
 use Rattle.change_core.proofs.Ascends.{Contains-In, In-Contains}
 use Rattle.change_core.proofs.Precedence.{exceeds-true, same_from_rank}
@@ -16,14 +16,14 @@ use Rattle.detector_core.specs.declared.timers.Timer.{Timer}
 use Rattle.detector_core.specs.Timers.{HasTimer}
 use Rattle.member_core.specs.declared.verdicts.Verdict.{Verdict}
 use Rattle.member_core.specs.declared.verdicts.Verdict.TheVariants.{Old, Take, Refute, Exhausted, Full}
-use Rattle.member_core.specs.Membership.{Membership, IsMembership, IsOwnAssertion, IsOwnStatus, CanCommit, judged, judged_other, judged_own, put_in, own_after, own_committed}
-use Rattle.member_core.proofs.Commits.{Alters, CanPut-refute, is_news-alters, is_refuted-judged, members-refuted, own_after-refuted, refuted, refutes}
+use Rattle.member_core.specs.Membership.{Membership, IsMembership, IsOwnStatus, CanCommit, judged, judged_other, judged_own, put_in, own_after, own_committed}
+use Rattle.member_core.proofs.Commits.{Alters, CanPut-refute, is_news-alters, is_refuted-judged, members-refuted, refuted, refutes}
 use Rattle.node_core.specs.declared.edits.Edit.{Edit}
 use Rattle.node_core.specs.declared.edits.Edit.TheVariants.{Judged, Own}
 use Rattle.node_core.specs.Edits.{entry_in, membership_of, IsTimed, MayEdit}
 use Rattle.node_core.specs.Expiring.{timer_of}
-use Rattle.node_core.specs.Invariant.{IsNode, Purpose, purpose, purpose_of}
-use Rattle.node_core.specs.Node.{asserts, has_deadline, is_timed, next_status, own_change}
+use Rattle.node_core.specs.Invariant.{Purpose, purpose, purpose_of}
+use Rattle.node_core.specs.Node.{asserts, has_deadline, is_timed, next_status}
 use Rattle.node_core.specs.Parts.{Parts, AreParts, node_of}
 use Rattle.node_core.proofs.Agreed.{own_change-parts}
 use Rattle.node_core.proofs.Listed.{address-greatest}

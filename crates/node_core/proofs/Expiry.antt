@@ -1,5 +1,5 @@
 -- The entry that is due first is that of the timer that is due first.
-use Rattle.std.proofs.Common.{◌≡◌, ◌≢◌, ℕ, zero, suc, ◌<◌, ◌≤◌, ◌&&◌, Bool, true, false, cond, not, eqb, List, [], ◌∷◌, map, Option, Some, None, refl, sym, ◌∙◌, ap, subst, inl, inr, arith}
+use Rattle.std.proofs.Common.{◌≡◌, ℕ, zero, suc, ◌<◌, ◌≤◌, Bool, true, false, cond, not, eqb, List, [], ◌∷◌, map, Option, Some, None, refl, sym, ◌∙◌, ap, subst, inl, inr, arith}
 use Rattle.std.specs.Prelude.{option_map, All, IfSome}
 use Rattle.std.proofs.lemmas.List.Elements.{All-contains}
 use Rattle.std.specs.List.{find}
@@ -13,7 +13,7 @@ use Rattle.change_core.specs.Status.{rank}
 use Rattle.change_core.proofs.Precedence.{same_change}
 use Rattle.detector_core.specs.declared.timers.Timer.{Timer}
 use Rattle.detector_core.specs.declared.timers.Due.{Due}
-use Rattle.detector_core.specs.Timers.{due_at, due_of, IsAscending, IsLeastDue}
+use Rattle.detector_core.specs.Timers.{due_at, IsAscending, IsLeastDue}
 use Rattle.detector_core.proofs.TimerLemmas.{gives_least_due}
 use Rattle.hash_ring.proofs.FreshPoints.{in_of_contains, contains_of_in}
 use Rattle.hash_ring.proofs.Placed.{at_in}

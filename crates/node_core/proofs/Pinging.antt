@@ -7,7 +7,7 @@ use Rattle.std.proofs.lemmas.List.Elements.{filter-append}
 use Rattle.std.proofs.lemmas.List.Filters.{length-filter_more}
 use Rattle.std.proofs.lemmas.List.Sums.{length-filter}
 use Rattle.change_core.specs.declared.changes.Change.{Change}
-use Rattle.change_core.specs.Members.{serving, members, address_of_change, IsMemberList}
+use Rattle.change_core.specs.Members.{serving, address_of_change, IsMemberList}
 use Rattle.change_core.specs.Status.{is_serving}
 use Rattle.change_core.proofs.Increasing.{IsStrictlyIncreasing-serving_kept}
 use Rattle.change_core.proofs.Members.{members-IsMemberList}

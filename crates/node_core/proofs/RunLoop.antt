@@ -1,5 +1,5 @@
 -- A run goes on by one step, and its node is that of its log.
-use Rattle.std.proofs.Common.{◌≡◌, ℕ, List, [], ◌∷◌, ◌++◌, map, sym, ◌∙◌, ap, subst, refl}
+use Rattle.std.proofs.Common.{◌≡◌, ℕ, List, [], ◌∷◌, ◌++◌, map, ◌∙◌, ap, subst, refl}
 use Rattle.std.specs.List.{filter}
 use Rattle.change_core.specs.declared.changes.Change.{Change}
 use Rattle.change_core.specs.Members.{members}

@@ -1,17 +1,13 @@
 -- A node that takes all that another holds.
-use Rattle.std.proofs.Common.{◌≡◌, ◌≢◌, ◌≤◌, ℕ, List, [], ◌∷◌, ◌++◌, map, Option, Some, Ok, refl, sym, ◌∙◌, ap, subst}
+use Rattle.std.proofs.Common.{◌≡◌, ◌≤◌, ℕ, List, [], ◌∷◌, map, refl, sym, ◌∙◌, ap, subst}
 use Rattle.change_core.specs.declared.changes.Change.{Change}
-use Rattle.change_core.specs.declared.changes.Sourced.{Sourced}
 use Rattle.change_core.specs.Members.{greatest, members}
-use Rattle.change_core.specs.Refutation.{refutation}
 use Rattle.change_core.proofs.Members.{greatest-members, members-IsMemberList}
-use Rattle.node_core.specs.declared.events.Taken.{Taken}
-use Rattle.node_core.specs.Invariant.{IsNode}
 use Rattle.node_core.specs.Log.{log_given, refuted}
 use Rattle.node_core.specs.Messages.{full_sync}
 use Rattle.node_core.specs.Node.{Node, at_moment, said_by}
-use Rattle.node_core.specs.Synchronisation.{IsSynchronised, NodesSynchronise}
-use Rattle.node_core.specs.Taking.{TakesAll, took_all, change_of}
+use Rattle.node_core.specs.Synchronisation.{NodesSynchronise}
+use Rattle.node_core.specs.Taking.{change_of}
 use Rattle.node_core.proofs.Log.{took_all_members}
 use Rattle.node_core.proofs.Synchronising.{takes_greatest}
 

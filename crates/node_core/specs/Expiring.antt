@@ -1,5 +1,5 @@
 -- What becomes of entries at their deadlines.
-use Rattle.std.specs.Prelude.{◌≡◌, ◌≢◌, ℕ, ◌==◌, ◌&&◌, Bool, true, false, nat_le, Option, Some, None, Result, Ok, Err, List}
+use Rattle.std.specs.Prelude.{◌≡◌, ◌≢◌, ℕ, ◌==◌, ◌&&◌, Bool, false, nat_le, Option, Some, None, Result, Ok, Err, List}
 use Rattle.std.specs.List.{find}
 use Rattle.change_core.specs.declared.changes.Change.{Change}
 use Rattle.detector_core.specs.declared.timers.Timer.{Timer}

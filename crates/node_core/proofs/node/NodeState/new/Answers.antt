@@ -4,7 +4,7 @@ use Rattle.change_core.specs.declared.changes.Sourced.{Sourced}
 use Rattle.detector_core.specs.Choices.{seeded}
 use Rattle.gossip_core.specs.Dissemination.{with_news}
 use Rattle.node_core.specs.Node.{asserted_by}
-use Rattle.node_core.proofs.Beginning.{parts_begun, seen_begun}
+use Rattle.node_core.proofs.Beginning.{parts_begun}
 use Rattle.node_core.proofs.node.NodeState.new.Goals as goal
 
 pub invariant_of-result : goal.invariant_of-result

@@ -10,14 +10,15 @@ use Rattle.turn_lock.proofs.Passes.{outside_name}
 use Rattle.node_core.specs.Agreement.{IsNodeOf}
 use Rattle.node_core.specs.Calls.{Call, OfEvent, OfView, Answer, WithReply, WithView, CallStep}
 use Rattle.node_core.specs.Invariant.{IsNode, IsSeen}
+use Rattle.node_core.specs.Itself.{IsItself}
 use Rattle.node_core.specs.Node.{Node, Seen}
 use Rattle.node_core.specs.Run.{IsRun}
 use Rattle.node_core.proofs.Invariant.{all_calls_keep_it}
+use Rattle.node_core.proofs.Itself.{run_itself}
 use Rattle.node_core.proofs.RunLoop.{IsNodeOf-run}
 use Rattle.locked_node.specs.declared.node.LockedNode.{LockedNode}
 use Rattle.locked_node.specs.History.{CallEntry, entry_of, event_in, reply_in, History, LegalHistory, HistoriesKeepIt, StandsFor, log_of}
 use Rattle.locked_node.specs.Passes.{NodePass, opening_of, IsCalled, MadeInTurn}
-use Rattle.locked_node.proofs.Itself.{history_itself}
 
 module _ {H : Type 0} (hash_of : H → List ℕ → ℕ) where
   pub legal_push : (opening : Node H) (history : History H) (before : Node H) (n : ℕ) (call : Call) (answer : Answer H) (after : Node H)
@@ -50,6 +51,12 @@ module _ {H : Type 0} (hash_of : H → List ℕ → ℕ) where
   legal_run opening [] last legal = legal
   legal_run opening (t ∷ ts) last legal = run_more opening t.entry.after last t.pass t.entry.call t.entry.answer ts legal.0 (legal_run t.entry.after ts last legal.1)
 
+  -- a history is of one node
+  pub history_itself : (opening : Node H) (history : History H) (last : Node H) → LegalHistory hash_of opening history last → IsItself opening last
+  history_itself opening history last legal =
+      run_itself hash_of opening (filter_map (λ (t : Turn (CallEntry H)). event_in t.entry.call) history) (filter_map (λ (t : Turn (CallEntry H)). reply_in t.entry.answer) history) last
+      (legal_run opening history last legal)
+
   pub IsNodeOf-history : (opening now : Seen H) (history : History H) → StandsFor hash_of opening history now → IsSeen hash_of now → IsNodeOf hash_of now (log_of opening.node history)
   IsNodeOf-history opening now history stands whole = IsNodeOf-run hash_of opening now _ _ stands.0 whole (legal_run opening.node history now.node stands.1)
 
@@ -75,7 +82,7 @@ module _ {H : Type 0} (hash_of : H → List ℕ → ℕ) where
         between = goes.0;
         of_others = goes.2;
         opened = stands.0;
-        itself = history_itself hash_of opening _ after pushed;
+        itself = history_itself opening (lock.seen entered ++ turn n e ∷ []) after pushed;
         legal_before = subst (λ (l : History H). LegalHistory hash_of opening l held.node) goes.1 stands.1;
         step = step;
         seen_is = saw_own ∙ ap (λ (l : History H). l ++ turn n e ∷ []) goes.1;

@@ -40,16 +40,6 @@ abbrev pub HistoriesKeepIt : {H : Type 0} → (H → List ℕ → ℕ) → Type 
 HistoriesKeepIt {H} hash_of =
     (opening last : Node H) (history : History H) → IsNode opening → LegalHistory hash_of opening history last → IsKeptThrough opening history × IsNode last
 
--- the same node: its own address, its hash and its configuration
-pub record IsItself {H : Type 0} (old new : Node H) : Type 0 where
-  pub own_stays : new.own ≡ old.own
-  pub hash_stays : new.hash ≡ old.hash
-  pub config_stays : new.config ≡ old.config
-
--- no call changes these
-abbrev pub CallsLeaveItself : {H : Type 0} → (H → List ℕ → ℕ) → Type 0
-CallsLeaveItself {H} hash_of = (old new : Node H) (call : Call) (answer : Answer H) → CallStep hash_of old call answer new → IsItself old new
-
 -- the node stands for a history that is legal from the opening, which was as a node is between any two calls
 abbrev pub StandsFor : {H : Type 0} → (H → List ℕ → ℕ) → Seen H → History H → Seen H → Type 0
 StandsFor hash_of opening history now = IsSeen hash_of opening × LegalHistory hash_of opening.node history now.node

@@ -8,10 +8,11 @@ use Rattle.turn_lock.specs.Passes as lock
 use Rattle.node_core.specs.Agreement.{IsNodeOf}
 use Rattle.node_core.specs.Calls.{Call, Answer, CallStep}
 use Rattle.node_core.specs.Invariant.{IsSeen}
+use Rattle.node_core.specs.Itself.{IsItself}
 use Rattle.node_core.specs.Node.{Node, Seen}
 use Rattle.locked_node.specs.declared.held.Held.{Held}
 use Rattle.locked_node.specs.declared.node.LockedNode.{LockedNode}
-use Rattle.locked_node.specs.History.{CallEntry, entry_of, History, LegalHistory, IsItself, log_of}
+use Rattle.locked_node.specs.History.{CallEntry, entry_of, History, LegalHistory, log_of}
 
 -- a pass of the lock whose state is a node, and whose entries are its calls
 abbrev pub NodePass : Type 0 → Type 0

@@ -1,6 +1,6 @@
 //! Laws over the definitions, each the contract of a function that does nothing.
 ghost use Rattle.locked_node.specs.Agreement.{ClosedAgree};
-ghost use Rattle.locked_node.specs.History.{CallsLeaveItself, HistoriesKeepIt};
+ghost use Rattle.locked_node.specs.History.{HistoriesKeepIt};
 ghost use Rattle.locked_node.specs.Passes.{MadeInTurn};
 
 use hash_ring::PointHash;
@@ -10,11 +10,6 @@ use hash_ring::PointHash;
 /// whatever their threads did.
 pub fn agreement<H: PointHash>()
     ensures { ClosedAgree H.hash_of }
-{}
-
-/// No call changes a node's own address, its hash or its configuration.
-pub fn identity<H: PointHash>()
-    ensures { CallsLeaveItself H.hash_of }
 {}
 
 /// Before each call of a legal history, and after the last, the node is as a node is between any two calls, if it was so opened.

@@ -7,9 +7,12 @@ use Rattle.change_core.specs.Status.{is_serving}
 use Rattle.change_core.proofs.Members.{members-same, members-members}
 use Rattle.hash_ring.specs.declared.servers.Server.{Server}
 use Rattle.hash_ring.specs.Points.{owners, points}
-use Rattle.node_core.specs.Agreement.{AgreeOnAll, NodesAgree, NodesAnswerByLog}
+use Rattle.node_core.specs.Agreement.{AgreeOnAll, IsNodeOf, Agree, NodesAgree, NodesAnswerByLog}
 use Rattle.hash_ring.specs.Serving.{server_of, servers_of}
+use Rattle.node_core.specs.declared.configs.Config.{Config}
+use Rattle.node_core.specs.Itself.{IsItself}
 use Rattle.node_core.specs.Messages.{digest_of}
+use Rattle.node_core.specs.Node.{Seen}
 
 -- lists with the same members have the same servers
 servers-same : (L K : List Change) → members L ≡ members K → servers_of L ≡ servers_of K
@@ -43,6 +46,15 @@ nodes_agree {H} hash_of a b L K of_a of_b same hash replicas =
           ∙ ap (λ (r : ℕ). points (hash_of b.node.hash) r (servers_of K)) replicas
           ∙ sym of_b.points_are;
     }
+
+-- so do nodes that came from these two and are still themselves
+pub agree_still : {H : Type 0} (hash_of : H → List ℕ → ℕ) (x y a b : Seen H) (L K : List Change) → IsNodeOf hash_of a L → IsNodeOf hash_of b K
+    → IsItself x.node a.node → IsItself y.node b.node → HaveSameChanges L K
+    → x.node.hash ≡ y.node.hash → x.node.config.replicas ≡ y.node.config.replicas → Agree hash_of a b
+agree_still hash_of x y a b L K of_a of_b same_x same_y same hash replicas =
+    nodes_agree hash_of a b L K of_a of_b same
+    (same_x.hash_stays ∙ (hash ∙ sym same_y.hash_stays))
+    (ap (λ (k : Config). k.replicas) same_x.config_stays ∙ (replicas ∙ sym (ap (λ (k : Config). k.replicas) same_y.config_stays)))
 
 pub nodes_answer_by_log : {H : Type 0} (hash_of : H → List ℕ → ℕ) → NodesAnswerByLog hash_of
 nodes_answer_by_log hash_of seen log of =

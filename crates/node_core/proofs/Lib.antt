@@ -21,6 +21,7 @@ pub mod Editing
 pub mod Judge
 pub mod Expiry
 pub mod Batch
+pub mod Itself
 pub mod RunLoop
 pub mod Pinging
 pub mod Issuing

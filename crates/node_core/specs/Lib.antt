@@ -18,3 +18,4 @@ pub mod Parts
 pub mod World
 pub mod Viewing
 pub mod Calls
+pub mod Itself

@@ -7,6 +7,7 @@ ghost use Rattle.node_core.specs.Agreement.{AgreeOnAll, NodesAgree, NodesAnswerB
 ghost use Rattle.node_core.specs.Calls.{AllCallsKeepIt};
 ghost use Rattle.node_core.specs.Configs.{IsConfig};
 ghost use Rattle.node_core.specs.Invariant.{CallsKeepIt, IsNode};
+ghost use Rattle.node_core.specs.Itself.{CallsLeaveItself};
 ghost use Rattle.node_core.specs.Run.{MembersAreLog};
 ghost use Rattle.node_core.specs.Synchronisation.{NodesSynchronise, TakesGreatest};
 ghost use Rattle.node_core.specs.World.{WorldsAreTrue, newborn};
@@ -38,6 +39,11 @@ pub fn synchronisation<H>()
 /// After any calls of a node, its members are those of its log.
 pub fn node_run<H: PointHash>()
     ensures { MembersAreLog H.hash_of }
+{}
+
+/// No call changes a node's own address, its hash or its configuration, nor does the making of a view.
+pub fn identity<H: PointHash>()
+    ensures { CallsLeaveItself H.hash_of }
 {}
 
 /// A node begins with its invariant, and every call keeps it.

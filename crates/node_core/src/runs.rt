@@ -1,6 +1,7 @@
 //! Calls of a node, one after another.
 ghost use Rattle.std.specs.Prelude.{◌≡◌, length, IfOk, IfErr};
 ghost use Rattle.node_core.specs.Agreement.{IsNodeOf};
+ghost use Rattle.node_core.specs.Itself.{IsItself};
 ghost use Rattle.node_core.specs.Run.{log, IsRun};
 ghost use Rattle.node_core.specs.Step.{NodeStep};
 
@@ -11,7 +12,8 @@ use hash_ring::PointHash;
 use std::alloc::Global;
 
 /// Makes these calls of a node, one after another. The node's members are then those of its log: what it held at first,
-/// each change that a call counted as taken, and what the node said itself, its refutations among it.
+/// each change that a call counted as taken, and what the node said itself, its refutations among it. Its own address, its hash
+/// and its configuration stay.
 ///
 /// `RunRefused`, only where the list of the replies found no memory: no call was made.
 pub fn run<H: PointHash>(
@@ -21,6 +23,7 @@ pub fn run<H: PointHash>(
 ) -> Result<Run<H>, RunRefused<H>>
     ensures run { IfOk result (λ r. IsRun H.hash_of node.node events.now r.replies r.node.node) }
     ensures log { IfOk result (λ r. IsNodeOf H.hash_of r.node (log node.node.own node.node.members events.now r.replies)) }
+    ensures itself { IfOk result (λ r. IsItself node.node r.node.node) }
     ensures each { IfOk result (λ r. length r.replies ≡ length events.now) }
     ensures refused { IfErr result (λ r. r.node ≡ node) }
 {

@@ -6,6 +6,7 @@ use Rattle.node_core.specs.Invariant.{IsSeen}
 use Rattle.node_core.specs.Node.{Seen}
 use Rattle.node_core.specs.Run.{IsRun}
 use Rattle.node_core.proofs.Agreed.{IsSeen-parts}
+use Rattle.node_core.proofs.Itself.{run_itself}
 use Rattle.node_core.proofs.RunLoop.{IsNodeOf-run, Run-push}
 use Rattle.node_core.proofs.runs.run.Goals as goal
 
@@ -23,6 +24,10 @@ loop-event-preserved g c =
       many = c.push_reserved.ensures.len ∙ ap (λ n. n + 1) c.loop-event.invariant.many;
       room = omega (arith, c.loop-event.invariant.room, c.push_reserved.ensures.capacity);
     }
+
+pub returns-clause-itself : goal.returns-clause-itself
+returns-clause-itself g c =
+    run_itself g.H.PointHash.hash_of c.args.node.node (take c.loop-event.event-index c.args.events.now) c.loop-event.replies.items c.loop-event.node.node c.loop-event.invariant.ran
 
 pub returns-clause-log : goal.returns-clause-log
 returns-clause-log g c =

@@ -1,6 +1,5 @@
 use Rattle.locked_node.specs.Passes.{opening_of}
-use Rattle.locked_node.proofs.Histories.{IsNodeOf-history}
-use Rattle.locked_node.proofs.Itself.{history_itself}
+use Rattle.locked_node.proofs.Histories.{IsNodeOf-history, history_itself}
 use Rattle.locked_node.proofs.node.LockedNode.close.Goals as goal
 
 pub returns-in-Ok-clause-closed : goal.returns-in-Ok-clause-closed

@@ -19,12 +19,13 @@ use Rattle.node_core.specs.declared.events.Reply.TheVariants as reply
 use Rattle.node_core.specs.declared.events.Stopped.{Stopped}
 use Rattle.node_core.specs.declared.events.Taken.{Taken}
 use Rattle.node_core.specs.Calls.{Call, OfEvent, OfView, Answer, WithReply, WithView, CallStep}
+use Rattle.node_core.specs.Itself.{IsItself, CallsLeaveItself}
 use Rattle.node_core.specs.Node.{Node, at_moment}
 use Rattle.node_core.specs.Probes.{put_in, ended}
 use Rattle.node_core.specs.Receiving.{AnswerStep, ReceiveStep, MakeStep}
+use Rattle.node_core.specs.Run.{IsRun}
 use Rattle.node_core.specs.Step.{NodeStep}
 use Rattle.node_core.specs.Taking.{TakeStep, alteration, altered_by, took, took_all}
-use Rattle.locked_node.specs.History.{History, LegalHistory, IsItself, CallsLeaveItself}
 
 module _ {H : Type 0} where
   abbrev self : Node H → ℕ × (H × Config)
@@ -122,9 +123,11 @@ module _ {H : Type 0} (hash_of : H → List ℕ → ℕ) where
   call_self old new OfView (WithView result) step = ap self step.1
   call_self old new call answer step = elim step [ ]
 
-  history_self : (opening : Node H) (history : History H) (last : Node H) → LegalHistory hash_of opening history last → self last ≡ self opening
-  history_self opening [] last legal = ap self legal
-  history_self opening (t ∷ ts) last legal = history_self t.entry.after ts last legal.1 ∙ call_self opening t.entry.after t.entry.call t.entry.answer legal.0
+  run_self : (old : Node H) (events : List Event) (replies : List Reply) (new : Node H) → IsRun hash_of old events replies new → self new ≡ self old
+  run_self old [] [] new run = ap self run
+  run_self old [] (r ∷ rs) new run = absurd run
+  run_self old (e ∷ es) [] new run = absurd run
+  run_self old (e ∷ es) (r ∷ rs) new run = run_self run.0 es rs new run.2 ∙ step_self old run.0 e r run.1
 
   itself : (old new : Node H) → self new ≡ self old → IsItself old new
   itself old new e = record {
@@ -136,5 +139,5 @@ module _ {H : Type 0} (hash_of : H → List ℕ → ℕ) where
   pub calls_leave_itself : CallsLeaveItself hash_of
   calls_leave_itself old new call answer step = itself old new (call_self old new call answer step)
 
-  pub history_itself : (opening : Node H) (history : History H) (last : Node H) → LegalHistory hash_of opening history last → IsItself opening last
-  history_itself opening history last legal = itself opening last (history_self opening history last legal)
+  pub run_itself : (old : Node H) (events : List Event) (replies : List Reply) (new : Node H) → IsRun hash_of old events replies new → IsItself old new
+  run_itself old events replies new run = itself old new (run_self old events replies new run)

@@ -1,0 +1,90 @@
+//! Agreement from end to end: two runs, and the law that ties their nodes.
+ghost use Rattle.std.specs.Prelude.{◌≡◌, IfSome};
+ghost use Rattle.change_core.specs.Members.{HaveSameChanges};
+ghost use Rattle.node_core.specs.Agreement.{Agree};
+ghost use Rattle.node_core.specs.Run.{log};
+
+use crate::test_calls::*;
+use change_core::{Moment, Sourced, Status};
+use hash_ring::{PointHash, SumHash};
+use node_core::laws::agreement;
+use node_core::{Event, NodeState, Reply, Run, run};
+use std::alloc::Global;
+use std::process::Abort;
+use wire_json::Changes;
+
+const A: &str = "10.0.0.1:1";
+
+const B: &str = "10.0.0.2:1";
+
+const C: &str = "10.0.0.3:1";
+
+/// Two nodes after runs of their own. Where the logs of these hold the same changes, the nodes agree, if they have one hash and
+/// one number of replica points.
+fn both_runs<H: PointHash>(
+    alloc: Global,
+    one: NodeState<H>,
+    calls_of_one: &[Event],
+    other: NodeState<H>,
+    calls_of_other: &[Event],
+) -> Option<(Run<H>, Run<H>)>
+    ensures { IfSome result (λ r. HaveSameChanges (log one.node.own one.node.members calls_of_one.now r.0.replies) (log other.node.own other.node.members calls_of_other.now r.1.replies)
+        → one.node.hash ≡ other.node.hash → one.node.config.replicas ≡ other.node.config.replicas
+        → Agree H.hash_of r.0.node r.1.node) }
+{
+    agreement::<H>();
+    let first = run(alloc, one, calls_of_one).ok()?;
+    let second = run(alloc, other, calls_of_other).ok()?;
+    Some((first, second))
+}
+
+/// The call by which a node hears these changes.
+fn hearing(alloc: Global, given: &[Sourced], now: Moment) -> Option<Event> {
+    Some(Event::Take(Changes::from_slice(alloc, given).ok()?, now))
+}
+
+/// Whether all was taken.
+fn is_taken(finished: &Run<SumHash>) -> bool {
+    finished
+        .replies
+        .as_slice()
+        .iter()
+        .all(|reply| matches!(reply, Reply::Take(Ok(_))))
+}
+
+/// A hears of the others at once, and B of them one after another in another order. None where a growth was refused.
+fn runs(rt: &impl Abort, alloc: Global) -> Option<(Run<SumHash>, Run<SumHash>)> {
+    let now = moment(rt, 3);
+    let second = news(rt, B, 1, Status::Alive);
+    let third = news(rt, C, 2, Status::Suspect);
+    let at_once = [hearing(alloc, &[second, third], now)?];
+    let third = news(rt, C, 2, Status::Suspect);
+    let first = news(rt, A, 7, Status::Alive);
+    let in_turn = [
+        hearing(alloc, &[third], now)?,
+        hearing(alloc, &[first], now)?,
+    ];
+    let one = node(rt, alloc, SumHash, A, 7, 4096);
+    let other = node(rt, alloc, SumHash, B, 1, 4096);
+    let finished = both_runs(alloc, one, &at_once, other, &in_turn)?;
+    if is_taken(&finished.0) && is_taken(&finished.1) {
+        Some(finished)
+    } else {
+        None
+    }
+}
+
+/// Checks what a node holds in the end, and whom it names.
+fn check_node(rt: &impl Abort, node: &NodeState<SumHash>) {
+    let text = digest_text(node).ok().expect(rt, "a text");
+    assert!(rt; text.as_str() == "10.0.0.1:1alive7;10.0.0.2:1alive1;10.0.0.3:1suspect2");
+    assert!(rt; owner(node, "zzzz1") == Some(address(rt, B)));
+}
+
+#[test]
+fn two_runs_agree(rt: HostRuntime) {
+    let finished = runs(&rt, rt.alloc()).or_else(|| runs(&rt, rt.alloc()));
+    let (one, other) = finished.expect(&rt, "two runs");
+    check_node(&rt, &one.node);
+    check_node(&rt, &other.node);
+}

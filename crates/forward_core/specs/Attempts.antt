@@ -17,6 +17,15 @@ pub record AttemptState : Type 0 where
   pub sends : ℕ
   pub stage : Stage
 
+-- what contracts see of a `Lent`, an attempt whose keys are lent out
+pub record LentState : Type 0 where
+  pub sends : ℕ
+  pub stage : Stage
+
+-- the attempt for these keys that stands so
+abbrev pub with_keys : List (List ℕ) → LentState → AttemptState
+with_keys keys lent = record { keys = keys; sends = lent.sends; stage = lent.stage }
+
 -- one that has not been sent
 abbrev pub started : List (List ℕ) → AttemptState
 started keys = record { keys = keys; sends = 0; stage = stage.New }

@@ -1,6 +1,6 @@
 //! A request on its way: when it may be sent, to whom, and when it is given up.
 ghost use Rattle.std.specs.Prelude.{◌≡◌, ◌<◌, ◌≤◌, MatchOption};
-ghost use Rattle.forward_core.specs.Attempts.{IsAttempt, IsDue, IsOpen, most_sends, started, ReadyStep, FailedStep};
+ghost use Rattle.forward_core.specs.Attempts.{IsAttempt, IsDue, IsOpen, most_sends, started, with_keys, ReadyStep, FailedStep};
 
 use crate::errors::ForwardError;
 use crate::routes::Route;
@@ -58,6 +58,37 @@ impl Model for Attempt {
     ghost view = { λ a. record { keys = a.keys; sends = a.sends; stage = a.stage } };
 
     ghost invariant = { λ a. IsAttempt a.sends a.stage };
+}
+
+/// An attempt whose keys are lent out, as for the message that it is sent by. Contracts see how often it was sent, and how
+/// it stands.
+#[derive(Debug, Drop)]
+pub struct Lent {
+    sends: u32,
+    stage: Stage,
+}
+
+impl Model for Lent {
+    ghost use Rattle.forward_core.specs.Attempts.{LentState, IsAttempt};
+
+    ghost Value = { LentState };
+
+    ghost view = { λ a. record { sends = a.sends; stage = a.stage } };
+
+    ghost invariant = { λ a. IsAttempt a.sends a.stage };
+}
+
+impl Lent {
+    /// The attempt for the request of these keys, which are those lent out where it is to go on as it was.
+    pub fn take_back(self, keys: Keys) -> Attempt
+        ensures { result ≡ with_keys keys self }
+    {
+        Attempt {
+            keys,
+            sends: self.sends,
+            stage: self.stage,
+        }
+    }
 }
 
 impl Attempt {
@@ -140,6 +171,14 @@ impl Attempt {
         ensures whole { IsAttempt self.now.sends self.now.stage }
     {
         self.sends
+    }
+
+    /// Its keys for as long as a message needs them, and what is left of it meanwhile. It takes no memory.
+    pub fn lend(self) -> (Keys, Lent)
+        ensures { self ≡ with_keys result.0 result.1 }
+    {
+        let Attempt { keys, sends, stage } = self;
+        (keys, Lent { sends, stage })
     }
 
     /// Its keys.

@@ -84,17 +84,21 @@ fn check_call(rt: &impl Abort, attempt: &mut Attempt, call: &Call) {
     }
 }
 
-/// Makes the calls in turn.
-fn check_calls(rt: &impl Abort, attempt: &mut Attempt, calls: &[Call]) {
+/// Makes the calls in turn. After each the keys are lent out and taken back, which changes nothing.
+fn check_calls(rt: &impl Abort, attempt: Attempt, calls: &[Call]) -> Attempt {
+    let mut attempt = attempt;
     for call in calls {
-        check_call(rt, attempt, call);
+        check_call(rt, &mut attempt, call);
+        let (keys, lent) = attempt.lend();
+        attempt = lent.take_back(keys);
     }
+    attempt
 }
 
 /// Has a new attempt at these keys go through the calls; returns how often it was sent, and how many keys it has.
 fn attempt_of(rt: &impl Abort, alloc: Global, texts: &[&str], calls: &[Call]) -> (u32, usize) {
-    let mut attempt = Attempt::start(keys(rt, alloc, texts));
-    check_calls(rt, &mut attempt, calls);
+    let attempt = Attempt::start(keys(rt, alloc, texts));
+    let attempt = check_calls(rt, attempt, calls);
     (attempt.sends(), attempt.keys().len())
 }
 

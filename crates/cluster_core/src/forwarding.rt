@@ -1,13 +1,13 @@
 //! A request that is answered here or by the node that owns its keys, and is tried again on the schedule of an attempt. Each
 //! function calls the link or the handler at most once.
-ghost use Rattle.std.specs.Prelude.{◌≡◌, ◌<◌, IfOk, IfErr};
-ghost use Rattle.forward_core.specs.Attempts.{IsOpen, most_sends};
-ghost use Rattle.locked_node.specs.Passes.{Fits, Refuses};
-ghost use Rattle.cluster_core.specs.Acts.{Makes};
-ghost use Rattle.cluster_core.specs.Forwarding.{IsForwarded, IsHandled, IsJudged, IsLookedUp, IsRefused, IsSaidTo, IsStopped, IsTried, LookStops};
+ghost use Rattle.std.specs.Prelude.{◌≡◌, IfOk, IfErr};
+ghost use Rattle.forward_core.specs.Attempts.{IsOpen};
+ghost use Rattle.forward_core.specs.declared.attempts.Stage.TheVariants.{InFlight};
+ghost use Rattle.locked_node.specs.Passes.{Fits};
+ghost use Rattle.cluster_core.specs.Forwarding.{IsHandled, IsJudged, IsRequest, IsRequestRefusal, LooksUp, Sends, StandsFor, StaysOpen, TriesOnce};
+ghost use Rattle.cluster_core.specs.Parts.{Does};
 
 use crate::clocks::Clock;
-use crate::copies::copy_keys;
 use crate::errors::{ClusterError, HandlerFault, LinkError};
 use crate::handlers::Handler;
 use crate::links::Link;
@@ -18,13 +18,12 @@ use hash_ring::PointHash;
 use locked_node::{LockedNode, NodePass};
 use std::alloc::Global;
 use std::sync::Wait;
-use turn_lock::LockError;
 use wire_json::{Content, Keys, Message, Text};
 
-/// What is asked: the keys, which say who answers, and the body.
+/// What is asked: its attempt, which holds the keys, and the body.
 #[derive(Debug, Drop)]
 pub(crate) struct Request {
-    keys: Keys,
+    attempt: Attempt,
     body: Text,
 }
 
@@ -45,9 +44,12 @@ fn look_up<R: Wait, H: PointHash>(
     now: Moment,
     attempt: &mut Attempt,
 ) -> Result<Step, ClusterError>
-    requires { Fits node.now pass.old }
-    ensures looked { IfOk result (λ step. Makes node.now (IsLookedUp H.hash_of now attempt.old step attempt.new) pass.old pass.new) }
-    ensures stopped { IfErr result (LookStops H.hash_of now node.now pass.old pass.new attempt.old attempt.new) }
+    requires fits { Fits node.now pass.old }
+    requires open { IsOpen attempt.old.stage }
+    ensures did { Does node.now (LooksUp H.hash_of now attempt.old attempt.new) result pass.old pass.new }
+    ensures fits { Fits node.now pass.new }
+    ensures stands { IfOk result (λ step. StandsFor step attempt.new.stage) }
+    ensures named { IfErr result IsRequestRefusal }
 {
     let view = node.view(rt, pass)?;
     let Ok(view) = view else {
@@ -62,11 +64,13 @@ fn handle<R: Wait, A: Handler>(
     rt: &R,
     alloc: Global,
     handler: &A,
-    request: &Request,
+    keys: &Keys,
+    body: &Text,
 ) -> Result<Text, ClusterError>
-    ensures { IsHandled A.may_handle request.now.keys request.now.body result }
+    ensures handled { IsHandled A.may_handle keys.now body.now result }
+    ensures named { IfErr result IsRequestRefusal }
 {
-    let answer = handler.handle(rt, alloc, &request.keys, &request.body);
+    let answer = handler.handle(rt, alloc, keys, body);
     match answer {
         Ok(text) => Ok(text),
         Err(HandlerFault::Failed) => Err(ClusterError::HandlerFault),
@@ -74,39 +78,16 @@ fn handle<R: Wait, A: Handler>(
     }
 }
 
-/// Sends a request to its owner, and hands it back beside what the link answered.
-fn send<R: Wait, H: PointHash, L: Link>(
-    rt: &R,
-    alloc: Global,
-    node: &LockedNode<H>,
-    pass: &mut NodePass<H>,
-    link: &mut L,
-    owner: Address,
-    request: Request,
-) -> Result<(Request, Result<Message, LinkError>), LockError>
-    requires { Fits node.now pass.old }
-    ensures sent { IfOk result (λ r. Makes node.now (IsSaidTo L.may_answer owner request.keys request.body r.1) pass.old pass.new) }
-    ensures back { IfOk result (λ r. r.0 ≡ request) }
-    ensures refused { IfErr result (λ e. (pass.new ≡ pass.old) × Refuses node.now pass.old e) }
-{
-    let Request { keys, body } = request;
-    let message = say(rt, node, pass, Content::Forward(keys, body))?;
-    let answer = link.call(rt, alloc, owner, &message);
-    let content = message.content;
-    let Content::Forward(keys, body) = content else {
-        unreachable!()
-    };
-    Ok((Request { keys, body }, answer))
-}
-
 /// What an answer comes to: a Reply is the answer of the request, and anything else but want of memory is a failure.
 fn judge(
-    attempt: &mut Attempt,
     now: Moment,
     request: Request,
     answer: Result<Message, LinkError>,
 ) -> Result<Tried, ClusterError>
-    ensures { IsJudged now request answer attempt.old result attempt.new }
+    requires { request.attempt.stage ≡ InFlight }
+    ensures judged { IsJudged now request answer result }
+    ensures open { IfOk result StaysOpen }
+    ensures named { IfErr result IsRequestRefusal }
 {
     match answer {
         Ok(message) => {
@@ -117,8 +98,39 @@ fn judge(
         Err(LinkError::Memory) => return Err(ClusterError::Memory),
         Err(_) => {}
     }
+    let Request { mut attempt, body } = request;
     attempt.failed(now)?;
-    Ok(Tried::Again(request))
+    Ok(Tried::Again(Request { attempt, body }))
+}
+
+/// Sends a request to its owner. What came of it.
+fn send<R: Wait, H: PointHash, L: Link, C: Clock>(
+    rt: &R,
+    alloc: Global,
+    node: &LockedNode<H>,
+    pass: &mut NodePass<H>,
+    link: &mut L,
+    clock: &C,
+    owner: Address,
+    request: Request,
+) -> Result<Tried, ClusterError>
+    requires fits { Fits node.now pass.old }
+    requires in_flight { request.attempt.stage ≡ InFlight }
+    ensures did { Does node.now (Sends L.may_answer C.is_now owner request) result pass.old pass.new }
+    ensures fits { Fits node.now pass.new }
+    ensures open { IfOk result StaysOpen }
+    ensures named { IfErr result IsRequestRefusal }
+{
+    let Request { attempt, body } = request;
+    let (keys, lent) = attempt.lend();
+    let message = say(rt, node, pass, Content::Forward(keys, body))?;
+    let answer = link.call(rt, alloc, owner, &message);
+    let content = message.content;
+    let Content::Forward(keys, body) = content else {
+        unreachable!()
+    };
+    let attempt = lent.take_back(keys);
+    judge(clock.now(), Request { attempt, body }, answer)
 }
 
 /// Tries once: the node is looked at, and the request is handled here, sent to its owner, or let rest.
@@ -130,29 +142,29 @@ fn try_once<R: Wait, H: PointHash, L: Link, A: Handler, C: Clock>(
     link: &mut L,
     handler: &A,
     clock: &C,
-    attempt: &mut Attempt,
     request: Request,
 ) -> Result<Tried, ClusterError>
     requires fits { Fits node.now pass.old }
-    requires keys { attempt.old.keys ≡ request.keys }
-    requires open { IsOpen attempt.old.stage }
-    requires few { attempt.old.sends < most_sends }
-    ensures tried { IfOk result (λ t. Makes node.now (IsTried H.hash_of L.may_answer A.may_handle request attempt.old t attempt.new) pass.old pass.new) }
-    ensures stopped { IfErr result (IsStopped H.hash_of L.may_answer A.may_handle node.now pass.old pass.new request.keys request.body attempt.old.sends) }
+    requires open { IsOpen request.attempt.stage }
+    ensures did { Does node.now (TriesOnce H.hash_of L.may_answer A.may_handle C.is_now request) result pass.old pass.new }
+    ensures fits { Fits node.now pass.new }
+    ensures open { IfOk result StaysOpen }
+    ensures named { IfErr result IsRequestRefusal }
 {
-    let step = look_up(rt, node, pass, clock.now(), attempt)?;
+    let Request { mut attempt, body } = request;
+    let step = look_up(rt, node, pass, clock.now(), &mut attempt)?;
     match step {
         Step::Wait(until) => {
             clock.wait_until(rt, until);
-            Ok(Tried::Again(request))
+            Ok(Tried::Again(Request { attempt, body }))
         }
         Step::Here => {
-            let text = handle(rt, alloc, handler, &request)?;
+            let text = handle(rt, alloc, handler, attempt.keys(), &body)?;
             Ok(Tried::Answered(text))
         }
         Step::Send(owner) => {
-            let (back, answer) = send(rt, alloc, node, pass, link, owner, request)?;
-            judge(attempt, clock.now(), back, answer)
+            let request = Request { attempt, body };
+            send(rt, alloc, node, pass, link, clock, owner, request)
         }
     }
 }
@@ -166,7 +178,7 @@ fn try_once<R: Wait, H: PointHash, L: Link, A: Handler, C: Clock>(
 /// Errors: `Diverged` where two of the keys have different owners, `Nobody` where no member serves, `RetriesSpent` at the
 /// fourth failure, `HandlerFault` where the handler failed, `Memory` where a growth was refused, the handler's and the link's
 /// among them; `ForeignPass` where the pass bears another node's name, else `PassSpent` where it may make no call more. What
-/// the calls before did stays.
+/// the calls before did stays. The keys and the body are given up.
 pub fn handle_or_forward<R: Wait, H: PointHash, L: Link, A: Handler, C: Clock>(
     rt: &R,
     alloc: Global,
@@ -179,26 +191,16 @@ pub fn handle_or_forward<R: Wait, H: PointHash, L: Link, A: Handler, C: Clock>(
     body: Text,
 ) -> Result<Text, ClusterError>
     requires { Fits node.now pass.old }
-    ensures forwarded { IfOk result (λ text. Makes node.now (IsForwarded H.hash_of L.may_answer A.may_handle keys body text) pass.old pass.new) }
-    ensures refused { IfErr result (IsRefused H.hash_of L.may_answer A.may_handle node.now pass.old pass.new keys body) }
+    ensures request { Does node.now (IsRequest H.hash_of L.may_answer A.may_handle C.is_now keys body) result pass.old pass.new }
+    ensures fits { Fits node.now pass.new }
+    ensures named { IfErr result IsRequestRefusal }
 {
-    let Ok(copy) = copy_keys(alloc, &keys) else {
-        return Err(ClusterError::Memory);
+    let mut request = Request {
+        attempt: Attempt::start(keys),
+        body,
     };
-    let mut attempt = Attempt::start(copy);
-    let mut request = Request { keys, body };
-    'tries: for _ in rt.forever() {
-        let tried = try_once(
-            rt,
-            alloc,
-            node,
-            pass,
-            link,
-            handler,
-            clock,
-            &mut attempt,
-            request,
-        )?;
+    for _ in rt.forever() {
+        let tried = try_once(rt, alloc, node, pass, link, handler, clock, request)?;
         match tried {
             Tried::Answered(text) => return Ok(text),
             Tried::Again(back) => request = back,

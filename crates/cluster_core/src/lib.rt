@@ -4,7 +4,6 @@
 
 mod asking;
 mod clocks;
-mod copies;
 mod errors;
 mod forwarding;
 mod gossiping;

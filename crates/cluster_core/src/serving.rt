@@ -1,9 +1,9 @@
 //! What a node answers to a message. No turn is held while the link or the handler is called.
 ghost use Rattle.std.specs.Prelude.{◌≡◌, true, false, Ok, IfOk, IfErr};
 ghost use Rattle.node_core.specs.Receiving.{is_answered, is_gossip};
-ghost use Rattle.locked_node.specs.Passes.{Fits, Refuses};
-ghost use Rattle.cluster_core.specs.Acts.{IsBarred, Makes};
-ghost use Rattle.cluster_core.specs.Serving.{IsDecided, IsForwarded, IsFound, IsGiven, IsPassedOn, IsReported, IsRouted, IsServed, IsSought, IsTold, Says, Takes, reason_of};
+ghost use Rattle.locked_node.specs.Passes.{Fits};
+ghost use Rattle.cluster_core.specs.Parts.{Does, let_in};
+ghost use Rattle.cluster_core.specs.Serving.{Finds, Forwards, Gossips, IsDecided, IsRouted, PassesOn, Reports, Says, Seeks, Serves, Tells, reason_of};
 
 use crate::asking::ping;
 use crate::errors::HandlerFault;
@@ -28,8 +28,9 @@ pub(crate) fn say<R: Wait, H: PointHash>(
     content: Content,
 ) -> Result<Message, LockError>
     requires { Fits node.now pass.old }
-    ensures said { IfOk result (λ m. Makes node.now (Says content m) pass.old pass.new) }
-    ensures refused { IfErr result (λ e. (pass.new ≡ pass.old) × Refuses node.now pass.old e) }
+    ensures did { Does node.now (Says content) (let_in result) pass.old pass.new }
+    ensures content { IfOk result (λ m. m.content ≡ content) }
+    ensures fits { Fits node.now pass.new }
 {
     let own = node.own(rt, pass)?;
     Ok(Message {
@@ -59,8 +60,8 @@ fn serve_gossip<R: Wait, H: PointHash>(
 ) -> Result<Message, LockError>
     requires fits { Fits node.now pass.old }
     requires answered { is_answered message.now.content ≡ true }
-    ensures given { IfOk result (λ m. Makes node.now (Takes message.now now (λ r. IsGiven r m)) pass.old pass.new) }
-    ensures refused { IfErr result (IsBarred node.now pass.old pass.new) }
+    ensures did { Does node.now (Gossips message.now now) (let_in result) pass.old pass.new }
+    ensures fits { Fits node.now pass.new }
 {
     let received = node.receive(rt, pass, message, now)?;
     match received {
@@ -83,8 +84,8 @@ fn seek<R: Wait, H: PointHash>(
     heard: Heard,
 ) -> Result<Option<bool>, LockError>
     requires { Fits node.now pass.old }
-    ensures sought { IfOk result (λ found. Makes node.now (IsSought now heard found) pass.old pass.new) }
-    ensures refused { IfErr result (λ e. (pass.new ≡ pass.old) × Refuses node.now pass.old e) }
+    ensures did { Does node.now (Seeks now heard) (let_in result) pass.old pass.new }
+    ensures fits { Fits node.now pass.new }
 {
     match heard {
         Heard::Answer(ack) => {
@@ -107,8 +108,8 @@ fn find_out<R: Wait, H: PointHash, L: Link>(
     target: Address,
 ) -> Result<Option<bool>, LockError>
     requires { Fits node.now pass.old }
-    ensures found { IfOk result (λ found. Makes node.now (IsFound L.may_answer now target found) pass.old pass.new) }
-    ensures refused { IfErr result (IsBarred node.now pass.old pass.new) }
+    ensures did { Does node.now (Finds L.may_answer now target) (let_in result) pass.old pass.new }
+    ensures fits { Fits node.now pass.new }
 {
     let own = node.own(rt, pass)?;
     if own.address == target {
@@ -128,8 +129,8 @@ fn tell<R: Wait, H: PointHash>(
     found: Option<bool>,
 ) -> Result<Message, LockError>
     requires { Fits node.now pass.old }
-    ensures told { IfOk result (λ m. Makes node.now (IsTold requester target found m) pass.old pass.new) }
-    ensures refused { IfErr result (IsBarred node.now pass.old pass.new) }
+    ensures did { Does node.now (Tells requester target found) (let_in result) pass.old pass.new }
+    ensures fits { Fits node.now pass.new }
 {
     let Some(reached) = found else {
         return say(rt, node, pass, Content::Refused(Reason::Memory));
@@ -153,8 +154,8 @@ fn report<R: Wait, H: PointHash, L: Link>(
     target: Address,
 ) -> Result<Message, LockError>
     requires { Fits node.now pass.old }
-    ensures reported { IfOk result (λ m. Makes node.now (IsReported L.may_answer requester now target m) pass.old pass.new) }
-    ensures refused { IfErr result (IsBarred node.now pass.old pass.new) }
+    ensures did { Does node.now (Reports L.may_answer requester now target) (let_in result) pass.old pass.new }
+    ensures fits { Fits node.now pass.new }
 {
     let found = find_out(rt, alloc, node, pass, link, now, target)?;
     tell(rt, node, pass, requester, target, found)
@@ -174,8 +175,8 @@ fn serve_ping_req<R: Wait, H: PointHash, L: Link>(
     requires fits { Fits node.now pass.old }
     requires gossip { is_gossip message.now.content ≡ true }
     requires unanswered { is_answered message.now.content ≡ false }
-    ensures passed { IfOk result (λ m. Makes node.now (Takes message.now now (IsPassedOn L.may_answer message.now.source now target m)) pass.old pass.new) }
-    ensures refused { IfErr result (IsBarred node.now pass.old pass.new) }
+    ensures did { Does node.now (PassesOn L.may_answer message.now now target) (let_in result) pass.old pass.new }
+    ensures fits { Fits node.now pass.new }
 {
     let received = node.receive(rt, pass, message, now)?;
     match received {
@@ -255,8 +256,8 @@ fn serve_forward<R: Wait, H: PointHash, A: Handler>(
     body: &Text,
 ) -> Result<Message, LockError>
     requires { Fits node.now pass.old }
-    ensures forwarded { IfOk result (λ m. Makes node.now (IsForwarded H.hash_of A.may_handle keys.now body.now m) pass.old pass.new) }
-    ensures refused { IfErr result (IsBarred node.now pass.old pass.new) }
+    ensures did { Does node.now (Forwards H.hash_of A.may_handle keys.now body.now) (let_in result) pass.old pass.new }
+    ensures fits { Fits node.now pass.new }
 {
     let view = node.view(rt, pass)?;
     let content = decided(rt, alloc, handler, &view, keys, body);
@@ -269,8 +270,8 @@ fn serve_forward<R: Wait, H: PointHash, A: Handler>(
 /// while the link or the handler is called. A refusal of the node's, want of memory among them, is an answer too: `Refused`
 /// with its reason.
 ///
-/// Errors: `ForeignPass` where the pass bears another node's name, else `PassSpent` where it may make no call more. What
-/// the calls before did stays.
+/// Errors: `ForeignPass` where the pass bears another node's name, else `PassSpent` where it may make no call more. The
+/// calls before the refused one are those of the answer, and what they did stays.
 pub fn serve_one<R: Wait, H: PointHash, L: Link, A: Handler>(
     rt: &R,
     alloc: Global,
@@ -282,8 +283,7 @@ pub fn serve_one<R: Wait, H: PointHash, L: Link, A: Handler>(
     message: &Message,
 ) -> Result<Message, LockError>
     requires { Fits node.now pass.old }
-    ensures served { IfOk result (λ m. Makes node.now (IsServed H.hash_of L.may_answer A.may_handle message.now now message.now.content m) pass.old pass.new) }
-    ensures refused { IfErr result (IsBarred node.now pass.old pass.new) }
+    ensures served { Does node.now (Serves H.hash_of L.may_answer A.may_handle message.now now message.now.content) (let_in result) pass.old pass.new }
     ensures fits { Fits node.now pass.new }
 {
     match &message.content {

@@ -3,6 +3,7 @@ use change_core::{Address, Digest};
 use cluster_core::{Handler, HandlerFault, Link, LinkError};
 use std::alloc::Global;
 use std::sync::Wait;
+use std::sync::atomic::{AtomicU64, Ordering};
 use wire_json::{Changes, Content, Keys, Message, News, Text};
 
 /// How a fake answers.
@@ -129,5 +130,40 @@ impl Handler for Echo {
             Mood::Failing | Mood::Broken => Err(HandlerFault::Failed),
             Mood::Starved => Err(HandlerFault::Memory),
         }
+    }
+}
+
+/// A handler that answers so, and counts how often it is asked.
+#[derive(Drop)]
+pub struct Counting {
+    echo: Echo,
+    calls: AtomicU64,
+}
+
+impl Counting {
+    pub fn new(mood: Mood) -> Counting {
+        Counting {
+            echo: Echo { mood },
+            calls: AtomicU64::new(0),
+        }
+    }
+
+    pub fn calls(&self) -> u64 {
+        self.calls.load(Ordering::SeqCst)
+    }
+}
+
+impl Handler for Counting {
+    ghost may_handle = { λ _ _ _. Unit {0} };
+
+    fn handle<R: Wait>(
+        &self,
+        rt: &R,
+        alloc: Global,
+        keys: &Keys,
+        body: &Text,
+    ) -> Result<Text, HandlerFault> {
+        self.calls.fetch_add(1, Ordering::SeqCst);
+        self.echo.handle(rt, alloc, keys, body)
     }
 }

@@ -5,6 +5,6 @@ mod fakes;
 mod messages;
 mod nodes;
 
-pub use fakes::{Echo, Fake, Mood};
+pub use fakes::{Counting, Echo, Fake, Mood};
 pub use messages::{content, keys, member, message, moment, news, request, text};
 pub use nodes::state;

@@ -4,7 +4,7 @@ ghost use Rattle.locked_node.specs.Passes.{Fits};
 use crate::shared::{Caller, Shared, among, leave, with_node};
 use change_core::{Address, Moment};
 use cluster_core::{Clock, ClusterError, Link, LinkError, handle_or_forward};
-use cluster_fixtures::{Echo, Mood, keys, member, text};
+use cluster_fixtures::{Counting, Mood, keys, member, text};
 use std::alloc::Global;
 use std::process::Abort;
 use std::sync::Wait;
@@ -18,6 +18,8 @@ struct Still {
 }
 
 impl Clock for Still {
+    ghost is_now = { λ _. Unit {0} };
+
     fn now(&self) -> Moment {
         match Moment::new(self.now.load(Ordering::SeqCst) % 1_000_000) {
             Some(now) => now,
@@ -38,12 +40,14 @@ struct Sending {
     from: Address,
 }
 
-/// A link whose peers answer by a Reply `x` once so many sendings have gone wrong in this mood, and that notes them.
+/// A link whose peers answer by a Reply `x` once so many sendings have gone wrong in this mood, each after so many
+/// milliseconds, and that notes them.
 #[derive(Drop)]
 struct Noted<'a> {
     clock: &'a Still,
     mood: Mood,
     wrong: usize,
+    takes: u64,
     sendings: Vec<Sending>,
     failures: u64,
 }
@@ -75,6 +79,7 @@ impl<'a> Link for Noted<'a> {
         if self.sendings.push(sending).is_err() {
             return Err(LinkError::Memory);
         }
+        self.clock.now.fetch_add(self.takes, Ordering::SeqCst);
         let content = if self.sendings.len() <= self.wrong {
             match self.mood {
                 Mood::Willing | Mood::Failing => Content::NotOwner,
@@ -105,6 +110,8 @@ struct Asked {
     /// How the link answers so many sendings.
     link: Mood,
     wrong: usize,
+    /// How many milliseconds each answer takes.
+    takes: u64,
     handler: Mood,
     /// Whether the node has left before.
     has_left: bool,
@@ -118,19 +125,44 @@ fn plain(link: Mood, wrong: usize) -> Asked {
         keys: ONE,
         link,
         wrong,
+        takes: 0,
         handler: Mood::Willing,
         has_left: false,
     }
 }
 
-/// What a request with the body `body` comes to, and the sendings.
+/// What a request came to, what was sent for it, and how often the handler was asked.
+#[derive(Drop)]
+struct Came {
+    answer: Result<Text, ClusterError>,
+    sendings: Vec<Sending>,
+    handled: u64,
+}
+
+impl Came {
+    /// Whether it was refused so with nothing sent, and the handler was not asked.
+    fn is_untried(&self, wanted: ClusterError) -> bool {
+        let refused = matches!(&self.answer, Err(error) if *error == wanted);
+        refused && self.sendings.is_empty() && self.handled == 0
+    }
+
+    /// Whether it was refused memory by other than a link or a handler that never has any.
+    fn lacks_memory(&self, asked: &Asked) -> bool {
+        let of_link = asked.link == Mood::Starved && !self.sendings.is_empty();
+        let of_handler = asked.handler == Mood::Starved && self.handled != 0;
+        let refused = matches!(&self.answer, Err(ClusterError::Memory));
+        refused && !of_link && !of_handler
+    }
+}
+
+/// What a request with the body `body` comes to.
 fn try_request<R: Wait + Abort>(
     rt: &R,
     alloc: Global,
     shared: &Shared,
     pass: &mut Caller,
     asked: &Asked,
-) -> (Result<Text, ClusterError>, Vec<Sending>)
+) -> Came
     requires { Fits shared.now pass.old }
 {
     let clock = Still {
@@ -140,18 +172,21 @@ fn try_request<R: Wait + Abort>(
         clock: &clock,
         mood: asked.link,
         wrong: asked.wrong,
+        takes: asked.takes,
         sendings: Vec::new(alloc),
         failures: 0,
     };
-    let handler = Echo {
-        mood: asked.handler,
-    };
+    let handler = Counting::new(asked.handler);
     let keys = keys(rt, alloc, asked.keys);
     let body = text(rt, alloc, "body");
     let answer = handle_or_forward(
         rt, alloc, shared, pass, &mut link, &handler, &clock, keys, body,
     );
-    (answer, link.sendings)
+    Came {
+        answer,
+        sendings: link.sendings,
+        handled: handler.calls(),
+    }
 }
 
 fn leave_and_request<R: Wait + Abort>(
@@ -160,7 +195,7 @@ fn leave_and_request<R: Wait + Abort>(
     shared: &Shared,
     pass: &mut Caller,
     asked: &Asked,
-) -> (Result<Text, ClusterError>, Vec<Sending>)
+) -> Came
     requires { Fits shared.now pass.old }
 {
     if asked.has_left {
@@ -170,46 +205,45 @@ fn leave_and_request<R: Wait + Abort>(
 }
 
 /// What a request comes to at a node among so many others.
-fn first_request<R: Wait + Abort>(
-    rt: &R,
-    alloc: Global,
-    others: u8,
-    asked: &Asked,
-) -> (Result<Text, ClusterError>, Vec<Sending>) {
+fn first_request<R: Wait + Abort>(rt: &R, alloc: Global, others: u8, asked: &Asked) -> Came {
     with_node(rt, alloc, &among(others), |shared, pass| {
         leave_and_request(rt, alloc, shared, pass, asked)
     })
 }
 
-/// The same; where it was refused memory, what it comes to at another node.
-fn request<R: Wait + Abort>(
-    rt: &R,
-    alloc: Global,
-    others: u8,
-    asked: &Asked,
-) -> (Result<Text, ClusterError>, Vec<Sending>) {
+/// The same; where there was no memory, but for that of a link or a handler that never has any, what it comes to at another
+/// node.
+fn request<R: Wait + Abort>(rt: &R, alloc: Global, others: u8, asked: &Asked) -> Came {
     let first = first_request(rt, alloc, others, asked);
-    if matches!(&first.0, Err(ClusterError::Memory)) {
+    if first.lacks_memory(asked) {
         return first_request(rt, alloc, others, asked);
     }
     first
 }
 
-/// Checks that each sending went to 10.0.0.2:1 in its moment.
-fn check_sendings(rt: &impl Abort, sendings: &[Sending]) {
+/// Checks that the sendings went to 10.0.0.2:1 in their moments.
+fn check_sendings(rt: &impl Abort, sendings: &[Sending], moments: [u64; 4]) {
     let (to, from) = (member(rt, 2), member(rt, 1));
-    let sending = |moment: u64| Sending { moment, to, from };
-    let wanted = [sending(0), sending(3_000), sending(9_000), sending(21_000)];
+    let wanted = moments.map(|moment| Sending { moment, to, from });
     assert!(rt; sendings == wanted.as_slice());
 }
 
 #[test]
 fn a_request_is_sent_four_times_and_given_up(rt: HostRuntime) {
     for mood in [Mood::Broken, Mood::Failing] {
-        let (answer, sendings) = request(&rt, rt.alloc(), 1, &plain(mood, 9));
-        assert!(&rt; answer.err() == Some(ClusterError::RetriesSpent));
-        check_sendings(&rt, sendings.as_slice());
+        let came = request(&rt, rt.alloc(), 1, &plain(mood, 9));
+        assert!(&rt; came.answer.err() == Some(ClusterError::RetriesSpent));
+        assert!(&rt; came.handled == 0);
+        check_sendings(&rt, came.sendings.as_slice(), [0, 3_000, 9_000, 21_000]);
     }
+}
+
+#[test]
+fn a_failure_is_noted_when_it_is_known(rt: HostRuntime) {
+    let mut asked = plain(Mood::Broken, 9);
+    asked.takes = 100;
+    let came = request(&rt, rt.alloc(), 1, &asked);
+    check_sendings(&rt, came.sendings.as_slice(), [0, 3_100, 9_200, 21_300]);
 }
 
 /// Whether a text is this one.
@@ -223,8 +257,9 @@ fn is_text(answer: &Result<Text, ClusterError>, wanted: &str) -> bool {
 #[test]
 fn the_owner_answers_a_request(rt: HostRuntime) {
     for wrong in 0..4 {
-        let (answer, sendings) = request(&rt, rt.alloc(), 1, &plain(Mood::Broken, wrong));
-        assert!(&rt; is_text(&answer, "x") && sendings.len() == wrong + 1);
+        let came = request(&rt, rt.alloc(), 1, &plain(Mood::Broken, wrong));
+        assert!(&rt; is_text(&came.answer, "x") && came.sendings.len() == wrong + 1);
+        assert!(&rt; came.handled == 0);
     }
 }
 
@@ -239,9 +274,10 @@ fn a_request_is_handled_here(rt: HostRuntime) {
     for (mood, wanted) in HANDLERS {
         let mut asked = plain(Mood::Broken, 9);
         asked.handler = mood;
-        let (answer, sendings) = request(&rt, rt.alloc(), 0, &asked);
-        assert!(&rt; sendings.is_empty() && is_text(&answer, "body") == wanted.is_none());
-        assert!(&rt; answer.err() == wanted);
+        let came = request(&rt, rt.alloc(), 0, &asked);
+        assert!(&rt; came.sendings.is_empty() && came.handled == 1);
+        assert!(&rt; is_text(&came.answer, "body") == wanted.is_none());
+        assert!(&rt; came.answer.err() == wanted);
     }
 }
 
@@ -249,30 +285,21 @@ fn a_request_is_handled_here(rt: HostRuntime) {
 fn keys_of_two_owners_are_not_sent(rt: HostRuntime) {
     let mut asked = plain(Mood::Willing, 0);
     asked.keys = ("zzzz0", "zzzz1");
-    let (answer, sendings) = request(&rt, rt.alloc(), 1, &asked);
-    assert!(&rt; answer.err() == Some(ClusterError::Diverged) && sendings.is_empty());
+    let came = request(&rt, rt.alloc(), 1, &asked);
+    assert!(&rt; came.is_untried(ClusterError::Diverged));
 }
 
 #[test]
 fn a_request_that_nobody_owns_is_not_sent(rt: HostRuntime) {
     let mut asked = plain(Mood::Willing, 0);
     asked.has_left = true;
-    let (answer, sendings) = request(&rt, rt.alloc(), 0, &asked);
-    assert!(&rt; answer.err() == Some(ClusterError::Nobody) && sendings.is_empty());
-}
-
-/// What a request comes to over a link without memory; where nothing was sent for want of it before, at another node.
-fn starved<R: Wait + Abort>(rt: &R, alloc: Global) -> (Result<Text, ClusterError>, Vec<Sending>) {
-    let asked = plain(Mood::Starved, 9);
-    let first = first_request(rt, alloc, 1, &asked);
-    if first.1.is_empty() {
-        return first_request(rt, alloc, 1, &asked);
-    }
-    first
+    let came = request(&rt, rt.alloc(), 0, &asked);
+    assert!(&rt; came.is_untried(ClusterError::Nobody));
 }
 
 #[test]
 fn no_memory_of_a_link_ends_a_request(rt: HostRuntime) {
-    let (answer, sendings) = starved(&rt, rt.alloc());
-    assert!(&rt; answer.err() == Some(ClusterError::Memory) && sendings.len() == 1);
+    let came = request(&rt, rt.alloc(), 1, &plain(Mood::Starved, 9));
+    assert!(&rt; came.answer.err() == Some(ClusterError::Memory));
+    assert!(&rt; came.sendings.len() == 1 && came.handled == 0);
 }

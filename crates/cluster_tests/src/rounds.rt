@@ -440,55 +440,66 @@ struct Joining {
     hosts: usize,
     mood: Mood,
     wanted: Result<u32, ClusterError>,
+    /// How often the link is asked.
+    calls: u64,
 }
 
+/// What a join comes to, and how often the link was asked.
 fn join_hosts<R: Wait + Abort>(
     rt: &R,
     alloc: Global,
     shared: &Shared,
     pass: &mut Caller,
     row: &Joining,
-) -> Result<u32, ClusterError>
+) -> (Result<u32, ClusterError>, u64)
     requires { Fits shared.now pass.old }
 {
     let all = [member(rt, 2), member(rt, 3)];
     let hosts = if row.hosts == 2 { &all[..] } else { &all[..0] };
     let mut link = Fake::new(row.mood);
     let now = moment(rt, 0);
-    join(rt, alloc, shared, pass, &mut link, hosts, now)
+    let joined = join(rt, alloc, shared, pass, &mut link, hosts, now);
+    (joined, link.calls)
 }
 
 /// What the join of a new node comes to.
-fn first_join<R: Wait + Abort>(rt: &R, alloc: Global, row: &Joining) -> Result<u32, ClusterError> {
+fn first_join<R: Wait + Abort>(
+    rt: &R,
+    alloc: Global,
+    row: &Joining,
+) -> (Result<u32, ClusterError>, u64) {
     with_node(rt, alloc, &among(0), |shared, pass| {
         join_hosts(rt, alloc, shared, pass, row)
     })
 }
 
-/// Checks what a join comes to; where it was refused memory, what that of another node does.
+/// Checks what a join comes to; where it was refused memory, but for that of a link which never has any, what that of another
+/// node does.
 fn check_joining<R: Wait + Abort>(rt: &R, alloc: Global, row: &Joining) {
     let mut joined = first_join(rt, alloc, row);
-    if joined == Err(ClusterError::Memory) {
+    let is_links = row.mood == Mood::Starved && joined.1 != 0;
+    if joined.0 == Err(ClusterError::Memory) && !is_links {
         joined = first_join(rt, alloc, row);
     }
-    assert!(rt; joined == row.wanted);
+    assert!(rt; joined == (row.wanted, row.calls));
 }
 
-const JOININGS: [(usize, Mood, Result<u32, ClusterError>); 5] = [
-    (2, Mood::Willing, Ok(2)),
-    (2, Mood::Failing, Err(ClusterError::NoneJoined)),
-    (2, Mood::Broken, Err(ClusterError::NoneJoined)),
-    (2, Mood::Starved, Err(ClusterError::Memory)),
-    (0, Mood::Willing, Err(ClusterError::NoneJoined)),
+const JOININGS: [(usize, Mood, Result<u32, ClusterError>, u64); 5] = [
+    (2, Mood::Willing, Ok(2), 2),
+    (2, Mood::Failing, Err(ClusterError::NoneJoined), 2),
+    (2, Mood::Broken, Err(ClusterError::NoneJoined), 2),
+    (2, Mood::Starved, Err(ClusterError::Memory), 1),
+    (0, Mood::Willing, Err(ClusterError::NoneJoined), 0),
 ];
 
 #[test]
 fn a_join_counts_the_hosts_that_answer(rt: HostRuntime) {
-    for (hosts, mood, wanted) in JOININGS {
+    for (hosts, mood, wanted, calls) in JOININGS {
         let row = Joining {
             hosts,
             mood,
             wanted,
+            calls,
         };
         check_joining(&rt, rt.alloc(), &row);
     }

@@ -4,7 +4,9 @@ ghost use Rattle.locked_node.specs.Passes.{Fits};
 use crate::shared::{Caller, Shared, Start, among, leave, status, with_node};
 use change_core::{Address, Sourced, Status};
 use cluster_core::serve_one;
-use cluster_fixtures::{Echo, Fake, Mood, content, member, message, moment, news, request, text};
+use cluster_fixtures::{
+    Counting, Fake, Mood, content, member, message, moment, news, request, text,
+};
 use std::alloc::Global;
 use std::process::Abort;
 use std::sync::Wait;
@@ -18,15 +20,37 @@ type Moods = (Mood, Mood);
 
 const WILLING: Moods = (Mood::Willing, Mood::Willing);
 
-/// Why a message is refused, if it is.
-fn reason_in(content: &Content) -> Option<Reason> {
-    match content {
-        Content::Refused(reason) => Some(*reason),
-        _ => None,
+/// What is answered to a message, and how often the link and the handler were asked.
+#[derive(Drop)]
+struct Answer {
+    content: Content,
+    sent: u64,
+    handled: u64,
+}
+
+impl Answer {
+    /// Why the message was refused, if it was.
+    fn reason(&self) -> Option<Reason> {
+        match &self.content {
+            Content::Refused(reason) => Some(*reason),
+            _ => None,
+        }
+    }
+
+    /// Whether neither the link nor the handler was asked.
+    fn is_own(&self) -> bool {
+        self.sent == 0 && self.handled == 0
+    }
+
+    /// Whether it lacks memory, other than that of a link or a handler that never has any.
+    fn lacks_memory(&self, moods: Moods) -> bool {
+        let of_link = moods.0 == Mood::Starved && self.sent != 0;
+        let of_handler = moods.1 == Mood::Starved && self.handled != 0;
+        self.reason() == Some(Reason::Memory) && !of_link && !of_handler
     }
 }
 
-/// What is answered to a message, and how often the link was asked.
+/// What is answered to a message.
 fn serve<R: Wait + Abort>(
     rt: &R,
     alloc: Global,
@@ -34,21 +58,25 @@ fn serve<R: Wait + Abort>(
     pass: &mut Caller,
     moods: Moods,
     given: &Message,
-) -> (Content, u64)
+) -> Answer
     requires { Fits shared.now pass.old }
     ensures { Fits shared.now pass.new }
 {
     let mut link = Fake::new(moods.0);
-    let handler = Echo { mood: moods.1 };
+    let handler = Counting::new(moods.1);
     let now = moment(rt, 0);
     let answer = serve_one(rt, alloc, shared, pass, &mut link, &handler, now, given);
     let answer = answer.ok().expect(rt, "a turn");
     assert!(rt; answer.source == member(rt, 1));
-    (answer.content, link.calls)
+    Answer {
+        content: answer.content,
+        sent: link.calls,
+        handled: handler.calls(),
+    }
 }
 
-/// The same; where there was no memory, but for that of a link which never has any, what is answered to the message when it comes
-/// again.
+/// The same; where there was no memory, but for that of a link or a handler that never has any, what is answered to the
+/// message when it comes again.
 fn ask<R: Wait + Abort>(
     rt: &R,
     alloc: Global,
@@ -56,19 +84,18 @@ fn ask<R: Wait + Abort>(
     pass: &mut Caller,
     moods: Moods,
     given: &Message,
-) -> (Content, u64)
+) -> Answer
     requires { Fits shared.now pass.old }
     ensures { Fits shared.now pass.new }
 {
     let first = serve(rt, alloc, shared, pass, moods, given);
-    let is_links = moods.0 == Mood::Starved && first.1 != 0;
-    if reason_in(&first.0) == Some(Reason::Memory) && !is_links {
+    if first.lacks_memory(moods) {
         return serve(rt, alloc, shared, pass, moods, given);
     }
     first
 }
 
-/// Why a message of 10.0.0.2:1 is refused, if it is.
+/// Why a message of 10.0.0.2:1 is refused, if it is, with neither the link nor the handler asked.
 fn refusal<R: Wait + Abort>(
     rt: &R,
     alloc: Global,
@@ -81,8 +108,9 @@ fn refusal<R: Wait + Abort>(
     ensures { Fits shared.now pass.new }
 {
     let given = message(rt, 2, content);
-    let (answer, _) = ask(rt, alloc, shared, pass, moods, &given);
-    reason_in(&answer)
+    let answer = ask(rt, alloc, shared, pass, moods, &given);
+    assert!(rt; answer.is_own());
+    answer.reason()
 }
 
 /// The changes that a Joined or an Ack carries.
@@ -99,12 +127,13 @@ fn check_join<R: Wait + Abort>(rt: &R, alloc: Global, shared: &Shared, pass: &mu
 {
     let other = news(rt, 2, 5, Status::Alive);
     let given = message(rt, 2, Content::Join(content(rt, alloc, &[other])));
-    let (joined, calls) = ask(rt, alloc, shared, pass, WILLING, &given);
+    let answer = ask(rt, alloc, shared, pass, WILLING, &given);
+    let joined = &answer.content;
     let own = news(rt, 1, 7, Status::Alive);
     let mut told = own;
     told.change = other.change;
-    assert!(rt; matches!(&joined, Content::Joined(_)) && calls == 0);
-    assert!(rt; carried(&joined) == [own, told].as_slice());
+    assert!(rt; matches!(joined, Content::Joined(_)) && answer.is_own());
+    assert!(rt; carried(joined) == [own, told].as_slice());
 }
 
 #[test]
@@ -121,10 +150,11 @@ fn check_ping<R: Wait + Abort>(rt: &R, alloc: Global, shared: &Shared, pass: &mu
 {
     let other = news(rt, 2, 5, Status::Alive);
     let given = message(rt, 2, Content::Ping(content(rt, alloc, &[other])));
-    let (ack, calls) = ask(rt, alloc, shared, pass, WILLING, &given);
+    let answer = ask(rt, alloc, shared, pass, WILLING, &given);
+    let ack = &answer.content;
     let own = news(rt, 1, 7, Status::Alive);
-    assert!(rt; matches!(&ack, Content::Ack(_)) && calls == 0);
-    assert!(rt; carried(&ack) == [own].as_slice());
+    assert!(rt; matches!(ack, Content::Ack(_)) && answer.is_own());
+    assert!(rt; carried(ack) == [own].as_slice());
 }
 
 #[test]
@@ -227,9 +257,9 @@ fn check_target<R: Wait + Abort>(
     let told = content(rt, alloc, &[news(rt, 3, 1, Status::Alive)]);
     let given = message(rt, 2, Content::PingReq(told, target));
     let moods = (row.mood, Mood::Willing);
-    let (answer, calls) = ask(rt, alloc, shared, pass, moods, &given);
-    assert!(rt; word_in(&answer, target) == Some(row.reached));
-    assert!(rt; calls == row.calls);
+    let answer = ask(rt, alloc, shared, pass, moods, &given);
+    assert!(rt; word_in(&answer.content, target) == Some(row.reached));
+    assert!(rt; answer.sent == row.calls && answer.handled == 0);
 }
 
 const TARGETS: [(u8, Mood, Option<bool>, u64); 5] = [
@@ -271,14 +301,17 @@ fn check_here<R: Wait + Abort>(rt: &R, alloc: Global, shared: &Shared, pass: &mu
     requires { Fits shared.now pass.old }
 {
     let given = request(rt, alloc, ONE, "body");
-    let (reply, calls) = ask(rt, alloc, shared, pass, WILLING, &given);
-    assert!(rt; is_reply(&reply, "body") && calls == 0);
+    let reply = ask(rt, alloc, shared, pass, WILLING, &given);
+    assert!(rt; is_reply(&reply.content, "body"));
+    assert!(rt; reply.sent == 0 && reply.handled == 1);
     let failing = (Mood::Willing, Mood::Failing);
-    let (failed, _) = ask(rt, alloc, shared, pass, failing, &given);
-    assert!(rt; reason_in(&failed) == Some(Reason::Failed));
+    let failed = ask(rt, alloc, shared, pass, failing, &given);
+    assert!(rt; failed.reason() == Some(Reason::Failed));
+    assert!(rt; failed.sent == 0 && failed.handled == 1);
     let starved = (Mood::Willing, Mood::Starved);
-    let (refused, _) = ask(rt, alloc, shared, pass, starved, &given);
-    assert!(rt; reason_in(&refused) == Some(Reason::Memory));
+    let refused = ask(rt, alloc, shared, pass, starved, &given);
+    assert!(rt; refused.reason() == Some(Reason::Memory));
+    assert!(rt; refused.sent == 0 && refused.handled == 1);
 }
 
 #[test]
@@ -294,11 +327,11 @@ fn check_elsewhere<R: Wait + Abort>(rt: &R, alloc: Global, shared: &Shared, pass
     requires { Fits shared.now pass.old }
 {
     let given = request(rt, alloc, ONE, "body");
-    let (answer, _) = ask(rt, alloc, shared, pass, WILLING, &given);
-    assert!(rt; matches!(&answer, Content::NotOwner));
+    let answer = ask(rt, alloc, shared, pass, WILLING, &given);
+    assert!(rt; matches!(&answer.content, Content::NotOwner) && answer.is_own());
     let split = request(rt, alloc, ("zzzz0", "zzzz1"), "body");
-    let (answer, _) = ask(rt, alloc, shared, pass, WILLING, &split);
-    assert!(rt; reason_in(&answer) == Some(Reason::Diverged));
+    let answer = ask(rt, alloc, shared, pass, WILLING, &split);
+    assert!(rt; answer.reason() == Some(Reason::Diverged) && answer.is_own());
 }
 
 #[test]
@@ -315,8 +348,8 @@ fn check_nobody<R: Wait + Abort>(rt: &R, alloc: Global, shared: &Shared, pass: &
 {
     leave(rt, shared, pass);
     let given = request(rt, alloc, ONE, "body");
-    let (answer, _) = ask(rt, alloc, shared, pass, WILLING, &given);
-    assert!(rt; reason_in(&answer) == Some(Reason::Nobody));
+    let answer = ask(rt, alloc, shared, pass, WILLING, &given);
+    assert!(rt; answer.reason() == Some(Reason::Nobody) && answer.is_own());
 }
 
 #[test]
@@ -372,12 +405,11 @@ fn is_spent<R: Wait + Abort>(rt: &R, alloc: Global, shared: &Shared, pass: &mut 
     requires { Fits shared.now pass.old }
 {
     let mut link = Fake::new(Mood::Willing);
-    let handler = Echo {
-        mood: Mood::Willing,
-    };
+    let handler = Counting::new(Mood::Willing);
     let now = moment(rt, 0);
     let given = request(rt, alloc, ONE, "body");
     let answer = serve_one(rt, alloc, shared, pass, &mut link, &handler, now, &given);
+    assert!(rt; link.calls == 0);
     matches!(&answer, Err(LockError::PassSpent))
 }
 

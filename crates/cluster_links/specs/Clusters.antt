@@ -1,14 +1,24 @@
 -- The nodes of one process, by their addresses. Own.
-use Rattle.std.specs.Prelude.{◌≡◌, ◌≢◌, ℕ, ◌+◌, ◌<◌, ◌≤◌, List, All, drop, length, slice_index_or}
+use Rattle.std.specs.Prelude.{◌≡◌, ◌≢◌, ℕ, ◌+◌, ◌-◌, ◌^◌, ◌<◌, ◌≤◌, List, [], ◌∷◌, ◌++◌, All, Result, drop, length, map, slice_index_or}
 use Rattle.std.specs.Arc.{arc_value}
+use Rattle.std.specs.List.{AllZip, range_with_len}
+use Rattle.std.specs.declared.thread.PromisedHandle.{PromisedHandle}
 use Rattle.change_core.specs.declared.addresses.Address.{Address}
 use Rattle.node_core.specs.Node.{Seen, own_change}
-use Rattle.locked_node.specs.Passes.{NodePass, Fits, IsClosed}
+use Rattle.turn_lock.specs.Passes.{left_of, number_of}
+use Rattle.locked_node.specs.declared.node.LockedNode.{LockedNode}
+use Rattle.locked_node.specs.Passes.{NodePass, AreOwn, Fits, IsClosed, opening_of, passes_of}
 use Rattle.cluster_links.specs.declared.channel_links.Post.{Post}
 use Rattle.cluster_links.specs.declared.clusters.Cluster.{Cluster}
+use Rattle.cluster_core.specs.declared.errors.ClusterError.{ClusterError}
+use Rattle.cluster_core.specs.declared.rounds.Round.{Round}
+use Rattle.cluster_links.specs.declared.seats.Returned.{Returned}
 use Rattle.cluster_links.specs.declared.seats.Seat.{Seat}
 use Rattle.cluster_links.specs.declared.clusters.StartError.{StartError}
 use Rattle.cluster_links.specs.declared.clusters.StartError.TheVariants.{BadCount, SameAddress, NoThread, Memory}
+use Rattle.cluster_links.specs.Channels.{any_answer}
+use Rattle.cluster_core.specs.Parts.{Does}
+use Rattle.cluster_core.specs.Rounds.{IsRound}
 
 -- no node has the address
 abbrev pub HasNoPost : List Post → Address → Type 0
@@ -45,18 +55,73 @@ module _ {H : Type 0} where
   IsGivenUp NoThread = Unit {0}
   IsGivenUp Memory = Unit {0}
 
+  -- the posts of the nodes of a cluster
+  abbrev pub posts_of : Cluster H → List Post
+  posts_of cluster = (arc_value cluster.posts).items
+
   -- no node of the cluster has the address
   abbrev pub HasNoNode : Cluster H → Address → Type 0
   HasNoNode cluster a = All (λ (s : Seat H). s.address ≢ a) cluster.seats.items
 
-  -- the node is what closing that of the seat gave, with some passes of it
-  abbrev pub IsOfSeat : (H → List ℕ → ℕ) → Seat H → Seen H → Type 0
-  IsOfSeat hash_of seat node = (passes : List (NodePass H)) × IsClosed hash_of (arc_value seat.node) passes node
+  -- the pass that a worker was given
+  abbrev pub given_to : PromisedHandle (NodePass H) (Returned H) → NodePass H
+  given_to worker = worker.promise.pass.value
 
-  -- the pass of the seat fits its node, and each worker is to give back one that does
-  abbrev pub IsSeat : Seat H → Type 0
-  IsSeat seat = Fits (arc_value seat.node) seat.pass × All (λ (w : _). w.promise.0.value ≡ arc_value seat.node) seat.workers.items
+  -- the passes of a seat: those of its workers, and last that of its rounds
+  abbrev pub passes_in : Seat H → List (NodePass H)
+  passes_in seat = map given_to seat.workers.items ++ seat.pass ∷ []
+
+  -- they are all the passes that were made with the node, in the order of their numbers
+  abbrev pub AreAll : LockedNode H → List (NodePass H) → Type 0
+  AreAll locked passes = AreOwn locked passes × (map number_of passes ≡ range_with_len 0 (passes_of locked))
+
+  -- each may make the greatest number of calls
+  abbrev pub AreFresh : List (NodePass H) → Type 0
+  AreFresh passes = All (λ (p : NodePass H). left_of p ≡ 2 ^ 32 - 1) passes
+
+  -- the node is what closing that of the seat gave, with all passes of it
+  abbrev pub IsOfSeat : (H → List ℕ → ℕ) → Seat H → Seen H → Type 0
+  IsOfSeat hash_of seat node =
+      (passes : List (NodePass H)) × AreAll (arc_value seat.node) passes × IsClosed hash_of (arc_value seat.node) passes node
+
+  -- The passes of the seat are all that its node has, and can be handed in; each worker is to give back the one that it was given.
+  pub record IsSeat (seat : Seat H) : Type 0 where
+    pub fits : Fits (arc_value seat.node) seat.pass
+    pub returned : All (λ (w : PromisedHandle (NodePass H) (Returned H)). w.promise.node.value ≡ arc_value seat.node) seat.workers.items
+    pub all : AreAll (arc_value seat.node) (passes_in seat)
 
   -- as a cluster is when it was started, and after each of its calls
   abbrev pub IsWhole : Cluster H → Type 0
   IsWhole cluster = All IsSeat cluster.seats.items
+
+  -- The seat was made for this node: so many workers and its rounds share it, each by a pass that has made no call.
+  pub record Seats (workers : ℕ) (node : Seen H) (seat : Seat H) : Type 0 where
+    pub address : seat.address ≡ address_in node
+    pub opening : opening_of (arc_value seat.node) ≡ node
+    pub passes : passes_of (arc_value seat.node) ≡ workers + 1
+    pub crew : length seat.workers.items ≡ workers
+    pub fresh : AreFresh (passes_in seat)
+
+  -- The cluster has a seat for each of the nodes, in their order, and a post for each.
+  pub record IsStarted (workers : ℕ) (nodes : List (Seen H)) (cluster : Cluster H) : Type 0 where
+    pub seats : AllZip (Seats workers) nodes cluster.seats.items
+    pub posts : map (λ (p : Post). p.address) (posts_of cluster) ≡ map address_in nodes
+
+  -- The node of the seat made a round that came to this, by the pass of its rounds. Its link may have failed more often; all else is as it was.
+  pub record IsRoundBy (now : ℕ) (r : Result Round ClusterError) (old new : Seat H) : Type 0 where
+    pub round : Does (arc_value old.node) (IsRound any_answer now) r old.pass new.pass
+    pub address : new.address ≡ old.address
+    pub node : new.node ≡ old.node
+    pub workers : new.workers ≡ old.workers
+
+  -- The node of the address made a round that came to this, and all other seats of the cluster are as they were.
+  pub record HasRound (a : Address) (now : ℕ) (r : Result Round ClusterError) (old new : Cluster H) : Type 0 where
+    pub before : List (Seat H)
+    pub seat : Seat H
+    pub after : Seat H
+    pub later : List (Seat H)
+    pub was : old.seats.items ≡ before ++ seat ∷ later
+    pub is : new.seats.items ≡ before ++ after ∷ later
+    pub its : seat.address ≡ a
+    pub round : IsRoundBy now r seat after
+    pub posts : new.posts ≡ old.posts

@@ -1,5 +1,5 @@
 //! A link over channels, between nodes in one process.
-ghost use Rattle.std.specs.Prelude.{◌≡◌, ◌≢◌, Err, IfErr, IfNone, IsSome};
+ghost use Rattle.std.specs.Prelude.{◌≡◌, ◌≢◌, Err, IfErr, IfNone, IfSome, IsSome};
 ghost use Rattle.cluster_links.specs.Clusters.{HasNoPost};
 ghost use Rattle.cluster_core.specs.Links.{IsNamed};
 
@@ -31,6 +31,7 @@ pub(crate) struct Post {
 pub(crate) fn post_of(posts: &[Post], address: Address) -> Option<&Post>
     ensures none { IfNone result (HasNoPost posts.now address) }
     ensures some { IsSome result → ¬ HasNoPost posts.now address }
+    ensures its { IfSome result (λ p. p.now.address ≡ address) }
 {
     for post in posts {
         if post.address == address {
@@ -94,12 +95,19 @@ pub struct ChannelLink {
 }
 
 impl ChannelLink {
-    pub(crate) fn new(posts: Arc<Vec<Post>, Global>) -> Self {
+    /// A link that has not failed yet, to the nodes of these posts.
+    pub(crate) fn new(posts: Arc<Vec<Post>, Global>) -> Self
+        ensures { result ≡ record { posts = posts; failures = 0 } }
+    {
         ChannelLink { posts, failures: 0 }
     }
 }
 
 impl Link for ChannelLink {
+    ghost use Rattle.std.specs.Prelude.{◌+◌, ◌-◌, ◌^◌, ◌<◌, ◌↔◌};
+    ghost use Rattle.cluster_links.specs.Channels.{any_answer, failures_of, reached_by};
+    ghost use Rattle.cluster_core.specs.Links.{failures_in};
+
     ghost may_answer = { λ _ _ _. Unit {0} };
 
     ghost failed = { λ l. l.failures };
@@ -114,7 +122,14 @@ impl Link for ChannelLink {
         alloc: Global,
         to: Address,
         message: &Message,
-    ) -> Result<Message, LinkError> {
+    ) -> Result<Message, LinkError>
+        ensures came { any_answer to message.now result }
+        ensures failures { failures_of self.new ≡ failures_of self.old + failures_in result }
+        ensures spent { result ≡ Err LinkError.Spent ↔ failures_of self.old ≡ 2 ^ 64 - 1 }
+        ensures named { IfErr result IsNamed }
+        ensures closed { HasNoPost (reached_by self.old) to → failures_of self.old < 2 ^ 64 - 1 → result ≡ Err LinkError.Closed }
+        ensures stays { reached_by self.new ≡ reached_by self.old }
+    {
         if self.failures == u64::MAX {
             return Err(LinkError::Spent);
         }

@@ -1,9 +1,15 @@
 //! Nodes of one process, each served by workers of its own, that talk over channels.
-ghost use Rattle.std.specs.Prelude.{◌≡◌, ◌≢◌, ◌<◌, ◌≤◌, IsTrue, IsFalse, IfOk, IfErr, IfNone, IfSome, Err, All, length};
+ghost use Rattle.std.specs.Prelude.{◌≡◌, ◌≢◌, ◌<◌, ◌≤◌, ◌+◌, ◌++◌, ◌∷◌, [], map, slice_index_or, IsTrue, IsFalse, IfOk, IfErr, IfNone, IfSome, Err, All, length};
 ghost use Rattle.std.specs.List.{AllZip};
 ghost use Rattle.std.specs.Arc.{arc_value};
-ghost use Rattle.locked_node.specs.Passes.{Fits};
-ghost use Rattle.cluster_links.specs.Clusters.{AreApart, HasNoNode, HasNoPost, IsCrew, IsGivenUp, IsNotStarted, IsOfSeat, IsSeat, IsWhole, NoneHas};
+ghost use Rattle.turn_lock.specs.Passes.{IsSamePass};
+ghost use Rattle.locked_node.specs.Passes.{Fits, opening_of, passes_of};
+ghost use Rattle.cluster_core.specs.Acts.{IsBarred, Makes};
+ghost use Rattle.cluster_links.specs.Channels.{any_answer, failures_of, reached_by};
+ghost use Rattle.cluster_links.specs.Clusters.{address_in, AreAll, AreApart, AreFresh, given_to, HasNoNode, HasNoPost, HasRound, IsCrew, IsGivenUp, IsNotStarted, IsOfSeat, IsRoundBy, IsSeat, IsWhole, NoneHas, posts_of, Seats, IsStarted};
+ghost use Rattle.cluster_core.specs.Errors.{IsRoundRefusal};
+ghost use Rattle.cluster_core.specs.Links.{IsNamed};
+ghost use Rattle.cluster_core.specs.Serving.{IsServed};
 
 use crate::channel_links::{ChannelLink, Job, Post, ask_one, post_of};
 use crate::seats::{Returned, Seat};
@@ -17,6 +23,7 @@ use std::alloc::{AllocError, AllocFailed, Global};
 use std::snapshot::Snapshot;
 use std::sync::{Arc, Wait};
 use std::thread::{self, PromisedHandle, Threads};
+use turn_lock::LockError;
 use wire_json::Message;
 
 /// How many workers a node has at most.
@@ -52,11 +59,32 @@ pub struct Cluster<H: PointHash> {
 }
 
 /// The moment that a worker hands in, which a node reads as its last one.
-fn beginning() -> Moment {
+fn beginning() -> Moment
+    ensures { result ≡ 0 }
+{
     let Some(moment) = Moment::new(0) else {
         unreachable!()
     };
     moment
+}
+
+/// Answers a message, at the moment that a node reads as its last one.
+fn answer_one<R: Wait, H: PointHash, A: Handler>(
+    rt: &R,
+    alloc: Global,
+    node: &LockedNode<H>,
+    pass: &mut NodePass<H>,
+    link: &mut ChannelLink,
+    handler: &A,
+    message: &Message,
+) -> Result<Message, LockError>
+    requires { Fits node.now pass.old }
+    ensures served { IfOk result (λ m. Makes node.now (IsServed H.hash_of any_answer A.may_handle message.now 0 message.now.content m) pass.old pass.new) }
+    ensures refused { IfErr result (IsBarred node.now pass.old pass.new) }
+    ensures fits { Fits node.now pass.new }
+    ensures same { IsSamePass pass.old pass.new }
+{
+    serve_one(rt, alloc, node, pass, link, handler, beginning(), message)
 }
 
 /// Answers what comes until there is nothing more to come, and gives the pass back.
@@ -70,21 +98,15 @@ fn work<R: Wait + Copy, H: PointHash, A: Handler + Drop>(
     jobs: Receiver<Job>,
 ) -> NodePass<H>
     requires { Fits (arc_value node) pass }
-    ensures { Fits (arc_value node) result }
+    ensures fits { Fits (arc_value node) result }
+    ensures same { IsSamePass pass result }
 {
     'jobs: for _ in rt.forever() {
         let Ok(Job::Serve(message, to)) = jobs.recv(&rt) else {
             break;
         };
-        let answer = serve_one(
-            &rt,
-            alloc,
-            &*node,
-            &mut pass,
-            &mut link,
-            &*handler,
-            beginning(),
-            &message,
+        let answer = answer_one(
+            &rt, alloc, &*node, &mut pass, &mut link, &*handler, &message,
         );
         if let Ok(answer) = answer {
             let _sent = to.send(&rt, answer);
@@ -97,7 +119,10 @@ fn work<R: Wait + Copy, H: PointHash, A: Handler + Drop>(
 fn posts_for<H: PointHash>(
     alloc: Global,
     nodes: &[NodeState<H>],
-) -> Result<(Vec<Post>, Vec<Receiver<Job>>), AllocError> {
+) -> Result<(Vec<Post>, Vec<Receiver<Job>>), AllocError>
+    ensures posts { IfOk result (λ r. map (λ p. p.address) r.0.items ≡ map address_in nodes.now) }
+    ensures outlets { IfOk result (λ r. length r.1.items ≡ length nodes.now) }
+{
     let mut posts = Vec::with_capacity(alloc, nodes.len())?;
     let mut outlets = Vec::with_capacity(alloc, nodes.len())?;
     for node in nodes {
@@ -141,6 +166,7 @@ fn has_twins<H: PointHash>(nodes: &[NodeState<H>]) -> bool
 /// At which place the seat of an address is.
 fn place_of<H: PointHash>(seats: &[Seat<H>], address: Address) -> Option<usize>
     ensures some { IfSome result (λ i. (i < length seats.now) × ¬ All (λ s. s.address ≢ address) seats.now) }
+    ensures its { IfSome result (λ i. (d : _) → (slice_index_or seats.now i d).address ≡ address) }
     ensures none { IfNone result (All (λ s. s.address ≢ address) seats.now) }
 {
     for i in 0..seats.len() {
@@ -158,13 +184,17 @@ fn share<H: PointHash>(
     workers: u32,
 ) -> Result<(LockedNode<H>, NodePass<H>, Vec<NodePass<H>>), AllocError>
     requires { workers ≤ 16 }
-    ensures { IfOk result (λ r. Fits r.0 r.1 × All (Fits r.0) r.2.items) }
+    ensures node { IfOk result (λ r. (opening_of r.0 ≡ node) × (passes_of r.0 ≡ workers + 1)) }
+    ensures fits { IfOk result (λ r. Fits r.0 r.1 × All (Fits r.0) r.2.items) }
+    ensures count { IfOk result (λ r. length r.2.items ≡ workers) }
+    ensures all { IfOk result (λ r. AreAll r.0 (r.2.items ++ r.1 ∷ [])) }
+    ensures fresh { IfOk result (λ r. AreFresh (r.2.items ++ r.1 ∷ [])) }
 {
     let Ok((locked, mut passes)) = LockedNode::new(alloc, node, workers + 1, u32::MAX) else {
         return Err(AllocError);
     };
     let Some(pass) = passes.pop() else {
-        return Err(AllocError);
+        unreachable!()
     };
     Ok((locked, pass, passes))
 }
@@ -199,7 +229,7 @@ where
     H: PointHash + Send + Sync + 'static,
     A: Handler + Send + Sync + Drop + 'static,
     requires { Fits (arc_value node.now) pass }
-    ensures hired { IfOk result (λ w. w.promise.0.value ≡ arc_value node.now) }
+    ensures hired { IfOk result (λ w. (w.promise.node.value ≡ arc_value node.now) × (given_to w ≡ pass)) }
     ensures given_up { IfErr result IsGivenUp }
 {
     let runtime = *rt;
@@ -207,7 +237,10 @@ where
     let link = ChannelLink::new(Arc::try_clone(posts)?);
     let handler = Arc::try_clone(handler)?;
     let jobs = outlet.clone()?;
-    let promise = Returned(Snapshot::of(&**node));
+    let promise = Returned {
+        node: Snapshot::of(&**node),
+        pass: Snapshot::of(&pass),
+    };
     let started = thread::spawn_with(rt, promise, move || {
         work(runtime, alloc, theirs, pass, link, handler, jobs)
     });
@@ -233,7 +266,8 @@ where
     H: PointHash + Send + Sync + 'static,
     A: Handler + Send + Sync + Drop + 'static,
     requires { All (Fits (arc_value node.now)) passes.items }
-    ensures hired { IfOk result (λ ws. All (λ w. w.promise.0.value ≡ arc_value node.now) ws.items) }
+    ensures hired { IfOk result (λ ws. All (λ w. w.promise.node.value ≡ arc_value node.now) ws.items) }
+    ensures given { IfOk result (λ ws. map given_to ws.items ≡ passes.items) }
     ensures given_up { IfErr result IsGivenUp }
 {
     let mut workers = Vec::with_capacity(alloc, passes.len())?;
@@ -266,6 +300,7 @@ where
     A: Handler + Send + Sync + Drop + 'static,
     requires { workers ≤ 16 }
     ensures seated { IfOk result IsSeat }
+    ensures serves { IfOk result (Seats workers node) }
     ensures given_up { IfErr result IsGivenUp }
 {
     let address = node.own().address;
@@ -304,10 +339,20 @@ impl<H: PointHash> Seat<H> {
         let Some(locked) = Arc::into_inner(node) else {
             return Err(StopError::StillHeld);
         };
-        match locked.close(passes) {
-            Ok(node) => Ok(node),
-            Err(_) => Err(StopError::StillHeld),
-        }
+        let Ok(node) = locked.close(passes) else {
+            unreachable!()
+        };
+        Ok(node)
+    }
+
+    /// One round of gossip of the node, by the pass that is kept for its rounds.
+    fn round<R: Wait>(&mut self, rt: &R, alloc: Global, now: Moment) -> Result<Round, ClusterError>
+        requires { IsSeat self.old }
+        ensures made { IsRoundBy now result self.old self.new }
+        ensures seat { IsSeat self.new }
+        ensures named { IfErr result IsRoundRefusal }
+    {
+        gossip_round(rt, alloc, &*self.node, &mut self.pass, &mut self.link, now)
     }
 }
 
@@ -332,7 +377,7 @@ impl<H: PointHash, T: Drop> From<AllocFailed<T>> for StartError<H> {
 }
 
 impl<H: PointHash + Send + Sync + 'static> Cluster<H> {
-    /// Serves each of the nodes by so many workers, 1 to 16, each a thread of its own. An empty list of nodes is allowed.
+    /// IsStarted each of the nodes by so many workers, 1 to 16, each a thread of its own. An empty list of nodes is allowed.
     ///
     /// Errors: `BadCount` where the number of workers is another, else `SameAddress` where two nodes have one address, both
     /// with the very nodes; `NoThread` where a thread could not be made, and `Memory` where a growth was refused. At these
@@ -349,6 +394,7 @@ impl<H: PointHash + Send + Sync + 'static> Cluster<H> {
         A: Handler + Send + Sync + Drop + 'static,
         ensures can { IfOk result (λ c. IsCrew workers × AreApart nodes.items) }
         ensures started { IfOk result IsWhole }
+        ensures serves { IfOk result (IsStarted workers nodes.items) }
         ensures refused { IfErr result (IsNotStarted nodes.items workers) }
     {
         if workers == 0 || workers > MOST_WORKERS {
@@ -360,7 +406,7 @@ impl<H: PointHash + Send + Sync + 'static> Cluster<H> {
         Cluster::launch(rt, alloc, nodes, workers, handler)
     }
 
-    /// Serves the nodes, which can be served.
+    /// IsStarted the nodes, which can be served.
     fn launch<R, A>(
         rt: &R,
         alloc: Global,
@@ -373,14 +419,16 @@ impl<H: PointHash + Send + Sync + 'static> Cluster<H> {
         A: Handler + Send + Sync + Drop + 'static,
         requires { workers ≤ 16 }
         ensures launched { IfOk result IsWhole }
+        ensures serves { IfOk result (IsStarted workers nodes.items) }
         ensures given_up { IfErr result IsGivenUp }
     {
         let handler = Arc::new(alloc, handler)?;
         let (posts, outlets) = posts_for(alloc, &nodes)?;
         let posts = Arc::new(alloc, posts)?;
         let mut seats = Vec::with_capacity(alloc, nodes.len())?;
-        'seated: for (node, outlet) in nodes.into_iter().zip(outlets) {
-            match seat_for(rt, alloc, node, workers, &posts, &handler, &outlet) {
+        'seated: for node in nodes {
+            let outlet = &outlets[seats.len()];
+            match seat_for(rt, alloc, node, workers, &posts, &handler, outlet) {
                 Ok(seat) => seats.push(seat)?,
                 Err(refused) => {
                     let _nodes = Cluster { posts, seats }.stop(rt, alloc);
@@ -393,8 +441,11 @@ impl<H: PointHash + Send + Sync + 'static> Cluster<H> {
 }
 
 impl<H: PointHash> Cluster<H> {
-    /// A link to these nodes, which may go to another thread. `Memory` is the only refusal.
-    pub fn link(&self) -> Result<ChannelLink, LinkError> {
+    /// A link to these nodes that has not failed yet, which may go to another thread. `Memory` is the only refusal.
+    pub fn link(&self) -> Result<ChannelLink, LinkError>
+        ensures made { IfOk result (λ l. (reached_by l ≡ posts_of self.now) × (failures_of l ≡ 0)) }
+        ensures only { IfErr result (λ e. e ≡ LinkError.Memory) }
+    {
         match Arc::try_clone(&self.posts) {
             Ok(posts) => Ok(ChannelLink::new(posts)),
             Err(_) => Err(LinkError::Memory),
@@ -409,7 +460,9 @@ impl<H: PointHash> Cluster<H> {
         to: Address,
         message: &Message,
     ) -> Result<Message, LinkError>
-        ensures { HasNoPost (arc_value self.now.posts).items to → result ≡ Err LinkError.Closed }
+        ensures closed { HasNoPost (posts_of self.now) to → result ≡ Err LinkError.Closed }
+        ensures named { IfErr result IsNamed }
+        ensures unspent { IfErr result (λ e. e ≢ LinkError.Spent) }
     {
         ask_one(rt, alloc, &self.posts, to, message)
     }
@@ -425,15 +478,15 @@ impl<H: PointHash> Cluster<H> {
         now: Moment,
     ) -> Result<Round, ClusterError>
         requires { IsWhole self.old }
-        ensures nobody { HasNoNode self.old address → result ≡ Err ClusterError.NoNode }
+        ensures nobody { HasNoNode self.old address → (result ≡ Err ClusterError.NoNode) × (self.new ≡ self.old) }
         ensures only { result ≡ Err ClusterError.NoNode → HasNoNode self.old address }
+        ensures made { ¬ HasNoNode self.old address → HasRound address now result self.old self.new }
         ensures whole { IsWhole self.new }
     {
         let Some(at) = place_of(&self.seats, address) else {
             return Err(ClusterError::NoNode);
         };
-        let seat = &mut self.seats[at];
-        gossip_round(rt, alloc, &*seat.node, &mut seat.pass, &mut seat.link, now)
+        self.seats[at].round(rt, alloc, now)
     }
 
     /// Ends the workers, each after the messages that it has, and gives the nodes back in the order given.

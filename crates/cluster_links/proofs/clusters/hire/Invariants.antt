@@ -1,10 +1,15 @@
-use Rattle.std.proofs.Common.{◌≡◌, All}
+use Rattle.std.proofs.Common.{◌≡◌, ◌++◌, All, length, map}
 use Rattle.std.specs.Arc.{arc_value}
-use Rattle.std.specs.Vec.Iter.{into_iter_items}
+use Rattle.std.specs.Vec.Iter.{into_iter_items, into_iter_len}
 use Rattle.locked_node.specs.Passes.{Fits}
+use Rattle.cluster_links.specs.Clusters.{given_to}
 use Rattle.cluster_links.proofs.clusters.hire.Given as goal
 
--- the passes that are left fit the node, and so do those that the workers are to give back
+-- the passes that are left fit the node, the others were given out in their order, and each worker is to give back one that fits
 abbrev pub invariant-loop-pass : goal.invariant-loop-pass
-invariant-loop-pass g l =
-    All (Fits (arc_value l.node)) (into_iter_items l.pass-iterator) × All (λ w. w.promise.0.value ≡ arc_value l.node) l.workers.items
+invariant-loop-pass g l = record {
+  length_is : into_iter_len l.pass-iterator ≡ length (into_iter_items l.pass-iterator);
+  fits : All (Fits (arc_value l.node)) (into_iter_items l.pass-iterator);
+  returned : All (λ w. w.promise.node.value ≡ arc_value l.node) l.workers.items;
+  given : map given_to l.workers.items ++ into_iter_items l.pass-iterator ≡ l.fn.passes.items;
+}

@@ -1,0 +1,18 @@
+-- Links over channels. Own.
+use Rattle.std.specs.Prelude.{ℕ, List}
+use Rattle.std.specs.Arc.{arc_value}
+use Rattle.cluster_links.specs.declared.channel_links.ChannelLink.{ChannelLink}
+use Rattle.cluster_links.specs.declared.channel_links.Post.{Post}
+use Rattle.cluster_core.specs.Links.{MayAnswer}
+
+-- of a peer that is reached over channels nothing is known
+abbrev pub any_answer : MayAnswer
+any_answer to message answer = Unit {0}
+
+-- the posts of the nodes that a link reaches
+abbrev pub reached_by : ChannelLink → List Post
+reached_by link = (arc_value link.posts).items
+
+-- how often a link has failed
+abbrev pub failures_of : ChannelLink → ℕ
+failures_of link = link.failures

@@ -25,7 +25,6 @@ use Rattle.cluster_core.specs.declared.errors.ClusterError.{ClusterError}
 use Rattle.cluster_core.specs.declared.rounds.Round.{Round}
 use Rattle.cluster_links.specs.declared.seats.Returned.{Returned}
 use Rattle.cluster_links.specs.declared.seats.Seat.{Seat}
-use Rattle.cluster_core.specs.Acts.{OfActs, IsBarred, Makes}
 use Rattle.cluster_links.specs.Clusters.{AreAll, AreApart, HasRound, IsOfSeat, IsRoundBy, IsSeat, NoneHas, address_in, given_to, passes_in}
 
 module _ {H : Type 0} where
@@ -253,12 +252,6 @@ module _ {H : Type 0} where
 
   pub same_still : (p q r : NodePass H) → IsSamePass p q → IsSamePass q r → IsSamePass p r
   same_still p q r a b = (b.0 ∙ a.0, b.1 ∙ a.1)
-
-  -- a pass that was answered, or refused, is the same
-  pub same_after : {A : Type 0} (locked : LockedNode H) (p q : NodePass H) (P : A → OfActs H) (r : Result A LockError)
-      → IfOk r (λ a. Makes locked (P a) p q) → IfErr r (IsBarred locked p q) → IsSamePass p q
-  same_after locked p q P (Ok a) makes barred = makes.made.same
-  same_after locked p q P (Err e) makes barred = barred.0.made.same
 
   -- the seat of the address was found, and another is put in its place
   pub has_round : (a : Address) (now : ℕ) (r : Result Round ClusterError) (old new : Cluster H) (i : ℕ) (x y : Seat H) → i < length old.seats.items

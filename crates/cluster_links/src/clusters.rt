@@ -4,12 +4,12 @@ ghost use Rattle.std.specs.List.{AllZip};
 ghost use Rattle.std.specs.Arc.{arc_value};
 ghost use Rattle.turn_lock.specs.Passes.{IsSamePass};
 ghost use Rattle.locked_node.specs.Passes.{Fits, opening_of, passes_of};
-ghost use Rattle.cluster_core.specs.Acts.{IsBarred, Makes};
 ghost use Rattle.cluster_links.specs.Channels.{any_answer, failures_of, reached_by};
 ghost use Rattle.cluster_links.specs.Clusters.{address_in, AreAll, AreApart, AreFresh, given_to, HasNoNode, HasNoPost, HasRound, IsCrew, IsGivenUp, IsNotStarted, IsOfSeat, IsRoundBy, IsSeat, IsWhole, NoneHas, posts_of, Seats, IsStarted};
 ghost use Rattle.cluster_core.specs.Errors.{IsRoundRefusal};
 ghost use Rattle.cluster_core.specs.Links.{IsNamed};
-ghost use Rattle.cluster_core.specs.Serving.{IsServed};
+ghost use Rattle.cluster_core.specs.Parts.{Does, let_in};
+ghost use Rattle.cluster_core.specs.Serving.{Serves};
 
 use crate::channel_links::{ChannelLink, Job, Post, ask_one, post_of};
 use crate::seats::{Returned, Seat};
@@ -79,8 +79,7 @@ fn answer_one<R: Wait, H: PointHash, A: Handler>(
     message: &Message,
 ) -> Result<Message, LockError>
     requires { Fits node.now pass.old }
-    ensures served { IfOk result (λ m. Makes node.now (IsServed H.hash_of any_answer A.may_handle message.now 0 message.now.content m) pass.old pass.new) }
-    ensures refused { IfErr result (IsBarred node.now pass.old pass.new) }
+    ensures served { Does node.now (Serves H.hash_of any_answer A.may_handle message.now 0 message.now.content) (let_in result) pass.old pass.new }
     ensures fits { Fits node.now pass.new }
     ensures same { IsSamePass pass.old pass.new }
 {

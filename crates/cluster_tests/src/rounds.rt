@@ -4,7 +4,7 @@ ghost use Rattle.std.specs.Prelude.{◌≡◌, []};
 ghost use Rattle.std.specs.List.{All};
 ghost use Rattle.locked_node.specs.Passes.{Fits};
 
-use crate::shared::{Caller, Shared, among, status, with_node};
+use crate::shared::{Caller, Shared, Start, among, status, with_node};
 use change_core::{Address, Moment, Status};
 use cluster_core::{ClusterError, Link, LinkError, Round, gossip_round, join};
 use cluster_fixtures::{Fake, Mood, member, moment, news, state};
@@ -131,6 +131,36 @@ fn a_round_ends_by_what_the_peers_answer(rt: HostRuntime) {
             wanted: came_to(end, calls, failures),
         };
         check_end(&rt, rt.alloc(), &row);
+    }
+}
+
+/// How a round ends with three others that all fail, by a pass that may make so many calls, of which three are for the others.
+fn end_within<R: Wait + Abort>(rt: &R, alloc: Global, turns: u32) -> Result<End, ClusterError> {
+    let start = Start {
+        max: 4096,
+        turns,
+        others: 3,
+    };
+    let moods = (Mood::Broken, Mood::Broken);
+    let ended = with_node(rt, alloc, &start, |shared, pass| {
+        round_in(rt, alloc, shared, pass, moods)
+    });
+    ended.end
+}
+
+/// Eight calls: expire, probe, a ping, lost, and for each of two helpers a ping-req and that it failed. A second `lost` would be
+/// a ninth.
+#[test]
+fn a_probe_is_lost_once(rt: HostRuntime) {
+    for (turns, wanted) in [
+        (10, Err(ClusterError::PassSpent)),
+        (11, Ok(End::Inconclusive)),
+    ] {
+        let mut found = end_within(&rt, rt.alloc(), turns);
+        if found != wanted {
+            found = end_within(&rt, rt.alloc(), turns);
+        }
+        assert!(&rt; found == wanted);
     }
 }
 

@@ -239,48 +239,72 @@ fn no_cluster_of_too_many_or_equal_nodes(rt: HostRuntime) {
     check_nodes(&rt, nodes.as_slice(), &[2, 1, 2]);
 }
 
-/// A ping that tells of 10.0.0.`number`:1.
-fn ping(rt: &impl Abort, alloc: Global, number: u8) -> Message {
-    let told = content(rt, alloc, &[news(rt, number, 7, Status::Alive)]);
+/// A ping that tells of 10.0.0.`number`:1, which it holds so.
+fn ping(rt: &impl Abort, alloc: Global, number: u8, status: Status) -> Message {
+    let told = content(rt, alloc, &[news(rt, number, 7, status)]);
     message(rt, number, Content::Ping(told))
 }
 
-/// Whether a node of the cluster answers a ping, which tells of 10.0.0.9:1, by an Ack.
-fn answers<R: Wait + Abort>(rt: &R, alloc: Global, link: &mut ChannelLink, number: u8) -> bool {
-    let ping = ping(rt, alloc, 9);
-    let mut answer = link.call(rt, alloc, member(rt, number), &ping);
+/// What comes back over a link from 10.0.0.`number`:1 for a ping that tells of 10.0.0.9:1.
+fn pinged<R: Wait + Abort>(
+    rt: &R,
+    alloc: Global,
+    link: &mut ChannelLink,
+    number: u8,
+) -> Result<Message, LinkError> {
+    let ping = ping(rt, alloc, 9, Status::Alive);
+    let answer = link.call(rt, alloc, member(rt, number), &ping);
     if is_starved(&answer) {
-        answer = link.call(rt, alloc, member(rt, number), &ping);
+        return link.call(rt, alloc, member(rt, number), &ping);
     }
-    matches!(&answer, Ok(message) if matches!(&message.content, Content::Ack(_)))
+    answer
+}
+
+/// Checks that a node of the cluster answers a ping by an Ack of its own.
+fn check_ack<R: Wait + Abort>(rt: &R, alloc: Global, link: &mut ChannelLink, number: u8) {
+    let answer = pinged(rt, alloc, link, number);
+    let Ok(message) = answer else {
+        panic!(rt; "no answer")
+    };
+    assert!(rt; matches!(&message.content, Content::Ack(_)));
+    assert!(rt; message.source == member(rt, number));
+}
+
+/// Checks that nobody answers at an address any more, or ever did.
+fn check_closed<R: Wait + Abort>(rt: &R, alloc: Global, link: &mut ChannelLink, number: u8) {
+    let answer = pinged(rt, alloc, link, number);
+    assert!(rt; matches!(&answer, Err(LinkError::Closed)));
 }
 
 /// Checks whom a link reaches.
 fn check_link<R: Wait + Abort>(rt: &R, alloc: Global, link: &mut ChannelLink) {
-    assert!(rt; answers(rt, alloc, link, 1) && answers(rt, alloc, link, 2));
-    assert!(rt; !answers(rt, alloc, link, 3) && link.failures() == 1);
+    check_ack(rt, alloc, link, 1);
+    check_ack(rt, alloc, link, 2);
+    check_closed(rt, alloc, link, 3);
+    assert!(rt; link.failures() == 1);
 }
 
 /// Checks what the cluster answers at an address without a node, and tells one node of the other.
 fn check_ask<R: Wait + Abort>(rt: &R, alloc: Global, cluster: &Cluster<SumHash>) {
-    let ping = ping(rt, alloc, 2);
+    let ping = ping(rt, alloc, 2, Status::Alive);
     let nobody = ask(rt, alloc, cluster, member(rt, 3), &ping);
     assert!(rt; matches!(&nobody, Err(LinkError::Closed)));
     let told = ask(rt, alloc, cluster, member(rt, 1), &ping);
     assert!(rt; matches!(&told, Ok(_)));
 }
 
-/// A round of a node.
+/// A round of a node at a moment.
 fn round<R: Wait + Abort>(
     rt: &R,
     alloc: Global,
     cluster: &mut Cluster<SumHash>,
     number: u8,
+    now: u64,
 ) -> Result<Round, ClusterError>
     requires { IsWhole cluster.old }
     ensures { IsWhole cluster.new }
 {
-    cluster.round(rt, alloc, member(rt, number), moment(rt, 0))
+    cluster.round(rt, alloc, member(rt, number), moment(rt, now))
 }
 
 /// Whether a round was hindered by a refused growth, here or at another node.
@@ -291,18 +315,24 @@ fn is_hindered(round: Result<Round, ClusterError>) -> bool {
     )
 }
 
-/// Checks two rounds of 10.0.0.1:1, which hold 10.0.0.2:1 and nobody at 10.0.0.9:1 as alive.
-fn check_rounds<R: Wait + Abort>(rt: &R, alloc: Global, cluster: &mut Cluster<SumHash>) -> bool
+/// Checks two rounds of a node, which holds another one and nobody at 10.0.0.9:1 as serving.
+fn check_rounds<R: Wait + Abort>(
+    rt: &R,
+    alloc: Global,
+    cluster: &mut Cluster<SumHash>,
+    number: u8,
+    other: u8,
+) -> bool
     requires { IsWhole cluster.old }
     ensures { IsWhole cluster.new }
 {
-    assert!(rt; round(rt, alloc, cluster, 3) == Err(ClusterError::NoNode));
-    let first = round(rt, alloc, cluster, 1);
-    let second = round(rt, alloc, cluster, 1);
+    assert!(rt; round(rt, alloc, cluster, 3, 0) == Err(ClusterError::NoNode));
+    let first = round(rt, alloc, cluster, number, 0);
+    let second = round(rt, alloc, cluster, number, 0);
     if is_hindered(first) || is_hindered(second) {
         return false;
     }
-    let reached = Ok(Round::Reached(member(rt, 2)));
+    let reached = Ok(Round::Reached(member(rt, other)));
     let suspected = Ok(Round::Suspected(member(rt, 9)));
     let is_reached_first = first == reached && second == suspected;
     assert!(rt; is_reached_first || first == suspected && second == reached);
@@ -330,7 +360,10 @@ fn reach_each_other<R: Threads + Wait + Abort + Copy + Send + 'static>(
     };
     check_link(rt, alloc, &mut link);
     check_ask(rt, alloc, &cluster);
-    if !check_rounds(rt, alloc, &mut cluster) {
+    if !check_rounds(rt, alloc, &mut cluster, 1, 2) {
+        return false;
+    }
+    if !check_rounds(rt, alloc, &mut cluster, 2, 1) {
         return false;
     }
     let Ok(nodes) = cluster.stop(rt, alloc) else {
@@ -338,7 +371,8 @@ fn reach_each_other<R: Threads + Wait + Abort + Copy + Send + 'static>(
     };
     check_nodes(rt, nodes.as_slice(), &[2, 1]);
     assert!(rt; has_heard(nodes.first(), member(rt, 1)));
-    assert!(rt; !answers(rt, alloc, &mut link, 1) && link.failures() == 2);
+    check_closed(rt, alloc, &mut link, 1);
+    assert!(rt; link.failures() == 2);
     true
 }
 
@@ -360,4 +394,39 @@ fn starts_empty<R: Threads + Wait + Abort + Copy + Send + 'static>(rt: &R, alloc
 fn a_cluster_may_be_empty(rt: HostRuntime) {
     let alloc: Global = rt.alloc();
     assert!(&rt; starts_empty(&rt, alloc) || starts_empty(&rt, alloc));
+}
+
+/// Tells 10.0.0.1:1 by a worker that 10.0.0.2:1, where nobody is, is suspect, and makes its rounds before and at the end of the suspicion.
+fn faults_in_time<R: Threads + Wait + Abort + Copy + Send + 'static>(
+    rt: &R,
+    alloc: Global,
+) -> bool {
+    let Some(mut cluster) = start(rt, alloc, &[1], 1, WILLING) else {
+        return false;
+    };
+    let told = ping(rt, alloc, 2, Status::Suspect);
+    let answer = ask(rt, alloc, &cluster, member(rt, 1), &told);
+    assert!(rt; matches!(&answer, Ok(_)));
+    let before = round(rt, alloc, &mut cluster, 1, 4_999);
+    let after = round(rt, alloc, &mut cluster, 1, 5_000);
+    if is_hindered(before) || is_hindered(after) {
+        return false;
+    }
+    assert!(rt; before == Ok(Round::Suspected(member(rt, 2))));
+    assert!(rt; after == Ok(Round::Idle));
+    let Ok(nodes) = cluster.stop(rt, alloc) else {
+        return false;
+    };
+    let Some(node) = nodes.first() else {
+        return false;
+    };
+    let held = node.member(member(rt, 2)).map(|entry| entry.status);
+    assert!(rt; held == Some(Status::Faulty));
+    true
+}
+
+#[test]
+fn a_suspect_is_faulty_in_time(rt: HostRuntime) {
+    let alloc: Global = rt.alloc();
+    assert!(&rt; faults_in_time(&rt, alloc) || faults_in_time(&rt, alloc));
 }

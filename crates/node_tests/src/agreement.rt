@@ -33,8 +33,12 @@ fn both_runs<H: PointHash>(
         → Agree H.hash_of r.0.node r.1.node) }
 {
     agreement::<H>();
-    let first = run(alloc, one, calls_of_one).ok()?;
-    let second = run(alloc, other, calls_of_other).ok()?;
+    let Ok(first) = run(alloc, one, calls_of_one) else {
+        return None;
+    };
+    let Ok(second) = run(alloc, other, calls_of_other) else {
+        return None;
+    };
     Some((first, second))
 }
 

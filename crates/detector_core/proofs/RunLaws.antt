@@ -17,8 +17,8 @@ left_or d None = d
 left_or d (Some next) = next.1
 
 pub picks_are_one : PicksAreOne
-picks_are_one pingable s t s' t' p q agree one other =
-    let same = sym one.drawn ∙ (λ j. drawn_turn pingable (agree.rest j) (agree.coming j)) ∙ other.drawn in
+picks_are_one pingable s t s' t' p q agree one drawn other drawn' =
+    let same = sym drawn ∙ (λ j. drawn_turn pingable (agree.rest j) (agree.coming j)) ∙ drawn' in
     let target : p.target ≡ q.target = ap (λ r. target_or 0 r.0) same in
     let number : p.number ≡ q.number = one.number ∙ ap (λ n. n + 1) agree.last ∙ sym other.number in (
       (λ j. record { number = number j; target = target j }),
@@ -32,7 +32,7 @@ picks_are_one pingable s t s' t' p q agree one other =
     )
 
 pub losses_are_one : LossesAreOne
-losses_are_one pingable target s t s' t' NoHelper NoHelper agree one other = (
+losses_are_one pingable target s t s' t' NoHelper NoHelper agree one drawn other drawn' = (
   refl,
   record {
     last = ap (λ s. s.last) one.1 ∙ agree.last ∙ sym (ap (λ s. s.last) other.1);
@@ -42,16 +42,16 @@ losses_are_one pingable target s t s' t' NoHelper NoHelper agree one other = (
     running = ap (λ s. s.running) one.1 ∙ sym (ap (λ s. s.running) other.1);
   },
 )
-losses_are_one pingable target s t s' t' NoHelper (Ask helpers) agree one other = absurd (nobody agree.helpers)
+losses_are_one pingable target s t s' t' NoHelper (Ask helpers) agree one drawn other drawn' = absurd (nobody agree.helpers)
   where
     nobody : s.helpers ≡ t.helpers → ⊥
     nobody same = omega (arith, one.0, other.somebody, same)
-losses_are_one pingable target s t s' t' (Ask helpers) NoHelper agree one other = absurd (nobody agree.helpers)
+losses_are_one pingable target s t s' t' (Ask helpers) NoHelper agree one drawn other drawn' = absurd (nobody agree.helpers)
   where
     nobody : s.helpers ≡ t.helpers → ⊥
     nobody same = omega (arith, other.0, one.somebody, same)
-losses_are_one pingable target s t s' t' (Ask helpers) (Ask more) agree one other =
-    let same = sym one.drawn ∙ (λ j. sample (others pingable target) (agree.helpers j) (agree.coming j)) ∙ other.drawn in
+losses_are_one pingable target s t s' t' (Ask helpers) (Ask more) agree one drawn other drawn' =
+    let same = sym drawn ∙ (λ j. sample (others pingable target) (agree.helpers j) (agree.coming j)) ∙ drawn' in
     let asked : helpers ≡ more = ap (λ r. r.0) same in (
       ap Ask asked,
       record {

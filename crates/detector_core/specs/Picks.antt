@@ -13,33 +13,40 @@ use Rattle.detector_core.specs.Choices.{sample}
 use Rattle.detector_core.specs.Order.{AllDifferent, bound, IsTurn, AllNearer, drawn_turn}
 use Rattle.detector_core.specs.Probing.{ProbeState, choices, helper_count, would_say, after_saying, running_target}
 
--- the probe has the next number, its target is a pingable member in turn, as the choices give it, and every other
--- pingable member comes nearer
+-- the probe has the next number, its target is a pingable member in turn, and every other pingable member comes nearer. A new order is any,
+-- and so are the choices that are left
 pub record IsPick (pingable : List ℕ) (old : ProbeState) (p : Probe) (new : ProbeState) : Type 0 where
   pub number : p.number ≡ old.last + 1
   pub within : p.number ≤ greatest_number
   pub target : Contains pingable p.target
   pub turn : IsTurn pingable old.rest p.target new.rest
-  pub drawn : drawn_turn pingable old.rest (choices old) ≡ (Some (p.target, new.rest), choices new)
   pub different : AllDifferent new.rest
   pub nearer : AllNearer pingable old.rest p.target new.rest
   pub left : new ≡ record { last = old.last + 1; helpers = old.helpers; rest = new.rest; generator = new.generator; running = Some (record { target = p.target; asked = [] }) }
+
+-- the pick is the one that the choices give, with the choices left
+abbrev pub IsDrawnPick : List ℕ → ProbeState → Probe → ProbeState → Type 0
+IsDrawnPick pingable old p new = drawn_turn pingable old.rest (choices old) ≡ (Some (p.target, new.rest), choices new)
 
 -- the running probe, with the helper of least address that is waited for
 abbrev pub running_of : ProbeState → Option Running
 running_of s = option_map (λ a. record { number = s.last; target = a.target; waiting = first_waiting a.asked }) s.running
 
--- helpers are asked, a sample of the others as the choices give it, and none of them has answered
+-- helpers are asked, any different ones of the others, as many as are asked or all there are, and none of them has answered
 pub record WasAsked (pingable : List ℕ) (target : ℕ) (old : ProbeState) (helpers : List ℕ) (new : ProbeState) : Type 0 where
   pub somebody : 0 < helper_count old pingable target
   pub chosen : IsSample (others pingable target) (helper_count old pingable target) helpers
-  pub drawn : sample (others pingable target) old.helpers (choices old) ≡ (helpers, choices new)
   pub left : new ≡ record old { generator = new.generator; running = Some (record { target = target; asked = unanswered helpers }) }
 
 -- where nobody can be asked the probe ends, and else helpers are asked
 abbrev pub WasLost : List ℕ → ℕ → ProbeState → Lost → ProbeState → Type 0
 WasLost pingable target old NoHelper new = (helper_count old pingable target ≡ 0) × (new ≡ record old { running = None })
 WasLost pingable target old (Ask helpers) new = WasAsked pingable target old helpers new
+
+-- the helpers that are asked are the sample that the choices give, with the choices left
+abbrev pub IsDrawnLoss : List ℕ → ℕ → ProbeState → Lost → ProbeState → Type 0
+IsDrawnLoss pingable target old NoHelper new = Unit {0}
+IsDrawnLoss pingable target old (Ask helpers) new = sample (others pingable target) old.helpers (choices old) ≡ (helpers, choices new)
 
 -- one pick of a run: the prober before it, the probe, and the prober after it
 pub record Picked : Type 0 where
@@ -75,17 +82,18 @@ pub record Agree (s t : ProbeState) : Type 0 where
   pub coming : choices s ≡ choices t
   pub running : s.running ≡ t.running
 
--- two probers that agree pick the same of the same members, and agree afterwards
+-- two probers that agree draw the same pick of the same members, and agree afterwards
 abbrev pub PicksAreOne : Type 0
 PicksAreOne =
     (pingable : List ℕ) (s t s' t' : ProbeState) (p q : Probe)
-    → Agree s t → IsPick pingable s p s' → IsPick pingable t q t' → (p ≡ q) × Agree s' t'
+    → Agree s t → IsPick pingable s p s' → IsDrawnPick pingable s p s' → IsPick pingable t q t' → IsDrawnPick pingable t q t' → (p ≡ q) × Agree s' t'
 
--- and they ask the same helpers about a lost target
+-- and they draw the same helpers to ask about a lost target
 abbrev pub LossesAreOne : Type 0
 LossesAreOne =
     (pingable : List ℕ) (target : ℕ) (s t s' t' : ProbeState) (l m : Lost)
-    → Agree s t → WasLost pingable target s l s' → WasLost pingable target t m t' → (l ≡ m) × Agree s' t'
+    → Agree s t → WasLost pingable target s l s' → IsDrawnLoss pingable target s l s' → WasLost pingable target t m t' → IsDrawnLoss pingable target t m t'
+    → (l ≡ m) × Agree s' t'
 
 -- two probers that agree answer a helper's word alike, and agree once either has noted it
 abbrev pub WordsAreOne : Type 0

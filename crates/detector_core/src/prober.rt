@@ -3,7 +3,7 @@ ghost use Rattle.std.specs.List.Sorted.{IsStrictlyIncreasing};
 ghost use Rattle.change_core.specs.Numbers.{greatest_number};
 ghost use Rattle.detector_core.specs.Choices.{seeded};
 ghost use Rattle.detector_core.specs.Order.{near};
-ghost use Rattle.detector_core.specs.Picks.{IsPick, WasLost, running_of};
+ghost use Rattle.detector_core.specs.Picks.{IsDrawnLoss, IsDrawnPick, IsPick, WasLost, running_of};
 ghost use Rattle.detector_core.specs.Probing.{IsProbing, running_target, unasked_target, helper_count, would_say, after_saying};
 
 use crate::addresses::Addresses;
@@ -114,6 +114,7 @@ impl Prober {
             ↔ ((self.old.running ≡ None) × (self.old.last < greatest_number) × (pingable.now ≡ [])) }
         ensures pick { IfOk result
             (λ o. MatchOption o (self.new ≡ self.old) (λ p. IsPick pingable.now self.old p self.new)) }
+        ensures drawn { IfOk result (λ o. IfSome o (λ p. IsDrawnPick pingable.now self.old p self.new)) }
         ensures err { OnErr result (self.new ≡ self.old) }
         ensures refusal { IfErr result
             (λ e. (e ≡ DetectorError.Busy) ⊎ ((e ≡ DetectorError.Spent) ⊎ (e ≡ DetectorError.Memory))) }
@@ -175,6 +176,8 @@ impl Prober {
         ensures ok { IfOk result (λ l. (target : ℕ)
             × (unasked_target self.old number ≡ Some target)
             × WasLost pingable.now target self.old l self.new) }
+        ensures drawn { IfOk result (λ l. (target : ℕ) → unasked_target self.old number ≡ Some target
+            → IsDrawnLoss pingable.now target self.old l self.new) }
         ensures nobody { (target : ℕ) → unasked_target self.old number ≡ Some target
             → helper_count self.old pingable.now target ≡ 0 → result ≡ Ok Lost.NoHelper }
         ensures err { OnErr result (self.new ≡ self.old) }

@@ -10,7 +10,7 @@ use Rattle.detector_core.specs.declared.asked.Said.{Said}
 use Rattle.detector_core.specs.declared.errors.DetectorError.TheVariants as detector
 use Rattle.detector_core.specs.declared.prober.Lost.TheVariants.{Ask}
 use Rattle.detector_core.specs.declared.prober.Probe.{Probe}
-use Rattle.detector_core.specs.Picks.{IsPick, WasLost}
+use Rattle.detector_core.specs.Picks.{IsDrawnLoss, IsDrawnPick, IsPick, WasLost}
 use Rattle.detector_core.specs.Probing.{running_target, unasked_target, helper_count, would_say, after_saying}
 use Rattle.node_core.specs.declared.errors.NodeError.{NodeError}
 use Rattle.node_core.specs.declared.errors.NodeError.TheVariants as error
@@ -20,7 +20,7 @@ use Rattle.node_core.specs.declared.events.NodeOutcome.{NodeOutcome}
 use Rattle.node_core.specs.declared.events.NodeOutcome.TheVariants as answered
 use Rattle.node_core.specs.Node.{Node, altered, at_moment, pingable, said_by}
 
--- a probe begins: a pingable target in turn, and every other pingable member comes nearer
+-- a probe begins: a pingable target in turn, of any new order where one is due, and every other pingable member comes nearer
 abbrev pub ProbeStep : {H : Type 0} → Node H → Result (Option Probe) NodeError → Node H → Type 0
 ProbeStep old (Ok (Some pick)) new =
     (old.probing.running ≡ None) × IsPick (pingable old) old.probing pick new.probing × (new ≡ record old { probing = new.probing })
@@ -29,6 +29,12 @@ ProbeStep old (Err error.Busy) new = IsSome old.probing.running × (new ≡ old)
 ProbeStep old (Err error.Spent) new = (old.probing.running ≡ None) × (old.probing.last ≡ greatest_number) × (new ≡ old)
 ProbeStep old (Err error.Memory) new = (old.probing.running ≡ None) × (old.probing.last < greatest_number) × (pingable old ≢ []) × (new ≡ old)
 ProbeStep old (Err other) new = ⊥
+
+-- the pick of a probe that begins is the one that the node's generator draws
+abbrev pub ProbeDraw : {H : Type 0} → Node H → Result (Option Probe) NodeError → Node H → Type 0
+ProbeDraw old (Ok (Some pick)) new = IsDrawnPick (pingable old) old.probing pick new.probing
+ProbeDraw old (Ok None) new = Unit {0}
+ProbeDraw old (Err refused) new = Unit {0}
 
 -- the node with no probe running
 abbrev pub ended : {H : Type 0} → Node H → Node H
@@ -67,7 +73,7 @@ pub record Suspects {H : Type 0} (old : Node H) (target : ℕ) (moment : ℕ) (c
   pub change_is : change ≡ suspicion old target
   pub new_is : new ≡ ended (put_in (at_moment old moment) change)
 
--- the probe runs and asked nobody yet: helpers are asked, or where nobody can be, its target is suspect
+-- the probe runs and asked nobody yet: helpers are asked, any different ones, or where nobody can be, its target is suspect
 abbrev pub LostStep : {H : Type 0} → Node H → ℕ → ℕ → Result NodeLost NodeError → Node H → Type 0
 LostStep old number moment (Ok (lost.Ask helpers)) new =
     (target : ℕ) × (unasked_target old.probing number ≡ Some target) × WasLost (pingable old) target old.probing (Ask helpers) new.probing
@@ -78,6 +84,13 @@ LostStep old number moment (Err error.StaleProbe) new = (unasked_target old.prob
 LostStep old number moment (Err error.Memory) new =
     (target : ℕ) × (unasked_target old.probing number ≡ Some target) × ((0 < helper_count old.probing (pingable old) target) ⊎ IsSome (suspicion old target)) × (new ≡ old)
 LostStep old number moment (Err other) new = ⊥
+
+-- the helpers that are asked about a lost target are those that the node's generator draws
+abbrev pub LostDraw : {H : Type 0} → Node H → ℕ → Result NodeLost NodeError → Node H → Type 0
+LostDraw old number (Ok (lost.Ask helpers)) new =
+    (target : ℕ) → unasked_target old.probing number ≡ Some target → IsDrawnLoss (pingable old) target old.probing (Ask helpers) new.probing
+LostDraw old number (Ok (lost.Suspect change)) new = Unit {0}
+LostDraw old number (Err refused) new = Unit {0}
 
 -- what a helper's word comes to; after the verdict that the target is suspect it is
 abbrev pub HelperStep : {H : Type 0} → Node H → ℕ → ℕ → Said → ℕ → Result NodeOutcome NodeError → Node H → Type 0

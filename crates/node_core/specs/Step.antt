@@ -16,7 +16,7 @@ use Rattle.node_core.specs.Asserting.{LeaveStep, RejoinStep}
 use Rattle.node_core.specs.Expiring.{ExpireStep}
 use Rattle.node_core.specs.Messages.{digest_of, join_by, ping_by, ping_req_by, ping_req_ack_by, told}
 use Rattle.node_core.specs.Node.{Node, own_change}
-use Rattle.node_core.specs.Probes.{ProbeStep, AckedStep, LostStep, HelperStep}
+use Rattle.node_core.specs.Probes.{ProbeStep, ProbeDraw, AckedStep, LostStep, LostDraw, HelperStep}
 use Rattle.node_core.specs.Receiving.{ReceiveStep, MakeStep}
 use Rattle.node_core.specs.Taking.{TakeStep}
 
@@ -65,3 +65,10 @@ NodeStep hash_of old call.DigestText (answer.DigestText result) new = Answers (d
 NodeStep hash_of old call.Digest (answer.Digest result) new = Answers (digest_of old.members) result × (new ≡ old)
 -- no other reply is given
 NodeStep hash_of old event reply new = ⊥
+
+-- what a call chooses at random is what the node's generator draws: the pick of a probe, and the helpers that are asked. `NodeStep` leaves both free
+abbrev pub DrawStep : {H : Type 0} → Node H → Event → Reply → Node H → Type 0
+DrawStep old call.Probe (answer.Probe result) new = ProbeDraw old result new
+DrawStep old (call.Lost number moment) (answer.Lost result) new = LostDraw old number result new
+-- no other call chooses
+DrawStep old event reply new = Unit {0}

@@ -6,7 +6,7 @@ ghost use Rattle.change_core.specs.Numbers.{greatest_number};
 ghost use Rattle.detector_core.specs.Probing.{after_saying, helper_count, unasked_target, would_say};
 ghost use Rattle.detector_core.specs.declared.asked.Outcome.{Outcome};
 ghost use Rattle.node_core.specs.Node.{at_moment, pingable};
-ghost use Rattle.node_core.specs.Probes.{AckedStep, HelperStep, LostStep, ProbeStep, put_in, suspicion, suspicion_in};
+ghost use Rattle.node_core.specs.Probes.{AckedStep, HelperStep, LostDraw, LostStep, ProbeDraw, ProbeStep, put_in, suspicion, suspicion_in};
 
 use crate::errors::NodeError;
 use crate::events::{NodeLost, NodeOutcome};
@@ -24,6 +24,7 @@ impl<H: PointHash> NodeState<H> {
     /// or for a new order of them. The node is then as before.
     pub fn probe(&mut self) -> Result<Option<Probe>, NodeError>
         ensures step { ProbeStep self.old.node result self.new.node }
+        ensures drawn { ProbeDraw self.old.node result self.new.node }
     {
         self.may_probe()?;
         let pingable = self.pingable()?;
@@ -46,6 +47,7 @@ impl<H: PointHash> NodeState<H> {
     /// Errors: `StaleProbe`, it is not the running one, or helpers were asked already; `Memory`. The node is then as before.
     pub fn lost(&mut self, number: u64, moment: Moment) -> Result<NodeLost, NodeError>
         ensures step { LostStep self.old.node number moment result self.new.node }
+        ensures drawn { LostDraw self.old.node number result self.new.node }
     {
         let Some(target) = self.prober.unasked_target(number) else {
             return Err(NodeError::StaleProbe);
@@ -111,6 +113,7 @@ impl<H: PointHash> NodeState<H> {
     fn pick(&mut self, targets: &[Address]) -> Result<Option<Probe>, NodeError>
         requires { targets.now ≡ pingable self.old.node }
         ensures step { ProbeStep self.old.node result self.new.node }
+        ensures drawn { ProbeDraw self.old.node result self.new.node }
     {
         Ok(self.prober.next_target(targets)?)
     }
@@ -120,6 +123,7 @@ impl<H: PointHash> NodeState<H> {
         requires somebody { (target : ℕ) × (unasked_target self.old.node.probing number ≡ Some target)
             × (0 < helper_count self.old.node.probing (pingable self.old.node) target) }
         ensures step { LostStep self.old.node number moment result self.new.node }
+        ensures drawn { LostDraw self.old.node number result self.new.node }
     {
         let pingable = self.pingable()?;
         match self.prober.lost(number, &pingable)? {

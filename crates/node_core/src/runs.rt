@@ -3,7 +3,7 @@ ghost use Rattle.std.specs.Prelude.{◌≡◌, length, IfOk, IfErr};
 ghost use Rattle.node_core.specs.Agreement.{IsNodeOf};
 ghost use Rattle.node_core.specs.Itself.{IsItself};
 ghost use Rattle.node_core.specs.Run.{log, IsRun};
-ghost use Rattle.node_core.specs.Step.{NodeStep};
+ghost use Rattle.node_core.specs.Step.{DrawStep, NodeStep};
 
 use crate::events::{Event, Reply};
 use crate::node::NodeState;
@@ -50,6 +50,7 @@ impl<H: PointHash> NodeState<H> {
     /// `view` and `run`.
     pub fn apply(&mut self, event: &Event) -> Reply
         ensures step { NodeStep H.hash_of self.old.node event.now result self.new.node }
+        ensures drawn { DrawStep self.old.node event.now result self.new.node }
     {
         match event {
             Event::Take(changes, moment) => Reply::Take(self.take(changes.as_slice(), *moment)),

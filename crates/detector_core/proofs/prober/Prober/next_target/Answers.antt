@@ -12,7 +12,6 @@ returns-clause-pick c =
       within = omega (arith, c.self.invariant.numbered, c.if-self-eq-GREATEST_NUMBER.false);
       target = Contains-turn pingable c.self.inside.order c.pick.new.order c.in_ok-target.target turn;
       turn = turn;
-      drawn = c.in_ok-target.ensures.drawn;
       different = AllDifferent-turn pingable c.self.inside.order c.pick.new.order c.in_ok-target.target c.requires c.self.invariant.different turn;
       nearer = nearer pingable c.self.inside.order c.pick.new.order c.in_ok-target.target turn;
       left = λ j. record { last = c.self.inside.last + 1; helpers = c.self.inside.helpers; rest = c.pick.new.order; generator = c.pick.new.rng; running = Some (record { target = c.in_ok-target.target; asked = c.new.ensures.items j }) };

@@ -1,5 +1,5 @@
 -- Which configurations a node can be made with.
-use Rattle.std.specs.Prelude.{◌≡◌, ℕ, ◌&&◌, nat_le, Bool, cond, Option, Some, None}
+use Rattle.std.specs.Prelude.{◌≡◌, ℕ, ◌&&◌, nat_le, Bool, cond, List, Option, Some, None, codes}
 use Rattle.change_core.specs.Numbers.{greatest_number, most_members}
 use Rattle.node_core.specs.declared.configs.Config.{Config}
 use Rattle.node_core.specs.declared.configs.ConfigField.{ConfigField}
@@ -8,6 +8,16 @@ use Rattle.node_core.specs.declared.configs.ConfigField.TheVariants.{Replicas, M
 -- whether n is from least to most, both included
 abbrev pub is_within : ℕ → ℕ → ℕ → Bool
 is_within least most n = nat_le least n && nat_le n most
+
+-- the field's name in `Config`
+abbrev pub field_name : ConfigField → List ℕ
+field_name Replicas = codes "replicas"
+field_name MaxMembers = codes "max_members"
+field_name SuspectMs = codes "suspect_ms"
+field_name FaultyMs = codes "faulty_ms"
+field_name Helpers = codes "helpers"
+field_name Piggyback = codes "piggyback"
+field_name PerMessage = codes "per_message"
 
 -- the first field that is out of its range
 abbrev pub bad_field : Config → Option ConfigField

@@ -1,9 +1,10 @@
 ghost use Rattle.std.specs.Prelude.{◌≡◌, IsTrue, ◌↔◌};
-ghost use Rattle.node_core.specs.Configs.{bad_field, standard};
+ghost use Rattle.node_core.specs.Configs.{bad_field, field_name, standard};
 
 use change_core::{GREATEST_NUMBER, MOST_MEMBERS, Weight};
 use gossip_core::MOST_FACTOR;
 use hash_ring::MOST_REPLICAS;
+use std::fmt;
 
 /// What a node is made with, beside its address and its hash.
 #[derive(Clone, Copy, Debug, PartialEq, Eq)]
@@ -41,13 +42,41 @@ pub enum ConfigField {
     PerMessage,
 }
 
+impl ConfigField {
+    /// Its name in `Config`.
+    pub fn name(self) -> &'static str
+        ensures { result.now ≡ field_name self }
+    {
+        match self {
+            ConfigField::Replicas => "replicas",
+            ConfigField::MaxMembers => "max_members",
+            ConfigField::SuspectMs => "suspect_ms",
+            ConfigField::FaultyMs => "faulty_ms",
+            ConfigField::Helpers => "helpers",
+            ConfigField::Piggyback => "piggyback",
+            ConfigField::PerMessage => "per_message",
+        }
+    }
+}
+
+impl fmt::Display for ConfigField {
+    ghost use Rattle.std.specs.Prelude.{Some};
+
+    ghost output = { λ f. Some (field_name f) };
+
+    fn fmt<W: fmt::Write>(&self, f: &mut fmt::Formatter<W>) -> fmt::Result {
+        f.write_str(self.name())
+    }
+}
+
 /// How many helpers may be asked about a lost target at most.
 const MOST_HELPERS: usize = 16;
 
 impl Config {
     /// What serves most clusters: 100 points of the ring for each unit of weight, up to 4,096 members, 5 seconds until a
     /// suspect is faulty and a day until it is a tombstone, 3 helpers, 15 times passed on for each digit of the number of
-    /// serving members, 64 changes in a message, and the weight 1. All of them are this project's own.
+    /// serving members, 64 changes in a message, and the weight 1. The points, both waits, the helpers and the factor are
+    /// ringpop-go's, the rest is this project's own.
     pub fn standard() -> Self
         ensures { result ≡ standard }
     {

@@ -14,7 +14,7 @@ use thiserror::Error;
 #[derive(Clone, Copy, Debug, PartialEq, Eq, Error)]
 pub enum NodeError {
     /// The first field of the configuration that is out of its range.
-    #[error("bad configuration")]
+    #[error("bad configuration: {0}")]
     BadConfig(ConfigField),
     /// No incarnation is left for what the node would have to assert.
     #[error("no incarnation is left")]

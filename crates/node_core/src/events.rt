@@ -2,6 +2,7 @@ use crate::errors::NodeError;
 use crate::lists::{ChangeList, KeyBytes};
 use change_core::{Address, Change, Digest, Entry, Moment};
 use detector_core::{Addresses, Probe, Running, Said};
+use thiserror::Error;
 use wire_json::{Changes, Message, Text};
 
 /// How many changes altered an entry, and how many of these were refuted.
@@ -12,18 +13,22 @@ pub struct Taken {
 }
 
 /// Why a batch of changes stopped.
-#[derive(Clone, Copy, Debug, PartialEq, Eq)]
+#[derive(Clone, Copy, Debug, PartialEq, Eq, Error)]
 pub enum StopCause {
     /// The next change calls for a refutation, and no incarnation is left for it.
+    #[error("no incarnation is left")]
     Exhausted,
     /// The next change is about an unknown address, and as many members are held as may be.
+    #[error("too many members")]
     Full,
     /// A growth was refused.
+    #[error("out of memory")]
     Memory,
 }
 
 /// A batch that stopped: its first `taken` changes were taken, and no other.
-#[derive(Clone, Copy, Debug, PartialEq, Eq)]
+#[derive(Clone, Copy, Debug, PartialEq, Eq, Error)]
+#[error("stopped after {taken} changes: {cause}")]
 pub struct Stopped {
     pub taken: usize,
     pub cause: StopCause,

@@ -10,7 +10,7 @@ use crate::edits::Edit;
 use crate::errors::NodeError;
 use crate::node::{NodeState, asserted};
 use crate::taking::later;
-use change_core::{Change, GREATEST_NUMBER, Moment, Sourced, Status};
+use change_core::{Change, GREATEST_NUMBER, Moment, Status};
 use hash_ring::PointHash;
 use member_core::Verdict;
 
@@ -85,12 +85,7 @@ impl<H: PointHash> NodeState<H> {
         ensures refusal { IsOkUnless result NodeError.Memory }
     {
         let before = self.moment;
-        let own = self.members.own();
-        let news = Sourced {
-            change: *change,
-            source: own.address,
-            source_incarnation: own.incarnation,
-        };
+        let news = self.said(change);
         self.advance(moment);
         match self.alter(Edit::Judged(Verdict::Take(*change)), &news) {
             Ok(()) => Ok(()),

@@ -12,7 +12,7 @@ use std::alloc::Global;
 use std::io::{Read, Write};
 
 /// The digest text and the digest, a line each; the last newline is left to the writing.
-fn folded(alloc: Global, table: &MemberTable) -> Result<String, RunFault>
+pub fn fold_text(alloc: Global, table: &MemberTable) -> Result<String, RunFault>
     ensures text { IfOk result (λ s. string_bytes s ++ 10 ∷ [] ≡ fold_text table.now.members) }
     ensures refusal { IsOkUnless result RunFault.NoMemory }
 {
@@ -37,6 +37,6 @@ pub fn fold_run<R: Read, W: Write>(
         (R.remaining reader.old) (W.contents writer.old) (W.contents writer.new)) }
 {
     let table = read_members(alloc, reader)?;
-    let text = folded(alloc, &table)?;
+    let text = fold_text(alloc, &table)?;
     write_text(writer, text.as_str())
 }

@@ -13,9 +13,9 @@ mod subcommands;
 mod words;
 
 pub use faults::{LineFault, RunFault};
-pub use fold::fold_run;
+pub use fold::{fold_run, fold_text};
 pub use hashes::{hash_run, hash_text};
-pub use owners::owner_run;
+pub use owners::{owner_run, ring_of};
 pub use scripts::{ScriptFault, SimFault, sim_run};
 pub use subcommands::{Subcommand, SubcommandFault, subcommand_run};
 pub use words::{OwnerWords, SimWords};

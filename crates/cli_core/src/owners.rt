@@ -19,7 +19,7 @@ use std::alloc::Global;
 use std::io::{Read, Write};
 
 /// The ring of the members that serve, by their weights.
-fn ring_of<H: PointHash>(
+pub fn ring_of<H: PointHash>(
     alloc: Global,
     hash: H,
     replicas: u32,

@@ -1,0 +1,81 @@
+-- The membership that a running node tells whoever joins, and what is written of it. Own.
+use Rattle.std.specs.Prelude.{◌≡◌, ◌⊎◌, ℕ, Bool, true, false, List, [], ◌∷◌, ◌++◌, map, replicate, Option, Ok, Err}
+use Rattle.std.specs.List.{flat_map}
+use Rattle.std.specs.Io.KnownBytes.{Keeps}
+use Rattle.serde_json.specs.Written.{compact_text}
+use Rattle.sha2.specs.Sha256.{sha256}
+use Rattle.change_core.specs.declared.addresses.Address.{Address}
+use Rattle.change_core.specs.declared.changes.Change.{Change}
+use Rattle.change_core.specs.declared.changes.Sourced.{Sourced}
+use Rattle.change_core.specs.Members.{digest_text, members}
+use Rattle.wire_json.specs.Forms.{change_data}
+use Rattle.wire_json.specs.Input.{AppendsFront}
+use Rattle.wire_json.specs.declared.messages.Content.{Content}
+use Rattle.wire_json.specs.declared.messages.Content.TheVariants as content
+use Rattle.wire_json.specs.declared.messages.News.{News}
+use Rattle.cli_core.specs.Changes.{change_of}
+use Rattle.cli_core.specs.Fold.{fold_text}
+use Rattle.cluster_core.specs.Links.{MayAnswer}
+use Rattle.serve_core.specs.Asking.{Asked}
+use Rattle.serve_core.specs.declared.faults.AskFault.{AskFault}
+use Rattle.serve_core.specs.declared.faults.AskFault.TheVariants as fault
+
+-- a Join with these changes, whose sender holds nobody
+abbrev pub joining_with : List Sourced → Content
+joining_with changes = content.Join (record { checksum = record { bytes = replicate 32 0 }; changes = changes })
+
+-- the members that are told
+abbrev pub told_members : News → List Change
+told_members news = members (map change_of news.changes)
+
+-- the digest that came is that of the members that are told
+abbrev pub IsWhole : News → Type 0
+IsWhole news = news.checksum.bytes ≡ sha256 (digest_text (told_members news))
+
+-- whoever joins with these changes was told this
+abbrev pub IsTold : MayAnswer → Address → List Sourced → News → Type 0
+IsTold May to changes news = Asked May to (joining_with changes) (Ok (content.Joined news))
+
+-- whoever joins without changes was told this membership, and its digest
+abbrev pub IsSeen : MayAnswer → Address → News → Type 0
+IsSeen May to news = IsTold May to [] news × IsWhole news
+
+-- no content that answers a Join
+abbrev pub IsNoWelcome : Content → Type 0
+IsNoWelcome (content.Joined news) = ⊥
+IsNoWelcome (content.Refused reason) = ⊥
+IsNoWelcome other = Unit {0}
+
+-- why no membership was told
+abbrev pub IsNotTold : MayAnswer → Address → List Sourced → AskFault → Type 0
+IsNotTold May to changes (fault.Refused reason) = Asked May to (joining_with changes) (Ok (content.Refused reason))
+IsNotTold May to changes fault.Unexpected = (other : Content) × Asked May to (joining_with changes) (Ok other) × IsNoWelcome other
+IsNotTold May to changes fault.NoAnswer = Asked May to (joining_with changes) (Err fault.NoAnswer)
+IsNotTold May to changes fault.NoMemory = Unit {0}
+IsNotTold May to changes fault.NotOwner = ⊥
+IsNotTold May to changes fault.CannotWrite = ⊥
+
+-- why no membership was seen: none was told, or it is not the one of its digest
+abbrev pub IsNotSeen : MayAnswer → Address → AskFault → Type 0
+IsNotSeen May to fault.Unexpected = IsNotTold May to [] fault.Unexpected ⊎ ((news : News) × IsTold May to [] news × (IsWhole news → ⊥))
+IsNotSeen May to other = IsNotTold May to [] other
+
+-- a change's line
+abbrev pub change_line : Sourced → List ℕ
+change_line change = compact_text (change_data change) ++ 10 ∷ []
+
+-- what is written of a membership: a line for each change as it was told, or what `fold` writes
+abbrev pub membership_text : Bool → News → List ℕ
+membership_text true news = flat_map change_line news.changes
+membership_text false news = fold_text (told_members news)
+
+-- what a fault leaves of a text that was to be written: nothing at a want of memory, a front of it where the writer failed
+abbrev pub LeavesText : List ℕ → AskFault → Option (List ℕ) → Option (List ℕ) → Type 0
+LeavesText text fault.CannotWrite old new = AppendsFront old new text
+LeavesText text fault.NoMemory old new = Keeps old new
+LeavesText text other old new = ⊥
+
+-- what a fault leaves written of the membership: nothing, or a front of its text where the writer failed
+abbrev pub IsUnwritten : MayAnswer → Address → Bool → AskFault → Option (List ℕ) → Option (List ℕ) → Type 0
+IsUnwritten May to lines fault.CannotWrite old new = (news : News) × IsSeen May to news × AppendsFront old new (membership_text lines news)
+IsUnwritten May to lines other old new = IsNotSeen May to other × Keeps old new

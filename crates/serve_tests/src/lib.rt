@@ -1,0 +1,5 @@
+//! The tests of serve_core.
+#![tactic(auto)]
+
+#[cfg(test)]
+mod answers;

@@ -4,6 +4,8 @@ use Rattle.std.specs.Arc.{arc_value}
 use Rattle.cluster_links.specs.declared.channel_links.ChannelLink.{ChannelLink}
 use Rattle.cluster_links.specs.declared.channel_links.Post.{Post}
 use Rattle.cluster_core.specs.Links.{MayAnswer}
+use Rattle.cluster_core.specs.declared.errors.LinkError.{LinkError}
+use Rattle.cluster_core.specs.declared.errors.LinkError.TheVariants.{Closed, Memory}
 
 -- of a peer that is reached over channels nothing is known
 abbrev pub any_answer : MayAnswer
@@ -16,3 +18,9 @@ reached_by link = (arc_value link.posts).items
 -- how often a link has failed
 abbrev pub failures_of : ChannelLink → ℕ
 failures_of link = link.failures
+
+-- how a question over channels may fail
+abbrev pub IsChannelFault : LinkError → Type 0
+IsChannelFault Closed = Unit {0}
+IsChannelFault Memory = Unit {0}
+IsChannelFault other = ⊥

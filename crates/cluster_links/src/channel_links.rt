@@ -1,7 +1,7 @@
 //! A link over channels, between nodes in one process.
 ghost use Rattle.std.specs.Prelude.{◌≡◌, ◌≢◌, Err, IfErr, IfNone, IfSome, IsSome};
+ghost use Rattle.cluster_links.specs.Channels.{IsChannelFault};
 ghost use Rattle.cluster_links.specs.Clusters.{HasNoPost};
-ghost use Rattle.cluster_core.specs.Links.{IsNamed};
 
 use crate::copies::copy_message;
 use change_core::Address;
@@ -48,8 +48,7 @@ fn exchange<R: Wait>(
     post: &Post,
     message: &Message,
 ) -> Result<Message, LinkError>
-    ensures named { IfErr result IsNamed }
-    ensures unspent { IfErr result (λ e. e ≢ LinkError.Spent) }
+    ensures only { IfErr result IsChannelFault }
 {
     let Ok(copy) = copy_message(alloc, message) else {
         return Err(LinkError::Memory);
@@ -76,8 +75,7 @@ pub(crate) fn ask_one<R: Wait>(
     to: Address,
     message: &Message,
 ) -> Result<Message, LinkError>
-    ensures named { IfErr result IsNamed }
-    ensures unspent { IfErr result (λ e. e ≢ LinkError.Spent) }
+    ensures only { IfErr result IsChannelFault }
     ensures closed { HasNoPost posts.now to → result ≡ Err LinkError.Closed }
 {
     match post_of(posts, to) {
@@ -104,9 +102,9 @@ impl ChannelLink {
 }
 
 impl Link for ChannelLink {
-    ghost use Rattle.std.specs.Prelude.{◌+◌, ◌-◌, ◌^◌, ◌<◌, ◌↔◌};
+    ghost use Rattle.std.specs.Prelude.{◌+◌, ◌-◌, ◌^◌, ◌<◌, ◌⊎◌, ◌↔◌};
     ghost use Rattle.cluster_links.specs.Channels.{any_answer, failures_of, reached_by};
-    ghost use Rattle.cluster_core.specs.Links.{failures_in};
+    ghost use Rattle.cluster_core.specs.Links.{IsNamed, failures_in};
 
     ghost may_answer = { λ _ _ _. Unit {0} };
 
@@ -127,6 +125,7 @@ impl Link for ChannelLink {
         ensures failures { failures_of self.new ≡ failures_of self.old + failures_in result }
         ensures spent { result ≡ Err LinkError.Spent ↔ failures_of self.old ≡ 2 ^ 64 - 1 }
         ensures named { IfErr result IsNamed }
+        ensures only { IfErr result (λ e. (e ≡ LinkError.Spent) ⊎ IsChannelFault e) }
         ensures closed { HasNoPost (reached_by self.old) to → failures_of self.old < 2 ^ 64 - 1 → result ≡ Err LinkError.Closed }
         ensures stays { reached_by self.new ≡ reached_by self.old }
     {

@@ -1,13 +1,12 @@
 //! Nodes of one process, each served by workers of its own, that talk over channels.
-ghost use Rattle.std.specs.Prelude.{◌≡◌, ◌≢◌, ◌<◌, ◌≤◌, ◌+◌, ◌++◌, ◌∷◌, [], map, slice_index_or, IsTrue, IsFalse, IfOk, IfErr, IfNone, IfSome, Err, All, length};
+ghost use Rattle.std.specs.Prelude.{◌≡◌, ◌≢◌, ◌⊎◌, ◌<◌, ◌≤◌, ◌+◌, ◌++◌, ◌∷◌, [], map, slice_index_or, IsTrue, IsFalse, IfOk, IfErr, IfNone, IfSome, Err, All, length};
 ghost use Rattle.std.specs.List.{AllZip};
 ghost use Rattle.std.specs.Arc.{arc_value};
 ghost use Rattle.turn_lock.specs.Passes.{IsSamePass};
 ghost use Rattle.locked_node.specs.Passes.{Fits, opening_of, passes_of};
-ghost use Rattle.cluster_links.specs.Channels.{any_answer, failures_of, reached_by};
+ghost use Rattle.cluster_links.specs.Channels.{any_answer, IsChannelFault, failures_of, reached_by};
 ghost use Rattle.cluster_links.specs.Clusters.{address_in, AreAll, AreApart, AreFresh, given_to, HasNoNode, HasNoPost, HasRound, IsCrew, IsGivenUp, IsNotStarted, IsOfSeat, IsRoundBy, IsSeat, IsWhole, NoneHas, posts_of, Seats, IsStarted};
 ghost use Rattle.cluster_core.specs.Errors.{IsRoundRefusal};
-ghost use Rattle.cluster_core.specs.Links.{IsNamed};
 ghost use Rattle.cluster_core.specs.Parts.{Does, let_in};
 ghost use Rattle.cluster_core.specs.Serving.{Serves};
 
@@ -20,9 +19,11 @@ use hash_ring::PointHash;
 use locked_node::{LockedNode, NodePass};
 use node_core::NodeState;
 use std::alloc::{AllocError, AllocFailed, Global};
+use std::fmt;
 use std::snapshot::Snapshot;
 use std::sync::{Arc, Wait};
 use std::thread::{self, PromisedHandle, Threads};
+use thiserror::Error;
 use turn_lock::LockError;
 use wire_json::Message;
 
@@ -30,24 +31,41 @@ use wire_json::Message;
 pub const MOST_WORKERS: u32 = 16;
 
 /// Why a cluster was not started.
-#[derive(Drop)]
+#[derive(Drop, Error)]
 pub enum StartError<H: PointHash> {
     /// The number of workers is not from 1 to 16. The nodes are handed back.
+    #[error("bad count of workers")]
     BadCount(Vec<NodeState<H>>),
     /// Two of the nodes have one address. The nodes are handed back.
+    #[error("two nodes have one address")]
     SameAddress(Vec<NodeState<H>>),
     /// A thread could not be made. The nodes are given up.
+    #[error("no thread could be made")]
     NoThread,
     /// A growth was refused. The nodes are given up.
+    #[error("out of memory")]
     Memory,
 }
 
+impl<H: PointHash> fmt::Debug for StartError<H> {
+    fn fmt<F: fmt::Write>(&self, f: &mut fmt::Formatter<F>) -> fmt::Result {
+        f.write_str(match self {
+            StartError::BadCount(_) => "BadCount",
+            StartError::SameAddress(_) => "SameAddress",
+            StartError::NoThread => "NoThread",
+            StartError::Memory => "Memory",
+        })
+    }
+}
+
 /// Why a cluster gave no nodes back.
-#[derive(Clone, Copy, Debug, PartialEq, Eq)]
+#[derive(Clone, Copy, Debug, PartialEq, Eq, Error)]
 pub enum StopError {
     /// A node is still held by somebody else.
+    #[error("a node is still held")]
     StillHeld,
     /// A growth was refused.
+    #[error("out of memory")]
     Memory,
 }
 
@@ -376,7 +394,7 @@ impl<H: PointHash, T: Drop> From<AllocFailed<T>> for StartError<H> {
 }
 
 impl<H: PointHash + Send + Sync + 'static> Cluster<H> {
-    /// IsStarted each of the nodes by so many workers, 1 to 16, each a thread of its own. An empty list of nodes is allowed.
+    /// Serves each of the nodes by so many workers, 1 to 16, each a thread of its own. An empty list of nodes is allowed.
     ///
     /// Errors: `BadCount` where the number of workers is another, else `SameAddress` where two nodes have one address, both
     /// with the very nodes; `NoThread` where a thread could not be made, and `Memory` where a growth was refused. At these
@@ -405,7 +423,7 @@ impl<H: PointHash + Send + Sync + 'static> Cluster<H> {
         Cluster::launch(rt, alloc, nodes, workers, handler)
     }
 
-    /// IsStarted the nodes, which can be served.
+    /// Serves the nodes, which can be served.
     fn launch<R, A>(
         rt: &R,
         alloc: Global,
@@ -451,7 +469,10 @@ impl<H: PointHash> Cluster<H> {
         }
     }
 
-    /// Asks the node of an address, as a new link would. `Closed` where no node has it.
+    /// Asks the node of an address, as a new link would.
+    ///
+    /// Errors: `Closed` where no node has the address, or where the node's own pass was refused; `Memory` where a growth was
+    /// refused.
     pub fn ask<R: Wait>(
         &self,
         rt: &R,
@@ -460,8 +481,7 @@ impl<H: PointHash> Cluster<H> {
         message: &Message,
     ) -> Result<Message, LinkError>
         ensures closed { HasNoPost (posts_of self.now) to → result ≡ Err LinkError.Closed }
-        ensures named { IfErr result IsNamed }
-        ensures unspent { IfErr result (λ e. e ≢ LinkError.Spent) }
+        ensures only { IfErr result IsChannelFault }
     {
         ask_one(rt, alloc, &self.posts, to, message)
     }
@@ -480,6 +500,7 @@ impl<H: PointHash> Cluster<H> {
         ensures nobody { HasNoNode self.old address → (result ≡ Err ClusterError.NoNode) × (self.new ≡ self.old) }
         ensures only { result ≡ Err ClusterError.NoNode → HasNoNode self.old address }
         ensures made { ¬ HasNoNode self.old address → HasRound address now result self.old self.new }
+        ensures named { IfErr result (λ e. (e ≡ ClusterError.NoNode) ⊎ IsRoundRefusal e) }
         ensures whole { IsWhole self.new }
     {
         let Some(at) = place_of(&self.seats, address) else {
@@ -489,13 +510,17 @@ impl<H: PointHash> Cluster<H> {
     }
 
     /// Ends the workers, each after the messages that it has, and gives the nodes back in the order given.
+    ///
+    /// Errors: `Memory` where a growth was refused, `StillHeld` where somebody else holds a node. At both the nodes are given
+    /// up. A cluster without nodes is refused for `Memory` alone.
     pub fn stop<R: Threads + Wait>(
         self,
         rt: &R,
         alloc: Global,
     ) -> Result<Vec<NodeState<H>>, StopError>
         requires { IsWhole self }
-        ensures { IfOk result (λ v. AllZip (IsOfSeat H.hash_of) self.seats.items v.items) }
+        ensures closed { IfOk result (λ v. AllZip (IsOfSeat H.hash_of) self.seats.items v.items) }
+        ensures empty { length self.seats.items ≡ 0 → result ≢ Err StopError.StillHeld }
     {
         let Cluster { posts, seats } = self;
         'told: for seat in &seats {

@@ -25,7 +25,7 @@ closed-preserved g c = record {
       c.closed.nodes.items c.push.new.self.items c.in-Some.ensures.steps.0 (grind (arith, common_steps)) c.in_ok-node.ensures c.closed.invariant.so_far;
 }
 
-pub returns : goal.returns
-returns g c =
+pub returns-clause-closed : goal.returns-clause-closed
+returns-clause-closed g c =
     closed_all (IsOfSeat g.H.PointHash.hash_of) c.args.self.seats.items (into_iter_items c.closed.seat-iterator) c.closed.nodes.items
     (sym c.closed.invariant.length_is ∙ c.in-None.ensures.steps.0) c.closed.invariant.so_far

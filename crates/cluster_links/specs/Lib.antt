@@ -1,3 +1,4 @@
 pub mod Channels
 pub mod Clusters
 pub mod Limits
+pub mod Sockets

@@ -1,6 +1,8 @@
 //! A link over sockets: one connection for each call, one line out and one line in.
-ghost use Rattle.std.specs.Prelude.{◌≡◌, ◌≢◌, IfErr};
+ghost use Rattle.std.specs.Prelude.{◌≡◌, ◌≢◌, ◌++◌, ◌∷◌, [], IfErr, IfOk};
+ghost use Rattle.std.specs.Io.KnownBytes.{Appends};
 ghost use Rattle.cluster_links.specs.Limits.{IsStandard, limit_for};
+ghost use Rattle.cluster_links.specs.Sockets.{IsSocketOf};
 ghost use Rattle.cluster_core.specs.Links.{IsNamed, fault_named};
 
 use crate::deadlines::{Deadline, Timed};
@@ -50,8 +52,10 @@ impl Limits {
     }
 }
 
-/// Where an address is on the network.
-pub fn socket_address(address: Address) -> SocketAddr {
+/// Where an address is on the network: its IPv4 address and its port.
+pub fn socket_address(address: Address) -> SocketAddr
+    ensures { IsSocketOf address result }
+{
     SocketAddr::new(
         IpAddr::V4(Ipv4Addr::from_bits(address.ip())),
         address.port(),
@@ -69,17 +73,21 @@ fn fault_of(fault: WireError) -> LinkError
     }
 }
 
-/// Writes the line of a message.
-fn put<W: Write + Drop>(alloc: Global, stream: W, line: &[u8]) -> Result<(), LinkError>
+/// Writes a line and its newline, and gives the stream back.
+fn put<W: Write + Drop>(alloc: Global, stream: W, line: &[u8]) -> Result<W, LinkError>
+    ensures written { IfOk result (λ w. Appends (W.contents stream) (W.contents w) (line.now ++ 10 ∷ [])) }
     ensures named { IfErr result IsNamed }
     ensures unspent { IfErr result (λ e. e ≢ LinkError.Spent) }
 {
     let Ok(mut writer) = BufWriter::new(alloc, stream) else {
         return Err(LinkError::Memory);
     };
-    match write_line(&mut writer, line) {
-        Ok(()) => Ok(()),
-        Err(fault) => Err(fault_of(fault)),
+    if let Err(fault) = write_line(&mut writer, line) {
+        return Err(fault_of(fault));
+    }
+    match writer.into_inner() {
+        Ok(stream) => Ok(stream),
+        Err(_) => Err(LinkError::Io),
     }
 }
 
@@ -112,11 +120,11 @@ fn exchange<N: Net + Clock>(
     ensures named { IfErr result IsNamed }
     ensures unspent { IfErr result (λ e. e ≢ LinkError.Spent) }
 {
-    let Ok(mut stream) = connect(net, limit, to) else {
+    let Ok(stream) = connect(net, limit, to) else {
         return Err(LinkError::Io);
     };
-    put(alloc, &mut stream, line)?;
-    get(alloc, &mut stream)
+    let stream = put(alloc, stream, line)?;
+    get(alloc, stream)
 }
 
 /// A connection whose limit runs from before it was made.
@@ -162,6 +170,11 @@ impl<N> TcpLink<N> {
 }
 
 impl<N: Net + Clock> Link for TcpLink<N> {
+    ghost use Rattle.std.specs.Prelude.{◌+◌, ◌-◌, ◌^◌, ◌<◌, ◌⊎◌, ◌↔◌, Err};
+    ghost use Rattle.cluster_core.specs.Links.{failures_in};
+    ghost use Rattle.cluster_links.specs.Channels.{any_answer};
+    ghost use Rattle.cluster_links.specs.Sockets.{IsTooLong, failures_over, limits_of, net_of};
+
     ghost may_answer = { λ _ _ _. Unit {0} };
 
     ghost failed = { λ l. l.failures };
@@ -176,7 +189,15 @@ impl<N: Net + Clock> Link for TcpLink<N> {
         alloc: Global,
         to: Address,
         message: &Message,
-    ) -> Result<Message, LinkError> {
+    ) -> Result<Message, LinkError>
+        ensures came { any_answer to message.now result }
+        ensures failures { failures_over self.new ≡ failures_over self.old + failures_in result }
+        ensures spent { result ≡ Err LinkError.Spent ↔ failures_over self.old ≡ 2 ^ 64 - 1 }
+        ensures named { IfErr result IsNamed }
+        ensures long { IsTooLong message.now → failures_over self.old < 2 ^ 64 - 1
+            → (result ≡ Err (LinkError.Wire WireError.LineTooLong)) ⊎ (result ≡ Err LinkError.Memory) }
+        ensures stays { (net_of self.new ≡ net_of self.old) × (limits_of self.new ≡ limits_of self.old) }
+    {
         if self.failures == u64::MAX {
             return Err(LinkError::Spent);
         }

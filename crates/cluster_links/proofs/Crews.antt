@@ -16,7 +16,7 @@ use Rattle.node_core.specs.Node.{Seen}
 use Rattle.turn_lock.specs.declared.errors.CloseError.{CloseError}
 use Rattle.turn_lock.specs.declared.errors.CloseError.TheVariants as closing
 use Rattle.turn_lock.specs.declared.errors.LockError.{LockError}
-use Rattle.turn_lock.specs.Passes.{left_of, lock_name, number_of, IsSamePass}
+use Rattle.turn_lock.specs.Passes.{lock_name, number_of, IsSamePass}
 use Rattle.locked_node.specs.declared.node.LockedNode.{LockedNode}
 use Rattle.locked_node.specs.Passes.{NodePass, AreOwn, Fits, IsClosed, IsNew, RefusesToClose, name_of, passes_of}
 use Rattle.cluster_links.specs.declared.channel_links.Post.{Post}
@@ -33,7 +33,7 @@ module _ {H : Type 0} where
     pub fits : Fits locked last × All (Fits locked) rest
     pub count : length rest + 1 ≡ n
     pub all : AreAll locked (rest ++ last ∷ [])
-    pub fresh : All (λ (p : NodePass H). left_of p ≡ turns) (rest ++ last ∷ [])
+    pub fresh : All (IsNew locked turns) (rest ++ last ∷ [])
 
   pub shares : (locked : LockedNode H) (turns n : ℕ) (passes rest : List (NodePass H)) (r : Option (NodePass H)) (p : NodePass H)
       → All (IsNew locked turns) passes → map number_of passes ≡ range_with_len 0 n → passes_of locked ≡ n
@@ -43,14 +43,13 @@ module _ {H : Type 0} where
       let fit : All (Fits locked) passes = All-weaker (IsNew locked turns) (Fits locked) (λ q new same. new.0) passes news in
       let both : All (Fits locked) rest × Fits locked p = All-pop (Fits locked) passes rest (Some p) taken fit in
       let own : AreOwn locked passes = All-weaker (IsNew locked turns) (λ (q : NodePass H). lock_name q ≡ name_of locked) (λ q new. new.1) passes news in
-      let left : All (λ (q : NodePass H). left_of q ≡ turns) passes = All-weaker (IsNew locked turns) (λ (q : NodePass H). left_of q ≡ turns) (λ q new. new.3) passes news in
       let long : length passes ≡ n = sym (length-map passes number_of) ∙ ap length numbers ∙ length-range_with_len 0 n in
       let cut : length passes ≡ length rest + 1 = ap length taken ∙ length-append rest (p ∷ []) in
       record {
         fits = (both.1, both.0);
         count = sym cut ∙ long;
         all = subst (λ (xs : List (NodePass H)). AreAll locked xs) taken (own, numbers ∙ ap (λ (k : ℕ). range_with_len 0 k) (sym count));
-        fresh = subst (λ (xs : List (NodePass H)). All (λ (q : NodePass H). left_of q ≡ turns) xs) taken left;
+        fresh = subst (λ (xs : List (NodePass H)). All (IsNew locked turns) xs) taken news;
       }
 
   -- there is a pass to be taken
@@ -225,10 +224,13 @@ module _ {H : Type 0} where
       subst (λ (xs : List (NodePass H)). All (Fits locked) xs × AreAll locked xs) (sym put) own
 
   -- the node of a seat that was closed with all its passes
-  pub closed_with : (hash_of : H → List ℕ → ℕ) (seat : Seat H) (locked : LockedNode H) (passes : List (NodePass H)) (node : Seen H) → locked ≡ arc_value seat.node
-      → AreAll locked passes → IsClosed hash_of locked passes node → IsOfSeat hash_of seat node
-  closed_with hash_of seat locked passes node its all closed =
-      (passes, subst (λ (x : LockedNode H). AreAll x passes) its all, subst (λ (x : LockedNode H). IsClosed hash_of x passes node) its closed)
+  pub closed_with : (hash_of : H → List ℕ → ℕ) (seat : Seat H) (locked : LockedNode H) (ps passes : List (NodePass H)) (node : Seen H) → locked ≡ arc_value seat.node
+      → passes ≡ ps ++ seat.pass ∷ [] → AreAll locked passes → IsClosed hash_of locked passes node → IsOfSeat hash_of seat node
+  closed_with hash_of seat locked ps passes node its put all closed = (
+    ps,
+    subst (λ (xs : List (NodePass H)). AreAll (arc_value seat.node) xs) put (subst (λ (x : LockedNode H). AreAll x passes) its all),
+    subst (λ (xs : List (NodePass H)). IsClosed hash_of (arc_value seat.node) xs node) put (subst (λ (x : LockedNode H). IsClosed hash_of x passes node) its closed),
+  )
 
   -- a node is closed with all its passes
   pub never_refused : (locked : LockedNode H) (passes : List (NodePass H)) (cause : CloseError) → AreAll locked passes → RefusesToClose locked passes cause → ⊥

@@ -5,9 +5,9 @@ use Rattle.std.specs.List.{AllZip, range_with_len}
 use Rattle.std.specs.declared.thread.PromisedHandle.{PromisedHandle}
 use Rattle.change_core.specs.declared.addresses.Address.{Address}
 use Rattle.node_core.specs.Node.{Seen, own_change}
-use Rattle.turn_lock.specs.Passes.{left_of, number_of}
+use Rattle.turn_lock.specs.Passes.{number_of}
 use Rattle.locked_node.specs.declared.node.LockedNode.{LockedNode}
-use Rattle.locked_node.specs.Passes.{NodePass, AreOwn, Fits, IsClosed, opening_of, passes_of}
+use Rattle.locked_node.specs.Passes.{NodePass, AreOwn, Fits, IsClosed, IsNew, opening_of, passes_of}
 use Rattle.cluster_links.specs.declared.channel_links.Post.{Post}
 use Rattle.cluster_links.specs.declared.clusters.Cluster.{Cluster}
 use Rattle.cluster_core.specs.declared.errors.ClusterError.{ClusterError}
@@ -16,7 +16,7 @@ use Rattle.cluster_links.specs.declared.seats.Returned.{Returned}
 use Rattle.cluster_links.specs.declared.seats.Seat.{Seat}
 use Rattle.cluster_links.specs.declared.clusters.StartError.{StartError}
 use Rattle.cluster_links.specs.declared.clusters.StartError.TheVariants.{BadCount, SameAddress, NoThread, Memory}
-use Rattle.cluster_links.specs.Channels.{any_answer}
+use Rattle.cluster_links.specs.Channels.{any_answer, failures_of, reached_by}
 use Rattle.cluster_core.specs.Parts.{Does}
 use Rattle.cluster_core.specs.Rounds.{IsRound}
 
@@ -75,14 +75,15 @@ module _ {H : Type 0} where
   abbrev pub AreAll : LockedNode H → List (NodePass H) → Type 0
   AreAll locked passes = AreOwn locked passes × (map number_of passes ≡ range_with_len 0 (passes_of locked))
 
-  -- each may make the greatest number of calls
-  abbrev pub AreFresh : List (NodePass H) → Type 0
-  AreFresh passes = All (λ (p : NodePass H). left_of p ≡ 2 ^ 32 - 1) passes
+  -- each has made no call, and may make the greatest number of calls
+  abbrev pub AreFresh : LockedNode H → List (NodePass H) → Type 0
+  AreFresh locked passes = All (IsNew locked (2 ^ 32 - 1)) passes
 
-  -- the node is what closing that of the seat gave, with all passes of it
+  -- the node is what closing that of the seat gave, with all passes of it: those that its workers gave back, and last that of its rounds as it stands
   abbrev pub IsOfSeat : (H → List ℕ → ℕ) → Seat H → Seen H → Type 0
   IsOfSeat hash_of seat node =
-      (passes : List (NodePass H)) × AreAll (arc_value seat.node) passes × IsClosed hash_of (arc_value seat.node) passes node
+      (of_workers : List (NodePass H)) × AreAll (arc_value seat.node) (of_workers ++ seat.pass ∷ [])
+      × IsClosed hash_of (arc_value seat.node) (of_workers ++ seat.pass ∷ []) node
 
   -- The passes of the seat are all that its node has, and can be handed in; each worker is to give back the one that it was given.
   pub record IsSeat (seat : Seat H) : Type 0 where
@@ -94,17 +95,19 @@ module _ {H : Type 0} where
   abbrev pub IsWhole : Cluster H → Type 0
   IsWhole cluster = All IsSeat cluster.seats.items
 
-  -- The seat was made for this node: so many workers and its rounds share it, each by a pass that has made no call.
-  pub record Seats (workers : ℕ) (node : Seen H) (seat : Seat H) : Type 0 where
+  -- The seat was made for this node: so many workers and its rounds share it, each by a pass that has made no call, and
+  -- its rounds ask over a link to these posts that has not failed.
+  pub record Seats (workers : ℕ) (posts : List Post) (node : Seen H) (seat : Seat H) : Type 0 where
     pub address : seat.address ≡ address_in node
     pub opening : opening_of (arc_value seat.node) ≡ node
     pub passes : passes_of (arc_value seat.node) ≡ workers + 1
     pub crew : length seat.workers.items ≡ workers
-    pub fresh : AreFresh (passes_in seat)
+    pub fresh : AreFresh (arc_value seat.node) (passes_in seat)
+    pub link : (reached_by seat.link ≡ posts) × (failures_of seat.link ≡ 0)
 
-  -- The cluster has a seat for each of the nodes, in their order, and a post for each.
+  -- The cluster has a seat for each of the nodes, in their order, a post for each, and each seat's link reaches these posts.
   pub record IsStarted (workers : ℕ) (nodes : List (Seen H)) (cluster : Cluster H) : Type 0 where
-    pub seats : AllZip (Seats workers) nodes cluster.seats.items
+    pub seats : AllZip (Seats workers (posts_of cluster)) nodes cluster.seats.items
     pub posts : map (λ (p : Post). p.address) (posts_of cluster) ≡ map address_in nodes
 
   -- The node of the seat made a round that came to this, by the pass of its rounds. Its link may have failed more often; all else is as it was.

@@ -205,7 +205,7 @@ fn share<H: PointHash>(
     ensures fits { IfOk result (λ r. Fits r.0 r.1 × All (Fits r.0) r.2.items) }
     ensures count { IfOk result (λ r. length r.2.items ≡ workers) }
     ensures all { IfOk result (λ r. AreAll r.0 (r.2.items ++ r.1 ∷ [])) }
-    ensures fresh { IfOk result (λ r. AreFresh (r.2.items ++ r.1 ∷ [])) }
+    ensures fresh { IfOk result (λ r. AreFresh r.0 (r.2.items ++ r.1 ∷ [])) }
 {
     let Ok((locked, mut passes)) = LockedNode::new(alloc, node, workers + 1, u32::MAX) else {
         return Err(AllocError);
@@ -317,7 +317,7 @@ where
     A: Handler + Send + Sync + Drop + 'static,
     requires { workers ≤ 16 }
     ensures seated { IfOk result IsSeat }
-    ensures serves { IfOk result (Seats workers node) }
+    ensures serves { IfOk result (Seats workers (arc_value posts.now).items node) }
     ensures given_up { IfErr result IsGivenUp }
 {
     let address = node.own().address;

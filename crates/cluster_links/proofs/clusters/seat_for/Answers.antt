@@ -1,4 +1,5 @@
-use Rattle.std.proofs.Common.{◌++◌, ◌∷◌, [], ◌∙◌, ap, length, map, sym, subst}
+use Rattle.std.proofs.Common.{◌++◌, ◌∷◌, [], ◌∙◌, ap, arith, length, map, sym, subst}
+use Rattle.std.proofs.lemmas.Grind.{common_steps}
 use Rattle.std.specs.Arc.{arc_value}
 use Rattle.std.proofs.lemmas.List.{length-map}
 use Rattle.change_core.specs.declared.changes.Change.{Change}
@@ -26,5 +27,7 @@ returns-clause-serves g c = record {
   opening = ap opening_of c.in_ok-node.ensures.ok ∙ c.in_ok-locked.ensures.node.0;
   passes = ap passes_of c.in_ok-node.ensures.ok ∙ c.in_ok-locked.ensures.node.1;
   crew = sym (length-map c.in_ok-workers.workers.items given_to) ∙ ap length c.in_ok-workers.ensures.given ∙ c.in_ok-locked.ensures.count;
-  fresh = subst (λ xs. AreFresh (xs ++ c.in_ok-locked.pass ∷ [])) (sym c.in_ok-workers.ensures.given) c.in_ok-locked.ensures.fresh;
+  fresh = subst (λ x. AreFresh x (map given_to c.in_ok-workers.workers.items ++ c.in_ok-locked.pass ∷ [])) (sym c.in_ok-node.ensures.ok)
+      (subst (λ xs. AreFresh c.in_ok-locked.locked (xs ++ c.in_ok-locked.pass ∷ [])) (sym c.in_ok-workers.ensures.given) c.in_ok-locked.ensures.fresh);
+  link = (grind (arith, common_steps), grind (arith, common_steps));
 }

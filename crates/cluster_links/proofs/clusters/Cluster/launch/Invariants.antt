@@ -1,4 +1,5 @@
 use Rattle.std.proofs.Common.{◌≡◌, ◌++◌, List, All, length}
+use Rattle.std.specs.Arc.{arc_value}
 use Rattle.std.specs.List.{AllZip}
 use Rattle.std.specs.Vec.Iter.{into_iter_items, into_iter_len}
 use Rattle.cluster_links.specs.Clusters.{IsSeat, Seats}
@@ -9,5 +10,5 @@ abbrev pub invariant-seated : goal.invariant-seated
 invariant-seated g l = record {
   length_is : into_iter_len l.node-iterator ≡ length (into_iter_items l.node-iterator);
   whole : All IsSeat l.seats.items;
-  so_far : (done : List _) × (l.fn.nodes.items ≡ done ++ into_iter_items l.node-iterator) × AllZip (Seats l.fn.workers) done l.seats.items;
+  so_far : (done : List _) × (l.fn.nodes.items ≡ done ++ into_iter_items l.node-iterator) × AllZip (Seats l.fn.workers (arc_value l.posts).items) done l.seats.items;
 }

@@ -17,7 +17,7 @@ unreachable-requires g c =
 
 pub returns : goal.returns
 returns g c =
-    closed_with g.H.PointHash.hash_of c.args.self c.in-Some.locked c.push.new.self.items c.in-Ok-close.node c.in-Some.ensures
+    closed_with g.H.PointHash.hash_of c.args.self c.in-Some.locked c.in-Ok.passes.items c.push.new.self.items c.in-Ok-close.node c.in-Some.ensures (grind (arith, common_steps))
     (handed_in _ c.args.self c.in-Some.locked c.in-Ok.passes.items c.push.new.self.items _ c.requires c.args.self.workers.ok.0 (omega (arith, c.in-Ok.ensures.len, c.in-Ok.passes.ok.0))
     c.in-Ok.ensures.each (λ w p kept. kept) c.in-Some.ensures (grind (arith, common_steps))).1
     c.in-Ok-close.ensures.closed

@@ -7,13 +7,15 @@ use crate::links::Link;
 /// was taken, is lost only where another answer came, and a helper's word is what came from it, or it failed. Each moment is
 /// that of the round. A round is idle only where nobody could be probed, and otherwise its last call ended the probe that it
 /// began, in the way that it answers. A refused round says why: the lock refused it, the node's last reply is that refusal,
-/// or there was no memory to ask another node, as that reply or the link said.
+/// or the link found no memory for the message that the last call made.
 pub fn rounds<H, L: Link>()
     ensures { RoundsRest H L.may_answer }
 {}
 
 /// A join answers how many of its hosts answered by a Joined that came over the link and was taken at its moment; from each
-/// other host another answer came. It takes no other message, and is refused as `NoneJoined` only where no host joined.
+/// other host another answer came. It takes no other message. A refused join says why: no host joined, which is `NoneJoined`;
+/// the lock refused it; or there was no memory, as the node's last reply said, or the link of the message that the last call
+/// made for one of the hosts.
 pub fn joins<H, L: Link>()
     ensures { JoinsRest H L.may_answer }
 {}

@@ -110,7 +110,7 @@ module _ {H : Type 0} where
     pub seats : AllZip (Seats workers (posts_of cluster)) nodes cluster.seats.items
     pub posts : map (λ (p : Post). p.address) (posts_of cluster) ≡ map address_in nodes
 
-  -- The node of the seat made a round that came to this, by the pass of its rounds. Its link may have failed more often; all else is as it was.
+  -- The node of the seat made a round that came to this, by the pass of its rounds. Its address, node and workers are as they were; of its link nothing is said.
   pub record IsRoundBy (now : ℕ) (r : Result Round ClusterError) (old new : Seat H) : Type 0 where
     pub round : Does (arc_value old.node) (IsRound any_answer now) r old.pass new.pass
     pub address : new.address ≡ old.address

@@ -1,17 +1,17 @@
 //! A link over sockets, and a peer of the test's own.
 use change_core::{Address, Status};
 use cluster_core::{Link, LinkError};
-use cluster_fixtures::{content, member, message, news};
+use cluster_fixtures::{content, member, message, news, request};
 use cluster_links::{Limits, TcpLink, socket_address};
 use std::alloc::Global;
-use std::io::{Read, Write};
+use std::io::{BufReader, Read, Write};
 use std::net::{Net, TcpListener, TcpStream};
 use std::process::Abort;
 use std::sync::Wait;
 use std::thread;
 use std::thread::Threads;
 use std::time::{Clock, Duration};
-use wire_json::{Content, Field, Message, WireError, encode};
+use wire_json::{Content, Field, Message, WireError, encode, read_line};
 
 fn ping(rt: &impl Abort, alloc: Global) -> Message {
     let told = content(rt, alloc, &[news(rt, 9, 1, Status::Alive)]);
@@ -31,19 +31,35 @@ const AT_ONCE: Drip = Drip {
     rest: Duration::ZERO,
 };
 
-/// Accepts one connection, reads some of it, drips, and writes these bytes.
-fn answer_once<R: Clock>(rt: &R, listener: &TcpListener, drip: Drip, bytes: &[u8]) {
-    if let Ok((mut stream, _)) = listener.accept() {
-        let mut buffer = [0; 4096];
-        let _count = stream.read(&mut buffer);
-        for _ in 0..drip.bytes {
-            thread::sleep(rt, drip.rest);
-            if stream.write(b" ").is_err() {
-                return;
-            }
+/// The next line; none where a growth was refused, or nothing came.
+fn heard<S: Read + Drop>(alloc: Global, stream: S) -> Option<Vec<u8>> {
+    let mut reader = BufReader::new(alloc, stream).ok()?;
+    read_line(alloc, &mut reader).ok()?
+}
+
+/// Drips, and writes these bytes.
+fn write_slowly<R: Clock, W: Write>(rt: &R, stream: &mut W, drip: Drip, bytes: &[u8]) {
+    for _ in 0..drip.bytes {
+        thread::sleep(rt, drip.rest);
+        if stream.write(b" ").is_err() {
+            return;
         }
-        let _written = stream.write(bytes);
     }
+    let _written = stream.write_all(bytes);
+}
+
+/// Accepts one connection, reads a line of it, drips, and writes these bytes. It gives the line back.
+fn answer_once<R: Clock>(
+    rt: &R,
+    alloc: Global,
+    listener: &TcpListener,
+    drip: Drip,
+    bytes: &[u8],
+) -> Option<Vec<u8>> {
+    let (mut stream, _) = listener.accept().ok()?;
+    let line = heard(alloc, &mut stream)?;
+    write_slowly(rt, &mut stream, drip, bytes);
+    Some(line)
 }
 
 /// Connects and hangs up, so that a peer that waits still is done.
@@ -52,8 +68,16 @@ fn knock<R: Net<Listener = TcpListener, Stream = TcpStream>>(rt: &R, to: Address
     let _stream = TcpStream::connect_timeout(rt, &socket_address(to), wait);
 }
 
-/// What a link with these limits answers to a message where the peer drips and then writes these bytes, and how often it then
-/// has failed; none where a growth was refused.
+/// What a call came to: the answer, how often the link then has failed, and the line that the peer has read.
+#[derive(Drop)]
+struct Called {
+    answer: Result<Message, LinkError>,
+    failures: u64,
+    line: Vec<u8>,
+}
+
+/// What a link with these limits answers to a message where the peer drips and then writes these bytes; none where a growth
+/// was refused.
 fn try_call<
     R: Net<Listener = TcpListener, Stream = TcpStream>
         + Threads
@@ -69,7 +93,7 @@ fn try_call<
     message: &Message,
     drip: Drip,
     bytes: &[u8],
-) -> Option<(Result<Message, LinkError>, u64)> {
+) -> Option<Called> {
     let bytes = Vec::from_slice(alloc, bytes).ok()?;
     let listener = TcpListener::bind(rt, "127.0.0.1:0").ok()?;
     let port = listener.local_addr().ok()?.port();
@@ -77,7 +101,7 @@ fn try_call<
     let clock = *rt;
     let peer = thread::spawn(
         rt,
-        move || answer_once(&clock, &listener, drip, bytes.as_slice()),
+        move || answer_once(&clock, alloc, &listener, drip, bytes.as_slice()),
     );
     let peer = peer.ok()?;
     let mut link = TcpLink::with_limits(rt, limits);
@@ -86,12 +110,15 @@ fn try_call<
     if is_refused {
         knock(rt, to);
     }
-    peer.join(rt);
+    let line = peer.join(rt)?;
     if is_refused {
-        None
-    } else {
-        Some((answer, link.failures()))
+        return None;
     }
+    Some(Called {
+        answer,
+        failures: link.failures(),
+        line,
+    })
 }
 
 /// The same; where a growth was refused, of another peer.
@@ -104,14 +131,7 @@ fn call<
         + Send
         + Abort
         + 'static,
->(
-    rt: &R,
-    alloc: Global,
-    limits: Limits,
-    message: &Message,
-    drip: Drip,
-    bytes: &[u8],
-) -> (Result<Message, LinkError>, u64) {
+>(rt: &R, alloc: Global, limits: Limits, message: &Message, drip: Drip, bytes: &[u8]) -> Called {
     match try_call(rt, alloc, limits, message, drip, bytes) {
         Some(called) => called,
         None => try_call(rt, alloc, limits, message, drip, bytes).expect(rt, "an answer"),
@@ -141,7 +161,7 @@ fn a_line_goes_out_and_a_line_comes_back(rt: HostRuntime) {
     let alloc: Global = rt.alloc();
     let line = ack_line(&rt, alloc);
     let ping = ping(&rt, alloc);
-    let (answer, failures) = call(
+    let called = call(
         &rt,
         alloc,
         Limits::standard(),
@@ -149,9 +169,10 @@ fn a_line_goes_out_and_a_line_comes_back(rt: HostRuntime) {
         AT_ONCE,
         line.as_slice(),
     );
-    let answer = answer.ok().expect(&rt, "an answer");
+    let answer = called.answer.ok().expect(&rt, "an answer");
     assert!(&rt; answer.source == member(&rt, 3) && matches!(&answer.content, Content::Ack(_)));
-    assert!(&rt; failures == 0);
+    assert!(&rt; called.failures == 0);
+    assert!(&rt; called.line.as_slice() == line_of(&rt, alloc, &ping).as_slice());
 }
 
 #[test]
@@ -170,8 +191,8 @@ fn what_is_no_answer_is_a_fault(rt: HostRuntime) {
     let ping = ping(&rt, rt.alloc());
     for (text, fault, counted) in rows {
         let text = text.as_bytes();
-        let (answer, failures) = call(&rt, rt.alloc(), limits, &ping, AT_ONCE, text);
-        assert!(&rt; answer.err() == Some(fault) && failures == counted);
+        let called = call(&rt, rt.alloc(), limits, &ping, AT_ONCE, text);
+        assert!(&rt; called.answer.err() == Some(fault) && called.failures == counted);
     }
 }
 
@@ -198,8 +219,8 @@ fn a_peer_that_drips_is_left_at_the_limit(rt: HostRuntime) {
     let alloc: Global = rt.alloc();
     let line = ack_line(&rt, alloc);
     let ping = ping(&rt, alloc);
-    let (answer, failures) = call(&rt, alloc, short_pings(), &ping, slowly(), line.as_slice());
-    assert!(&rt; answer.err() == Some(LinkError::Io) && failures == 1);
+    let called = call(&rt, alloc, short_pings(), &ping, slowly(), line.as_slice());
+    assert!(&rt; called.answer.err() == Some(LinkError::Io) && called.failures == 1);
 }
 
 #[test]
@@ -208,7 +229,7 @@ fn a_helper_has_longer_than_a_pinged_node(rt: HostRuntime) {
     let line = ack_line(&rt, alloc);
     let wanted = content(&rt, alloc, &[]);
     let request = message(&rt, 9, Content::PingReq(wanted, member(&rt, 3)));
-    let (answer, failures) = call(
+    let called = call(
         &rt,
         alloc,
         short_pings(),
@@ -216,7 +237,27 @@ fn a_helper_has_longer_than_a_pinged_node(rt: HostRuntime) {
         slowly(),
         line.as_slice(),
     );
-    assert!(&rt; answer.is_ok() && failures == 0);
+    assert!(&rt; called.answer.is_ok() && called.failures == 0);
+}
+
+/// So many letters.
+fn letters(rt: &impl Abort, alloc: Global, count: usize) -> Vec<u8> {
+    let mut letters = Vec::new(alloc);
+    if letters.resize(count, b'a').is_err() {
+        assert!(rt; letters.resize(count, b'a').is_ok());
+    }
+    letters
+}
+
+#[test]
+fn an_answer_may_be_too_long(rt: HostRuntime) {
+    let alloc: Global = rt.alloc();
+    let endless = letters(&rt, alloc, 1_048_577);
+    let request = message(&rt, 9, Content::NotOwner);
+    let limits = short_pings();
+    let called = call(&rt, alloc, limits, &request, AT_ONCE, endless.as_slice());
+    let too_long = LinkError::Wire(WireError::LineTooLong);
+    assert!(&rt; called.answer.err() == Some(too_long) && called.failures == 0);
 }
 
 /// The address of a port where nobody listens.
@@ -224,6 +265,29 @@ fn closed_port<R: Net<Listener = TcpListener, Stream = TcpStream>>(rt: &R) -> Op
     let listener = TcpListener::bind(rt, "127.0.0.1:0").ok()?;
     let port = listener.local_addr().ok()?.port();
     Address::new(0x7f00_0001, port)
+}
+
+/// The same, with a second try where the first found none.
+fn nobody_at<R: Net<Listener = TcpListener, Stream = TcpStream> + Abort>(rt: &R) -> Address {
+    match closed_port(rt) {
+        Some(to) => to,
+        None => closed_port(rt).expect(rt, "a port"),
+    }
+}
+
+/// Why a link gives no answer to a message.
+fn fault<N: Net + Clock, R: Wait>(
+    rt: &R,
+    alloc: Global,
+    link: &mut TcpLink<N>,
+    to: Address,
+    message: &Message,
+) -> Option<LinkError> {
+    let fault = link.call(rt, alloc, to, message).err();
+    if fault == Some(LinkError::Memory) {
+        return link.call(rt, alloc, to, message).err();
+    }
+    fault
 }
 
 /// Checks that each call of a link fails, and that it counts them.
@@ -235,19 +299,24 @@ fn check_failing<R: Net<Listener = TcpListener, Stream = TcpStream> + Wait + Clo
     let mut link = TcpLink::new(rt);
     let ping = ping(rt, alloc);
     for failures in 1..3 {
-        let mut fault = link.call(rt, alloc, to, &ping).err();
-        if fault == Some(LinkError::Memory) {
-            fault = link.call(rt, alloc, to, &ping).err();
-        }
+        let fault = fault(rt, alloc, &mut link, to, &ping);
         assert!(rt; fault == Some(LinkError::Io) && link.failures() == failures);
     }
 }
 
 #[test]
 fn nobody_listens(rt: HostRuntime) {
-    let to = match closed_port(&rt) {
-        Some(to) => to,
-        None => closed_port(&rt).expect(&rt, "a port"),
-    };
-    check_failing(&rt, rt.alloc(), to);
+    check_failing(&rt, rt.alloc(), nobody_at(&rt));
+}
+
+#[test]
+fn a_message_too_long_is_not_sent(rt: HostRuntime) {
+    let alloc: Global = rt.alloc();
+    let body = letters(&rt, alloc, 1_048_577);
+    let body = str::from_utf8(body.as_slice()).ok().expect(&rt, "letters");
+    let request = request(&rt, alloc, ("a", "b"), body);
+    let mut link = TcpLink::new(&rt);
+    let fault = fault(&rt, alloc, &mut link, nobody_at(&rt), &request);
+    assert!(&rt; fault == Some(LinkError::Wire(WireError::LineTooLong)));
+    assert!(&rt; link.failures() == 0);
 }

@@ -1,5 +1,3 @@
 pub mod Asking
 pub mod Membership
 pub mod Owning
-pub mod Echoes
-pub mod Answering

@@ -1,37 +1,7 @@
 //! What the commands are told.
-ghost use Rattle.std.specs.Prelude.{◌≤◌, ◌<◌, ◌^◌, vec_len};
-ghost use Rattle.change_core.specs.Numbers.{greatest_number};
 ghost use Rattle.hash_ring.specs.Points.{IsReplicas};
 
-use change_core::{Address, Incarnation, Weight};
-
-/// The words of `serve`.
-#[derive(Debug, Drop)]
-pub struct ServeWords {
-    /// Where the node listens, and how the others name it.
-    pub address: Address,
-    /// The node's first incarnation, and its seed.
-    pub incarnation: Incarnation,
-    /// How many connections are served, 1 to 1,000,000. Those of gossip count.
-    pub requests: u64,
-    /// How many connections are served at a time, 1 to 16.
-    pub workers: u32,
-    /// How many milliseconds lie between two rounds of gossip; 0 makes none.
-    pub period: u64,
-    /// How many points a server has for each of its weight, 1 to 1,000.
-    pub replicas: u32,
-    /// The node's weight.
-    pub weight: Weight,
-    /// Whether the hash is the sum of the bytes, in place of SHA-256's first eight.
-    pub sum: bool,
-    /// The nodes that are asked to let the node join, before it listens.
-    pub hosts: Vec<Address>,
-    pub ghost requests_range: { (1 ≤ requests) × (requests ≤ 1000000) },
-    pub ghost workers_range: { (1 ≤ workers) × (workers ≤ 16) },
-    pub ghost period_range: { period ≤ greatest_number },
-    pub ghost replicas_range: { IsReplicas replicas },
-    pub ghost few: { vec_len hosts < 2 ^ 32 },
-}
+use change_core::Address;
 
 /// The words of `ask --any`.
 #[derive(Clone, Copy, Debug, PartialEq, Eq)]

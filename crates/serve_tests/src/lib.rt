@@ -3,9 +3,3 @@
 
 #[cfg(test)]
 mod answers;
-#[cfg(test)]
-mod lines;
-#[cfg(test)]
-mod servers;
-#[cfg(test)]
-mod shared;

@@ -1,7 +1,9 @@
 //! Laws over the definitions, each the contract of a function that does nothing.
-ghost use Rattle.cluster_core.specs.Provenance.{JoinsRest, RoundsRest};
+ghost use Rattle.cluster_core.specs.Provenance.{JoinsRest, RoundsRest, ServingsRest};
 
+use crate::handlers::Handler;
 use crate::links::Link;
+use hash_ring::PointHash;
 
 /// What a round says of others came over the link: a probe is acknowledged directly after the Ack that came from its target
 /// was taken, is lost only where another answer came, and a helper's word is what came from it, or it failed. Each moment is
@@ -18,4 +20,12 @@ pub fn rounds<H, L: Link>()
 /// made for one of the hosts.
 pub fn joins<H, L: Link>()
     ensures { JoinsRest H L.may_answer }
+{}
+
+/// An answer to a message is a refusal, or rests on this: to a Join and a Ping it is what the node made of that very message;
+/// to a PingReq it is the node's last reply, which tells its source that the target was reached only where the target is the
+/// node itself, or its Ack came over the link for a ping and was taken, and that it was not only where another answer came; to
+/// a Forward it is the handler's answer, or says that another node owns the keys. Any other message is refused.
+pub fn servings<H: PointHash, L: Link, A: Handler>()
+    ensures { ServingsRest H.hash_of L.may_answer A.may_handle }
 {}

@@ -8,12 +8,12 @@ root=$here/../..
 work=$(mktemp -d)
 trap 'rm -rf "$work"' EXIT
 below=(change_core wire_json member_core hash_ring gossip_core detector_core node_core turn_lock forward_core locked_node cluster_core
-    cluster_links cluster_fixtures)
+    cluster_links)
 mkdir "$work/crates"
 for crate in "${below[@]}"; do cp -r "$root/crates/$crate" "$work/crates/"; done
 cp -r "$here/cluster_bench" "$work/crates/"
 # A check reads each .rt and .antt file of the repository, so those of a benchmark bear another ending there.
 find "$work" \( -name '*.rt.txt' -o -name '*.antt.txt' \) | while read -r file; do mv "$file" "${file%.txt}"; done
 for crate in "${below[@]}"; do grep -E "^$crate[ :]" "$root/crates.txt" >> "$work/crates.txt"; done
-echo 'cluster_bench may_wait=8: change_core hash_ring node_core locked_node cluster_core cluster_links cluster_fixtures wire_json anyhow' >> "$work/crates.txt"
+echo 'cluster_bench may_wait=8: change_core hash_ring node_core locked_node cluster_core cluster_links wire_json anyhow' >> "$work/crates.txt"
 (cd "$work/crates/cluster_bench" && rt run)

@@ -1,10 +1,11 @@
 //! Requests that are handled here, answered by their owner, or given up, by a clock that moves only where it is waited for.
 ghost use Rattle.locked_node.specs.Passes.{Fits};
 
+use crate::fakes::{Counting, Mood};
+use crate::messages::{keys, member, text};
 use crate::shared::{Caller, Shared, among, leave, with_node};
 use change_core::{Address, Moment};
 use cluster_core::{Clock, ClusterError, Link, LinkError, handle_or_forward};
-use cluster_fixtures::{Counting, Mood, keys, member, text};
 use std::alloc::Global;
 use std::process::Abort;
 use std::sync::Wait;

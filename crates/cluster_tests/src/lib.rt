@@ -1,11 +1,21 @@
-//! The tests of cluster_core.
+//! The tests of cluster_core and cluster_links.
 #![tactic(auto)]
 
 #[cfg(test)]
+mod clusters;
+#[cfg(test)]
+mod fakes;
+#[cfg(test)]
 mod forwarding;
+#[cfg(test)]
+mod messages;
+#[cfg(test)]
+mod nodes;
 #[cfg(test)]
 mod rounds;
 #[cfg(test)]
 mod serving;
 #[cfg(test)]
 mod shared;
+#[cfg(test)]
+mod tcp;

@@ -4,10 +4,12 @@ ghost use Rattle.std.specs.Prelude.{◌≡◌, []};
 ghost use Rattle.std.specs.List.{All};
 ghost use Rattle.locked_node.specs.Passes.{Fits};
 
+use crate::fakes::{Fake, Mood};
+use crate::messages::{member, moment, news};
+use crate::nodes::state;
 use crate::shared::{Caller, Shared, Start, among, status, with_node};
 use change_core::{Address, Moment, Status};
 use cluster_core::{ClusterError, Link, LinkError, Round, gossip_round, join};
-use cluster_fixtures::{Fake, Mood, member, moment, news, state};
 use detector_core::Running;
 use hash_ring::SumHash;
 use locked_node::LockedNode;

@@ -1,12 +1,11 @@
 //! What is answered to each kind of message.
 ghost use Rattle.locked_node.specs.Passes.{Fits};
 
+use crate::fakes::{Counting, Fake, Mood};
+use crate::messages::{content, member, message, moment, news, request, text};
 use crate::shared::{Caller, Shared, Start, among, leave, status, with_node};
 use change_core::{Address, Sourced, Status};
 use cluster_core::serve_one;
-use cluster_fixtures::{
-    Counting, Fake, Mood, content, member, message, moment, news, request, text,
-};
 use std::alloc::Global;
 use std::process::Abort;
 use std::sync::Wait;

@@ -3,8 +3,9 @@ ghost use denote.Ref.{Bor, MutBor};
 ghost use Rattle.std.specs.List.{All};
 ghost use Rattle.locked_node.specs.Passes.{Fits, IsNew};
 
+use crate::messages::{member, moment, news};
+use crate::nodes::state;
 use change_core::{Sourced, Status};
-use cluster_fixtures::{member, moment, news, state};
 use hash_ring::SumHash;
 use locked_node::{LockedNode, NodePass};
 use std::alloc::Global;

@@ -1,7 +1,6 @@
 //! What `ask`, `ask --any` and `members` make of answers.
 use change_core::{Address, Change, Digest, Incarnation, Sourced, Status, Weight};
 use cluster_core::{Link, LinkError};
-use cluster_fixtures::member;
 use serve_core::{AskAnyWords, AskFault, ask_any_over, ask_over, members_over};
 use std::alloc::Global;
 use std::process::Abort;
@@ -145,7 +144,7 @@ fn ask_once<R: Wait + Abort>(
     question: Question,
     mood: Mood,
 ) -> (Result<(), AskFault>, Vec<u8>, u32) {
-    let host = member(rt, 1);
+    let host = Address::new(0x0a00_0001, 1).expect(rt, "an address");
     let mut peer = Peer {
         mood,
         calls: 0,

@@ -8,18 +8,18 @@ use std::process::Abort;
 use wire_json::{Changes, Content, Keys, Message, News, Text};
 
 /// The member 10.0.0.`number`:1.
-pub fn member(rt: &impl Abort, number: u8) -> Address
+pub(crate) fn member(rt: &impl Abort, number: u8) -> Address
     ensures { result ≡ address_of (167772160 + number) 1 }
 {
     Address::new(0x0a00_0000 + u32::from(number), 1).expect(rt, "an address")
 }
 
-pub fn moment(rt: &impl Abort, number: u64) -> Moment {
+pub(crate) fn moment(rt: &impl Abort, number: u64) -> Moment {
     Moment::new(number).expect(rt, "a moment")
 }
 
 /// A change with weight 1, said by the member itself.
-pub fn news(rt: &impl Abort, number: u8, incarnation: u64, status: Status) -> Sourced {
+pub(crate) fn news(rt: &impl Abort, number: u8, incarnation: u64, status: Status) -> Sourced {
     let address = member(rt, number);
     let incarnation = Incarnation::new(incarnation).expect(rt, "an incarnation");
     let change = Change {
@@ -43,7 +43,7 @@ fn changes(rt: &impl Abort, alloc: Global, given: &[Sourced]) -> Changes {
 }
 
 /// The digest of no members, and these changes.
-pub fn content(rt: &impl Abort, alloc: Global, given: &[Sourced]) -> News {
+pub(crate) fn content(rt: &impl Abort, alloc: Global, given: &[Sourced]) -> News {
     News {
         checksum: Digest::new([0; 32]),
         changes: changes(rt, alloc, given),
@@ -51,7 +51,7 @@ pub fn content(rt: &impl Abort, alloc: Global, given: &[Sourced]) -> News {
 }
 
 /// A message of 10.0.0.`number`:1 at 1.
-pub fn message(rt: &impl Abort, number: u8, content: Content) -> Message {
+pub(crate) fn message(rt: &impl Abort, number: u8, content: Content) -> Message {
     Message {
         source: member(rt, number),
         source_incarnation: Incarnation::new(1).expect(rt, "an incarnation"),
@@ -59,7 +59,7 @@ pub fn message(rt: &impl Abort, number: u8, content: Content) -> Message {
     }
 }
 
-pub fn text(rt: &impl Abort, alloc: Global, words: &str) -> Text {
+pub(crate) fn text(rt: &impl Abort, alloc: Global, words: &str) -> Text {
     match Text::new(alloc, words) {
         Ok(text) => text,
         Err(_) => Text::new(alloc, words).ok().expect(rt, "a text"),
@@ -77,7 +77,7 @@ fn one_key(rt: &impl Abort, alloc: Global, first: &str) -> Keys {
 }
 
 /// Two keys.
-pub fn keys(rt: &impl Abort, alloc: Global, both: (&str, &str)) -> Keys {
+pub(crate) fn keys(rt: &impl Abort, alloc: Global, both: (&str, &str)) -> Keys {
     let mut keys = one_key(rt, alloc, both.0);
     if keys.push(text(rt, alloc, both.1)).is_err() {
         assert!(rt; keys.push(text(rt, alloc, both.1)).is_ok());
@@ -86,7 +86,7 @@ pub fn keys(rt: &impl Abort, alloc: Global, both: (&str, &str)) -> Keys {
 }
 
 /// A request for two keys by 10.0.0.2:1, with this body.
-pub fn request(rt: &impl Abort, alloc: Global, both: (&str, &str), body: &str) -> Message {
+pub(crate) fn request(rt: &impl Abort, alloc: Global, both: (&str, &str), body: &str) -> Message {
     let keys = keys(rt, alloc, both);
     message(rt, 2, Content::Forward(keys, text(rt, alloc, body)))
 }

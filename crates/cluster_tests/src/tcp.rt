@@ -1,7 +1,7 @@
 //! A link over sockets, and a peer of the test's own.
+use crate::messages::{content, member, message, news, request};
 use change_core::{Address, Status};
 use cluster_core::{Link, LinkError};
-use cluster_fixtures::{content, member, message, news, request};
 use cluster_links::{Limits, TcpLink, socket_address};
 use std::alloc::Global;
 use std::io::{BufReader, Read, Write};

@@ -15,7 +15,7 @@ fn config(max: usize) -> Config {
 }
 
 /// The node 10.0.0.`number`:1 at 7 with this many members at most.
-pub fn state(rt: &impl Abort, alloc: Global, number: u8, max: usize) -> NodeState<SumHash> {
+pub(crate) fn state(rt: &impl Abort, alloc: Global, number: u8, max: usize) -> NodeState<SumHash> {
     let first = Incarnation::new(7).expect(rt, "an incarnation");
     let own = member(rt, number);
     let now = moment(rt, 0);

@@ -3,9 +3,11 @@
 ghost use Rattle.std.specs.Prelude.{◌≡◌, IfSome};
 ghost use Rattle.cluster_links.specs.Clusters.{IsWhole};
 
+use crate::fakes::{Echo, Mood};
+use crate::messages::{content, member, message, moment, news, request};
+use crate::nodes::state;
 use change_core::{Address, Status};
 use cluster_core::{ClusterError, Handler, HandlerFault, Link, LinkError, Round};
-use cluster_fixtures::{Echo, Mood, content, member, message, moment, news, request, state};
 use cluster_links::{ChannelLink, Cluster, StartError};
 use hash_ring::SumHash;
 use node_core::NodeState;

@@ -8,7 +8,7 @@ use wire_json::{Changes, Content, Keys, Message, News, Text};
 
 /// How a fake answers.
 #[derive(Clone, Copy, Debug, PartialEq, Eq)]
-pub enum Mood {
+pub(crate) enum Mood {
     /// As it should.
     Willing,
     /// By something else, or that it failed.
@@ -22,19 +22,19 @@ pub enum Mood {
 /// A link whose peers all answer in one mood, or the first call in one and the later ones in another: by what is wanted, without
 /// changes, where they are willing.
 #[derive(Drop)]
-pub struct Fake {
+pub(crate) struct Fake {
     mood: Mood,
     later: Mood,
-    pub calls: u64,
+    pub(crate) calls: u64,
     failures: u64,
 }
 
 impl Fake {
-    pub fn new(mood: Mood) -> Fake {
+    pub(crate) fn new(mood: Mood) -> Fake {
         Fake::turning(mood, mood)
     }
 
-    pub fn turning(mood: Mood, later: Mood) -> Fake {
+    pub(crate) fn turning(mood: Mood, later: Mood) -> Fake {
         Fake {
             mood,
             later,
@@ -111,8 +111,8 @@ impl Link for Fake {
 
 /// A handler that answers by the body of the request, where it is willing.
 #[derive(Drop)]
-pub struct Echo {
-    pub mood: Mood,
+pub(crate) struct Echo {
+    pub(crate) mood: Mood,
 }
 
 impl Handler for Echo {
@@ -135,20 +135,20 @@ impl Handler for Echo {
 
 /// A handler that answers so, and counts how often it is asked.
 #[derive(Drop)]
-pub struct Counting {
+pub(crate) struct Counting {
     echo: Echo,
     calls: AtomicU64,
 }
 
 impl Counting {
-    pub fn new(mood: Mood) -> Counting {
+    pub(crate) fn new(mood: Mood) -> Counting {
         Counting {
             echo: Echo { mood },
             calls: AtomicU64::new(0),
         }
     }
 
-    pub fn calls(&self) -> u64 {
+    pub(crate) fn calls(&self) -> u64 {
         self.calls.load(Ordering::SeqCst)
     }
 }

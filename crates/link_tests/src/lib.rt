@@ -1,7 +1,0 @@
-//! The tests of cluster_links.
-#![tactic(auto)]
-
-#[cfg(test)]
-mod clusters;
-#[cfg(test)]
-mod tcp;

@@ -7,11 +7,13 @@ _ringpop() {
     case ${COMP_WORDS[1]} in
         owner) words='--n --replicas --sum --help' ;;
         sim) words='--replicas --sum --help' ;;
-        fold | hash) words='--help' ;;
-        help) words='fold hash owner sim' ;;
+        ask) words='--any --replicas --sum --help' ;;
+        members) words='--lines --help' ;;
+        fold | hash | tell) words='--help' ;;
+        help) words='fold hash owner sim ask members tell' ;;
     esac
     if [ "$COMP_CWORD" -eq 1 ]; then
-        words='fold hash owner sim help --help --version'
+        words='fold hash owner sim ask members tell help --help --version'
     fi
     mapfile -t COMPREPLY < <(compgen -W "$words" -- "$word")
 }

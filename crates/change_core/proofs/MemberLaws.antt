@@ -1,6 +1,6 @@
 -- Laws of the greatest, of members, of one change more, of serving and of refutations, as the public laws state them.
-use Rattle.std.proofs.Common.{◌≡◌, ◌≢◌, ◌⊎◌, ◌↔◌, ℕ, ◌+◌, ◌<◌, ◌≤◌, ◌^◌, Bool, true, false, not, eqb, ◌&&◌, cond, List, [], ◌∷◌, ◌++◌, map, Option, Some, None, length, take, drop, get_or, suc, arith, refl, inl, inr, sym, ◌∙◌, ap, subst, append_assoc, drop-cons}
-use Rattle.std.specs.List.{Contains, insert}
+use Rattle.std.proofs.Common.{◌≡◌, ◌≢◌, ◌⊎◌, ◌↔◌, ℕ, ◌<◌, Bool, true, false, not, eqb, ◌&&◌, cond, List, [], ◌∷◌, ◌++◌, Option, Some, None, length, take, drop, get_or, suc, arith, refl, inl, inr, sym, ◌∙◌, ap, subst, append_assoc, drop-cons}
+use Rattle.std.specs.List.{Contains}
 use Rattle.std.specs.Prelude.{IsTrue, IsSomeAnd}
 use Rattle.std.proofs.lemmas.Bool.{cases_Bool, eqb-true, eq-eqb, ne_eqb, false≢true}
 use Rattle.std.proofs.lemmas.List.{take-append-drop, append-nil}
@@ -9,9 +9,9 @@ use Rattle.change_core.specs.Change.{Exceeds, exceeds, Overrides}
 use Rattle.change_core.specs.Edits.{IsInserted, IsReplaced}
 use Rattle.change_core.specs.Members.{greatest, members, serving, alters, is_news, IsGreatest, IsMemberList, HaveSameChanges, change_text}
 use Rattle.change_core.specs.Refutation.{refutation, is_refuted, refutations, log_one}
-use Rattle.change_core.specs.Status.{rank, is_serving, IsServing}
+use Rattle.change_core.specs.Status.{rank, IsServing}
 use Rattle.change_core.proofs.Precedence.{Exceeds-true, exceeds-true, exceeds-false, Exceeds-trans, same_from_rank, same_from_neither}
-use Rattle.change_core.proofs.Members.{None-greatest, unnamed-greatest, IsGreatest-greatest, greatest-IsGreatest, greatest-members, IsMemberList-members, members-IsMemberList, members-same, members-append, members-replaced, Contains-member_list}
+use Rattle.change_core.proofs.Members.{None-greatest, unnamed-greatest, IsGreatest-greatest, greatest-members, IsMemberList-members, members-IsMemberList, members-same, members-append, members-replaced, Contains-member_list}
 use Rattle.change_core.proofs.News.{members-no_news, members-inserted_at, gap_for, greatest-news}
 use Rattle.change_core.proofs.Serving.{serving-greatest, greatest-serving}
 use Rattle.change_core.proofs.DigestTexts.{change_text-front}

@@ -1,5 +1,5 @@
 -- What a list of changes comes to: the greatest change of each address it names.
-use Rattle.std.specs.Prelude.{Bool, true, ◌≡◌, ℕ, ◌<◌, cond, ◌==◌, nat_lt, List, [], ◌∷◌, ◌++◌, map, Option, Some, None, filter}
+use Rattle.std.specs.Prelude.{Bool, true, ◌≡◌, ℕ, ◌<◌, cond, ◌==◌, List, [], ◌∷◌, ◌++◌, map, Option, Some, None, filter}
 use Rattle.std.specs.List.{filter_map, join_with_byte, Contains}
 use Rattle.std.specs.Ordering.{nat_cmp}
 use Rattle.change_core.specs.Ascending.{ascending}

@@ -7,6 +7,7 @@
 
 mod addresses;
 mod changes;
+mod decimals;
 mod digests;
 mod errors;
 pub mod laws;
@@ -16,6 +17,7 @@ mod weights;
 
 pub use addresses::Address;
 pub use changes::{Change, Entry, Sourced};
+pub use decimals::read_number;
 pub use digests::Digest;
 pub use errors::ChangeError;
 pub use numbers::{GREATEST_NUMBER, Incarnation, MOST_MEMBERS, Moment};

@@ -9,8 +9,9 @@ pub const MOST_MEMBERS: usize = 4_096;
 /// The greatest incarnation, moment and probe number, 2^53 - 1: the greatest whole number up to which JSON readers agree.
 pub const GREATEST_NUMBER: u64 = 9_007_199_254_740_991;
 
-/// How often a node has asserted itself anew, 0 to 9,007,199,254,740,991 (SWIM, DSN 2002, section 4.2). Only the node
-/// itself raises it, to override what others say of it. Contracts see the number.
+/// The number of what a node asserts of itself, 0 to 9,007,199,254,740,991: of two changes about it that of the later
+/// incarnation holds (SWIM, DSN 2002, section 4.2). A node begins at the one that its caller chooses, and goes on to a later
+/// one, by one or more, to override what others say of it or to come back. Contracts see the number.
 #[derive(Clone, Copy, Debug, PartialEq, Eq, PartialOrd, Ord, Hash)]
 pub struct Incarnation {
     number: u64,

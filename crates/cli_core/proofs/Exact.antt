@@ -3,6 +3,7 @@ use Rattle.std.proofs.Common.{◌≡◌, ℕ, ◌≤◌, List, [], ◌∷◌, �
 use Rattle.std.proofs.lemmas.List.{map-append}
 use Rattle.change_core.specs.declared.changes.Change.{Change}
 use Rattle.change_core.specs.declared.changes.Sourced.{Sourced}
+use Rattle.change_core.specs.Change.{change_of}
 use Rattle.change_core.specs.Members.{greatest, members}
 use Rattle.change_core.specs.Numbers.{most_members}
 use Rattle.change_core.proofs.Members.{greatest-members}
@@ -13,7 +14,7 @@ use Rattle.cli_core.specs.declared.faults.LineFault.TheVariants.{Wire, TooManyMe
 use Rattle.cli_core.specs.declared.faults.RunFault.{RunFault}
 use Rattle.cli_core.specs.declared.faults.RunFault.TheVariants.{AtLine, NoMemory, CannotWrite}
 use Rattle.cli_core.specs.Input.{lines_of}
-use Rattle.cli_core.specs.Changes.{IsChangeLine, AreChangeLines, change_of, ComeTo, IsLineFault, IsFaultAt, IsFirstFault, IsRefused, IsTooMany, IsOutside}
+use Rattle.cli_core.specs.Changes.{IsChangeLine, AreChangeLines, ComeTo, IsLineFault, IsFaultAt, IsFirstFault, IsRefused, IsTooMany, IsOutside}
 use Rattle.cli_core.specs.Runs.{RunsTo}
 
 -- ---- all lines

@@ -5,12 +5,13 @@ use Rattle.std.specs.Io.KnownBytes.{Appends}
 use Rattle.std.proofs.lemmas.List.{map-append}
 use Rattle.change_core.specs.declared.changes.Change.{Change}
 use Rattle.change_core.specs.declared.changes.Sourced.{Sourced}
+use Rattle.change_core.specs.Change.{change_of}
 use Rattle.change_core.specs.Members.{members, IsMemberList}
 use Rattle.change_core.specs.Numbers.{greatest_number, most_members}
 use Rattle.change_core.proofs.Members.{members-append, IsMemberList-members}
 use Rattle.wire_json.specs.Forms.{ChangeFault}
-use Rattle.wire_json.specs.Lines.{Faults, max_line}
-use Rattle.wire_json.specs.Input.{line_of, after_line, TakesLine, AppendsFront}
+use Rattle.wire_json.specs.Lines.{Faults}
+use Rattle.wire_json.specs.Input.{AppendsFront}
 use Rattle.wire_json.specs.declared.errors.WireError.{WireError}
 use Rattle.wire_json.specs.declared.errors.WireError.TheVariants.{LineTooLong, BadJson, NotObject, UnknownKind, MissingField, BadField, TooMany, Io, Memory}
 use Rattle.cli_core.specs.declared.faults.LineFault.{LineFault}
@@ -18,10 +19,10 @@ use Rattle.cli_core.specs.declared.faults.LineFault.TheVariants.{Wire, ReadFaile
 use Rattle.cli_core.specs.declared.faults.RunFault.{RunFault}
 use Rattle.cli_core.specs.declared.faults.RunFault.TheVariants.{AtLine, NoMemory, CannotWrite}
 use Rattle.cli_core.specs.Input.{lines_of}
+use Rattle.cli_core.specs.Counted.{IsCountedFault, IsUnread, ReadsLine}
 use Rattle.cli_core.specs.Faults.{fault_of_wire}
-use Rattle.cli_core.specs.Changes.{IsChangeLine, AreChangeLines, change_of, ComeTo, IsLineFault, IsFaultAt, IsCounted, IsHeard, IsRefused, EndsLines, Hears}
+use Rattle.cli_core.specs.Changes.{IsChangeLine, AreChangeLines, ComeTo, IsLineFault, IsFaultAt, IsCounted, IsHeard, IsRefused, Hears}
 use Rattle.cli_core.specs.Runs.{RunsTo, Writes, Leaves, LeavesPart}
-use Rattle.cli_core.proofs.Lines.{lines_of-first, some_from_line}
 
 -- ---- one line
 
@@ -37,77 +38,42 @@ fault_line held line TooMany h = h (λ q. cc)
 fault_line held line Io h = tt
 fault_line held line Memory h = tt
 
-read_failed : (held : List Change) (lines : List (List ℕ)) → IsFaultAt held lines ReadFailed
-read_failed held [] = tt
-read_failed held (line ∷ lines) = tt
-
-no_memory : (held : List Change) (xs : List ℕ) → 0 < length (line_of xs) → IsFaultAt held (lines_of xs) OutOfMemory
-no_memory held xs h =
-    let first = lines_of-first xs (some_from_line xs 0 h) in
-    rw first tt
-
-abbrev pub IsReadError : WireError → Type 0
-IsReadError e = (e ≡ LineTooLong) ⊎ ((e ≡ Io) ⊎ (e ≡ Memory))
-
-too_long : (held : List Change) (xs : List ℕ) → max_line < length (line_of xs) → IsFaultAt held (lines_of xs) (Wire LineTooLong)
-too_long held xs h =
-    let first = lines_of-first xs (some_from_line xs max_line h) in
-    rw first (inl (inl (refl, h)))
+unread_known : (held : List Change) (lines : List (List ℕ)) (e : WireError) → IsUnread lines e → IsFaultAt held lines (fault_of_wire e)
+unread_known held [] e h = rw h tt
+unread_known held (line ∷ lines) Io h = tt
+unread_known held (line ∷ lines) LineTooLong h = inl (inl (refl, h))
+unread_known held (line ∷ lines) Memory h = tt
+unread_known held (line ∷ lines) other h = absurd h
 
 -- an error of reading is the fault of the line that was to be read
-pub unread : (known new : Option (List ℕ)) (held : List Change) (e : WireError) → TakesLine known (Err e) new → IsReadError e
+pub unread : (known new : Option (List ℕ)) (held : List Change) (e : WireError) → IfSome known (λ xs. ReadsLine xs (Err e) new)
     → IfSome known (λ xs. IsFaultAt held (lines_of xs) (fault_of_wire e))
-unread None new held e t i = tt
-unread (Some xs) new held e t (inl q) =
-    let long = rw q at t in
-    rw q (too_long held xs long.0)
-unread (Some xs) new held e t (inr (inl q)) = rw q (read_failed held (lines_of xs))
-unread (Some xs) new held e t (inr (inr q)) =
-    let part = rw q at t in
-    rw q (no_memory held xs part.0)
+unread None new held e h = tt
+unread (Some xs) new held e h = unread_known held (lines_of xs) e h
 
 -- an error of reading tells of a line that is counted, or of the machine
-pub counted_read : (number : ℕ) (e : WireError) → IsReadError e → (e ≡ LineTooLong → number ≤ greatest_number) → IsCounted number (fault_of_wire e)
-counted_read number e (inl q) few = inr (few q)
-counted_read number e (inr (inl q)) few = rw q (inl tt)
-counted_read number e (inr (inr q)) few = rw q (inl tt)
+pub counted_read : (number : ℕ) (e : WireError) → IsCountedFault number e → IsCounted number (fault_of_wire e)
+counted_read number e (inl q) = rw q (inl tt)
+counted_read number e (inr (inl q)) = rw q (inl tt)
+counted_read number e (inr (inr q)) = inr q.1
+
+-- no line was left
+pub last_line : (known new : Option (List ℕ)) (held : List Change) → IfSome known (λ xs. ReadsLine xs (Ok None) new) → IfSome known (λ xs. Hears xs held (Ok false) new held)
+last_line None new held h = tt
+last_line (Some xs) new held h = (h, refl)
 
 -- a line was read, and it is at fault
-pub bad_line : (known new : Option (List ℕ)) (held : List Change) (v : Vec ℕ Global) (f : LineFault) → TakesLine known (Ok (Some v)) new → IsLineFault held v.items f
+pub bad_line : (known new : Option (List ℕ)) (held : List Change) (v : Vec ℕ Global) (f : LineFault) → IfSome known (λ xs. ReadsLine xs (Ok (Some v)) new) → IsLineFault held v.items f
     → IfSome known (λ xs. IsFaultAt held (lines_of xs) f)
-bad_line None new held v f t i = tt
-bad_line (Some xs) new held v f t i = rw (lines_of-first xs t.0) (rw t.1 at i)
-
--- what was read where no line can be counted
-heard_last : (xs : List ℕ) (new : Option (List ℕ)) (held : List Change) (r : Result (Option (Vec ℕ Global)) WireError) (now : Result Bool LineFault)
-    → TakesLine (Some xs) r new → EndsLines r now → Hears xs held now new held
-heard_last xs new held (Ok None) now t e = rw e (t.0, refl)
-heard_last xs new held (Ok (Some v)) now t e = rw e (read_failed held (lines_of xs))
-heard_last xs new held (Err e) now t (inl p) = rw p.1 (read_failed held (lines_of xs))
-heard_last xs new held (Err e) now t (inr p) =
-    let part = rw p.0 at t in
-    rw p.1 (no_memory held xs part.0)
-
-pub last_line : (known new : Option (List ℕ)) (held : List Change) (r : Result (Option (Vec ℕ Global)) WireError) (now : Result Bool LineFault) → TakesLine known r new → EndsLines r now
-    → IfSome known (λ xs. Hears xs held now new held)
-last_line None new held r now t e = tt
-last_line (Some xs) new held r now t e = heard_last xs new held r now t e
-
--- it is no fault of a line, and no line that was heard
-pub last_fault : (number : ℕ) (r : Result (Option (Vec ℕ Global)) WireError) (now : Result Bool LineFault) → EndsLines r now
-    → IfErr now (λ fault. IsCounted number fault) × IfOk now (λ more. more ≡ false)
-last_fault number (Ok None) now e = rw e (tt, refl)
-last_fault number (Ok (Some v)) now e = rw e (inl tt, tt)
-last_fault number (Err f) now (inl p) = rw p.1 (inl tt, tt)
-last_fault number (Err f) now (inr p) = rw p.1 (inl tt, tt)
+bad_line None new held v f h i = tt
+bad_line (Some xs) new held v f h i = let (rest, e, lines) = h in rw lines i
 
 -- a line was read, and its change taken
-pub good_line : (known new : Option (List ℕ)) (held now : List Change) (v : Vec ℕ Global) → TakesLine known (Ok (Some v)) new
+pub good_line : (known new : Option (List ℕ)) (held now : List Change) (v : Vec ℕ Global) → IfSome known (λ xs. ReadsLine xs (Ok (Some v)) new)
     → (c : Sourced) × IsChangeLine v.items c × (now ≡ members (held ++ c.change ∷ []))
     → IfSome known (λ xs. Hears xs held (Ok true) new now)
-good_line None new held now v t p = tt
-good_line (Some xs) new held now v t p =
-    (line_of xs, after_line xs, p.0, t.2, lines_of-first xs t.0, subst (λ (l : List ℕ). IsChangeLine l p.0) t.1 p.1, p.2)
+good_line None new held now v h p = tt
+good_line (Some xs) new held now v h p = let (rest, e, lines) = h in (v.items, rest, p.0, e, lines, p.1, p.2)
 
 -- ---- all lines
 

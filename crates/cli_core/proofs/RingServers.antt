@@ -1,11 +1,11 @@
--- The servers of a ring to which the members that serve are added one after another.
-use Rattle.std.proofs.Common.{◌≡◌, ℕ, ◌+◌, ◌<◌, true, false, List, [], ◌∷◌, ◌++◌, map, length, get_or, take, drop, refl, sym, ap, subst, ◌∙◌, append_assoc, append-nil, inl, inr, arith, rules}
+-- The servers that the members that serve are, listed one after another.
+use Rattle.std.proofs.Common.{◌≡◌, ℕ, ◌+◌, ◌<◌, true, false, List, [], ◌∷◌, ◌++◌, map, length, get_or, take, refl, sym, ap, subst, ◌∙◌, append_assoc, append-nil, inl, inr, arith, rules}
 use Rattle.std.specs.List.{filter}
 use Rattle.std.specs.Ordering.{nat_cmp, ordering_then}
 use Rattle.std.specs.Cmp.{nat_cmp_is}
 use Rattle.std.specs.declared.cmp.Ordering.TheVariants.{Greater}
 use Rattle.std.proofs.lemmas.Bool.{cases_Bool, ne_eqb}
-use Rattle.std.proofs.lemmas.List.{map-append, take_more, take-append-drop}
+use Rattle.std.proofs.lemmas.List.{map-append, take_more}
 use Rattle.std.proofs.lemmas.List.Elements.{filter-append}
 use Rattle.change_core.specs.declared.changes.Change.{Change}
 use Rattle.change_core.specs.Ascending.{put}
@@ -15,7 +15,7 @@ use Rattle.change_core.specs.declared.statuses.Status.{Status}
 use Rattle.change_core.specs.declared.statuses.Status.TheVariants.{Alive, Suspect, Faulty, Leave, Tombstone}
 use Rattle.change_core.proofs.Members.{members-IsMemberList}
 use Rattle.hash_ring.specs.declared.servers.Server.{Server}
-use Rattle.hash_ring.specs.Servers.{server_cmp, with_server, without}
+use Rattle.hash_ring.specs.Servers.{server_cmp, with_each, with_server, without}
 use Rattle.hash_ring.specs.Serving.{server_of, servers_of}
 
 -- the test of a status says what the fact says
@@ -82,27 +82,40 @@ listed-serving c t = simp t refl
 listed-other : (c : Change) → is_serving c.status ≡ false → listed (c ∷ []) ≡ []
 listed-other c f = simp f refl
 
+passed : (cs : List Change) (c : Change) → is_serving c.status ≡ false → listed (cs ++ c ∷ []) ≡ listed cs
+passed cs c f = listed-append cs (c ∷ []) ∙ ap (λ ss. listed cs ++ ss) (listed-other c f) ∙ append-nil (listed cs)
+
 -- the members up to one of them
 up_to : (cs : List Change) (i : ℕ) (c : Change) → i < length cs → c ≡ get_or cs i c → take (i + 1) cs ≡ take i cs ++ c ∷ []
 up_to cs i c l e = take_more cs i c l ∙ ap (λ d. take i cs ++ d ∷ []) (sym e)
 
-parted_at : (cs : List Change) (i : ℕ) (c : Change) → i < length cs → c ≡ get_or cs i c → cs ≡ take i cs ++ c ∷ drop (i + 1) cs
-parted_at cs i c l e =
-    sym (take-append-drop (i + 1) cs) ∙ ap (λ ds. ds ++ drop (i + 1) cs) (up_to cs i c l e) ∙ append_assoc (take i cs) (c ∷ []) (drop (i + 1) cs)
-
--- a member that serves is added last
-pub listed-added : (cs : List Change) (i : ℕ) (c : Change) → IsMemberList cs → i < length cs → c ≡ get_or cs i c → is_serving c.status ≡ true
-    → with_server (server_of c) (listed (take i cs)) ≡ listed (take (i + 1) cs)
-listed-added cs i c m l e t =
-    with_server-last (server_of c) (listed (take i cs)) (under (take i cs) c (drop (i + 1) cs) (subst IsMemberList (parted_at cs i c l e) m))
-    ∙ ap (λ ss. listed (take i cs) ++ ss) (sym (listed-serving c t))
-    ∙ sym (listed-append (take i cs) (c ∷ []))
-    ∙ ap listed (sym (up_to cs i c l e))
+-- a member that serves is listed last
+pub listed-more : (cs : List Change) (i : ℕ) (c : Change) → i < length cs → c ≡ get_or cs i c → is_serving c.status ≡ true
+    → listed (take i cs) ++ server_of c ∷ [] ≡ listed (take (i + 1) cs)
+listed-more cs i c l e t =
+    ap (λ ss. listed (take i cs) ++ ss) (sym (listed-serving c t)) ∙ sym (listed-append (take i cs) (c ∷ [])) ∙ ap listed (sym (up_to cs i c l e))
 
 -- another is passed over
 pub listed-passed : (cs : List Change) (i : ℕ) (c : Change) → i < length cs → c ≡ get_or cs i c → is_serving c.status ≡ false
     → listed (take i cs) ≡ listed (take (i + 1) cs)
-listed-passed cs i c l e f =
-    sym (append-nil (listed (take i cs))) ∙ ap (λ ss. listed (take i cs) ++ ss) (sym (listed-other c f))
-    ∙ sym (listed-append (take i cs) (c ∷ []))
-    ∙ ap listed (sym (up_to cs i c l e))
+listed-passed cs i c l e f = sym (passed (take i cs) c f) ∙ ap listed (sym (up_to cs i c l e))
+
+-- those of the rest, put in among those of the front, are those of all
+with_rest : (cs ds : List Change) → IsMemberList (cs ++ ds) → with_each (listed ds) (listed cs) ≡ listed (cs ++ ds)
+with_rest cs [] m = ap listed (sym (append-nil cs))
+with_rest cs (d ∷ ds) m =
+    let parted : cs ++ d ∷ ds ≡ (cs ++ d ∷ []) ++ ds = sym (append_assoc cs (d ∷ []) ds) in
+    let rest = with_rest (cs ++ d ∷ []) ds (subst IsMemberList parted m) ∙ ap listed (sym parted) in
+    elim (cases_Bool (is_serving d.status)) [
+      | inl t ↦
+          let added : with_server (server_of d) (listed cs) ≡ listed (cs ++ d ∷ []) =
+          with_server-last (server_of d) (listed cs) (under cs d ds m) ∙ ap (λ ss. listed cs ++ ss) (sym (listed-serving d t)) ∙ sym (listed-append cs (d ∷ [])) in
+          simp t (ap (with_each (listed ds)) added ∙ rest)
+      | inr f ↦ simp f (ap (with_each (listed ds)) (sym (passed cs d f)) ∙ rest)
+    ]
+
+-- the servers of a member list, put in one after another, are these servers
+pub each-servers_of : (cs : List Change) → IsMemberList cs → with_each (servers_of cs) [] ≡ servers_of cs
+each-servers_of cs m =
+    let whole = listed-members cs m in
+    ap (λ ss. with_each ss []) (sym whole) ∙ with_rest [] cs m ∙ whole

@@ -3,11 +3,12 @@ use Rattle.std.proofs.Common.{◌≡◌, ℕ, ◌≤◌, List, [], ◌∷◌, ma
 use Rattle.std.specs.List.{Contains}
 use Rattle.change_core.specs.declared.changes.Change.{Change}
 use Rattle.change_core.specs.declared.changes.Sourced.{Sourced}
+use Rattle.change_core.specs.Change.{change_of}
 use Rattle.change_core.specs.Members.{HaveSameChanges}
 use Rattle.change_core.specs.Numbers.{greatest_number}
 use Rattle.change_core.proofs.Members.{members-same}
 use Rattle.cli_core.specs.Input.{lines_of}
-use Rattle.cli_core.specs.Changes.{IsChangeLine, AreChangeLines, change_of, ComeTo, HaveSameLines}
+use Rattle.cli_core.specs.Changes.{IsChangeLine, AreChangeLines, ComeTo, HaveSameLines}
 use Rattle.cli_core.specs.Runs.{RunsTo}
 use Rattle.wire_json.proofs.Uniqueness.{one_line_change}
 use Rattle.cli_core.proofs.Listed.{none, here, there, first_or_later}

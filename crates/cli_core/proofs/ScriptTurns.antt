@@ -4,13 +4,15 @@ use Rattle.std.specs.Prelude.{IfSome}
 use Rattle.std.specs.Io.KnownBytes.{Appends}
 use Rattle.change_core.specs.Numbers.{greatest_number}
 use Rattle.wire_json.specs.Input.{AppendsFront}
+use Rattle.wire_json.specs.declared.errors.WireError.{WireError}
 use Rattle.cli_core.specs.declared.scripts.faults.ScriptFault.{ScriptFault}
 use Rattle.cli_core.specs.declared.scripts.faults.SimFault.{SimFault}
 use Rattle.cli_core.specs.declared.scripts.faults.SimFault.TheVariants.{AtLine, CannotWrite}
+use Rattle.cli_core.specs.Counted.{IsCountedFault, ReadsLine}
 use Rattle.cli_core.specs.Input.{lines_of}
 use Rattle.cli_core.specs.Script.{Script}
-use Rattle.cli_core.specs.ScriptRuns.{AnswersAll, AnswersLine, Completes, IsCountedLine, IsLineRefused, IsRefusedAt, ReadsLine, Stops, Turns}
-use Rattle.cli_core.proofs.Scripting.{answers_more, appends_more, appends_nothing, refused_first, unread_refused}
+use Rattle.cli_core.specs.ScriptRuns.{AnswersAll, AnswersLine, Completes, IsCountedLine, IsLineRefused, IsRefusedAt, Stops, Turns, fault_of_read}
+use Rattle.cli_core.proofs.Scripting.{answers_more, appends_more, appends_nothing, counted_line, refused_first, unread_refused}
 
 -- ---- one turn
 
@@ -19,10 +21,10 @@ pub turn_end : {H : Type 0} (hash_of : H → List ℕ → ℕ) (s : Script H) (k
 turn_end hash_of s None left written number h = tt
 turn_end hash_of s (Some xs) left written number h = (h, refl, refl)
 
-pub turn_unread : {H : Type 0} (hash_of : H → List ℕ → ℕ) (s : Script H) (known left written : Option (List ℕ)) (number : ℕ) (f : ScriptFault)
-    → IfSome known (λ xs. ReadsLine xs (Err f) left) → IsCountedLine number f → IfSome known (λ xs. Turns hash_of s xs written number (Err (AtLine number f)) s left written)
-turn_unread hash_of s None left written number f h counted = tt
-turn_unread hash_of s (Some xs) left written number f h counted = (refl, unread_refused hash_of s (lines_of xs) f h, counted, refl)
+pub turn_unread : {H : Type 0} (hash_of : H → List ℕ → ℕ) (s : Script H) (known left written : Option (List ℕ)) (number : ℕ) (e : WireError)
+    → IfSome known (λ xs. ReadsLine xs (Err e) left) → IsCountedFault number e → IfSome known (λ xs. Turns hash_of s xs written number (Err (AtLine number (fault_of_read e))) s left written)
+turn_unread hash_of s None left written number e h counted = tt
+turn_unread hash_of s (Some xs) left written number e h counted = (refl, unread_refused hash_of s (lines_of xs) e h, counted_line number e counted, refl)
 
 pub turn_refused : {H : Type 0} (hash_of : H → List ℕ → ℕ) (s then : Script H) (known left written : Option (List ℕ)) (number : ℕ) (v : Vec ℕ Global) (f : ScriptFault)
     → IfSome known (λ xs. ReadsLine xs (Ok (Some v)) left) → IsLineRefused hash_of s v.items f → IsCountedLine number f

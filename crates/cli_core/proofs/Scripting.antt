@@ -4,7 +4,6 @@ use Rattle.std.specs.Prelude.{IfSome, IfOk, IfErr, IsOkUnless, IsSome, Result, �
 use Rattle.std.specs.Io.KnownBytes.{Appends}
 use Rattle.change_core.specs.Numbers.{greatest_number}
 use Rattle.wire_json.specs.Lines.{max_line}
-use Rattle.wire_json.specs.Input.{line_of, after_line, TakesLine, AppendsFront}
 use Rattle.wire_json.specs.declared.errors.WireError.{WireError}
 use Rattle.wire_json.specs.declared.errors.WireError.TheVariants.{LineTooLong, Io, Memory}
 use Rattle.cli_core.specs.declared.scripts.answers.Answer.{Answer}
@@ -12,61 +11,18 @@ use Rattle.cli_core.specs.declared.scripts.lines.Command.{Command}
 use Rattle.cli_core.specs.declared.scripts.lines.Command.TheVariants as command
 use Rattle.cli_core.specs.declared.scripts.faults.ScriptFault.{ScriptFault}
 use Rattle.cli_core.specs.declared.scripts.faults.ScriptFault.TheVariants as fault
-use Rattle.cli_core.specs.Input.{lines_of}
+use Rattle.cli_core.specs.Counted.{IsCountedFault, IsUnread}
 use Rattle.cli_core.specs.Script.{Script, IsRefusedFor, Obeys}
 use Rattle.cli_core.specs.ScriptLines.{IsCommand}
-use Rattle.cli_core.specs.ScriptRuns.{AnswersAll, AnswersLine, EndsScript, IsCountedLine, IsLineRefused, IsRefusedAt, IsUnread, ReadsLine, fault_of_read}
-use Rattle.cli_core.proofs.Lines.{lines_of-first, some_from_line}
+use Rattle.cli_core.specs.ScriptRuns.{AnswersAll, AnswersLine, IsCountedLine, IsLineRefused, IsRefusedAt, fault_of_read}
 
 -- ---- one line that is read
 
-read_failed : (lines : List (List ℕ)) → IsUnread lines fault.ReadFailed
-read_failed [] = refl
-read_failed (line ∷ lines) = tt
-
-no_memory : (xs : List ℕ) → 0 < length (line_of xs) → IsUnread (lines_of xs) fault.OutOfMemory
-no_memory xs h = let first = lines_of-first xs (some_from_line xs 0 h) in rw first tt
-
-too_long : (xs : List ℕ) → max_line < length (line_of xs) → IsUnread (lines_of xs) fault.LineTooLong
-too_long xs h = let first = lines_of-first xs (some_from_line xs max_line h) in rw first h
-
-abbrev pub IsReadError : WireError → Type 0
-IsReadError e = (e ≡ LineTooLong) ⊎ ((e ≡ Io) ⊎ (e ≡ Memory))
-
--- an error of reading is the fault of the line that was to be read
-pub unread : (known new : Option (List ℕ)) (e : WireError) → TakesLine known (Err e) new → IsReadError e → IfSome known (λ xs. ReadsLine xs (Err (fault_of_read e)) new)
-unread None new e t i = tt
-unread (Some xs) new e t (inl q) = let long = rw q at t in rw q (too_long xs long.0)
-unread (Some xs) new e t (inr (inl q)) = rw q (read_failed (lines_of xs))
-unread (Some xs) new e t (inr (inr q)) = let part = rw q at t in rw q (no_memory xs part.0)
-
-pub line_read : (known new : Option (List ℕ)) (o : Option (Vec ℕ Global)) → TakesLine known (Ok o) new → IfSome known (λ xs. ReadsLine xs (Ok o) new)
-line_read None new o t = tt
-line_read (Some xs) new None t = t.0
-line_read (Some xs) new (Some v) t = (after_line xs, t.2, lines_of-first xs t.0 ∙ ap (λ l. l ∷ lines_of (after_line xs)) (sym t.1))
-
--- what was read where no line can be counted
-last_known : (xs : List ℕ) (new : Option (List ℕ)) (r : Result (Option (Vec ℕ Global)) WireError) (now : Result (Option (Vec ℕ Global)) ScriptFault)
-    → TakesLine (Some xs) r new → EndsScript r now → ReadsLine xs now new
-last_known xs new (Ok None) now t e = rw e t.0
-last_known xs new (Ok (Some v)) now t e = rw e (read_failed (lines_of xs))
-last_known xs new (Err e) now t (inl p) = rw p.1 (read_failed (lines_of xs))
-last_known xs new (Err e) now t (inr p) = let part = rw p.0 at t in rw p.1 (no_memory xs part.0)
-
-pub last_line : (known new : Option (List ℕ)) (r : Result (Option (Vec ℕ Global)) WireError) (now : Result (Option (Vec ℕ Global)) ScriptFault)
-    → TakesLine known r new → EndsScript r now → IfSome known (λ xs. ReadsLine xs now new)
-last_line None new r now t e = tt
-last_line (Some xs) new r now t e = last_known xs new r now t e
-
-not_there : false ≡ true → ⊥
-not_there e = cc
-
-pub last_counted : (number : ℕ) (r : Result (Option (Vec ℕ Global)) WireError) (now : Result (Option (Vec ℕ Global)) ScriptFault) → EndsScript r now
-    → IfOk now (λ line. IsSome line → number ≤ greatest_number) × IfErr now (λ f. IsCountedLine number f)
-last_counted number (Ok None) now e = rw e ((λ h. absurd (not_there h)), tt)
-last_counted number (Ok (Some v)) now e = rw e (tt, inl tt)
-last_counted number (Err x) now (inl p) = rw p.1 (tt, inl tt)
-last_counted number (Err x) now (inr p) = rw p.1 (tt, inl tt)
+-- an error of reading tells of a line that is counted, or of the machine
+pub counted_line : (number : ℕ) (e : WireError) → IsCountedFault number e → IsCountedLine number (fault_of_read e)
+counted_line number e (inl q) = rw q (inl tt)
+counted_line number e (inr (inl q)) = rw q (inl tt)
+counted_line number e (inr (inr q)) = inr q.1
 
 -- ---- one line that is answered
 
@@ -120,11 +76,11 @@ refused_first hash_of s line lines fault.ReadFailed h = tt
 refused_first hash_of s line lines fault.OutOfMemory h = tt
 refused_first hash_of s line lines other h = h
 
-pub unread_refused : {H : Type 0} (hash_of : H → List ℕ → ℕ) (s : Script H) (lines : List (List ℕ)) (f : ScriptFault) → IsUnread lines f → IsRefusedAt hash_of s lines f
-unread_refused hash_of s [] f h = h
-unread_refused hash_of s (line ∷ lines) fault.ReadFailed h = tt
-unread_refused hash_of s (line ∷ lines) fault.LineTooLong h = h
-unread_refused hash_of s (line ∷ lines) fault.OutOfMemory h = tt
+pub unread_refused : {H : Type 0} (hash_of : H → List ℕ → ℕ) (s : Script H) (lines : List (List ℕ)) (e : WireError) → IsUnread lines e → IsRefusedAt hash_of s lines (fault_of_read e)
+unread_refused hash_of s [] e h = ap fault_of_read h
+unread_refused hash_of s (line ∷ lines) Io h = tt
+unread_refused hash_of s (line ∷ lines) LineTooLong h = h
+unread_refused hash_of s (line ∷ lines) Memory h = tt
 unread_refused hash_of s (line ∷ lines) other h = absurd h
 
 -- ---- what is written

@@ -1,15 +1,13 @@
 -- Change lines, the members that they come to, and the first line at fault.
-use Rattle.std.specs.Prelude.{◌≡◌, ◌≢◌, ℕ, ◌+◌, ◌≤◌, ◌⊎◌, Bool, true, false, List, [], ◌∷◌, ◌++◌, map, length, Option, Some, None, Result, Ok, Err, Vec}
-use Rattle.std.specs.Global.{Global}
+use Rattle.std.specs.Prelude.{◌≡◌, ℕ, ◌+◌, ◌≤◌, ◌⊎◌, Bool, true, false, List, [], ◌∷◌, ◌++◌, map, length, Option, Some, None, Result, Ok, Err}
 use Rattle.std.specs.List.{AllZip, Contains}
 use Rattle.change_core.specs.declared.changes.Change.{Change}
 use Rattle.change_core.specs.declared.changes.Sourced.{Sourced}
+pub use Rattle.change_core.specs.Change.{change_of}
 use Rattle.change_core.specs.Members.{greatest, members}
 use Rattle.change_core.specs.Numbers.{greatest_number, most_members}
 use Rattle.wire_json.specs.Forms.{ChangeForm, ChangeFault}
 use Rattle.wire_json.specs.Lines.{IsLine, Faults}
-use Rattle.wire_json.specs.declared.errors.WireError.{WireError}
-use Rattle.wire_json.specs.declared.errors.WireError.TheVariants.{Memory}
 use Rattle.cli_core.specs.declared.faults.LineFault.{LineFault}
 use Rattle.cli_core.specs.declared.faults.LineFault.TheVariants.{Wire, TooManyMembers, ReadFailed, OutOfMemory}
 use Rattle.cli_core.specs.declared.faults.RunFault.{RunFault}
@@ -23,10 +21,6 @@ IsChangeLine line c = IsLine (λ v. ChangeForm v c) line
 -- each line is the change at its place
 abbrev pub AreChangeLines : List (List ℕ) → List Sourced → Type 0
 AreChangeLines = AllZip IsChangeLine
-
--- a change without its source
-abbrev pub change_of : Sourced → Change
-change_of c = c.change
 
 -- every line is a change, the changes come to these members, and there is room for them
 pub record ComeTo (lines : List (List ℕ)) (held : List Change) : Type 0 where
@@ -100,9 +94,3 @@ Hears xs held (Ok false) new now = (xs ≡ []) × (now ≡ held)
 Hears xs held (Ok true) new now =
     (line rest : List ℕ) × (c : Sourced) × (new ≡ Some rest) × (lines_of xs ≡ line ∷ lines_of rest) × IsChangeLine line c × (now ≡ members (held ++ c.change ∷ []))
 Hears xs held (Err fault) new now = IsFaultAt held (lines_of xs) fault
-
--- what is made of what was read where no line can be counted any more: at the end nothing, and else a fault of the machine
-abbrev pub EndsLines : Result (Option (Vec ℕ Global)) WireError → Result Bool LineFault → Type 0
-EndsLines (Ok None) now = now ≡ Ok false
-EndsLines (Ok (Some line)) now = now ≡ Err ReadFailed
-EndsLines (Err e) now = ((e ≢ Memory) × (now ≡ Err ReadFailed)) ⊎ ((e ≡ Memory) × (now ≡ Err OutOfMemory))

@@ -1,4 +1,5 @@
 pub mod Input
+pub mod Counted
 pub mod Faults
 pub mod Changes
 pub mod Runs

@@ -1,6 +1,5 @@
 -- A run of a script: the answers to its lines, and the first line at fault.
-use Rattle.std.specs.Prelude.{◌≡◌, ◌≢◌, ℕ, ◌+◌, ◌<◌, ◌≤◌, ◌⊎◌, Bool, true, false, List, [], ◌∷◌, ◌++◌, length, Option, Some, None, IfSome, Result, Ok, Err, Vec}
-use Rattle.std.specs.Global.{Global}
+use Rattle.std.specs.Prelude.{◌≡◌, ℕ, ◌+◌, ◌<◌, ◌≤◌, ◌⊎◌, Bool, true, false, List, [], ◌∷◌, ◌++◌, length, Option, Some, None, IfSome, Result, Ok, Err}
 use Rattle.wire_json.specs.declared.errors.WireError.{WireError}
 use Rattle.wire_json.specs.declared.errors.WireError.TheVariants.{LineTooLong, Memory}
 use Rattle.std.specs.Io.KnownBytes.{Appends}
@@ -99,26 +98,6 @@ abbrev pub Stops : {H : Type 0} → (H → List ℕ → ℕ) → Script H → Si
 Stops hash_of start (AtLine number f) known old new = IfSome known (λ input. (output : List ℕ) × IsStoppedAt hash_of start input number f output × Appends old new output)
 Stops hash_of start CannotWrite known old new =
     IfSome known (λ input. (output text : List ℕ) × (written : Option (List ℕ)) × IsCutAfter hash_of start input output text × Appends old written output × AppendsFront written new (text ++ 10 ∷ []))
-
--- why none of the lines that are left was read: a failed read, or, where there is a line, that it is too long, or a want of memory
-abbrev pub IsUnread : List (List ℕ) → ScriptFault → Type 0
-IsUnread [] f = f ≡ fault.ReadFailed
-IsUnread (line ∷ lines) fault.ReadFailed = Unit {0}
-IsUnread (line ∷ lines) fault.LineTooLong = max_line < length line
-IsUnread (line ∷ lines) fault.OutOfMemory = Unit {0}
-IsUnread (line ∷ lines) other = ⊥
-
--- what was read as a line: a line of the known bytes, or nothing at their end, or a fault
-abbrev pub ReadsLine : List ℕ → Result (Option (Vec ℕ Global)) ScriptFault → Option (List ℕ) → Type 0
-ReadsLine xs (Ok None) new = xs ≡ []
-ReadsLine xs (Ok (Some v)) new = (rest : List ℕ) × (new ≡ Some rest) × (lines_of xs ≡ v.items ∷ lines_of rest)
-ReadsLine xs (Err f) new = IsUnread (lines_of xs) f
-
--- what is made of what was read where no line can be counted any more: at the end nothing, and else a fault of the machine
-abbrev pub EndsScript : Result (Option (Vec ℕ Global)) WireError → Result (Option (Vec ℕ Global)) ScriptFault → Type 0
-EndsScript (Ok None) now = now ≡ Ok None
-EndsScript (Ok (Some line)) now = now ≡ Err fault.ReadFailed
-EndsScript (Err e) now = ((e ≢ Memory) × (now ≡ Err fault.ReadFailed)) ⊎ ((e ≡ Memory) × (now ≡ Err fault.OutOfMemory))
 
 -- what a fault of reading is to a script
 abbrev pub fault_of_read : WireError → ScriptFault

@@ -1,6 +1,7 @@
 //! The commands of the program, from bytes read to bytes written: `fold`, `hash`, `owner` and `sim`.
 #![tactic(auto)]
 
+mod counted;
 mod faults;
 mod fold;
 mod hashes;

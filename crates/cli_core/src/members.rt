@@ -3,14 +3,15 @@ ghost use Rattle.std.specs.Prelude.{◌≡◌, ◌≤◌, ◌++◌, ◌∷◌, [
 ghost use Rattle.change_core.specs.declared.changes.Sourced.{Sourced};
 ghost use Rattle.change_core.specs.Members.{members};
 ghost use Rattle.change_core.specs.Numbers.{greatest_number, most_members};
-ghost use Rattle.cli_core.specs.Changes.{EndsLines, Hears, IsChangeLine, IsCounted, IsHeard, IsLineFault, IsRefused};
+ghost use Rattle.cli_core.specs.Changes.{Hears, IsChangeLine, IsCounted, IsHeard, IsLineFault, IsRefused};
 
+use crate::counted::next_line;
 use crate::faults::{LineFault, RunFault};
-use change_core::{GREATEST_NUMBER, MOST_MEMBERS};
+use change_core::MOST_MEMBERS;
 use member_core::{MemberError, MemberTable};
 use std::alloc::Global;
 use std::io::Read;
-use wire_json::{WireError, decode_change, read_line};
+use wire_json::decode_change;
 
 /// Takes the change that a line is.
 fn take_line(alloc: Global, table: &mut MemberTable, line: &[u8]) -> Result<(), LineFault>
@@ -30,17 +31,6 @@ fn take_line(alloc: Global, table: &mut MemberTable, line: &[u8]) -> Result<(), 
     }
 }
 
-/// What was read in place of a line that can't be counted: false at the end of the input, and a fault for any line.
-fn end_of_lines(read: Result<Option<Vec<u8>>, WireError>) -> Result<bool, LineFault>
-    ensures { EndsLines read result }
-{
-    match read {
-        Ok(None) => Ok(false),
-        Err(WireError::Memory) => Err(LineFault::OutOfMemory),
-        _ => Err(LineFault::ReadFailed),
-    }
-}
-
 /// Reads the line of this number and takes its change; false at the end of the input. A line that can't be counted is
 /// `ReadFailed`, whatever it is, or `OutOfMemory` where a growth is refused in reading it.
 fn hear<R: Read>(
@@ -57,11 +47,7 @@ fn hear<R: Read>(
     ensures fits { IfOk result (λ more. more ≡ true → length table.new.members ≤ most_members) }
     ensures max { table.new.max ≡ most_members }
 {
-    let read = read_line(alloc, reader);
-    if number > GREATEST_NUMBER {
-        return end_of_lines(read);
-    }
-    let Some(line) = read? else {
+    let Some(line) = next_line(alloc, reader, number)? else {
         return Ok(false);
     };
     take_line(alloc, table, line.as_slice())?;

@@ -14,9 +14,26 @@ use crate::members::read_members;
 use crate::outputs::write_text;
 use crate::words::OwnerWords;
 use change_core::{Address, Change};
-use hash_ring::{PointHash, Ring, Sha256Hash, SumHash};
+use hash_ring::{PointHash, Ring, Server, Sha256Hash, SumHash};
 use std::alloc::Global;
 use std::io::{Read, Write};
+
+/// The members that serve, with their weights.
+fn servers_among(alloc: Global, members: &[Change]) -> Result<Vec<Server>, RunFault>
+    ensures servers { IfOk result (λ servers. IsMemberList members.now → servers.items ≡ servers_of members.now) }
+    ensures refusal { IsOkUnless result RunFault.NoMemory }
+{
+    let mut servers = Vec::with_capacity(alloc, members.len())?;
+    'members: for member in members {
+        if member.status.serving() {
+            servers.push_reserved(Server {
+                address: member.address,
+                weight: member.weight,
+            });
+        }
+    }
+    Ok(servers)
+}
 
 /// The ring of the members that serve, by their weights.
 pub fn ring_of<H: PointHash>(
@@ -31,16 +48,10 @@ pub fn ring_of<H: PointHash>(
     ensures servers { IfOk result (λ ring. IsMemberList members.now → ring.servers ≡ servers_of members.now) }
     ensures refusal { IsOkUnless result RunFault.NoMemory }
 {
-    let Ok(mut ring) = Ring::new(alloc, hash, replicas) else {
-        unreachable!()
+    let servers = servers_among(alloc, members)?;
+    let Ok(ring) = Ring::with_servers(alloc, hash, replicas, servers.as_slice()) else {
+        return Err(RunFault::NoMemory);
     };
-    'members: for member in members {
-        if member.status.serving() {
-            ring.reserve_for(member.address, member.weight)
-                .map_err(|_| RunFault::NoMemory)?;
-            ring.add(member.address, member.weight);
-        }
-    }
     Ok(ring)
 }
 

@@ -8,7 +8,7 @@ ghost use Rattle.hash_ring.specs.Points.{IsReplicas};
 pub struct OwnerWords<'a> {
     /// How many owners to name, 0 to 4,096.
     pub count: usize,
-    /// How many points a server has for each of its weight, 1 to 1,000.
+    /// How many points a server has for each unit of its weight, 1 to 1,000.
     pub replicas: u32,
     /// Whether the hash is the sum of the bytes, in place of SHA-256's first eight.
     pub sum: bool,
@@ -21,7 +21,7 @@ pub struct OwnerWords<'a> {
 /// The words of `sim`.
 #[derive(Clone, Copy, Debug, PartialEq, Eq)]
 pub struct SimWords {
-    /// How many points a server has for each of its weight, 1 to 1,000.
+    /// How many points a server has for each unit of its weight, 1 to 1,000.
     pub replicas: u32,
     /// Whether the hash is the sum of the bytes, in place of SHA-256's first eight.
     pub sum: bool,

@@ -30,7 +30,7 @@ use Rattle.cluster_core.specs.Asking.{IsSent}
 use Rattle.cluster_core.specs.Handling.{MayHandle, handled_as}
 use Rattle.cluster_core.specs.Links.{MayAnswer, IsAckOf}
 use Rattle.cluster_core.specs.Provenance.{pinged, AnswersSo, IsFound, IsMadeOf, IsReport, ServingsRest}
-use Rattle.cluster_core.specs.Serving.{message_by, Answers, Finds, Follows, Forwards, Gossips, IsDecided, IsRouted, PassesOn, Reaches, Reports, Says, Seeks, Sends, Serves, Tells}
+use Rattle.cluster_core.specs.Serving.{message_by, Answers, Finds, AnswersPingReq, Forwards, Gossips, IsDecided, IsRouted, PassesOn, Reaches, Reports, Says, Seeks, GivesMade, Serves, TellsRequester}
 
 module _ {H : Type 0} where
   says_so : (told : Content) (answer : Message) (acts : List (Act H)) → Says told (Ok answer) acts → answer.content ≡ told
@@ -46,12 +46,12 @@ module _ {H : Type 0} where
   one_act act acts xs ys e just none = e ∙ (ap (λ (zs : List (Act H)). zs ++ ys) just ∙ ap (λ (zs : List (Act H)). (act ∷ []) ++ zs) none)
 
   -- the first acts have this one, and so have all
-  has_first : (act : Act H) (acts xs ys : List (Act H)) → acts ≡ xs ++ ys → xs ≡ act ∷ [] → Contains acts act
+  pub has_first : (act : Act H) (acts xs ys : List (Act H)) → acts ≡ xs ++ ys → xs ≡ act ∷ [] → Contains acts act
   has_first act acts xs ys e just =
       subst (λ (zs : List (Act H)). Contains zs act) (sym e)
       (Contains-append_left xs ys act (subst (λ (zs : List (Act H)). Contains zs act) (sym just) (0, omega arith, refl)))
 
-  has_later : (act : Act H) (acts xs ys : List (Act H)) → acts ≡ xs ++ ys → Contains ys act → Contains acts act
+  pub has_later : (act : Act H) (acts xs ys : List (Act H)) → acts ≡ xs ++ ys → Contains ys act → Contains acts act
   has_later act acts xs ys e c = subst (λ (zs : List (Act H)). Contains zs act) (sym e) (Contains-append_right xs ys act c)
 
   gossips_by : (message answer : Message) (now : ℕ) (r : Received) (acts xs ys : List (Act H)) → acts ≡ xs ++ ys
@@ -120,7 +120,7 @@ module _ {H : Type 0} (Came : MayAnswer) (now : ℕ) (target : Address) where
 
   -- the requester is told by what the node made, or is refused
   sends_by : (requester : Address) (reached : Bool) (answer : Message) (made : Result Message NodeError) (acts xs ys : List (Act H)) → acts ≡ xs ++ ys
-      → xs ≡ did (call.PingReqAckTo requester target reached) (reply.PingReqAckTo made) ∷ [] → Sends made (Ok answer) ys
+      → xs ≡ did (call.PingReqAckTo requester target reached) (reply.PingReqAckTo made) ∷ [] → GivesMade made (Ok answer) ys
       → (kind_of answer.content ≡ kind.Refused) ⊎ (acts ≡ did (call.PingReqAckTo requester target reached) (reply.PingReqAckTo (Ok answer)) ∷ [])
   sends_by requester reached answer (Ok m) acts xs ys e just p =
       let same : m ≡ answer = (let is : Ok answer ≡ Ok m = p.1 in cc) in
@@ -140,7 +140,7 @@ module _ {H : Type 0} (Came : MayAnswer) (now : ℕ) (target : Address) where
   sends_by requester reached answer (Err node.NotAsked) acts xs ys e just p = absurd p
 
   tells_by : (requester : Address) (answer : Message) (found : Option Bool) (acts xs ys : List (Act H)) → acts ≡ xs ++ ys
-      → Finds Came now target (Ok found) xs → Tells requester target found (Ok answer) ys
+      → Finds Came now target (Ok found) xs → TellsRequester requester target found (Ok answer) ys
       → (kind_of answer.content ≡ kind.Refused) ⊎ IsReport Came requester now target answer acts
   tells_by requester answer None acts xs ys e f p = inl (refuses_so _ answer ys p)
   tells_by requester answer (Some reached) acts xs ys e f (inl h) = absurd h
@@ -170,7 +170,7 @@ module _ {H : Type 0} (Came : MayAnswer) (now : ℕ) (target : Address) where
       )
 
   follows_by : (requester : Address) (answer : Message) (r : Received) (acts xs ys : List (Act H)) → acts ≡ xs ++ ys
-      → Follows Came requester now target r (Ok answer) ys
+      → AnswersPingReq Came requester now target r (Ok answer) ys
       → (kind_of answer.content ≡ kind.Refused) ⊎ IsReport Came requester now target answer acts
   follows_by requester answer (received.Done taken) acts xs ys e p = report_later requester answer acts xs ys e (reports_so requester answer ys p)
   follows_by requester answer (received.Stopped stopped) acts xs ys e p = inl (refuses_so _ answer ys p)

@@ -1,12 +1,15 @@
 //! Laws over the definitions, each the contract of a function that does nothing.
 ghost use Rattle.cluster_core.specs.Provenance.{JoinsRest, RoundsRest, ServingsRest};
+ghost use Rattle.cluster_core.specs.Requests.{RequestsRest};
 
+use crate::clocks::Clock;
 use crate::handlers::Handler;
 use crate::links::Link;
 use hash_ring::PointHash;
 
 /// What a round says of others came over the link: a probe is acknowledged directly after the Ack that came from its target
-/// was taken, is lost only where another answer came, and a helper's word is what came from it, or it failed. Each moment is
+/// was taken, is lost only where another answer came; a helper was named when the node was told last that the probe is
+/// lost, and its word is what came from it, or it failed. Each moment is
 /// that of the round. A round is idle only where nobody could be probed, and otherwise its last call ended the probe that it
 /// began, in the way that it answers. A refused round says why: the lock refused it, the node's last reply is that refusal,
 /// or the link found no memory for the message that the last call made.
@@ -28,4 +31,13 @@ pub fn joins<H, L: Link>()
 /// a Forward it is the handler's answer, or says that another node owns the keys. Any other message is refused.
 pub fn servings<H: PointHash, L: Link, A: Handler>()
     ensures { ServingsRest H.hash_of L.may_answer A.may_handle }
+{}
+
+/// The text of a request is the handler's, where a view of the node says that the node owns all its keys; or it is that of a Reply
+/// that came over the link from the owner of all keys in a view of the node, for a Forward by the node of these keys and this body.
+/// A refused request says why, and by what: the lock refused it; in a view two keys have different owners, or nobody serves; an
+/// answer that is a failure came from the owner; the handler failed; or there was no memory for a view, for the handler or for
+/// the link.
+pub fn requests<H: PointHash, L: Link, A: Handler, C: Clock>()
+    ensures { RequestsRest H.hash_of L.may_answer A.may_handle C.is_now }
 {}

@@ -25,4 +25,4 @@ pub use handlers::Handler;
 pub use joining::join;
 pub use links::Link;
 pub use rounds::Round;
-pub use serving::serve_one;
+pub use serving::{refuse, serve_one};

@@ -3,7 +3,7 @@ ghost use Rattle.std.specs.Prelude.{◌≡◌, true, false, Ok, IfOk, IfErr};
 ghost use Rattle.node_core.specs.Receiving.{is_answered, is_gossip};
 ghost use Rattle.locked_node.specs.Passes.{Fits};
 ghost use Rattle.cluster_core.specs.Parts.{Does, let_in};
-ghost use Rattle.cluster_core.specs.Serving.{Finds, Forwards, Gossips, IsDecided, IsRouted, PassesOn, Reports, Says, Seeks, Serves, Tells, reason_of};
+ghost use Rattle.cluster_core.specs.Serving.{Finds, Forwards, Gossips, IsDecided, IsRouted, PassesOn, Refuses, Reports, Says, Seeks, Serves, TellsRequester, reason_of};
 
 use crate::asking::ping;
 use crate::errors::HandlerFault;
@@ -40,6 +40,23 @@ pub(crate) fn say<R: Wait, H: PointHash>(
     })
 }
 
+/// Refuses for a reason: a message of the node, at the incarnation of its own entry. Whoever reads messages answers what is no
+/// message so, by `Malformed`.
+///
+/// Errors: `ForeignPass` where the pass bears another node's name, else `PassSpent` where it may make no call more.
+pub fn refuse<R: Wait, H: PointHash>(
+    rt: &R,
+    node: &LockedNode<H>,
+    pass: &mut NodePass<H>,
+    reason: Reason,
+) -> Result<Message, LockError>
+    requires { Fits node.now pass.old }
+    ensures did { Does node.now (Refuses reason) (let_in result) pass.old pass.new }
+    ensures fits { Fits node.now pass.new }
+{
+    say(rt, node, pass, Content::Refused(reason))
+}
+
 fn reason_for(cause: StopCause) -> Reason
     ensures { result ≡ reason_of cause }
 {
@@ -66,10 +83,10 @@ fn serve_gossip<R: Wait, H: PointHash>(
     let received = node.receive(rt, pass, message, now)?;
     match received {
         Received::Answer(_, answer) => Ok(answer),
-        Received::NoAnswer(_) => say(rt, node, pass, Content::Refused(Reason::Memory)),
+        Received::NoAnswer(_) => refuse(rt, node, pass, Reason::Memory),
         Received::Stopped(stopped) => {
             let reason = reason_for(stopped.cause);
-            say(rt, node, pass, Content::Refused(reason))
+            refuse(rt, node, pass, reason)
         }
         Received::Done(_) | Received::NotGossip => unreachable!(),
     }
@@ -119,7 +136,7 @@ fn find_out<R: Wait, H: PointHash, L: Link>(
     seek(rt, node, pass, now, heard)
 }
 
-/// Tells a requester what was found out about a target.
+/// TellsRequester a requester what was found out about a target.
 fn tell<R: Wait, H: PointHash>(
     rt: &R,
     node: &LockedNode<H>,
@@ -129,16 +146,16 @@ fn tell<R: Wait, H: PointHash>(
     found: Option<bool>,
 ) -> Result<Message, LockError>
     requires { Fits node.now pass.old }
-    ensures did { Does node.now (Tells requester target found) (let_in result) pass.old pass.new }
+    ensures did { Does node.now (TellsRequester requester target found) (let_in result) pass.old pass.new }
     ensures fits { Fits node.now pass.new }
 {
     let Some(reached) = found else {
-        return say(rt, node, pass, Content::Refused(Reason::Memory));
+        return refuse(rt, node, pass, Reason::Memory);
     };
     let made = node.ping_req_ack_to(rt, pass, requester, target, reached)?;
     match made {
         Ok(answer) => Ok(answer),
-        Err(_) => say(rt, node, pass, Content::Refused(Reason::Memory)),
+        Err(_) => refuse(rt, node, pass, Reason::Memory),
     }
 }
 
@@ -183,7 +200,7 @@ fn serve_ping_req<R: Wait, H: PointHash, L: Link>(
         Received::Done(_) => report(rt, alloc, node, pass, link, now, message.source, target),
         Received::Stopped(stopped) => {
             let reason = reason_for(stopped.cause);
-            say(rt, node, pass, Content::Refused(reason))
+            refuse(rt, node, pass, reason)
         }
         Received::Answer(_, _) | Received::NoAnswer(_) | Received::NotGossip => unreachable!(),
     }
@@ -297,6 +314,6 @@ pub fn serve_one<R: Wait, H: PointHash, L: Link, A: Handler>(
         | Content::PingReqAck(_, _, _)
         | Content::Reply(_)
         | Content::NotOwner
-        | Content::Refused(_) => say(rt, node, pass, Content::Refused(Reason::Unexpected)),
+        | Content::Refused(_) => refuse(rt, node, pass, Reason::Unexpected),
     }
 }

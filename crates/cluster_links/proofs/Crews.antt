@@ -1,6 +1,6 @@
 -- Nodes of a cluster by their addresses, and the passes of one of them.
-use Rattle.std.proofs.Common.{◌≡◌, ◌≢◌, ℕ, suc, ◌+◌, ◌<◌, ◌≤◌, ◌-◌, arith, append_assoc, append-nil, length-append, length-drop, refl, sym, ap, ap₂, ◌∙◌, subst, List, [], ◌∷◌, ◌++◌, length, map, take, drop, set, get_or, slice_index_or, Option, Some, Result, Ok, Err, All}
-use Rattle.std.specs.Prelude.{IfOk, IfErr, option_to_list}
+use Rattle.std.proofs.Common.{◌≡◌, ◌≢◌, ℕ, suc, ◌+◌, ◌<◌, ◌≤◌, ◌-◌, arith, append_assoc, append-nil, length-append, length-drop, refl, sym, ap, ap₂, ◌∙◌, subst, List, [], ◌∷◌, ◌++◌, length, map, take, drop, set, get_or, slice_index_or, Option, Some, Result, All}
+use Rattle.std.specs.Prelude.{option_to_list}
 use Rattle.std.specs.Arc.{arc_value}
 use Rattle.std.specs.List.{AllZip, range_with_len}
 use Rattle.std.specs.PromisedHandle.{KeepsEach}
@@ -8,14 +8,13 @@ use Rattle.std.specs.declared.thread.Promise as Promise
 use Rattle.std.specs.declared.thread.PromisedHandle.{PromisedHandle}
 use Rattle.indexmap.proofs.SetLemmas.{AllZip-push}
 use Rattle.std.proofs.lemmas.List.{get_or_default, length-map, map-append, map_more, nil_from_length, set-get_or, set_split, take_all}
-use Rattle.std.proofs.lemmas.List.Elements.{All-cons, All-get_or, All-head, All-more, All-nil, All-pop, All-push, All-tail, All-weaker}
+use Rattle.std.proofs.lemmas.List.Elements.{All-cons, All-get_or, All-head, All-map, All-more, All-nil, All-pop, All-push, All-tail, All-weaker}
 use Rattle.std.proofs.lemmas.Slice.Zip.{AllZip-long}
 use Rattle.std.proofs.lemmas.List.FromFn.{length-range_with_len}
 use Rattle.change_core.specs.declared.addresses.Address.{Address}
 use Rattle.node_core.specs.Node.{Seen}
 use Rattle.turn_lock.specs.declared.errors.CloseError.{CloseError}
 use Rattle.turn_lock.specs.declared.errors.CloseError.TheVariants as closing
-use Rattle.turn_lock.specs.declared.errors.LockError.{LockError}
 use Rattle.turn_lock.specs.Passes.{lock_name, number_of, IsSamePass}
 use Rattle.locked_node.specs.declared.node.LockedNode.{LockedNode}
 use Rattle.locked_node.specs.Passes.{NodePass, AreOwn, Fits, IsClosed, IsNew, RefusesToClose, name_of, passes_of}
@@ -25,7 +24,7 @@ use Rattle.cluster_core.specs.declared.errors.ClusterError.{ClusterError}
 use Rattle.cluster_core.specs.declared.rounds.Round.{Round}
 use Rattle.cluster_links.specs.declared.seats.Returned.{Returned}
 use Rattle.cluster_links.specs.declared.seats.Seat.{Seat}
-use Rattle.cluster_links.specs.Clusters.{AreAll, AreApart, HasRound, IsOfSeat, IsRoundBy, IsSeat, NoneHas, address_in, given_to, passes_in}
+use Rattle.cluster_links.specs.Clusters.{AreAll, AreApart, HasNoNode, HasNoPost, HasRound, IsOfSeat, IsRoundBy, IsSeat, IsWhole, NoneHas, Seats, address_in, given_to, passes_in, posts_of}
 
 module _ {H : Type 0} where
   -- what the passes of a node are that was made with so many, once the last is taken
@@ -281,3 +280,34 @@ module _ {H : Type 0} where
   pub its_address : (seats : List (Seat H)) (a : Address) (i : ℕ) (x : Seat H) → i < length seats → x ≡ get_or seats i x → x.address ≡ a
       → (d : Seat H) → (slice_index_or seats i d).address ≡ a
   its_address seats a i x within is own = λ d. ap (λ (z : Seat H). z.address) (sym (is ∙ get_or_default seats i x d within)) ∙ own
+
+  -- a seat whose address is as it was
+  pub same_addresses : (xs : List (Seat H)) (i : ℕ) (x y : Seat H) → i < length xs → x ≡ get_or xs i x → y.address ≡ x.address
+      → map (λ (s : Seat H). s.address) (set xs i y) ≡ map (λ (s : Seat H). s.address) xs
+  same_addresses xs i x y within is same =
+      let of : Seat H → Address = λ (s : Seat H). s.address in
+      let was : xs ≡ take i xs ++ x ∷ drop (suc i) xs =
+      sym (set-get_or xs i x) ∙ set_split xs i (get_or xs i x) within ∙ ap (λ (z : Seat H). take i xs ++ z ∷ drop (suc i) xs) (sym is) in
+      ap (λ (zs : List (Seat H)). map of zs) (set_split xs i y within) ∙ map-append of (take i xs) (y ∷ drop (suc i) xs)
+      ∙ ap (λ (z : Address). map of (take i xs) ++ z ∷ map of (drop (suc i) xs)) same
+      ∙ sym (ap (λ (zs : List (Seat H)). map of zs) was ∙ map-append of (take i xs) (x ∷ drop (suc i) xs))
+
+  -- the seats are at the addresses of the nodes that they were made for
+  pub seated_addresses : (posts : List Post) (workers : ℕ) (nodes : List (Seen H)) (seats : List (Seat H)) → AllZip (Seats workers posts) nodes seats
+      → map address_in nodes ≡ map (λ (s : Seat H). s.address) seats
+  seated_addresses posts workers [] [] h = refl
+  seated_addresses posts workers [] (s ∷ ss) h = absurd h
+  seated_addresses posts workers (n ∷ ns) [] h = absurd h
+  seated_addresses posts workers (n ∷ ns) (s ∷ ss) h = ap₂ (λ (x : Address) (xs : List Address). x ∷ xs) (sym h.0.address) (seated_addresses posts workers ns ss h.1)
+
+unmapped : {X Y : Type 0} (P : Y → Type 0) (f : X → Y) (xs : List X) → All P (map f xs) → All (λ (x : X). P (f x)) xs
+unmapped P f [] h = All-nil (λ (x : _). P (f x))
+unmapped P f (x ∷ xs) h =
+    All-cons (λ (y : _). P (f y)) x xs (All-head P (f x) (map f xs) h) (unmapped P f xs (All-tail P (f x) (map f xs) h))
+
+-- where no node is there is no post
+pub no_post : {H : Type 0} (cluster : Cluster H) (a : Address) → IsWhole cluster → HasNoNode cluster a → HasNoPost (posts_of cluster) a
+no_post {H} cluster a whole none =
+    let Other : Address → Type 0 = λ (b : Address). b ≢ a in
+    unmapped Other (λ (p : Post). p.address) (posts_of cluster)
+    (subst (λ (xs : List Address). All Other xs) (sym whole.posts) (All-map Other (λ (s : Seat H). s.address) cluster.seats.items none))

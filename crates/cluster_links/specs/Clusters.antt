@@ -91,9 +91,10 @@ module _ {H : Type 0} where
     pub returned : All (λ (w : PromisedHandle (NodePass H) (Returned H)). w.promise.node.value ≡ arc_value seat.node) seat.workers.items
     pub all : AreAll (arc_value seat.node) (passes_in seat)
 
-  -- as a cluster is when it was started, and after each of its calls
-  abbrev pub IsWhole : Cluster H → Type 0
-  IsWhole cluster = All IsSeat cluster.seats.items
+  -- As a cluster is when it was started, and after each of its calls: each seat is one, and the posts are at the addresses of the seats, in their order.
+  pub record IsWhole (cluster : Cluster H) : Type 0 where
+    pub seats : All IsSeat cluster.seats.items
+    pub posts : map (λ (p : Post). p.address) (posts_of cluster) ≡ map (λ (s : Seat H). s.address) cluster.seats.items
 
   -- The seat was made for this node: so many workers and its rounds share it, each by a pass that has made no call, and
   -- its rounds ask over a link to these posts that has not failed.

@@ -1,6 +1,6 @@
 //! A link over channels, between nodes in one process.
-ghost use Rattle.std.specs.Prelude.{◌≡◌, ◌≢◌, Err, IfErr, IfNone, IfSome, IsSome};
-ghost use Rattle.cluster_links.specs.Channels.{IsChannelFault};
+ghost use Rattle.std.specs.Prelude.{◌≡◌, ◌≢◌, ◌<◌, ◌-◌, ◌^◌, Err, IfErr, IfNone, IfSome, IsSome};
+ghost use Rattle.cluster_links.specs.Channels.{IsChannelFault, failures_of, reached_by};
 ghost use Rattle.cluster_links.specs.Clusters.{HasNoPost};
 
 use crate::copies::copy_message;
@@ -99,11 +99,26 @@ impl ChannelLink {
     {
         ChannelLink { posts, failures: 0 }
     }
+
+    /// Asks the node of an address. A link that is spent is not to ask.
+    fn ask<R: Wait>(
+        &self,
+        rt: &R,
+        alloc: Global,
+        to: Address,
+        message: &Message,
+    ) -> Result<Message, LinkError>
+        requires { failures_of self.now < 2 ^ 64 - 1 }
+        ensures only { IfErr result IsChannelFault }
+        ensures closed { HasNoPost (reached_by self.now) to → result ≡ Err LinkError.Closed }
+    {
+        ask_one(rt, alloc, &self.posts, to, message)
+    }
 }
 
 impl Link for ChannelLink {
-    ghost use Rattle.std.specs.Prelude.{◌+◌, ◌-◌, ◌^◌, ◌<◌, ◌⊎◌, ◌↔◌};
-    ghost use Rattle.cluster_links.specs.Channels.{any_answer, failures_of, reached_by};
+    ghost use Rattle.std.specs.Prelude.{◌+◌, ◌⊎◌, ◌↔◌};
+    ghost use Rattle.cluster_links.specs.Channels.{any_answer};
     ghost use Rattle.cluster_core.specs.Links.{IsNamed, failures_in};
 
     ghost may_answer = { λ _ _ _. Unit {0} };
@@ -132,7 +147,7 @@ impl Link for ChannelLink {
         if self.failures == u64::MAX {
             return Err(LinkError::Spent);
         }
-        let answer = ask_one(rt, alloc, &self.posts, to, message);
+        let answer = self.ask(rt, alloc, to, message);
         if matches!(&answer, Err(LinkError::Io | LinkError::Closed)) {
             self.failures += 1;
         }

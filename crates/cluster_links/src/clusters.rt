@@ -194,8 +194,11 @@ fn place_of<H: PointHash>(seats: &[Seat<H>], address: Address) -> Option<usize>
     None
 }
 
-/// A node that is shared by so many workers and its rounds, and the pass of its rounds beside those of its workers.
-fn share<H: PointHash>(
+/// A node that is shared by so many workers, at most 16, and its rounds: the pass of its rounds, and those of its workers in the
+/// order of their numbers, before it. Each may make 4,294,967,295 calls.
+///
+/// A growth that was refused is the only error, and the node is given up.
+pub fn share<H: PointHash>(
     alloc: Global,
     node: NodeState<H>,
     workers: u32,
@@ -373,6 +376,32 @@ impl<H: PointHash> Seat<H> {
     }
 }
 
+/// Ends the workers of the seats, each after the messages that it has, and gives the nodes back in the order of the seats.
+fn end_all<R: Threads + Wait, H: PointHash>(
+    rt: &R,
+    alloc: Global,
+    posts: &[Post],
+    seats: Vec<Seat<H>>,
+) -> Result<Vec<NodeState<H>>, StopError>
+    requires { All IsSeat seats.items }
+    ensures closed { IfOk result (λ v. AllZip (IsOfSeat H.hash_of) seats.items v.items) }
+    ensures empty { length seats.items ≡ 0 → result ≢ Err StopError.StillHeld }
+{
+    'told: for seat in &seats {
+        dismiss(rt, posts, seat.address, seat.workers.len());
+    }
+    let Ok(mut nodes) = Vec::with_capacity(alloc, seats.len()) else {
+        return Err(StopError::Memory);
+    };
+    'closed: for seat in seats {
+        let node = seat.close(rt)?;
+        if nodes.push(node).is_err() {
+            return Err(StopError::Memory);
+        }
+    }
+    Ok(nodes)
+}
+
 impl<H: PointHash> From<AllocError> for StartError<H> {
     ghost use Rattle.cluster_links.specs.declared.clusters.StartError.TheVariants.{Memory as no_memory};
 
@@ -448,7 +477,7 @@ impl<H: PointHash + Send + Sync + 'static> Cluster<H> {
             match seat_for(rt, alloc, node, workers, &posts, &handler, outlet) {
                 Ok(seat) => seats.push(seat)?,
                 Err(refused) => {
-                    let _nodes = Cluster { posts, seats }.stop(rt, alloc);
+                    let _nodes = end_all(rt, alloc, &posts, seats);
                     return Err(refused);
                 }
             }
@@ -481,6 +510,7 @@ impl<H: PointHash> Cluster<H> {
         message: &Message,
     ) -> Result<Message, LinkError>
         ensures closed { HasNoPost (posts_of self.now) to → result ≡ Err LinkError.Closed }
+        ensures nobody { IsWhole self.now → HasNoNode self.now to → result ≡ Err LinkError.Closed }
         ensures only { IfErr result IsChannelFault }
     {
         ask_one(rt, alloc, &self.posts, to, message)
@@ -523,18 +553,6 @@ impl<H: PointHash> Cluster<H> {
         ensures empty { length self.seats.items ≡ 0 → result ≢ Err StopError.StillHeld }
     {
         let Cluster { posts, seats } = self;
-        'told: for seat in &seats {
-            dismiss(rt, &posts, seat.address, seat.workers.len());
-        }
-        let Ok(mut nodes) = Vec::with_capacity(alloc, seats.len()) else {
-            return Err(StopError::Memory);
-        };
-        'closed: for seat in seats {
-            let node = seat.close(rt)?;
-            if nodes.push(node).is_err() {
-                return Err(StopError::Memory);
-            }
-        }
-        Ok(nodes)
+        end_all(rt, alloc, &posts, seats)
     }
 }

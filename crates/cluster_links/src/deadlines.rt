@@ -17,6 +17,8 @@ pub struct Deadline<'a, C> {
 
 impl<'a, C: Clock> Deadline<'a, C> {
     /// The limit runs from now on, by this clock.
+    ///
+    /// Errors: what the clock answers.
     pub fn after(clock: &'a C, limit: Duration) -> io::Result<Self>
         ensures { IfOk result (λ d. d.limit ≡ limit) }
     {

@@ -9,6 +9,6 @@ mod seats;
 mod tcp_links;
 
 pub use channel_links::ChannelLink;
-pub use clusters::{Cluster, MOST_WORKERS, StartError, StopError};
+pub use clusters::{Cluster, MOST_WORKERS, StartError, StopError, share};
 pub use deadlines::{Deadline, Timed};
-pub use tcp_links::{Limits, TcpLink, socket_address};
+pub use tcp_links::{Limits, TcpLink, send_line, socket_address};

@@ -1,8 +1,8 @@
 //! A link over sockets: one connection for each call, one line out and one line in.
-ghost use Rattle.std.specs.Prelude.{◌≡◌, ◌≢◌, ◌++◌, ◌∷◌, [], IfErr, IfOk};
+ghost use Rattle.std.specs.Prelude.{◌≡◌, ◌≢◌, ◌⊎◌, ◌<◌, ◌-◌, ◌^◌, ◌++◌, ◌∷◌, [], Err, IfErr, IfOk};
 ghost use Rattle.std.specs.Io.KnownBytes.{Appends};
 ghost use Rattle.cluster_links.specs.Limits.{IsStandard, limit_for};
-ghost use Rattle.cluster_links.specs.Sockets.{IsSocketOf};
+ghost use Rattle.cluster_links.specs.Sockets.{IsSocketOf, IsTooLong, failures_over};
 ghost use Rattle.cluster_core.specs.Links.{IsNamed, fault_named};
 
 use crate::deadlines::{Deadline, Timed};
@@ -73,13 +73,18 @@ fn fault_of(fault: WireError) -> LinkError
     }
 }
 
-/// Writes a line and its newline, and gives the stream back.
-fn put<W: Write + Drop>(alloc: Global, stream: W, line: &[u8]) -> Result<W, LinkError>
+/// Writes a line and its newline, and gives the stream back. Both are handed to the stream at once, so that over a socket the
+/// newline waits for no acknowledgement of the line.
+///
+/// Errors: `Memory` where a growth was refused, and nothing is written; `Io` where a write failed, after a part of the line. The
+/// stream is dropped.
+pub fn send_line<W: Write + Drop>(alloc: Global, stream: W, line: &[u8]) -> Result<W, LinkError>
     ensures written { IfOk result (λ w. Appends (W.contents stream) (W.contents w) (line.now ++ 10 ∷ [])) }
     ensures named { IfErr result IsNamed }
     ensures unspent { IfErr result (λ e. e ≢ LinkError.Spent) }
 {
-    let Ok(mut writer) = BufWriter::new(alloc, stream) else {
+    // One more than the line and its newline: a buffer that would be full by a write lets it past.
+    let Ok(mut writer) = BufWriter::with_capacity(alloc, line.len() + 2, stream) else {
         return Err(LinkError::Memory);
     };
     if let Err(fault) = write_line(&mut writer, line) {
@@ -123,7 +128,7 @@ fn exchange<N: Net + Clock>(
     let Ok(stream) = connect(net, limit, to) else {
         return Err(LinkError::Io);
     };
-    let stream = put(alloc, stream, line)?;
+    let stream = send_line(alloc, stream, line)?;
     get(alloc, stream)
 }
 
@@ -169,11 +174,30 @@ impl<N> TcpLink<N> {
     }
 }
 
+impl<N: Net + Clock> TcpLink<N> {
+    /// Sends a message over a new connection, and gives the one that comes back within its limit. A link that is spent is not to
+    /// send.
+    fn ask(&self, alloc: Global, to: Address, message: &Message) -> Result<Message, LinkError>
+        requires { failures_over self.now < 2 ^ 64 - 1 }
+        ensures named { IfErr result IsNamed }
+        ensures unspent { IfErr result (λ e. e ≢ LinkError.Spent) }
+        ensures long { IsTooLong message.now → (result ≡ Err (LinkError.Wire WireError.LineTooLong)) ⊎ (result ≡ Err LinkError.Memory) }
+    {
+        match encode(alloc, message) {
+            Ok(line) => {
+                let limit = self.limits.limit_for(&message.content);
+                exchange(&self.net, alloc, limit, to, &line)
+            }
+            Err(fault) => Err(fault_of(fault)),
+        }
+    }
+}
+
 impl<N: Net + Clock> Link for TcpLink<N> {
-    ghost use Rattle.std.specs.Prelude.{◌+◌, ◌-◌, ◌^◌, ◌<◌, ◌⊎◌, ◌↔◌, Err};
+    ghost use Rattle.std.specs.Prelude.{◌+◌, ◌↔◌};
     ghost use Rattle.cluster_core.specs.Links.{failures_in};
     ghost use Rattle.cluster_links.specs.Channels.{any_answer};
-    ghost use Rattle.cluster_links.specs.Sockets.{IsTooLong, failures_over, limits_of, net_of};
+    ghost use Rattle.cluster_links.specs.Sockets.{limits_of, net_of};
 
     ghost may_answer = { λ _ _ _. Unit {0} };
 
@@ -201,13 +225,7 @@ impl<N: Net + Clock> Link for TcpLink<N> {
         if self.failures == u64::MAX {
             return Err(LinkError::Spent);
         }
-        let answer = match encode(alloc, message) {
-            Ok(line) => {
-                let limit = self.limits.limit_for(&message.content);
-                exchange(&self.net, alloc, limit, to, &line)
-            }
-            Err(fault) => Err(fault_of(fault)),
-        };
+        let answer = self.ask(alloc, to, message);
         if matches!(&answer, Err(LinkError::Io | LinkError::Closed)) {
             self.failures += 1;
         }

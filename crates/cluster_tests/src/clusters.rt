@@ -384,6 +384,39 @@ fn nodes_of_a_cluster_reach_each_other(rt: HostRuntime) {
     assert!(&rt; reach_each_other(&rt, alloc) || reach_each_other(&rt, alloc));
 }
 
+/// Whether 10.0.0.`number`:1 was reached, as a worker of 10.0.0.1:1 says; none where it says nothing of that.
+fn word_on<R: Wait + Abort>(
+    rt: &R,
+    alloc: Global,
+    cluster: &Cluster<SumHash>,
+    number: u8,
+) -> Option<bool> {
+    let target = member(rt, number);
+    let asked = message(rt, 9, Content::PingReq(content(rt, alloc, &[]), target));
+    let answer = ask(rt, alloc, cluster, member(rt, 1), &asked);
+    match &answer.ok()?.content {
+        Content::PingReqAck(_, about, reached) if *about == target => Some(*reached),
+        _ => None,
+    }
+}
+
+/// A worker asks another node of the cluster, and none that is not there.
+fn worker_asks<R: Threads + Wait + Abort + Copy + Send + 'static>(rt: &R, alloc: Global) -> bool {
+    let Some(cluster) = start(rt, alloc, &[2, 1], 1, WILLING) else {
+        return false;
+    };
+    let reached = word_on(rt, alloc, &cluster, 2);
+    let missed = word_on(rt, alloc, &cluster, 3);
+    let is_stopped = cluster.stop(rt, alloc).is_ok();
+    is_stopped && reached == Some(true) && missed == Some(false)
+}
+
+#[test]
+fn a_worker_asks_the_other_nodes(rt: HostRuntime) {
+    let alloc: Global = rt.alloc();
+    assert!(&rt; worker_asks(&rt, alloc) || worker_asks(&rt, alloc));
+}
+
 /// A cluster of nobody.
 fn starts_empty<R: Threads + Wait + Abort + Copy + Send + 'static>(rt: &R, alloc: Global) -> bool {
     let Some(cluster) = start(rt, alloc, &[], 1, WILLING) else {

@@ -19,3 +19,5 @@ mod serving;
 mod shared;
 #[cfg(test)]
 mod tcp;
+#[cfg(test)]
+mod worlds;

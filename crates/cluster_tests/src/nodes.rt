@@ -1,6 +1,6 @@
 //! Nodes as they begin. Where a growth is refused it is tried once more.
 use crate::messages::{member, moment};
-use change_core::Incarnation;
+use change_core::{Incarnation, Moment};
 use hash_ring::SumHash;
 use node_core::{Config, NodeState};
 use std::alloc::Global;
@@ -14,14 +14,26 @@ fn config(max: usize) -> Config {
     config
 }
 
+/// The node 10.0.0.`number`:1 that begins at this incarnation and moment, with this many members at most.
+pub(crate) fn born(
+    rt: &impl Abort,
+    alloc: Global,
+    number: u8,
+    max: usize,
+    first: Incarnation,
+    seed: u64,
+    now: Moment,
+) -> NodeState<SumHash> {
+    let own = member(rt, number);
+    if let Ok(node) = NodeState::new(alloc, config(max), SumHash, own, first, seed, now) {
+        return node;
+    }
+    let again = NodeState::new(alloc, config(max), SumHash, own, first, seed, now);
+    again.ok().expect(rt, "a node")
+}
+
 /// The node 10.0.0.`number`:1 at 7 with this many members at most.
 pub(crate) fn state(rt: &impl Abort, alloc: Global, number: u8, max: usize) -> NodeState<SumHash> {
     let first = Incarnation::new(7).expect(rt, "an incarnation");
-    let own = member(rt, number);
-    let now = moment(rt, 0);
-    if let Ok(node) = NodeState::new(alloc, config(max), SumHash, own, first, 1, now) {
-        return node;
-    }
-    let again = NodeState::new(alloc, config(max), SumHash, own, first, 1, now);
-    again.ok().expect(rt, "a node")
+    born(rt, alloc, number, max, first, 1, moment(rt, 0))
 }

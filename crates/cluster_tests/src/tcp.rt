@@ -2,15 +2,15 @@
 use crate::messages::{content, member, message, news, request};
 use change_core::{Address, Status};
 use cluster_core::{Link, LinkError};
-use cluster_links::{Limits, TcpLink, socket_address};
+use cluster_links::{Limits, TcpLink, send_line, socket_address};
 use std::alloc::Global;
 use std::io::{BufReader, Read, Write};
 use std::net::{Net, TcpListener, TcpStream};
 use std::process::Abort;
 use std::sync::Wait;
-use std::thread;
 use std::thread::Threads;
 use std::time::{Clock, Duration};
+use std::{io, thread};
 use wire_json::{Content, Field, Message, WireError, encode, read_line};
 
 fn ping(rt: &impl Abort, alloc: Global) -> Message {
@@ -319,4 +319,52 @@ fn a_message_too_long_is_not_sent(rt: HostRuntime) {
     let fault = fault(&rt, alloc, &mut link, nobody_at(&rt), &request);
     assert!(&rt; fault == Some(LinkError::Wire(WireError::LineTooLong)));
     assert!(&rt; link.failures() == 0);
+}
+
+/// A writer that takes all that it is given, and counts how often and how much that is.
+#[derive(Drop)]
+struct Tally {
+    writes: u64,
+    bytes: usize,
+}
+
+impl Write for Tally {
+    fn write(&mut self, buf: &[u8]) -> io::Result<usize> {
+        self.writes = self.writes.wrapping_add(1);
+        self.bytes = self.bytes.wrapping_add(buf.len());
+        Ok(buf.len())
+    }
+
+    fn flush(&mut self) -> io::Result<()> {
+        Ok(())
+    }
+}
+
+const EMPTY: Tally = Tally {
+    writes: 0,
+    bytes: 0,
+};
+
+/// What is made of a line of so many letters.
+fn made_of(rt: &impl Abort, alloc: Global, length: usize) -> Tally {
+    let line = letters(rt, alloc, length);
+    if let Ok(tally) = send_line(alloc, EMPTY, line.as_slice()) {
+        return tally;
+    }
+    let again = send_line(alloc, EMPTY, line.as_slice());
+    again.ok().expect(rt, "all is written")
+}
+
+#[test]
+fn a_line_and_its_newline_are_one_write(rt: HostRuntime) {
+    for (length, bytes) in [
+        (0, 1),
+        (1, 2),
+        (8_191, 8_192),
+        (8_192, 8_193),
+        (100_000, 100_001),
+    ] {
+        let tally = made_of(&rt, rt.alloc(), length);
+        assert!(&rt; tally.writes == 1 && tally.bytes == bytes);
+    }
 }

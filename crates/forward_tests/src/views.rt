@@ -68,7 +68,7 @@ fn take<H: PointHash>(
     }
 }
 
-fn view_of<H: PointHash>(rt: &impl Abort, node: &NodeState<H>) -> View<H> {
+fn view_of<H: PointHash>(rt: &impl Abort, node: &mut NodeState<H>) -> View<H> {
     match node.view() {
         Ok(view) => view,
         Err(_) => node.view().ok().expect(rt, "a view"),

@@ -1,23 +1,22 @@
 -- What contracts see of a ring, from its fields.
-use Rattle.std.proofs.Common.{◌≡◌, ℕ, ◌*◌, ◌<◌, ◌≤◌, inl, inr, List, ◌++◌, length, not, ap, sym, ◌∙◌, subst, arith}
-use Rattle.std.specs.List.{filter, flat_map, range_with_len}
+use Rattle.std.proofs.Common.{◌≡◌, ℕ, ◌*◌, ◌<◌, ◌≤◌, inl, inr, List, ◌++◌, not, ap, sym, ◌∙◌, subst, arith}
+use Rattle.std.specs.List.{filter, flat_map}
 use Rattle.std.specs.Global.{Vec}
 use Rattle.change_core.specs.declared.addresses.Address.{Address}
 use Rattle.change_core.specs.Ascending.{put, ascending, In, IsAscending}
-use Rattle.change_core.proofs.Order.{ascending_ascends, ascending_in, in_ascending, in_append, in_put}
+use Rattle.change_core.proofs.Order.{ascending_ascends, in_ascending, in_append, in_put}
 use Rattle.hash_ring.specs.declared.points.Point.{Point}
 use Rattle.hash_ring.specs.declared.servers.Server.{Server}
-use Rattle.hash_ring.specs.Points.{point, point_cmp, points_of, points_by, points, AreSmall}
+use Rattle.hash_ring.specs.Points.{point_cmp, points_of, points_by, points, AreSmall}
 use Rattle.hash_ring.specs.Servers.{is_same, addresses_of, address_of_server, server_cmp, without, AreServers}
-use Rattle.hash_ring.specs.RingModel.{ring_of, ring_model, IsRing, PointList}
-use Rattle.hash_ring.proofs.Lists.{map_in, range_in}
-use Rattle.hash_ring.proofs.Placed.{at_in}
+use Rattle.hash_ring.specs.RingModel.{ring_of, ring_model, IsRing}
+use Rattle.hash_ring.proofs.Lists.{map_in}
 use Rattle.hash_ring.proofs.PointOrder.{point_exact, server_exact}
 use Rattle.hash_ring.proofs.Walk.{in_points, in_points_of}
 use Rattle.hash_ring.proofs.Weights.{in_without, AreServers-put, AreServers-without}
 use Rattle.hash_ring.proofs.Edits.{points_merge, points-without, filter_small}
 
-pub ring_is : {H : Type 0} (hash : H) (hash_of : List ℕ → ℕ) (replicas : ℕ) (servers : Vec Server) (ps : PointList) (fresh : Vec Point) (all : List Server) → servers.items ≡ all → ps.points ≡ points hash_of replicas all → ring_model hash replicas servers ps fresh ≡ ring_of hash hash_of replicas all (ring_model hash replicas servers ps fresh).room
+pub ring_is : {H : Type 0} (hash : H) (hash_of : List ℕ → ℕ) (replicas : ℕ) (servers : Vec Server) (ps fresh : Vec Point) (all : List Server) → servers.items ≡ all → ps.items ≡ points hash_of replicas all → ring_model hash replicas servers ps fresh ≡ ring_of hash hash_of replicas all (ring_model hash replicas servers ps fresh).room
 ring_is hash hash_of replicas servers ps fresh all e f =
     λ i. record { hash = hash; replicas = replicas; servers = e i; points = f i; room = (ring_model hash replicas servers ps fresh).room }
 
@@ -36,7 +35,7 @@ module _ (hash : List ℕ → ℕ) (replicas : ℕ) (servers : List Server) (ps 
       subst (λ a. In a (addresses_of servers)) (sym m.2) (map_in address_of_server m.0 servers m.1)
 
   -- a server more, whose address none has
-  pub in_fresh : (s : Server) (p : Point) → In p (ascending point_cmp (points_by hash replicas s)) → p.server ≡ s.address
+  in_fresh : (s : Server) (p : Point) → In p (ascending point_cmp (points_by hash replicas s)) → p.server ≡ s.address
   in_fresh s p h = ap (λ (q : Point). q.server) (in_points_of hash (replicas * s.weight) s.address p (in_ascending point_exact p (points_by hash replicas s) h)).2
 
   pub fresh_apart : (s : Server) (fresh : List Point) → ((t : Server) → In t servers → t.address ≡ s.address → ⊥) → fresh ≡ ascending point_cmp (points_by hash replicas s) → (p : Point) → In p ps → In p fresh → ⊥
@@ -72,13 +71,6 @@ module _ (hash : List ℕ → ℕ) (replicas : ℕ) (servers : List Server) (ps 
     small = subst AreSmall (sym f) (filter_small _ ps ring.small);
     fits = λ x p. ring.fits x (in_without a x servers (subst (In x) e p)).0;
   }
-
--- a server that is added has a point
-pub fresh_some : (hash : List ℕ → ℕ) (replicas : ℕ) (s : Server) → 0 < replicas * s.weight → 0 < length (ascending point_cmp (points_by hash replicas s))
-fresh_some hash replicas s some =
-    let first = map_in (λ i. record { hash = point hash s.address i; server = s.address }) 0 (range_with_len 0 (replicas * s.weight)) (range_in 0 (replicas * s.weight) 0 (omega arith) (omega (arith, some))) in
-    let m = at_in _ (ascending point_cmp (points_by hash replicas s)) (ascending_in point_exact _ (points_by hash replicas s) first) in
-    omega (arith, m.1)
 
 -- more is spare
 pub ring_spare : (hash : List ℕ → ℕ) (replicas : ℕ) (servers : List Server) (ps : List Point) (spare more : ℕ) → IsRing hash replicas servers ps spare → spare ≤ more → IsRing hash replicas servers ps more

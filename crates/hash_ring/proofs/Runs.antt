@@ -1,16 +1,13 @@
--- Taking out what passes a test, run by run.
-use Rattle.std.proofs.Common.{◌≡◌, ℕ, suc, ◌+◌, ◌-◌, ◌≤◌, Bool, not, ◌==◌, List, [], ◌∷◌, ◌++◌, take, drop, length, nat_lt, Some, None, refl, ap, sym, ◌∙◌, subst, arith, append_assoc, length-drop}
+-- Taking out a server's points, run by run.
+use Rattle.std.proofs.Common.{◌≡◌, ℕ, suc, ◌+◌, ◌-◌, ◌≤◌, Bool, not, List, [], ◌∷◌, ◌++◌, take, drop, length, nat_lt, Some, None, refl, ap, sym, ◌∙◌, subst, arith, append_assoc}
 use Rattle.std.specs.List.{copy_within, filter, position, position_or_len}
 use Rattle.std.proofs.lemmas.Bool.{ltb-false}
-use Rattle.std.proofs.lemmas.List.{append-nil, drop-drop, drop_all}
+use Rattle.std.proofs.lemmas.List.{drop-drop}
 use Rattle.std.proofs.lemmas.List.Edits.{take-paste, drop-paste}
 use Rattle.change_core.specs.declared.addresses.Address.{Address}
-use Rattle.hash_ring.specs.declared.heads.Head.{Head}
 use Rattle.hash_ring.specs.declared.points.Point.{Point}
-use Rattle.hash_ring.specs.Places.{IsSlotOf, Slots, joined, kept_point, kept_points}
 use Rattle.hash_ring.specs.Servers.{is_same}
 use Rattle.hash_ring.proofs.Firsts.{test_cases}
-use Rattle.hash_ring.proofs.Joined.{drop-joined, take-joined}
 
 -- ---- the first place where a test passes
 
@@ -33,17 +30,20 @@ module _ {K : Type 0} (p : K → Bool) (xs : List K) where
 
 -- ---- one run
 
-module _ {K : Type 0} (mine : K → Bool) where
-  abbrev pub others : List K → List K
-  others ps = filter (λ p. not (mine p)) ps
+module _ (a : Address) where
+  abbrev mine : Point → Bool
+  mine p = is_same p.server a
 
-  run_more : (n : ℕ) (p : K) (ps : List K) → others ps ≡ take n ps ++ others (drop (suc n) ps) → p ∷ others ps ≡ take (1 + n) (p ∷ ps) ++ others (drop (1 + n) ps)
+  abbrev pub others : List Point → List Point
+  others ps = filter (λ (p : Point). not (is_same p.server a)) ps
+
+  run_more : (n : ℕ) (p : Point) (ps : List Point) → others ps ≡ take n ps ++ others (drop (suc n) ps) → p ∷ others ps ≡ take (1 + n) (p ∷ ps) ++ others (drop (1 + n) ps)
   run_more n p ps e =
       let one : suc n ≡ 1 + n = omega arith in
       subst (λ m. p ∷ others ps ≡ take m (p ∷ ps) ++ others (drop m ps)) one (ap (λ qs. p ∷ qs) e)
 
-  -- the others are those up to the first that passes, and those after that
-  filter-run : (ps : List K) → others ps ≡ take (position_or_len mine ps) ps ++ others (drop (suc (position_or_len mine ps)) ps)
+  -- the others are those up to the first of its points, and those after that
+  filter-run : (ps : List Point) → others ps ≡ take (position_or_len mine ps) ps ++ others (drop (suc (position_or_len mine ps)) ps)
   filter-run [] = refl
   filter-run (p ∷ ps) =
       let rest = filter-run ps in
@@ -52,7 +52,7 @@ module _ {K : Type 0} (mine : K → Bool) where
       (λ f. rw f (run_more (position_or_len mine ps) p ps rest))
 
   -- one turn: a run moves down to those that are kept, and the point after it is passed over
-  pub run_step : (ps copied : List K) (kept at n m : ℕ) → n ≡ position_or_len mine (drop at ps) → m ≡ n → kept ≤ at → at ≤ length ps → n ≤ length (drop at ps) → copied ≡ copy_within ps at (at + n) kept →
+  pub run_step : (ps copied : List Point) (kept at n m : ℕ) → n ≡ position_or_len mine (drop at ps) → m ≡ n → kept ≤ at → at ≤ length ps → n ≤ length (drop at ps) → copied ≡ copy_within ps at (at + n) kept →
       take (kept + m) copied ++ others (drop (at + n + 1) copied) ≡ take kept ps ++ others (drop at ps)
   run_step ps copied kept at n m first size le low fits e =
       let rest = drop at ps in
@@ -74,29 +74,3 @@ module _ {K : Type 0} (mine : K → Bool) where
       filter-run rest ∙ ap (λ i. take i rest ++ others (drop (suc i) rest)) (sym first)
       in
       rw (front, back) (append_assoc (take kept ps) (take n rest) (others (drop (suc n) rest)) ∙ ap (λ qs. take kept ps ++ qs) (sym run))
-
--- ---- the runs between the points of a slot
-
-position_or_len-joined : {A B C : Type 0} (f : A → B → C) (p : C → Bool) (q : A → Bool) → ((x : A) (y : B) → p (f x y) ≡ q x) → (xs : List A) (ys : List B) → length xs ≡ length ys → position_or_len p (joined f xs ys) ≡ position_or_len q xs
-position_or_len-joined f p q same [] ys e = refl
-position_or_len-joined f p q same (x ∷ xs) [] e = absurd (omega (arith, e))
-position_or_len-joined f p q same (x ∷ xs) (y ∷ ys) e =
-    let rest = position_or_len-joined f p q same xs ys (omega (arith, e)) in
-    test_cases _ (q x) (λ t. rw (same x y, t) refl) (λ t. rw (same x y, t) (omega (arith, rest)))
-
-module _ (slots : Slots) (server : Address) where
-  abbrev mine : Point → Bool
-  mine p = is_same p.server server
-
-  pub first_joined : (n : ℕ) → IsSlotOf slots server n → (at : ℕ) (heads : List Head) (lows : List ℕ) → length heads ≡ length lows → position_or_len (λ (h : Head). h.slot == n) (drop at heads) ≡ position_or_len mine (drop at (kept_points slots heads lows))
-  first_joined n one at heads lows paired =
-      let same : length (drop at heads) ≡ length (drop at lows) = omega (arith, paired, length-drop at heads, length-drop at lows) in
-      sym (position_or_len-joined (kept_point slots) mine (λ (h : Head). h.slot == n) (λ h low. one h.slot) (drop at heads) (drop at lows) same)
-      ∙ ap (position_or_len mine) (sym (drop-joined (kept_point slots) at heads lows))
-
-  -- nothing is left to look at
-  pub run_end : (heads : List Head) (lows : List ℕ) (kept at : ℕ) → length (kept_points slots heads lows) ≤ at → kept_points slots (take kept heads) (take kept lows) ≡ take kept (kept_points slots heads lows) ++ others mine (drop at (kept_points slots heads lows))
-  run_end heads lows kept at past =
-      let points = kept_points slots heads lows in
-      let none : drop at points ≡ [] = drop_all at points past in
-      sym (take-joined (kept_point slots) kept heads lows) ∙ (sym (append-nil (take kept points)) ∙ ap (λ ps. take kept points ++ others mine ps) (sym none))

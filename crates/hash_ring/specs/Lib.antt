@@ -4,4 +4,3 @@ pub mod Serving
 pub mod RingModel
 pub mod Consistency
 pub mod Steps
-pub mod Places

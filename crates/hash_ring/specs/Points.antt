@@ -13,7 +13,7 @@ use Rattle.hash_ring.specs.declared.points.Point.{Point}
 use Rattle.hash_ring.specs.declared.servers.Server.{Server}
 use Rattle.hash_ring.specs.Servers.{shares, addresses_of}
 
--- the greatest number of points that a server has for each of its weight
+-- the greatest number of points that a server has for each unit of its weight
 abbrev pub most_replicas : ℕ
 most_replicas = 1000
 

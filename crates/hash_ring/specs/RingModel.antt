@@ -1,5 +1,5 @@
 -- What contracts see of a ring: the servers of ringpop-go, package hashring, with their points kept in order. Weights and room are this project's.
-use Rattle.std.specs.Prelude.{◌≡◌, ◌⊎◌, ℕ, ◌*◌, ◌≤◌, nat_lt, min, if◌then◌else◌, List, vec_len, vec_capacity}
+use Rattle.std.specs.Prelude.{◌≡◌, ◌⊎◌, ℕ, ◌-◌, ◌*◌, ◌≤◌, nat_lt, min, if◌then◌else◌, List, vec_len, vec_capacity}
 use Rattle.std.specs.Global.{Vec}
 use Rattle.hash_ring.specs.declared.points.Point.{Point}
 use Rattle.hash_ring.specs.declared.servers.Server.{Server}
@@ -20,20 +20,15 @@ abbrev pub ring_of : {H : Type 0} → H → (List ℕ → ℕ) → ℕ → List 
 ring_of hash hash_of replicas servers room =
     record { hash = hash; replicas = replicas; servers = servers; points = points hash_of replicas servers; room = room }
 
--- the points as they are kept, ascending, and for how many more of one server there is room
-pub record PointList : Type 0 where
-  pub points : List Point
-  pub room : ℕ
-
 -- there is room for more points where there is room for a server, and for its points by themselves
-abbrev pub ring_model : {H : Type 0} → H → ℕ → Vec Server → PointList → Vec Point → RingModel H
+abbrev pub ring_model : {H : Type 0} → H → ℕ → Vec Server → Vec Point → Vec Point → RingModel H
 ring_model hash replicas servers points fresh =
     record {
       hash = hash;
       replicas = replicas;
       servers = servers.items;
-      points = points.points;
-      room = if nat_lt (vec_len servers) (vec_capacity servers) then min points.room (vec_capacity fresh) else 0;
+      points = points.items;
+      room = if nat_lt (vec_len servers) (vec_capacity servers) then min (vec_capacity points - vec_len points) (vec_capacity fresh) else 0;
     }
 
 -- the servers are such, the points are theirs, and each one's points fit in what is spare

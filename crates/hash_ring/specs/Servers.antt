@@ -1,5 +1,5 @@
 -- Lists of servers, each with a weight. The servers are those of ringpop-go, package hashring; weights are this project's.
-use Rattle.std.specs.Prelude.{◌≡◌, ℕ, ◌<◌, Bool, false, not, ◌==◌, List, Option, Some, None, map}
+use Rattle.std.specs.Prelude.{◌≡◌, ℕ, ◌<◌, Bool, false, not, ◌==◌, List, [], ◌∷◌, Option, Some, None, map}
 use Rattle.std.specs.List.{filter, find}
 use Rattle.std.specs.Option.{option_map}
 use Rattle.std.specs.Ordering.{nat_cmp, ordering_then}
@@ -29,6 +29,11 @@ without a servers = filter (λ s. not (is_same s.address a)) servers
 -- the servers with s, in the place of any other of its address, ascending
 abbrev pub with_server : Server → List Server → List Server
 with_server s servers = put server_cmp s (without s.address servers)
+
+-- these servers put in one after another, so that of two of one address the later stays
+abbrev pub with_each : List Server → List Server → List Server
+with_each [] servers = servers
+with_each (s ∷ ss) servers = with_each ss (with_server s servers)
 
 -- the weight of the server of an address
 abbrev pub weight_of : Address → List Server → Option ℕ

@@ -1,17 +1,14 @@
 //! A consistent hash ring over servers with weights: points, the owner of a key and its next owners.
 #![tactic(auto)]
 
+mod builds;
 mod errors;
 mod hash;
-mod heads;
 pub mod laws;
-mod moves;
-mod places;
 mod points;
 mod ring;
 mod search;
 mod servers;
-mod slots;
 mod sorted;
 mod starts;
 mod text;
@@ -20,3 +17,4 @@ pub use errors::RingError;
 pub use hash::{PointHash, Sha256Hash, SumHash};
 pub use points::{MOST_REPLICAS, distance};
 pub use ring::Ring;
+pub use servers::Server;

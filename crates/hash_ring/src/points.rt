@@ -1,13 +1,19 @@
-ghost use Rattle.std.specs.Prelude.{◌≡◌, ◌+◌, ◌*◌, ◌≤◌, ◌<◌, ◌++◌, length, vec_len, vec_capacity};
-ghost use Rattle.change_core.specs.Ascending.{ascending};
+ghost use Rattle.std.specs.Prelude.{◌≡◌, ℕ, ◌+◌, ◌*◌, ◌≤◌, ◌<◌, ◌++◌, [], length, not, IsOk, vec_len, vec_capacity};
+ghost use Rattle.std.specs.List.{filter, position, position_or_len};
+ghost use Rattle.change_core.specs.Ascending.{ascending, In, IsAscending};
 ghost use Rattle.change_core.specs.Numeral.{number_text};
 ghost use Rattle.hash_ring.specs.Points.{IsReplicas, AreSmall, distance, point_cmp, points_of};
+ghost use Rattle.hash_ring.specs.Servers.{is_same};
+ghost use Rattle.hash_ring.specs.declared.points.Point.{Point};
 
 use crate::hash::PointHash;
+use crate::sorted::merge;
+use crate::starts::{Passed, Starts};
 use crate::text::ShortText;
 use change_core::{Address, Weight};
+use std::alloc::AllocError;
 
-/// The greatest number of points that a server has for each of its weight.
+/// The greatest number of points that a server has for each unit of its weight.
 pub const MOST_REPLICAS: u32 = 1000;
 
 /// A place on the ring that stands for a server.
@@ -41,7 +47,7 @@ fn point_hash<H: PointHash>(hash: H, text: &mut ShortText, index: u32) -> u64
 }
 
 /// How far the nearest of a server's points stands above the hash of a key, going round at 2^64. The server
-/// has `replicas` points for each of its weight, from 1 to 1,000.
+/// has `replicas` points for each unit of its weight, from 1 to 1,000.
 pub fn distance<H: PointHash>(
     hash: H,
     replicas: u32,
@@ -82,7 +88,12 @@ pub(crate) fn fill_points<H: PointHash>(
 }
 
 /// Adds a server's first points. The text of its address is written once.
-fn push_points<H: PointHash>(points: &mut Vec<Point>, hash: H, server: Address, count: u32)
+pub(crate) fn push_points<H: PointHash>(
+    points: &mut Vec<Point>,
+    hash: H,
+    server: Address,
+    count: u32,
+)
     requires few { count ≤ 8000 }
     requires room { vec_len points.old + count ≤ vec_capacity points.old }
     ensures pushed { points.new.items ≡ points.old.items ++ points_of (H.hash_of hash) count server }
@@ -98,4 +109,88 @@ fn push_points<H: PointHash>(points: &mut Vec<Point>, hash: H, server: Address, 
         };
         points.push_reserved(point);
     }
+}
+
+/// Makes room for more points, and before it for the counts of as many as the list then has room for: so counts whose growth
+/// was refused are asked for again.
+pub(crate) fn reserve_points(
+    points: &mut Vec<Point>,
+    starts: &mut Starts,
+    count: usize,
+) -> Result<(), AllocError>
+    ensures same { points.new.items ≡ points.old.items }
+    ensures room { IsOk result → vec_len points.new + count ≤ vec_capacity points.new }
+    ensures enough { vec_len points.old + count ≤ vec_capacity points.old → IsOk result }
+    ensures capacity { vec_capacity points.old ≤ vec_capacity points.new }
+{
+    let held = points.capacity();
+    if held - points.len() >= count {
+        return Ok(());
+    }
+    // A list at least doubles where it grows.
+    let wanted = points.len().saturating_add(count);
+    starts.widen(points, held.saturating_mul(2).max(wanted))?;
+    points.reserve(count)
+}
+
+/// Merges points into those of other servers. With room this takes no memory.
+pub(crate) fn merge_points(points: &mut Vec<Point>, starts: &mut Starts, fresh: &[Point])
+    requires ascends { IsAscending point_cmp points.old.items }
+    requires fresh_ascends { IsAscending point_cmp fresh.now }
+    requires apart { (p : Point) → In p points.old.items → In p fresh.now → ⊥ }
+    requires room { vec_len points.old + length fresh.now ≤ vec_capacity points.old }
+    ensures { points.new.items ≡ ascending point_cmp (points.old.items ++ fresh.now) }
+{
+    let count = points.len();
+    let Ok(()) = points.extend_from_slice(fresh) else {
+        unreachable!()
+    };
+    merge(points, count, fresh);
+    starts.add(fresh);
+}
+
+/// Takes out a server's points; the others move together, run by run. This takes no memory.
+pub(crate) fn take_points(points: &mut Vec<Point>, starts: &mut Starts, server: Address)
+    ensures points { points.new.items ≡ filter (λ (p : Point). not (is_same p.server server)) points.old.items }
+    ensures capacity { vec_capacity points.new ≡ vec_capacity points.old }
+{
+    let mut passed = Passed::nothing();
+    let mut kept = 0;
+    let mut at = 0;
+    while at < points.len() {
+        let end = at + run_of_others(&points[at..], server);
+        points.copy_within(at..end, kept);
+        kept += end - at;
+        if let Some(point) = points.get(end) {
+            passed = starts.take(passed, point.hash);
+        }
+        at = end + 1;
+    }
+    points.truncate(kept);
+    starts.finish(passed);
+}
+
+/// How many points of other servers come first.
+fn run_of_others(points: &[Point], server: Address) -> usize
+    ensures bound { result ≤ length points.now }
+    ensures run { result ≡ position_or_len (λ (p : Point). is_same p.server server) points.now }
+{
+    match first_of(points, server) {
+        Some(place) => place,
+        None => points.len(),
+    }
+}
+
+/// The place of the first of a server's points. The IPv4 numbers tell most servers apart, and are compared fastest.
+fn first_of(points: &[Point], server: Address) -> Option<usize>
+    ensures { result ≡ position (λ (p : Point). is_same p.server server) points.now }
+{
+    points.iter().position(|point| is_point_of(point, server))
+}
+
+/// Whether a point is a server's.
+fn is_point_of(point: &Point, server: Address) -> bool
+    ensures { result ≡ is_same point.now.server server }
+{
+    point.server.ip() == server.ip() && point.server == server
 }

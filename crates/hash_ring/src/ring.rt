@@ -1,15 +1,17 @@
 //! The ring, kept by edits.
-ghost use Rattle.std.specs.Prelude.{◌≡◌, ℕ, List, ◌+◌, ◌-◌, ◌*◌, ◌^◌, ◌<◌, ◌≤◌, ◌↔◌, [], ◌∷◌, ◌++◌, length, take, drop, not, false, is_some, IsOk, IfOk, IfSome, IfNone, OnOk, OnErr, IsOkUnless, vec_len, vec_capacity};
+ghost use Rattle.std.specs.Prelude.{◌≡◌, ℕ, List, ◌+◌, ◌-◌, ◌*◌, ◌^◌, ◌<◌, ◌≤◌, ◌↔◌, [], ◌∷◌, ◌++◌, length, take, drop, not, false, is_some, IsOk, IfOk, IfSome, IfNone, Err, OnOk, OnErr, IsOkUnless, vec_len, vec_capacity};
 ghost use Rattle.hash_ring.specs.Points.{IsReplicas, IsNearest, owner, owners};
-ghost use Rattle.hash_ring.specs.Servers.{has_weight, weight_of, with_server, without};
+ghost use Rattle.hash_ring.specs.Servers.{has_weight, weight_of, with_each, with_server, without};
 ghost use Rattle.hash_ring.specs.declared.servers.Server.{Server};
 
+use crate::builds::{fill_all, list_servers};
 use crate::errors::RingError;
 use crate::hash::PointHash;
-use crate::places::Places;
-use crate::points::{MOST_REPLICAS, Point, fill_points, point_count};
+use crate::points::{MOST_REPLICAS, Point, fill_points, merge_points, point_count, reserve_points};
+use crate::search::{first_at, first_server, name_servers};
 use crate::servers::{Server, take_out, weighs, weight_among};
 use crate::sorted::place;
+use crate::starts::Starts;
 use change_core::{Address, Weight};
 use std::alloc::Global;
 use std::marker::Model;
@@ -22,7 +24,8 @@ pub struct Ring<H: PointHash> {
     hash: H,
     replicas: u32,
     servers: Vec<Server>,
-    places: Places,
+    points: Vec<Point>,
+    starts: Starts,
     /// The points of the server that is being added.
     fresh: Vec<Point>,
 }
@@ -33,9 +36,9 @@ impl<H: PointHash> Model for Ring<H> {
 
     ghost Value = { RingModel H };
 
-    ghost view = { λ r. ring_model r.hash r.replicas r.servers r.places r.fresh };
+    ghost view = { λ r. ring_model r.hash r.replicas r.servers r.points r.fresh };
 
-    ghost invariant = { λ r. IsRing (H.hash_of r.hash) r.replicas r.servers.items r.places.points (vec_capacity r.fresh) };
+    ghost invariant = { λ r. IsRing (H.hash_of r.hash) r.replicas r.servers.items r.points.items (vec_capacity r.fresh) };
 }
 
 impl<H: PointHash> Ring<H> {
@@ -54,8 +57,40 @@ impl<H: PointHash> Ring<H> {
             hash,
             replicas,
             servers: Vec::new(alloc),
-            places: Places::new(alloc),
+            points: Vec::new(alloc),
+            starts: Starts::new(alloc),
             fresh: Vec::new(alloc),
+        })
+    }
+
+    /// The ring of these servers, of two of one address the later. All points are sorted at once, so it takes less than an `add`
+    /// for each. `BadReplicas`: `replicas` is not from 1 to 1,000. `Memory`: a growth was refused.
+    pub fn with_servers(
+        alloc: Global,
+        hash: H,
+        replicas: u32,
+        servers: &[Server],
+    ) -> Result<Self, RingError>
+        ensures made { IfOk result (λ r. r ≡ ring_of hash (H.hash_of hash) replicas (with_each servers.now []) r.room) }
+        ensures refusal { IsReplicas replicas → IsOkUnless result RingError.Memory }
+        ensures bad_replicas { (IsReplicas replicas → ⊥) → result ≡ Err RingError.BadReplicas }
+    {
+        if replicas < 1 || replicas > MOST_REPLICAS {
+            return Err(RingError::BadReplicas);
+        }
+        let mut list = Vec::new(alloc);
+        let mut fresh = Vec::new(alloc);
+        list_servers(&mut list, &mut fresh, replicas, servers)?;
+        let mut points = Vec::new(alloc);
+        fill_all(&mut points, hash, replicas, &list)?;
+        let starts = Starts::of(alloc, &points)?;
+        Ok(Ring {
+            hash,
+            replicas,
+            servers: list,
+            points,
+            starts,
+            fresh,
         })
     }
 
@@ -82,8 +117,8 @@ impl<H: PointHash> Ring<H> {
         weight_among(&self.servers, address)
     }
 
-    /// Makes room for a server, unless it is there with at least this weight. `Memory`: a growth was refused, as
-    /// that of the slots past 2^32 servers always is; the ring stays as it was.
+    /// Makes room for a server, unless it is there with at least this weight. `Memory`: a growth was refused;
+    /// the ring stays as it was.
     pub fn reserve_for(&mut self, address: Address, weight: Weight) -> Result<(), RingError>
         ensures room { OnOk result (HasRoom self.new (record { address = address; weight = weight })) }
         ensures enough { HasRoom self.old (record { address = address; weight = weight }) → IsOk result }
@@ -96,9 +131,9 @@ impl<H: PointHash> Ring<H> {
         }
         let count = point_count(self.replicas, weight) as usize;
         self.servers.reserve(1)?;
-        self.places.reserve(count)?;
         self.fresh.clear();
         self.fresh.reserve(count)?;
+        reserve_points(&mut self.points, &mut self.starts, count)?;
         Ok(())
     }
 
@@ -115,12 +150,17 @@ impl<H: PointHash> Ring<H> {
             return false;
         }
         let count = point_count(self.replicas, weight);
-        take_out(&mut self.servers, &mut self.places, address);
+        take_out(
+            &mut self.servers,
+            &mut self.points,
+            &mut self.starts,
+            address,
+        );
         let Ok(_) = place(&mut self.servers, Server { address, weight }) else {
             unreachable!()
         };
         fill_points(&mut self.fresh, self.hash, address, count);
-        self.places.add(address, &self.fresh);
+        merge_points(&mut self.points, &mut self.starts, &self.fresh);
         true
     }
 
@@ -131,7 +171,12 @@ impl<H: PointHash> Ring<H> {
         ensures removed { result ≡ is_some (weight_of address self.old.servers) }
         ensures room { self.old.room ≤ self.new.room }
     {
-        take_out(&mut self.servers, &mut self.places, address)
+        take_out(
+            &mut self.servers,
+            &mut self.points,
+            &mut self.starts,
+            address,
+        )
     }
 
     /// The server of a key: that of the first point at or after the key's hash, the least point after the
@@ -141,8 +186,8 @@ impl<H: PointHash> Ring<H> {
         ensures nearest { IfSome result (IsNearest (H.hash_of self.now.hash) self.now.replicas self.now.servers key.now) }
         ensures nobody { IfNone result (self.now.servers ≡ []) }
     {
-        let start = self.places.first_at(self.hash.hash(key));
-        self.places.server_from(start)
+        let start = first_at(&self.points, &self.starts, self.hash.hash(key));
+        first_server(&self.points, start)
     }
 
     /// The first `count` owners of a key, the owner first, or all servers where there are fewer. `Memory`: the
@@ -152,10 +197,11 @@ impl<H: PointHash> Ring<H> {
         ensures growth { OnErr result ((0 < count) × (0 < length self.now.servers)) }
         ensures refusal { IsOkUnless result RingError.Memory }
     {
-        let start = self.places.first_at(self.hash.hash(key));
+        let start = first_at(&self.points, &self.starts, self.hash.hash(key));
         let count = count.min(self.servers.len());
         let mut named = Vec::with_capacity(*self.servers.allocator(), count)?;
-        self.places.name_servers(start, count, &mut named);
+        name_servers(&self.points[start..], count, &mut named);
+        name_servers(&self.points[..start], count, &mut named);
         Ok(named)
     }
 
@@ -169,7 +215,8 @@ impl<H: PointHash> Ring<H> {
             hash: self.hash,
             replicas: self.replicas,
             servers: Vec::from_slice(alloc, &self.servers)?,
-            places: self.places.copy()?,
+            points: Vec::from_slice(alloc, &self.points)?,
+            starts: self.starts.copy()?,
             fresh: Vec::with_capacity(alloc, self.fresh.capacity())?,
         })
     }

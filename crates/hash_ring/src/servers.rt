@@ -1,11 +1,14 @@
-ghost use Rattle.std.specs.Prelude.{◌≡◌, ℕ, ◌+◌, ◌≤◌, ◌↔◌, length, not, IsTrue, is_some, vec_capacity};
+ghost use Rattle.std.specs.Prelude.{◌≡◌, ℕ, ◌<◌, ◌≤◌, ◌↔◌, not, IsTrue, OnOk, is_some, vec_capacity};
 ghost use Rattle.std.specs.List.{filter};
 ghost use Rattle.change_core.specs.Ascending.{In};
-ghost use Rattle.hash_ring.specs.Servers.{AreServers, addresses_of, is_same, shares, weight_of, without};
+ghost use Rattle.hash_ring.specs.Servers.{AreServers, addresses_of, is_same, shares, weight_of, with_server, without};
 ghost use Rattle.hash_ring.specs.declared.points.Point.{Point};
 
-use crate::places::Places;
+use crate::points::{Point, take_points};
+use crate::sorted::place;
+use crate::starts::Starts;
 use change_core::{Address, Weight};
+use std::alloc::AllocError;
 
 /// A server and its weight.
 #[derive(Clone, Copy, Debug, PartialEq, Eq, PartialOrd, Ord)]
@@ -37,20 +40,50 @@ pub(crate) fn weighs(servers: &[Server], address: Address, weight: Weight) -> bo
     }
 }
 
-/// Takes out a server and its points, and answers whether it was there.
-pub(crate) fn take_out(servers: &mut Vec<Server>, places: &mut Places, address: Address) -> bool
-    requires servers { AreServers servers.old.items }
-    requires theirs { (p : Point) → In p places.old.points → In p.server (addresses_of servers.old.items) }
+/// Takes out a server, and answers whether it was there.
+pub(crate) fn take_server(servers: &mut Vec<Server>, address: Address) -> bool
+    requires { AreServers servers.old.items }
     ensures servers { servers.new.items ≡ without address servers.old.items }
-    ensures points { places.new.points ≡ filter (λ (p : Point). not (is_same p.server address)) places.old.points }
     ensures there { result ≡ is_some (weight_of address servers.old.items) }
     ensures capacity { vec_capacity servers.new ≡ vec_capacity servers.old }
-    ensures room { length places.old.points + places.old.room ≤ length places.new.points + places.new.room }
 {
     if weight_among(servers, address).is_none() {
         return false;
     }
     servers.retain(|server| server.address != address);
-    places.take(address);
+    true
+}
+
+/// Puts a server in the place of any other of its address.
+pub(crate) fn put_server(servers: &mut Vec<Server>, server: &Server) -> Result<(), AllocError>
+    requires servers { AreServers servers.old.items }
+    requires weighed { 0 < server.now.weight }
+    ensures put { OnOk result (servers.new.items ≡ with_server server.now servers.old.items) }
+    ensures servers { OnOk result (AreServers servers.new.items) }
+{
+    take_server(servers, server.address);
+    place(servers, *server)?;
+    Ok(())
+}
+
+/// Takes out a server and its points, and answers whether it was there.
+pub(crate) fn take_out(
+    servers: &mut Vec<Server>,
+    points: &mut Vec<Point>,
+    starts: &mut Starts,
+    address: Address,
+) -> bool
+    requires servers { AreServers servers.old.items }
+    requires theirs { (p : Point) → In p points.old.items → In p.server (addresses_of servers.old.items) }
+    ensures servers { servers.new.items ≡ without address servers.old.items }
+    ensures points { points.new.items ≡ filter (λ (p : Point). not (is_same p.server address)) points.old.items }
+    ensures there { result ≡ is_some (weight_of address servers.old.items) }
+    ensures servers_capacity { vec_capacity servers.new ≡ vec_capacity servers.old }
+    ensures points_capacity { vec_capacity points.new ≡ vec_capacity points.old }
+{
+    if !take_server(servers, address) {
+        return false;
+    }
+    take_points(points, starts, address);
     true
 }

@@ -1,7 +1,6 @@
 //! Where searches of the points begin. No clause speaks of what they are: a wrong start costs time alone.
-ghost use Rattle.std.specs.Prelude.{◌≡◌, ◌/◌, ◌≤◌, OnOk, vec_capacity, vec_len};
+ghost use Rattle.std.specs.Prelude.{◌≡◌, ◌/◌, ◌≤◌, OnOk, vec_len};
 
-use crate::heads::{Head, high_half};
 use crate::points::Point;
 use std::alloc::{AllocError, Global};
 
@@ -34,6 +33,13 @@ impl Starts {
         }
     }
 
+    /// The starts of a list of points.
+    pub(crate) fn of(alloc: Global, points: &Vec<Point>) -> Result<Starts, AllocError> {
+        let mut starts = Starts::new(alloc);
+        starts.widen(points, points.capacity())?;
+        Ok(starts)
+    }
+
     pub(crate) fn copy(&self) -> Result<Starts, AllocError> {
         let alloc = *self.counts.allocator();
         Ok(Starts {
@@ -41,37 +47,35 @@ impl Starts {
         })
     }
 
-    /// Makes the list longer where the points have room for more. Where that is refused it stays as it was.
-    pub(crate) fn widen(&mut self, heads: &Vec<Head>) -> Result<(), AllocError>
+    /// Makes the list long enough for a number of points. Where that is refused it stays as it was.
+    pub(crate) fn widen(&mut self, points: &[Point], capacity: usize) -> Result<(), AllocError>
         // A growth that was refused is not passed over.
-        ensures { OnOk result (vec_capacity heads.now / 16 ≤ vec_len self.new.counts) }
+        ensures { OnOk result (capacity / 16 ≤ vec_len self.new.counts) }
     {
-        let parts = heads.capacity() / SPREAD;
+        let parts = capacity / SPREAD;
         if parts > self.counts.len() {
             self.counts.resize(parts, 0)?;
             self.counts.fill(0);
-            let mut passed = Passed::nothing();
-            for head in heads {
-                passed = self.pass(passed, head.high, 1);
-            }
-            self.finish(passed);
+            self.add(points);
         }
         Ok(())
     }
 
     /// Counts points that ascend and were added.
-    pub(crate) fn add(&mut self, points: &[Point]) {
+    pub(crate) fn add(&mut self, points: &[Point])
+        ensures { vec_len self.new.counts ≡ vec_len self.old.counts }
+    {
         let mut passed = Passed::nothing();
         for point in points {
-            passed = self.pass(passed, high_half(point.hash), 1);
+            passed = self.pass(passed, point.hash, 1);
         }
         self.finish(passed);
     }
 
     /// Counts the next of points that ascend and are taken out.
-    pub(crate) fn take(&mut self, passed: Passed, high: u32) -> Passed {
+    pub(crate) fn take(&mut self, passed: Passed, hash: u64) -> Passed {
         // Counts are added modulo 2^32, so this one takes 1 away.
-        self.pass(passed, high, u32::MAX)
+        self.pass(passed, hash, u32::MAX)
     }
 
     /// Ends what was begun: the parts after the last such point.
@@ -83,10 +87,10 @@ impl Starts {
     }
 
     /// One more point, up to whose part nothing new has to be counted.
-    fn pass(&mut self, passed: Passed, high: u32, step: u32) -> Passed
+    fn pass(&mut self, passed: Passed, hash: u64, step: u32) -> Passed
         ensures { vec_len self.new.counts ≡ vec_len self.old.counts }
     {
-        let next = share(high, self.counts.len()).saturating_add(1);
+        let next = share(hash, self.counts.len()).saturating_add(1);
         raise(&mut self.counts, passed, next);
         Passed {
             part: next,
@@ -94,9 +98,9 @@ impl Starts {
         }
     }
 
-    /// The place before the first point of the part of a hash's upper half, or 0.
-    pub(crate) fn before(&self, high: u32) -> usize {
-        let part = share(high, self.counts.len());
+    /// The place before the first point of a hash's part, or 0.
+    pub(crate) fn before(&self, hash: u64) -> usize {
+        let part = share(hash, self.counts.len());
         let start = self.counts.get(part).map_or(0, |count| *count as usize);
         start.saturating_sub(1)
     }
@@ -111,7 +115,7 @@ fn raise(counts: &mut [u32], passed: Passed, next: usize) {
     }
 }
 
-/// A number's share of 2^32, out of a count below 2^32.
-fn share(number: u32, count: usize) -> usize {
-    (u64::from(number).wrapping_mul(count as u64) >> 32) as usize
+/// A number's share of 2^64, out of a count below 2^32.
+fn share(number: u64, count: usize) -> usize {
+    ((number >> 32).wrapping_mul(count as u64) >> 32) as usize
 }

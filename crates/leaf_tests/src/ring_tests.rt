@@ -216,6 +216,35 @@ fn sha256_begins_with_eight_bytes(rt: HostRuntime) -> Result<(), Fail> {
     Ok(())
 }
 
+/// A ring of these servers at once, at the second try where the first was refused.
+fn at_once<H: PointHash>(alloc: Global, hash: H, servers: &[Server]) -> Result<Ring<H>, Fail> {
+    match Ring::with_servers(alloc, hash, 2, servers) {
+        Ok(ring) => Ok(ring),
+        Err(_) => Ok(Ring::with_servers(alloc, hash, 2, servers)?),
+    }
+}
+
+#[test]
+fn a_ring_of_many_servers_at_once(rt: HostRuntime) -> Result<(), Fail> {
+    let mut servers = Vec::with_capacity(rt.alloc(), 4)?;
+    for (text, number) in [(C, 1), (B, 8), (A, 1), (B, 3)] {
+        servers.push(Server {
+            address: address(text)?,
+            weight: weight(number)?,
+        })?;
+    }
+    let ring = at_once(rt.alloc(), SumHash, &servers)?;
+    assert!(rt; ring.len() == 3 && ring.weight(address(B)?) == Weight::new(3));
+    check_rows(
+        &rt,
+        &ring,
+        &[("zzzz1", 3, &[B, C, A]), ("zzzz3", 3, &[B, A, C])],
+    )?;
+    let refused = Ring::with_servers(rt.alloc(), SumHash, 0, &servers).err();
+    assert!(rt; refused == Some(RingError::BadReplicas));
+    Ok(())
+}
+
 #[test]
 fn replicas_are_bounded(rt: HostRuntime) {
     for (replicas, good) in [(0, false), (1, true), (1000, true), (1001, false)] {

@@ -6,7 +6,9 @@ use Rattle.turn_lock.specs.declared.pass.Pass.{Pass}
 use Rattle.turn_lock.specs.History.{turn, entries_of, GrownBy}
 use Rattle.turn_lock.specs.Passes as lock
 use Rattle.node_core.specs.Agreement.{IsNodeOf}
-use Rattle.node_core.specs.Calls.{Call, Answer, CallStep}
+use Rattle.node_core.specs.declared.events.Event.{Event}
+use Rattle.node_core.specs.declared.events.Reply.{Reply}
+use Rattle.node_core.specs.Calls.{Call, OfEvent, Answer, WithReply, CallStep}
 use Rattle.node_core.specs.Invariant.{IsSeen}
 use Rattle.node_core.specs.Itself.{IsItself}
 use Rattle.node_core.specs.Node.{Node, Seen}
@@ -80,6 +82,14 @@ module _ {H : Type 0} where
     pub legal : LegalHistory hash_of (opening_of locked).node (lock.seen new) after
     -- it is the one call that the pass has made since
     pub made : Made locked old new (entry_of call answer after ∷ [])
+
+  -- the pass made the call that an event names, and was answered by the event's reply
+  abbrev pub IsAnswered : {R : Type 0} → (H → List ℕ → ℕ) → LockedNode H → NodePass H → NodePass H → Event → (R → Reply) → R → Type 0
+  IsAnswered hash_of locked old new event reply r = IsCalled hash_of locked old new (OfEvent event) (WithReply (reply r))
+
+  -- the pass is not let in, and is as it was
+  abbrev pub IsBarred : LockedNode H → NodePass H → NodePass H → LockError → Type 0
+  IsBarred locked old new e = (new ≡ old) × Refuses locked old e
 
   -- The node after one legal history of all calls of these passes.
   pub record IsClosed (hash_of : H → List ℕ → ℕ) (locked : LockedNode H) (passes : List (NodePass H)) (now : Seen H) : Type 0 where

@@ -94,7 +94,7 @@ impl<H: PointHash> Asked<H> for Expire {
 }
 
 impl<H: PointHash> LockedNode<H> {
-    ghost use Rattle.locked_node.specs.Passes.{Fits, IsCalled, Refuses};
+    ghost use Rattle.locked_node.specs.Passes.{Fits, IsAnswered, IsBarred};
 
     /// Takes at most 4,096 changes one after another, at a moment. Where the node refuses one, the reply says how many were
     /// taken before it, and why.
@@ -107,8 +107,8 @@ impl<H: PointHash> LockedNode<H> {
     ) -> Result<Result<Taken, Stopped>, LockError>
         requires fits { Fits self.now pass.old }
         requires few { length changes.now ≤ most_members }
-        ensures called { IfOk result (λ r. IsCalled H.hash_of self.now pass.old pass.new (OfEvent (event.Take changes.now moment)) (WithReply (reply.Take r))) }
-        ensures refused { IfErr result (λ e. (pass.new ≡ pass.old) × Refuses self.now pass.old e) }
+        ensures called { IfOk result (IsAnswered H.hash_of self.now pass.old pass.new (event.Take changes.now moment) reply.Take) }
+        ensures refused { IfErr result (IsBarred self.now pass.old pass.new) }
         ensures fits { Fits self.now pass.new }
     {
         self.turn(rt, pass, &Take { changes, moment })
@@ -123,8 +123,8 @@ impl<H: PointHash> LockedNode<H> {
         moment: Moment,
     ) -> Result<Received, LockError>
         requires { Fits self.now pass.old }
-        ensures called { IfOk result (λ r. IsCalled H.hash_of self.now pass.old pass.new (OfEvent (event.Receive message.now moment)) (WithReply (reply.Receive r))) }
-        ensures refused { IfErr result (λ e. (pass.new ≡ pass.old) × Refuses self.now pass.old e) }
+        ensures called { IfOk result (IsAnswered H.hash_of self.now pass.old pass.new (event.Receive message.now moment) reply.Receive) }
+        ensures refused { IfErr result (IsBarred self.now pass.old pass.new) }
         ensures fits { Fits self.now pass.new }
     {
         self.turn(rt, pass, &Receive(message, moment))
@@ -137,8 +137,8 @@ impl<H: PointHash> LockedNode<H> {
         pass: &mut NodePass<H>,
     ) -> Result<Result<Change, NodeError>, LockError>
         requires { Fits self.now pass.old }
-        ensures called { IfOk result (λ r. IsCalled H.hash_of self.now pass.old pass.new (OfEvent event.Leave) (WithReply (reply.Leave r))) }
-        ensures refused { IfErr result (λ e. (pass.new ≡ pass.old) × Refuses self.now pass.old e) }
+        ensures called { IfOk result (IsAnswered H.hash_of self.now pass.old pass.new event.Leave reply.Leave) }
+        ensures refused { IfErr result (IsBarred self.now pass.old pass.new) }
         ensures fits { Fits self.now pass.new }
     {
         self.turn(rt, pass, &Leave)
@@ -151,8 +151,8 @@ impl<H: PointHash> LockedNode<H> {
         pass: &mut NodePass<H>,
     ) -> Result<Result<Change, NodeError>, LockError>
         requires { Fits self.now pass.old }
-        ensures called { IfOk result (λ r. IsCalled H.hash_of self.now pass.old pass.new (OfEvent event.Rejoin) (WithReply (reply.Rejoin r))) }
-        ensures refused { IfErr result (λ e. (pass.new ≡ pass.old) × Refuses self.now pass.old e) }
+        ensures called { IfOk result (IsAnswered H.hash_of self.now pass.old pass.new event.Rejoin reply.Rejoin) }
+        ensures refused { IfErr result (IsBarred self.now pass.old pass.new) }
         ensures fits { Fits self.now pass.new }
     {
         self.turn(rt, pass, &Rejoin)
@@ -166,8 +166,8 @@ impl<H: PointHash> LockedNode<H> {
         moment: Moment,
     ) -> Result<Result<Option<Change>, NodeError>, LockError>
         requires { Fits self.now pass.old }
-        ensures called { IfOk result (λ r. IsCalled H.hash_of self.now pass.old pass.new (OfEvent (event.Expire moment)) (WithReply (reply.Expire r))) }
-        ensures refused { IfErr result (λ e. (pass.new ≡ pass.old) × Refuses self.now pass.old e) }
+        ensures called { IfOk result (IsAnswered H.hash_of self.now pass.old pass.new (event.Expire moment) reply.Expire) }
+        ensures refused { IfErr result (IsBarred self.now pass.old pass.new) }
         ensures fits { Fits self.now pass.new }
     {
         self.turn(rt, pass, &Expire(moment))

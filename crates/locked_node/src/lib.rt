@@ -15,3 +15,16 @@ mod turns;
 pub use errors::CloseRefused;
 pub use held::{Held, Step};
 pub use node::{LockedNode, NodePass};
+
+// What its calls take and answer, so that a user names this crate alone.
+pub use change_core::{
+    Address, Change, Digest, Entry, Incarnation, Moment, Sourced, Status, Weight,
+};
+pub use detector_core::{Addresses, Probe, Running, Said};
+pub use hash_ring::{PointHash, Sha256Hash, SumHash};
+pub use node_core::{
+    ChangeList, Config, ConfigField, NodeError, NodeLost, NodeOutcome, NodeState, Received,
+    StopCause, Stopped, Taken, View,
+};
+pub use turn_lock::{CloseError, LockError, NewError};
+pub use wire_json::{Changes, Content, Kind, Message, News, Text};

@@ -150,13 +150,13 @@ impl<H: PointHash> Asked<H> for MakeView {
 }
 
 impl<H: PointHash> LockedNode<H> {
-    ghost use Rattle.locked_node.specs.Passes.{Fits, IsCalled, Refuses};
+    ghost use Rattle.locked_node.specs.Passes.{Fits, IsAnswered, IsBarred, IsCalled};
 
     /// What the node holds of itself, as a change.
     pub fn own<R: Wait>(&self, rt: &R, pass: &mut NodePass<H>) -> Result<Change, LockError>
         requires { Fits self.now pass.old }
-        ensures called { IfOk result (λ r. IsCalled H.hash_of self.now pass.old pass.new (OfEvent event.Own) (WithReply (reply.Own r))) }
-        ensures refused { IfErr result (λ e. (pass.new ≡ pass.old) × Refuses self.now pass.old e) }
+        ensures called { IfOk result (IsAnswered H.hash_of self.now pass.old pass.new event.Own reply.Own) }
+        ensures refused { IfErr result (IsBarred self.now pass.old pass.new) }
         ensures fits { Fits self.now pass.new }
     {
         self.turn(rt, pass, &Own)
@@ -170,8 +170,8 @@ impl<H: PointHash> LockedNode<H> {
         address: Address,
     ) -> Result<Option<Entry>, LockError>
         requires { Fits self.now pass.old }
-        ensures called { IfOk result (λ r. IsCalled H.hash_of self.now pass.old pass.new (OfEvent (event.Member address)) (WithReply (reply.Member r))) }
-        ensures refused { IfErr result (λ e. (pass.new ≡ pass.old) × Refuses self.now pass.old e) }
+        ensures called { IfOk result (IsAnswered H.hash_of self.now pass.old pass.new (event.Member address) reply.Member) }
+        ensures refused { IfErr result (IsBarred self.now pass.old pass.new) }
         ensures fits { Fits self.now pass.new }
     {
         self.turn(rt, pass, &Member(address))
@@ -180,8 +180,8 @@ impl<H: PointHash> LockedNode<H> {
     /// How many members the node holds, itself among them.
     pub fn len<R: Wait>(&self, rt: &R, pass: &mut NodePass<H>) -> Result<usize, LockError>
         requires { Fits self.now pass.old }
-        ensures called { IfOk result (λ r. IsCalled H.hash_of self.now pass.old pass.new (OfEvent event.Len) (WithReply (reply.Len r))) }
-        ensures refused { IfErr result (λ e. (pass.new ≡ pass.old) × Refuses self.now pass.old e) }
+        ensures called { IfOk result (IsAnswered H.hash_of self.now pass.old pass.new event.Len reply.Len) }
+        ensures refused { IfErr result (IsBarred self.now pass.old pass.new) }
         ensures fits { Fits self.now pass.new }
     {
         self.turn(rt, pass, &Len)
@@ -195,8 +195,8 @@ impl<H: PointHash> LockedNode<H> {
         key: &[u8],
     ) -> Result<Option<Address>, LockError>
         requires { Fits self.now pass.old }
-        ensures called { IfOk result (λ r. IsCalled H.hash_of self.now pass.old pass.new (OfEvent (event.Owner key.now)) (WithReply (reply.Owner r))) }
-        ensures refused { IfErr result (λ e. (pass.new ≡ pass.old) × Refuses self.now pass.old e) }
+        ensures called { IfOk result (IsAnswered H.hash_of self.now pass.old pass.new (event.Owner key.now) reply.Owner) }
+        ensures refused { IfErr result (IsBarred self.now pass.old pass.new) }
         ensures fits { Fits self.now pass.new }
     {
         self.turn(rt, pass, &Owner(key))
@@ -211,8 +211,8 @@ impl<H: PointHash> LockedNode<H> {
         count: usize,
     ) -> Result<Result<Addresses, NodeError>, LockError>
         requires { Fits self.now pass.old }
-        ensures called { IfOk result (λ r. IsCalled H.hash_of self.now pass.old pass.new (OfEvent (event.Owners key.now count)) (WithReply (reply.Owners r))) }
-        ensures refused { IfErr result (λ e. (pass.new ≡ pass.old) × Refuses self.now pass.old e) }
+        ensures called { IfOk result (IsAnswered H.hash_of self.now pass.old pass.new (event.Owners key.now count) reply.Owners) }
+        ensures refused { IfErr result (IsBarred self.now pass.old pass.new) }
         ensures fits { Fits self.now pass.new }
     {
         self.turn(rt, pass, &Owners(key, count))
@@ -225,8 +225,8 @@ impl<H: PointHash> LockedNode<H> {
         pass: &mut NodePass<H>,
     ) -> Result<Result<ChangeList, NodeError>, LockError>
         requires { Fits self.now pass.old }
-        ensures called { IfOk result (λ r. IsCalled H.hash_of self.now pass.old pass.new (OfEvent event.Members) (WithReply (reply.Members r))) }
-        ensures refused { IfErr result (λ e. (pass.new ≡ pass.old) × Refuses self.now pass.old e) }
+        ensures called { IfOk result (IsAnswered H.hash_of self.now pass.old pass.new event.Members reply.Members) }
+        ensures refused { IfErr result (IsBarred self.now pass.old pass.new) }
         ensures fits { Fits self.now pass.new }
     {
         self.turn(rt, pass, &Members)
@@ -239,8 +239,8 @@ impl<H: PointHash> LockedNode<H> {
         pass: &mut NodePass<H>,
     ) -> Result<Result<Text, NodeError>, LockError>
         requires { Fits self.now pass.old }
-        ensures called { IfOk result (λ r. IsCalled H.hash_of self.now pass.old pass.new (OfEvent event.DigestText) (WithReply (reply.DigestText r))) }
-        ensures refused { IfErr result (λ e. (pass.new ≡ pass.old) × Refuses self.now pass.old e) }
+        ensures called { IfOk result (IsAnswered H.hash_of self.now pass.old pass.new event.DigestText reply.DigestText) }
+        ensures refused { IfErr result (IsBarred self.now pass.old pass.new) }
         ensures fits { Fits self.now pass.new }
     {
         self.turn(rt, pass, &DigestText)
@@ -253,8 +253,8 @@ impl<H: PointHash> LockedNode<H> {
         pass: &mut NodePass<H>,
     ) -> Result<Result<Digest, NodeError>, LockError>
         requires { Fits self.now pass.old }
-        ensures called { IfOk result (λ r. IsCalled H.hash_of self.now pass.old pass.new (OfEvent event.Digest) (WithReply (reply.Digest r))) }
-        ensures refused { IfErr result (λ e. (pass.new ≡ pass.old) × Refuses self.now pass.old e) }
+        ensures called { IfOk result (IsAnswered H.hash_of self.now pass.old pass.new event.Digest reply.Digest) }
+        ensures refused { IfErr result (IsBarred self.now pass.old pass.new) }
         ensures fits { Fits self.now pass.new }
     {
         self.turn(rt, pass, &MembersDigest)
@@ -268,7 +268,7 @@ impl<H: PointHash> LockedNode<H> {
     ) -> Result<Result<View<H>, NodeError>, LockError>
         requires { Fits self.now pass.old }
         ensures called { IfOk result (λ r. IsCalled H.hash_of self.now pass.old pass.new OfView (WithView r)) }
-        ensures refused { IfErr result (λ e. (pass.new ≡ pass.old) × Refuses self.now pass.old e) }
+        ensures refused { IfErr result (IsBarred self.now pass.old pass.new) }
         ensures fits { Fits self.now pass.new }
     {
         self.turn(rt, pass, &MakeView)

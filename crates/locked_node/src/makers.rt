@@ -74,7 +74,7 @@ impl<H: PointHash> Asked<H> for PingReqAckTo {
 }
 
 impl<H: PointHash> LockedNode<H> {
-    ghost use Rattle.locked_node.specs.Passes.{Fits, IsCalled, Refuses};
+    ghost use Rattle.locked_node.specs.Passes.{Fits, IsAnswered, IsBarred};
 
     /// What a node that wants to join sends to a host, or `Memory`.
     pub fn join_message<R: Wait>(
@@ -83,8 +83,8 @@ impl<H: PointHash> LockedNode<H> {
         pass: &mut NodePass<H>,
     ) -> Result<Result<Message, NodeError>, LockError>
         requires { Fits self.now pass.old }
-        ensures called { IfOk result (λ r. IsCalled H.hash_of self.now pass.old pass.new (OfEvent event.JoinMessage) (WithReply (reply.JoinMessage r))) }
-        ensures refused { IfErr result (λ e. (pass.new ≡ pass.old) × Refuses self.now pass.old e) }
+        ensures called { IfOk result (IsAnswered H.hash_of self.now pass.old pass.new event.JoinMessage reply.JoinMessage) }
+        ensures refused { IfErr result (IsBarred self.now pass.old pass.new) }
         ensures fits { Fits self.now pass.new }
     {
         self.turn(rt, pass, &JoinMessage)
@@ -98,8 +98,8 @@ impl<H: PointHash> LockedNode<H> {
         target: Address,
     ) -> Result<Result<Message, NodeError>, LockError>
         requires { Fits self.now pass.old }
-        ensures called { IfOk result (λ r. IsCalled H.hash_of self.now pass.old pass.new (OfEvent (event.PingTo target)) (WithReply (reply.PingTo r))) }
-        ensures refused { IfErr result (λ e. (pass.new ≡ pass.old) × Refuses self.now pass.old e) }
+        ensures called { IfOk result (IsAnswered H.hash_of self.now pass.old pass.new (event.PingTo target) reply.PingTo) }
+        ensures refused { IfErr result (IsBarred self.now pass.old pass.new) }
         ensures fits { Fits self.now pass.new }
     {
         self.turn(rt, pass, &PingTo(target))
@@ -114,8 +114,8 @@ impl<H: PointHash> LockedNode<H> {
         target: Address,
     ) -> Result<Result<Message, NodeError>, LockError>
         requires { Fits self.now pass.old }
-        ensures called { IfOk result (λ r. IsCalled H.hash_of self.now pass.old pass.new (OfEvent (event.PingReqTo helper target)) (WithReply (reply.PingReqTo r))) }
-        ensures refused { IfErr result (λ e. (pass.new ≡ pass.old) × Refuses self.now pass.old e) }
+        ensures called { IfOk result (IsAnswered H.hash_of self.now pass.old pass.new (event.PingReqTo helper target) reply.PingReqTo) }
+        ensures refused { IfErr result (IsBarred self.now pass.old pass.new) }
         ensures fits { Fits self.now pass.new }
     {
         self.turn(rt, pass, &PingReqTo(helper, target))
@@ -131,8 +131,8 @@ impl<H: PointHash> LockedNode<H> {
         reached: bool,
     ) -> Result<Result<Message, NodeError>, LockError>
         requires { Fits self.now pass.old }
-        ensures called { IfOk result (λ r. IsCalled H.hash_of self.now pass.old pass.new (OfEvent (event.PingReqAckTo requester target reached)) (WithReply (reply.PingReqAckTo r))) }
-        ensures refused { IfErr result (λ e. (pass.new ≡ pass.old) × Refuses self.now pass.old e) }
+        ensures called { IfOk result (IsAnswered H.hash_of self.now pass.old pass.new (event.PingReqAckTo requester target reached) reply.PingReqAckTo) }
+        ensures refused { IfErr result (IsBarred self.now pass.old pass.new) }
         ensures fits { Fits self.now pass.new }
     {
         self.turn(rt, pass, &PingReqAckTo(requester, target, reached))

@@ -89,7 +89,7 @@ impl<H: PointHash> Asked<H> for RunningProbe {
 }
 
 impl<H: PointHash> LockedNode<H> {
-    ghost use Rattle.locked_node.specs.Passes.{Fits, IsCalled, Refuses};
+    ghost use Rattle.locked_node.specs.Passes.{Fits, IsAnswered, IsBarred};
 
     /// Begins a probe of the next member in turn, or answers None where there is none, or `Busy`, `Spent` or `Memory`.
     pub fn probe<R: Wait>(
@@ -98,8 +98,8 @@ impl<H: PointHash> LockedNode<H> {
         pass: &mut NodePass<H>,
     ) -> Result<Result<Option<Probe>, NodeError>, LockError>
         requires { Fits self.now pass.old }
-        ensures called { IfOk result (λ r. IsCalled H.hash_of self.now pass.old pass.new (OfEvent event.Probe) (WithReply (reply.Probe r))) }
-        ensures refused { IfErr result (λ e. (pass.new ≡ pass.old) × Refuses self.now pass.old e) }
+        ensures called { IfOk result (IsAnswered H.hash_of self.now pass.old pass.new event.Probe reply.Probe) }
+        ensures refused { IfErr result (IsBarred self.now pass.old pass.new) }
         ensures fits { Fits self.now pass.new }
     {
         self.turn(rt, pass, &NextProbe)
@@ -113,8 +113,8 @@ impl<H: PointHash> LockedNode<H> {
         number: u64,
     ) -> Result<Result<(), NodeError>, LockError>
         requires { Fits self.now pass.old }
-        ensures called { IfOk result (λ r. IsCalled H.hash_of self.now pass.old pass.new (OfEvent (event.Acked number)) (WithReply (reply.Acked r))) }
-        ensures refused { IfErr result (λ e. (pass.new ≡ pass.old) × Refuses self.now pass.old e) }
+        ensures called { IfOk result (IsAnswered H.hash_of self.now pass.old pass.new (event.Acked number) reply.Acked) }
+        ensures refused { IfErr result (IsBarred self.now pass.old pass.new) }
         ensures fits { Fits self.now pass.new }
     {
         self.turn(rt, pass, &Acked(number))
@@ -129,8 +129,8 @@ impl<H: PointHash> LockedNode<H> {
         moment: Moment,
     ) -> Result<Result<NodeLost, NodeError>, LockError>
         requires { Fits self.now pass.old }
-        ensures called { IfOk result (λ r. IsCalled H.hash_of self.now pass.old pass.new (OfEvent (event.Lost number moment)) (WithReply (reply.Lost r))) }
-        ensures refused { IfErr result (λ e. (pass.new ≡ pass.old) × Refuses self.now pass.old e) }
+        ensures called { IfOk result (IsAnswered H.hash_of self.now pass.old pass.new (event.Lost number moment) reply.Lost) }
+        ensures refused { IfErr result (IsBarred self.now pass.old pass.new) }
         ensures fits { Fits self.now pass.new }
     {
         self.turn(rt, pass, &Lost(number, moment))
@@ -148,8 +148,8 @@ impl<H: PointHash> LockedNode<H> {
         moment: Moment,
     ) -> Result<Result<NodeOutcome, NodeError>, LockError>
         requires { Fits self.now pass.old }
-        ensures called { IfOk result (λ r. IsCalled H.hash_of self.now pass.old pass.new (OfEvent (event.HelperSaid number helper said moment)) (WithReply (reply.HelperSaid r))) }
-        ensures refused { IfErr result (λ e. (pass.new ≡ pass.old) × Refuses self.now pass.old e) }
+        ensures called { IfOk result (IsAnswered H.hash_of self.now pass.old pass.new (event.HelperSaid number helper said moment) reply.HelperSaid) }
+        ensures refused { IfErr result (IsBarred self.now pass.old pass.new) }
         ensures fits { Fits self.now pass.new }
     {
         self.turn(rt, pass, &HelperSaid(number, helper, said, moment))
@@ -162,8 +162,8 @@ impl<H: PointHash> LockedNode<H> {
         pass: &mut NodePass<H>,
     ) -> Result<Option<Running>, LockError>
         requires { Fits self.now pass.old }
-        ensures called { IfOk result (λ r. IsCalled H.hash_of self.now pass.old pass.new (OfEvent event.Running) (WithReply (reply.Running r))) }
-        ensures refused { IfErr result (λ e. (pass.new ≡ pass.old) × Refuses self.now pass.old e) }
+        ensures called { IfOk result (IsAnswered H.hash_of self.now pass.old pass.new event.Running reply.Running) }
+        ensures refused { IfErr result (IsBarred self.now pass.old pass.new) }
         ensures fits { Fits self.now pass.new }
     {
         self.turn(rt, pass, &RunningProbe)

@@ -54,7 +54,7 @@ impl<H: PointHash, A: Asked<H>> TurnEnd<H, A> {
 }
 
 impl<H: PointHash> LockedNode<H> {
-    ghost use Rattle.locked_node.specs.Passes.{Fits, IsCalled, Refuses};
+    ghost use Rattle.locked_node.specs.Passes.{Fits, IsBarred, IsCalled};
 
     /// Waits for a turn, makes the call of the node, and gives the turn back.
     pub(crate) fn turn<R: Wait, A: Asked<H>>(
@@ -65,7 +65,7 @@ impl<H: PointHash> LockedNode<H> {
     ) -> Result<A::Reply, LockError>
         requires { Fits self.now pass.old }
         ensures called { IfOk result (λ reply. IsCalled H.hash_of self.now pass.old pass.new (A.call asked.now) (A.answer reply)) }
-        ensures refused { IfErr result (λ e. (pass.new ≡ pass.old) × Refuses self.now pass.old e) }
+        ensures refused { IfErr result (IsBarred self.now pass.old pass.new) }
         ensures fits { Fits self.now pass.new }
     {
         let mut held = self.lock.enter(rt, pass)?;

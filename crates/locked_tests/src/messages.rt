@@ -1,14 +1,14 @@
 //! Messages that a locked node makes and answers, and what it says of its members.
 ghost use Rattle.locked_node.specs.Passes.{Fits};
 
-use crate::shared::{Caller, Shared, change, hear, member, moment, news, with_shared};
-use change_core::{Digest, Incarnation, Sourced, Status};
-use detector_core::Addresses;
-use node_core::{ChangeList, Received, Taken};
+use crate::shared::{Caller, Shared, change, hear, member, moment, news, tried, with_shared};
+use locked_node::{
+    Addresses, ChangeList, Changes, Content, Digest, Incarnation, Kind, Message, News, Received,
+    Sourced, Status, Taken, Text,
+};
 use std::alloc::Global;
 use std::process::Abort;
 use std::sync::Wait;
-use wire_json::{Changes, Content, Kind, Message, News, Text};
 
 /// The SHA-256 of the empty text: the digest of no members.
 const NOBODY: &str = "e3b0c44298fc1c149afbf4c8996fb92427ae41e4649b934ca495991b7852b855";
@@ -198,53 +198,38 @@ fn join_message<R: Wait + Abort>(rt: &R, shared: &Shared, pass: &mut Caller) -> 
     requires { Fits shared.now pass.old }
     ensures { Fits shared.now pass.new }
 {
-    if let Ok(Ok(made)) = shared.join_message(rt, pass) {
-        return made;
-    }
-    let again = shared.join_message(rt, pass).ok().expect(rt, "a turn");
-    again.ok().expect(rt, "a message")
+    let made = tried!(rt, shared.join_message(rt, pass));
+    made.ok().expect(rt, "a message")
 }
 
 fn ping<R: Wait + Abort>(rt: &R, shared: &Shared, pass: &mut Caller) -> Message
     requires { Fits shared.now pass.old }
     ensures { Fits shared.now pass.new }
 {
-    if let Ok(Ok(made)) = shared.ping_to(rt, pass, member(rt, 2)) {
-        return made;
-    }
-    let again = shared
-        .ping_to(rt, pass, member(rt, 2))
-        .ok()
-        .expect(rt, "a turn");
-    again.ok().expect(rt, "a message")
+    let made = tried!(rt, shared.ping_to(rt, pass, member(rt, 2)));
+    made.ok().expect(rt, "a message")
 }
 
 fn ping_req<R: Wait + Abort>(rt: &R, shared: &Shared, pass: &mut Caller) -> Message
     requires { Fits shared.now pass.old }
     ensures { Fits shared.now pass.new }
 {
-    if let Ok(Ok(made)) = shared.ping_req_to(rt, pass, member(rt, 2), member(rt, 3)) {
-        return made;
-    }
-    let again = shared
-        .ping_req_to(rt, pass, member(rt, 2), member(rt, 3))
-        .ok()
-        .expect(rt, "a turn");
-    again.ok().expect(rt, "a message")
+    let made = tried!(
+        rt,
+        shared.ping_req_to(rt, pass, member(rt, 2), member(rt, 3))
+    );
+    made.ok().expect(rt, "a message")
 }
 
 fn ping_req_ack<R: Wait + Abort>(rt: &R, shared: &Shared, pass: &mut Caller) -> Message
     requires { Fits shared.now pass.old }
     ensures { Fits shared.now pass.new }
 {
-    if let Ok(Ok(made)) = shared.ping_req_ack_to(rt, pass, member(rt, 2), member(rt, 3), true) {
-        return made;
-    }
-    let again = shared
-        .ping_req_ack_to(rt, pass, member(rt, 2), member(rt, 3), true)
-        .ok()
-        .expect(rt, "a turn");
-    again.ok().expect(rt, "a message")
+    let made = tried!(
+        rt,
+        shared.ping_req_ack_to(rt, pass, member(rt, 2), member(rt, 3), true)
+    );
+    made.ok().expect(rt, "a message")
 }
 
 /// Whether a message is of this kind, by 10.0.0.1:1.
@@ -272,44 +257,32 @@ fn members<R: Wait + Abort>(rt: &R, shared: &Shared, pass: &mut Caller) -> Chang
     requires { Fits shared.now pass.old }
     ensures { Fits shared.now pass.new }
 {
-    if let Ok(Ok(made)) = shared.members(rt, pass) {
-        return made;
-    }
-    let again = shared.members(rt, pass).ok().expect(rt, "a turn");
-    again.ok().expect(rt, "members")
+    let made = tried!(rt, shared.members(rt, pass));
+    made.ok().expect(rt, "members")
 }
 
 fn digest_text<R: Wait + Abort>(rt: &R, shared: &Shared, pass: &mut Caller) -> Text
     requires { Fits shared.now pass.old }
     ensures { Fits shared.now pass.new }
 {
-    if let Ok(Ok(made)) = shared.digest_text(rt, pass) {
-        return made;
-    }
-    let again = shared.digest_text(rt, pass).ok().expect(rt, "a turn");
-    again.ok().expect(rt, "a text")
+    let made = tried!(rt, shared.digest_text(rt, pass));
+    made.ok().expect(rt, "a text")
 }
 
 fn digest<R: Wait + Abort>(rt: &R, shared: &Shared, pass: &mut Caller) -> Digest
     requires { Fits shared.now pass.old }
     ensures { Fits shared.now pass.new }
 {
-    if let Ok(Ok(made)) = shared.digest(rt, pass) {
-        return made;
-    }
-    let again = shared.digest(rt, pass).ok().expect(rt, "a turn");
-    again.ok().expect(rt, "a digest")
+    let made = tried!(rt, shared.digest(rt, pass));
+    made.ok().expect(rt, "a digest")
 }
 
 fn owners<R: Wait + Abort>(rt: &R, shared: &Shared, pass: &mut Caller) -> Addresses
     requires { Fits shared.now pass.old }
     ensures { Fits shared.now pass.new }
 {
-    if let Ok(Ok(made)) = shared.owners(rt, pass, b"key", 9) {
-        return made;
-    }
-    let again = shared.owners(rt, pass, b"key", 9).ok().expect(rt, "a turn");
-    again.ok().expect(rt, "owners")
+    let made = tried!(rt, shared.owners(rt, pass, b"key", 9));
+    made.ok().expect(rt, "owners")
 }
 
 fn check_held<R: Wait + Abort>(rt: &R, shared: &Shared, pass: &mut Caller)

@@ -1,10 +1,10 @@
 //! Probes of a locked node.
 ghost use Rattle.locked_node.specs.Passes.{Fits};
 
-use crate::shared::{Caller, Shared, change, hear, member, moment, news, with_shared};
-use change_core::{Address, Change, Status};
-use detector_core::{Probe, Running, Said};
-use node_core::{NodeError, NodeLost, NodeOutcome};
+use crate::shared::{Caller, Shared, change, hear, member, moment, news, tried, with_shared};
+use locked_node::{
+    Address, Change, NodeError, NodeLost, NodeOutcome, Probe, Running, Said, Status,
+};
 use std::process::Abort;
 use std::sync::Wait;
 
@@ -16,31 +16,10 @@ fn probe<R: Wait + Abort>(
     requires { Fits shared.now pass.old }
     ensures { Fits shared.now pass.new }
 {
-    let answer = shared.probe(rt, pass);
-    if answer == Ok(Err(NodeError::Memory)) {
-        return shared.probe(rt, pass).ok().expect(rt, "a turn");
-    }
-    answer.ok().expect(rt, "a turn")
+    tried!(rt, shared.probe(rt, pass))
 }
 
 /// What becomes of a lost probe: the helper that is asked, or the change that the target is suspect by.
-fn try_lose<R: Wait + Abort>(
-    rt: &R,
-    shared: &Shared,
-    pass: &mut Caller,
-    number: u64,
-) -> Result<(Option<Address>, Option<Change>), NodeError>
-    requires { Fits shared.now pass.old }
-    ensures { Fits shared.now pass.new }
-{
-    let now = moment(rt, 0);
-    let lost = shared.lost(rt, pass, number, now);
-    Ok(match lost.ok().expect(rt, "a turn")? {
-        NodeLost::Ask(helpers) => (helpers.as_slice().first().copied(), None),
-        NodeLost::Suspect(change) => (None, change),
-    })
-}
-
 fn lose<R: Wait + Abort>(
     rt: &R,
     shared: &Shared,
@@ -50,11 +29,12 @@ fn lose<R: Wait + Abort>(
     requires { Fits shared.now pass.old }
     ensures { Fits shared.now pass.new }
 {
-    let answer = try_lose(rt, shared, pass, number);
-    if answer == Err(NodeError::Memory) {
-        return try_lose(rt, shared, pass, number);
-    }
-    answer
+    let now = moment(rt, 0);
+    let lost = tried!(rt, shared.lost(rt, pass, number, now));
+    Ok(match lost? {
+        NodeLost::Ask(helpers) => (helpers.as_slice().first().copied(), None),
+        NodeLost::Suspect(change) => (None, change),
+    })
 }
 
 fn acked<R: Wait + Abort>(
@@ -99,22 +79,6 @@ fn a_lost_target_is_suspect_where_nobody_can_be_asked(rt: HostRuntime) {
     });
 }
 
-fn try_hear<R: Wait + Abort>(
-    rt: &R,
-    shared: &Shared,
-    pass: &mut Caller,
-    number: u64,
-    helper: Address,
-    said: Said,
-) -> Result<NodeOutcome, NodeError>
-    requires { Fits shared.now pass.old }
-    ensures { Fits shared.now pass.new }
-{
-    let now = moment(rt, 0);
-    let answer = shared.helper_said(rt, pass, number, helper, said, now);
-    answer.ok().expect(rt, "a turn")
-}
-
 /// What a helper's word about the lost target comes to, and the target.
 fn decide<R: Wait + Abort>(
     rt: &R,
@@ -135,13 +99,8 @@ fn decide<R: Wait + Abort>(
         waiting: Some(helper),
     };
     assert!(rt; helper != target && running(rt, shared, pass) == Some(waiting));
-    let outcome = try_hear(rt, shared, pass, number, helper, said);
-    let again = outcome == Err(NodeError::Memory);
-    let outcome = if again {
-        try_hear(rt, shared, pass, number, helper, said)
-    } else {
-        outcome
-    };
+    let now = moment(rt, 0);
+    let outcome = tried!(rt, shared.helper_said(rt, pass, number, helper, said, now));
     Some((target, outcome.ok()?))
 }
 

@@ -6,13 +6,27 @@ ghost use Rattle.change_core.specs.Address.{address_of};
 ghost use Rattle.turn_lock.specs.Passes.{lock_name};
 ghost use Rattle.locked_node.specs.Passes.{name_of, Fits, IsNew};
 
-use change_core::{Address, Change, Incarnation, Moment, Sourced, Status, Weight};
-use hash_ring::SumHash;
-use locked_node::{LockedNode, NodePass};
-use node_core::{Config, NodeState, StopCause, Stopped, Taken};
+use locked_node::{
+    Address, Change, Config, Incarnation, LockedNode, Moment, NodePass, NodeState, Sourced, Status,
+    StopCause, Stopped, SumHash, Taken, Weight,
+};
 use std::alloc::Global;
 use std::process::Abort;
 use std::sync::Wait;
+
+/// What a call of the node answers, made once more where it found no memory.
+macro_rules! tried {
+    ($rt:expr, $call:expr) => {
+        match $call {
+            Ok(Err(locked_node::NodeError::Memory)) => $call,
+            answer => answer,
+        }
+        .ok()
+        .expect($rt, "a turn")
+    };
+}
+
+pub(crate) use tried;
 
 pub(crate) type Shared = LockedNode<SumHash>;
 

@@ -7,19 +7,16 @@ ghost use Rattle.locked_node.specs.Passes.{Fits};
 
 use crate::shared::{
     Caller, Shared, Start, change, hear, member, moment, news, node, own, owner, pair, status_of,
-    take, with_shared,
+    take, tried, with_shared,
 };
-use change_core::{Address, Change, Sourced, Status};
-use detector_core::Addresses;
-use hash_ring::SumHash;
-use locked_node::LockedNode;
-use node_core::{NodeError, NodeState, StopCause, Stopped, Taken, View};
+use locked_node::{
+    Address, Addresses, Change, CloseError, LockError, LockedNode, NewError, NodeError, NodeState,
+    Sourced, Status, StopCause, Stopped, SumHash, Taken, Text, View,
+};
 use std::alloc::Global;
 use std::process::Abort;
 use std::sync::Wait;
 use std::thread::{Threads, join};
-use turn_lock::{CloseError, LockError, NewError};
-use wire_json::Text;
 
 const LIMIT: u64 = 9_007_199_254_740_991;
 
@@ -33,11 +30,8 @@ fn view<R: Wait + Abort>(rt: &R, shared: &Shared, pass: &mut Caller) -> View<Sum
     requires { Fits shared.now pass.old }
     ensures { Fits shared.now pass.new }
 {
-    if let Ok(Ok(view)) = shared.view(rt, pass) {
-        return view;
-    }
-    let again = shared.view(rt, pass).ok().expect(rt, "a turn");
-    again.ok().expect(rt, "a view")
+    let view = tried!(rt, shared.view(rt, pass));
+    view.ok().expect(rt, "a view")
 }
 
 /// Checks which members own two keys.
@@ -95,22 +89,14 @@ fn leave<R: Wait + Abort>(rt: &R, shared: &Shared, pass: &mut Caller) -> Result<
     requires { Fits shared.now pass.old }
     ensures { Fits shared.now pass.new }
 {
-    let answer = shared.leave(rt, pass);
-    if answer == Ok(Err(NodeError::Memory)) {
-        return shared.leave(rt, pass).ok().expect(rt, "a turn");
-    }
-    answer.ok().expect(rt, "a turn")
+    tried!(rt, shared.leave(rt, pass))
 }
 
 fn rejoin<R: Wait + Abort>(rt: &R, shared: &Shared, pass: &mut Caller) -> Result<Change, NodeError>
     requires { Fits shared.now pass.old }
     ensures { Fits shared.now pass.new }
 {
-    let answer = shared.rejoin(rt, pass);
-    if answer == Ok(Err(NodeError::Memory)) {
-        return shared.rejoin(rt, pass).ok().expect(rt, "a turn");
-    }
-    answer.ok().expect(rt, "a turn")
+    tried!(rt, shared.rejoin(rt, pass))
 }
 
 /// Leaves twice, refutes, and comes back twice.
@@ -211,11 +197,7 @@ fn expire<R: Wait + Abort>(
     ensures { Fits shared.now pass.new }
 {
     let now = moment(rt, now);
-    let answer = shared.expire(rt, pass, now);
-    if answer == Ok(Err(NodeError::Memory)) {
-        return shared.expire(rt, pass, now).ok().expect(rt, "a turn");
-    }
-    answer.ok().expect(rt, "a turn")
+    tried!(rt, shared.expire(rt, pass, now))
 }
 
 /// Checks that a suspect entry runs out, and then the faulty one.

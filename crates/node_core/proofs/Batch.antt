@@ -9,9 +9,10 @@ use Rattle.change_core.specs.Members.{greatest, members, alters}
 use Rattle.node_core.specs.declared.taking.Effect.{Effect}
 use Rattle.node_core.specs.declared.events.StopCause.{StopCause}
 use Rattle.change_core.specs.Refutation.{is_refuted, log_one}
+use Rattle.change_core.specs.Change.{change_of}
 use Rattle.node_core.specs.Log.{applied, refuted, one_if}
 use Rattle.node_core.specs.Node.{Node}
-use Rattle.node_core.specs.Taking.{alteration, took, took_all, change_of, NoneRefused, refusal, StopsFor, TakesOne, StopsOne, TakesAll, TakesFirst, altered_in, refuted_by}
+use Rattle.node_core.specs.Taking.{alteration, took, took_all, NoneRefused, refusal, StopsFor, TakesOne, StopsOne, TakesAll, TakesFirst, altered_in, refuted_by}
 use Rattle.node_core.proofs.Greatest.{Agree, greatest-members}
 use Rattle.node_core.proofs.Log.{IsSettled, agree-log_one, took_members, altered_by-own, settled-by}
 

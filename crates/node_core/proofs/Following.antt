@@ -4,6 +4,7 @@ use Rattle.std.proofs.lemmas.List.{take-map}
 use Rattle.std.proofs.Common.{append-nil}
 use Rattle.change_core.specs.declared.changes.Change.{Change}
 use Rattle.change_core.specs.declared.changes.Sourced.{Sourced}
+use Rattle.change_core.specs.Change.{change_of}
 use Rattle.change_core.specs.Members.{members}
 use Rattle.node_core.specs.declared.events.Event.{Event}
 use Rattle.node_core.specs.declared.events.Event.TheVariants as call
@@ -27,7 +28,7 @@ use Rattle.node_core.specs.Run.{log_step, log, MembersAreLog, given_in, said_in,
 use Rattle.node_core.specs.Step.{NodeStep}
 use Rattle.node_core.specs.Receiving.{AnswerStep, ReceiveStep, MakeStep}
 use Rattle.node_core.specs.Probes.{put_in, ended}
-use Rattle.node_core.specs.Taking.{TakeStep, took_all, change_of}
+use Rattle.node_core.specs.Taking.{TakeStep, took_all}
 use Rattle.node_core.proofs.Greatest.{Agree, greatest-members, members_same}
 use Rattle.node_core.proofs.Log.{IsSettled, agree-append, agree-log_given, took_all_members, took_all-own, settled-by}
 

@@ -3,14 +3,14 @@ use Rattle.std.proofs.Common.{◌≡◌, ℕ, ◌+◌, Bool, true, false, cond, 
 use Rattle.std.proofs.lemmas.Bool.{eqb-true, lt-ltb, or_left, and_parts}
 use Rattle.change_core.specs.declared.changes.Change.{Change}
 use Rattle.change_core.specs.declared.changes.Sourced.{Sourced}
-use Rattle.change_core.specs.Change.{exceeds}
+use Rattle.change_core.specs.Change.{change_of, exceeds}
 use Rattle.change_core.specs.Members.{greatest, greater, members}
 use Rattle.change_core.specs.Members.{alters}
 use Rattle.change_core.proofs.Members.{IsGreatest-greatest}
 use Rattle.change_core.specs.Refutation.{is_refuted, refutation, refutations, log_one}
 use Rattle.node_core.specs.Log.{log_given}
 use Rattle.node_core.specs.Node.{Node, asserted_by, or_birth}
-use Rattle.node_core.specs.Taking.{alteration, altered_by, took, took_all, change_of}
+use Rattle.node_core.specs.Taking.{alteration, altered_by, took, took_all}
 use Rattle.node_core.proofs.Greatest.{Agree, greatest-append, greatest-members, members_same}
 
 pub agree-append : (L L' K : List Change) → Agree L L' → Agree (L ++ K) (L' ++ K)

@@ -5,7 +5,7 @@ use Rattle.change_core.specs.declared.changes.Change.{Change}
 use Rattle.change_core.specs.declared.changes.Sourced.{Sourced}
 use Rattle.change_core.specs.declared.statuses.Status.{Status}
 use Rattle.change_core.specs.declared.statuses.Status.TheVariants.{Alive}
-use Rattle.change_core.specs.Change.{Exceeds, exceeds}
+use Rattle.change_core.specs.Change.{Exceeds, change_of, exceeds}
 use Rattle.change_core.specs.Members.{greatest, greater, members, alters}
 use Rattle.change_core.specs.Status.{rank}
 use Rattle.change_core.proofs.Precedence.{Exceeds-true, exceeds-true, Exceeds-irrefl, Exceeds-asym, Exceeds-trans, same_from_rank}
@@ -18,7 +18,7 @@ use Rattle.detector_core.specs.Probing.{Attempted}
 use Rattle.node_core.proofs.Synchronising.{Exceeds-refutation}
 use Rattle.node_core.specs.Node.{Node, altered, asserted_by, or_birth, own_change, asserts}
 use Rattle.gossip_core.specs.Pending.{put_pending, below}
-use Rattle.node_core.specs.Taking.{alteration, altered_by, took, took_all, change_of}
+use Rattle.node_core.specs.Taking.{alteration, altered_by, took, took_all}
 use Rattle.node_core.specs.World.{grounds, IsGrounded, IsAssertedAt, last_about, later, refuted_in}
 use Rattle.node_core.proofs.Listed.{In-members, In-put, In-below}
 use Rattle.node_core.proofs.Greatest.{Agree, greatest-append, greatest-members}

@@ -8,7 +8,7 @@ use Rattle.change_core.specs.declared.digests.Digest.{Digest}
 use Rattle.change_core.specs.declared.statuses.Status.{Status}
 use Rattle.change_core.specs.declared.statuses.Status.TheVariants.{Alive, Suspect, Faulty, Leave, Tombstone}
 use Rattle.change_core.specs.Ascending.{In}
-use Rattle.change_core.specs.Change.{Exceeds}
+use Rattle.change_core.specs.Change.{Exceeds, change_of}
 use Rattle.change_core.specs.Members.{greatest}
 use Rattle.change_core.specs.Refutation.{is_refuted, refutation, refutations, log_one}
 use Rattle.change_core.specs.Status.{rank}
@@ -38,7 +38,7 @@ use Rattle.node_core.specs.Node.{Node, altered, asserted_by, own_change, said_by
 use Rattle.node_core.specs.Probes.{ended, put_in, suspicion, suspicion_in, suspicion_of, Suspects}
 use Rattle.node_core.specs.Receiving.{AnswerStep, ReceiveStep, MakeStep}
 use Rattle.node_core.specs.Step.{NodeStep}
-use Rattle.node_core.specs.Taking.{TakeStep, change_of}
+use Rattle.node_core.specs.Taking.{TakeStep}
 use Rattle.node_core.specs.World.{Comes, grounds, IsGrounded, IsAssertedAt, refuted_in, renewed_in, asserted_in, made_in}
 use Rattle.node_core.proofs.Listed.{In-find, In-take, In-map, In-greatest, address-greatest, In-below, In-counted, In-issued}
 use Rattle.node_core.proofs.Probed.{IsOfOther, running_other, unasked_other, others-lost, others-waiting, others-pick}

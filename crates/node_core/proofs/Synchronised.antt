@@ -3,11 +3,11 @@ use Rattle.std.proofs.Common.{◌≡◌, ◌≤◌, ℕ, List, [], ◌∷◌, ma
 use Rattle.change_core.specs.declared.changes.Change.{Change}
 use Rattle.change_core.specs.Members.{greatest, members}
 use Rattle.change_core.proofs.Members.{greatest-members, members-IsMemberList}
+use Rattle.change_core.specs.Change.{change_of}
 use Rattle.node_core.specs.Log.{log_given, refuted}
 use Rattle.node_core.specs.Messages.{full_sync}
 use Rattle.node_core.specs.Node.{Node, at_moment, said_by}
 use Rattle.node_core.specs.Synchronisation.{NodesSynchronise}
-use Rattle.node_core.specs.Taking.{change_of}
 use Rattle.node_core.proofs.Log.{took_all_members}
 use Rattle.node_core.proofs.Synchronising.{takes_greatest}
 

@@ -1,6 +1,7 @@
 -- A run of calls, and the log that it leaves: what each call put in, in the order of the calls.
 use Rattle.std.specs.Prelude.{◌≡◌, ℕ, Option, Some, None, Ok, Err, List, [], ◌∷◌, ◌++◌, map, take}
 use Rattle.change_core.specs.declared.changes.Change.{Change}
+use Rattle.change_core.specs.Change.{change_of}
 use Rattle.change_core.specs.Members.{members}
 use Rattle.node_core.specs.declared.events.Event.{Event}
 use Rattle.node_core.specs.declared.events.Event.TheVariants as call
@@ -14,7 +15,6 @@ use Rattle.node_core.specs.Log.{log_given}
 use Rattle.node_core.specs.Messages.{carried}
 use Rattle.node_core.specs.Node.{Node}
 use Rattle.node_core.specs.Step.{NodeStep}
-use Rattle.node_core.specs.Taking.{change_of}
 
 -- of the changes that a message carries, those that its receiver counts as taken
 abbrev pub received_in : List Change → Received → List Change

@@ -2,6 +2,7 @@
 use Rattle.std.specs.Prelude.{◌≡◌, ℕ, ◌==◌, ◌&&◌, Bool, not, nat_lt, cond, Option, Some, None, Result, Ok, Err, List, [], ◌∷◌, length, map, take, slice_get, is_none}
 use Rattle.change_core.specs.declared.changes.Change.{Change}
 use Rattle.change_core.specs.declared.changes.Sourced.{Sourced}
+use Rattle.change_core.specs.Change.{change_of}
 use Rattle.change_core.specs.Members.{greatest, alters}
 use Rattle.change_core.specs.Numbers.{greatest_number}
 use Rattle.change_core.specs.Refutation.{is_refuted, refutation}
@@ -13,10 +14,6 @@ use Rattle.node_core.specs.declared.taking.Effect.{Effect}
 use Rattle.node_core.specs.declared.taking.Effect.TheVariants.{Unaltered, Applied, Refuted}
 use Rattle.node_core.specs.Log.{applied, one_if, refuted}
 use Rattle.node_core.specs.Node.{Node, altered, asserted_by, at_moment, own_change}
-
--- a change without its source
-abbrev pub change_of : Sourced → Change
-change_of s = s.change
 
 -- the alteration that a given change makes: the node's refutation, the change itself, or none
 abbrev pub alteration : {H : Type 0} → Node H → Sourced → Option Sourced

@@ -1,5 +1,6 @@
 -- What contracts see of a view of a node: whose it is, and the servers of its ring.
 use Rattle.std.specs.Prelude.{ℕ, List}
+use Rattle.hash_ring.specs.RingModel.{RingModel}
 use Rattle.hash_ring.specs.Serving.{servers_of}
 use Rattle.hash_ring.specs.declared.servers.Server.{Server}
 use Rattle.node_core.specs.Node.{Node}
@@ -10,6 +11,10 @@ pub record Viewed (H : Type 0) : Type 0 where
   pub hash : H
   pub replicas : ℕ
   pub servers : List Server
+
+-- the view of a node of this address, with this ring
+abbrev pub viewed : {H : Type 0} → ℕ → RingModel H → Viewed H
+viewed own ring = record { own = own; hash = ring.hash; replicas = ring.replicas; servers = ring.servers }
 
 -- the view of a node: its servers are the members that serve
 abbrev pub view_of : {H : Type 0} → Node H → Viewed H

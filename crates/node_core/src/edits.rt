@@ -16,10 +16,11 @@ ghost use Rattle.node_core.specs.Node.{has_deadline, is_timed, next_status, time
 
 use crate::configs::Config;
 use crate::errors::NodeError;
+use crate::rings::SharedRing;
 use change_core::{Address, Change, Entry, Moment, Sourced, Status};
 use detector_core::Timers;
 use gossip_core::Gossip;
-use hash_ring::{PointHash, Ring};
+use hash_ring::PointHash;
 use member_core::{Members, Verdict};
 
 /// What is put into the membership: what it says of a given change, or what the node asserts of itself.
@@ -46,7 +47,7 @@ fn edit_members(members: &mut Members, edit: Edit)
 }
 
 /// The ring has a member exactly where it serves.
-fn edit_ring<H: PointHash>(ring: &mut Ring<H>, change: &Change)
+fn edit_ring<H: PointHash>(ring: &mut SharedRing<H>, change: &Change)
     requires room { is_serving change.now.status ≡ true → HasRoom ring.old (server_of change.now) }
     ensures { ring.new ≡ ring_of ring.old.hash (H.hash_of ring.old.hash) ring.old.replicas
         (cond (is_serving change.now.status) (with_server (server_of change.now) ring.old.servers) (without change.now.address ring.old.servers)) ring.new.room }
@@ -132,7 +133,7 @@ fn reserve_timer(
 /// edit.
 fn make_room<H: PointHash>(
     members: &mut Members,
-    ring: &mut Ring<H>,
+    ring: &mut SharedRing<H>,
     gossip: &mut Gossip,
     timers: &mut Timers,
     news: &Sourced,
@@ -167,7 +168,7 @@ fn make_room<H: PointHash>(
 /// two edits they are those of no node, and a method of the node would have to keep what holds of one.
 pub(crate) fn alter_parts<H: PointHash>(
     members: &mut Members,
-    ring: &mut Ring<H>,
+    ring: &mut SharedRing<H>,
     gossip: &mut Gossip,
     timers: &mut Timers,
     config: &Config,

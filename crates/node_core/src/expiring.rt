@@ -42,10 +42,8 @@ impl<H: PointHash> NodeState<H> {
             return Err(NodeError::AlreadyLeft);
         }
         let change = Change {
-            address: own.address,
-            incarnation: own.incarnation,
             status: Status::Leave,
-            weight: own.weight,
+            ..own
         };
         self.renew(&change)?;
         Ok(change)
@@ -68,10 +66,9 @@ impl<H: PointHash> NodeState<H> {
             unreachable!()
         };
         let change = Change {
-            address: own.address,
             incarnation,
             status: Status::Alive,
-            weight: own.weight,
+            ..own
         };
         self.renew(&change)?;
         Ok(change)

@@ -15,6 +15,7 @@ mod pingable;
 mod probes;
 mod receiving;
 mod replies;
+mod rings;
 mod runs;
 mod taking;
 mod views;

@@ -1,4 +1,4 @@
-//! What a node answers of its members and its ring. Nothing changes.
+//! What a node answers of its members and its ring. Nothing that is seen of it changes.
 ghost use Rattle.std.specs.Prelude.{◌≡◌, slice_get};
 ghost use Rattle.change_core.specs.Members.{digest_text};
 ghost use Rattle.detector_core.specs.Picks.{running_of};
@@ -61,14 +61,16 @@ impl<H: PointHash> NodeState<H> {
         Ok(self.members.digest()?)
     }
 
-    /// A copy of the ring, which names the owners of keys as the node does now. The points are copied, and nothing is
-    /// hashed.
+    /// The ring as it is now, which names the owners of keys as the node does, whatever the node takes afterwards. The points
+    /// are copied by the first view after a change of the ring, and the next ones share that copy; nothing is hashed.
     ///
     /// Errors: `Memory`, for the copy.
-    pub fn view(&self) -> Result<View<H>, NodeError>
-        ensures { Answers (view_of self.now.node) result }
+    pub fn view(&mut self) -> Result<View<H>, NodeError>
+        ensures answer { Answers (view_of self.old.node) result }
+        ensures same { self.new ≡ self.old }
     {
-        View::of(self.members.own().address, &self.ring)
+        let own = self.members.own().address;
+        Ok(View::of(own, self.ring.shared()?))
     }
 
     /// The probe that runs, with the helper of least address that was asked and has not answered.

@@ -14,12 +14,14 @@ ghost use Rattle.node_core.specs.World.{newborn};
 use crate::configs::Config;
 use crate::edits::{Edit, alter_parts};
 use crate::errors::NodeError;
+use crate::rings::SharedRing;
 use change_core::{Address, Change, Entry, Incarnation, Moment, Sourced};
 use detector_core::{Prober, Timers};
 use gossip_core::Gossip;
 use hash_ring::{PointHash, Ring};
 use member_core::Members;
 use std::alloc::Global;
+use std::fmt;
 use std::marker::Model;
 
 /// The node of one thread: the members as it holds them, the ring of those that serve, what it still passes on, the
@@ -29,7 +31,7 @@ use std::marker::Model;
 pub struct NodeState<H: PointHash> {
     pub(crate) config: Config,
     pub(crate) members: Members,
-    pub(crate) ring: Ring<H>,
+    pub(crate) ring: SharedRing<H>,
     pub(crate) gossip: Gossip,
     pub(crate) timers: Timers,
     pub(crate) prober: Prober,
@@ -95,7 +97,7 @@ impl<H: PointHash> NodeState<H> {
         Ok(NodeState {
             config,
             members,
-            ring,
+            ring: SharedRing::of(alloc, ring),
             gossip,
             timers: Timers::new(alloc),
             prober: Prober::new(alloc, seed, config.helpers, 0),
@@ -149,6 +151,17 @@ impl<H: PointHash> NodeState<H> {
             edit,
             news,
         )
+    }
+}
+
+/// Its own entry, how many members it holds, and its moment: the lists may be long.
+impl<H: PointHash> fmt::Debug for NodeState<H> {
+    fn fmt<F: fmt::Write>(&self, f: &mut fmt::Formatter<F>) -> fmt::Result {
+        f.debug_struct("NodeState")
+            .field("own", &self.own())
+            .field("members", &self.len())
+            .field("moment", &self.moment)
+            .finish_non_exhaustive()
     }
 }
 

@@ -5,6 +5,7 @@ use crate::events::Reply;
 use crate::node::NodeState;
 use hash_ring::PointHash;
 use std::marker::Model;
+use thiserror::Error;
 
 /// Replies, in the order of their calls. Contracts see the list.
 #[derive(Debug, Drop)]
@@ -38,14 +39,15 @@ impl Replies {
 }
 
 /// A node after a run of calls, and what they answered.
-#[derive(Drop)]
+#[derive(Debug, Drop)]
 pub struct Run<H: PointHash> {
     pub node: NodeState<H>,
     pub replies: Replies,
 }
 
 /// A run that found no memory for its replies: no call was made, and the node is as it was.
-#[derive(Drop)]
+#[derive(Debug, Drop, Error)]
+#[error("out of memory")]
 pub struct RunRefused<H: PointHash> {
     pub node: NodeState<H>,
 }

@@ -57,21 +57,26 @@ impl<H: PointHash> NodeState<H> {
             Event::Receive(message, moment) => Reply::Receive(self.receive(message, *moment)),
             Event::JoinMessage => Reply::JoinMessage(self.join_message()),
             Event::PingTo(target) => Reply::PingTo(self.ping_to(*target)),
-            Event::PingReqTo(helper, target) => Reply::PingReqTo(self.ping_req_to(
-                *helper, *target,
-            )),
-            Event::PingReqAckTo(requester, target, reached) => {
-                Reply::PingReqAckTo(self.ping_req_ack_to(*requester, *target, *reached))
+            Event::PingReqTo { helper, target } => {
+                Reply::PingReqTo(self.ping_req_to(*helper, *target))
             }
+            Event::PingReqAckTo {
+                requester,
+                target,
+                reached,
+            } => Reply::PingReqAckTo(self.ping_req_ack_to(*requester, *target, *reached)),
             Event::Leave => Reply::Leave(self.leave()),
             Event::Rejoin => Reply::Rejoin(self.rejoin()),
             Event::Expire(moment) => Reply::Expire(self.expire(*moment)),
             Event::Probe => Reply::Probe(self.probe()),
             Event::Acked(number) => Reply::Acked(self.acked(*number)),
             Event::Lost(number, moment) => Reply::Lost(self.lost(*number, *moment)),
-            Event::HelperSaid(number, helper, said, moment) => {
-                Reply::HelperSaid(self.helper_said(*number, *helper, *said, *moment))
-            }
+            Event::HelperSaid {
+                number,
+                helper,
+                said,
+                moment,
+            } => Reply::HelperSaid(self.helper_said(*number, *helper, *said, *moment)),
             Event::Running => Reply::Running(self.running()),
             Event::Own => Reply::Own(self.own()),
             Event::Member(address) => Reply::Member(self.member(*address)),

@@ -1,41 +1,40 @@
 //! What a node leaves with whoever looks keys up without it.
 ghost use Rattle.std.specs.Prelude.{◌≡◌};
+ghost use Rattle.std.specs.Arc.{arc_value};
 ghost use Rattle.hash_ring.specs.Points.{owner};
-ghost use Rattle.node_core.specs.Step.{Answers, NamesOwners};
+ghost use Rattle.node_core.specs.Step.{NamesOwners};
+ghost use Rattle.node_core.specs.Viewing.{viewed};
 
 use crate::errors::NodeError;
 use change_core::Address;
 use detector_core::Addresses;
 use hash_ring::{PointHash, Ring};
 use std::marker::Model;
+use std::sync::Arc;
 
-/// A copy of a node's ring. It names the owners of keys as the node did when the view was made, whatever the node takes
-/// afterwards, and asks the node nothing.
+/// A node's ring. It names the owners of keys as the node did when the view was made, whatever the node takes afterwards, and
+/// asks the node nothing. Views between two changes of the ring share one copy of it, in any threads.
 #[derive(Drop)]
 pub struct View<H: PointHash> {
     own: Address,
-    ring: Ring<H>,
+    ring: Arc<Ring<H>>,
 }
 
 impl<H: PointHash> Model for View<H> {
-    ghost use Rattle.node_core.specs.Viewing.{Viewed};
+    ghost use Rattle.std.specs.Arc.{arc_value};
+    ghost use Rattle.node_core.specs.Viewing.{Viewed, viewed};
 
     ghost Value = { Viewed H };
 
-    ghost view = { λ v. record { own = v.own; hash = v.ring.hash; replicas = v.ring.replicas; servers = v.ring.servers } };
+    ghost view = { λ v. viewed v.own (arc_value v.ring) };
 }
 
 impl<H: PointHash> View<H> {
-    /// The view of the node of this address, whose ring this is. The points are copied, and nothing is hashed.
-    ///
-    /// `Memory`: a growth was refused.
-    pub(crate) fn of(own: Address, ring: &Ring<H>) -> Result<Self, NodeError>
-        ensures { Answers (record { own = own; hash = ring.now.hash; replicas = ring.now.replicas; servers = ring.now.servers }) result }
+    /// The view of the node of this address, whose ring this is.
+    pub(crate) fn of(own: Address, ring: Arc<Ring<H>>) -> Self
+        ensures { result ≡ viewed own (arc_value ring) }
     {
-        match ring.copy() {
-            Ok(ring) => Ok(View { own, ring }),
-            Err(_) => Err(NodeError::Memory),
-        }
+        View { own, ring }
     }
 
     /// The address of the node.

@@ -47,7 +47,7 @@ fn count_alterations<'a>(
 }
 
 /// Counts the hashes of a view.
-fn count_view<'a>(rt: &impl Abort, node: &NodeState<CountingHash<'a>>, calls: &AtomicU64) {
+fn count_view<'a>(rt: &impl Abort, node: &mut NodeState<CountingHash<'a>>, calls: &AtomicU64) {
     let before = calls.load(Ordering::SeqCst);
     let view = view(node).ok().expect(rt, "a view");
     assert_eq!(rt; calls.load(Ordering::SeqCst), before);

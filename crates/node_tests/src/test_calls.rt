@@ -239,7 +239,7 @@ pub(crate) fn owner<H: PointHash>(node: &NodeState<H>, key: &str) -> Option<Addr
     node.owner(key.as_bytes())
 }
 
-pub(crate) fn view<H: PointHash>(node: &NodeState<H>) -> Result<View<H>, NodeError> {
+pub(crate) fn view<H: PointHash>(node: &mut NodeState<H>) -> Result<View<H>, NodeError> {
     again(|| node.view())
 }
 

@@ -5,7 +5,7 @@ use Rattle.clap.specs.declared.error.Error.{Error}
 use Rattle.clap.specs.declared.error.kind.ErrorKind.{ErrorKind}
 use Rattle.clap.specs.declared.error.kind.ErrorKind.TheVariants.{OutOfMemory as no_room}
 use Rattle.ringpop_cli.specs.declared.faults.Fault.{Fault}
-use Rattle.ringpop_cli.specs.declared.faults.Fault.TheVariants.{Usage, NoMemory, Subcommand}
+use Rattle.ringpop_cli.specs.declared.faults.Fault.TheVariants.{Usage, BadAddress, NoMemory, Subcommand, Cluster}
 
 -- an error of the words is a refusal of them, unless a growth was refused
 abbrev pub fault_of_kind : ErrorKind → Error → Fault
@@ -19,11 +19,15 @@ fault_of_words e = fault_of_kind (kind_of e) e
 -- the words are refused, or a growth was
 abbrev pub IsWordsFault : Fault → Type 0
 IsWordsFault (Usage e) = Unit {0}
+IsWordsFault BadAddress = Unit {0}
 IsWordsFault NoMemory = Unit {0}
 IsWordsFault (Subcommand f) = ⊥
+IsWordsFault (Cluster f) = ⊥
 
--- refused words end with 2, and all else with 1
+-- refused words end with 2, an address among them, and all else with 1
 abbrev pub status_of : Fault → ℕ
 status_of (Usage e) = 2
+status_of BadAddress = 2
 status_of NoMemory = 1
 status_of (Subcommand f) = 1
+status_of (Cluster f) = 1

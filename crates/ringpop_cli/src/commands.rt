@@ -18,6 +18,21 @@ pub const SUM: &str = "sum";
 /// The key whose owners are named.
 pub const KEY: &str = "key";
 
+/// A node: where it is reached.
+pub const ADDRESS: &str = "address";
+
+/// A running node that is asked about the cluster.
+pub const HOST: &str = "host";
+
+/// What a request says.
+pub const BODY: &str = "body";
+
+/// Whether the owner of the key is asked, whichever node that is.
+pub const ANY: &str = "any";
+
+/// Whether members are printed as change lines.
+pub const LINES: &str = "lines";
+
 /// The text that is hashed.
 pub const TEXT: &str = "text";
 
@@ -30,9 +45,12 @@ The status is alive, suspect, faulty, leave or tombstone. A member of more weigh
 Examples:
   ringpop < changes.jsonl                        the members, and the digest that equal members share
   ringpop owner --n 2 trip-42 < changes.jsonl    the two members that own the key trip-42, the first first
+  ringpop members 10.0.0.2:7946                  the members that a running node holds, and their digest
+  ringpop ask --any 10.0.0.2:7946 trip-42 where  what the owner of the key trip-42 answers to the request
 
-Exit status: 0 if all went well; 1 if a line is at fault, or if reading, writing or memory failed; 2 if the words are
-refused, or ask for help or the version, which go to standard error."#;
+Exit status: 0 if all went well; 1 if a line is at fault, if no node answers as it was asked, or if reading, writing or
+memory failed; 2 if the words are refused, an address among them, or ask for help or the version, which go to standard
+error."#;
 
 /// What stands below the help of `sim`.
 const BELOW_SIM: &str =
@@ -123,17 +141,77 @@ fn sim_command<'a>(alloc: Global) -> Result<Command<'a>, AllocError> {
         .arg(sum_flag(alloc))
 }
 
+fn ask_command<'a>(alloc: Global) -> Result<Command<'a>, AllocError> {
+    let any = Arg::new(alloc, ANY)
+        .long(ANY)
+        .action(ArgAction::SetTrue)
+        .help("Take ADDRESS for any node of the cluster, and ask the owner of the key");
+    let address = word(
+        alloc,
+        ADDRESS,
+        "ADDRESS",
+        "The node: an IPv4 address and a port",
+    );
+    let key = word(alloc, KEY, "KEY", "The key: any text, which may be empty");
+    let body = word(
+        alloc,
+        BODY,
+        "BODY",
+        "The request: any text, which may be empty",
+    );
+    Command::new(alloc, "ask")
+        .about("Sends a request to a running node; prints its reply")
+        .arg(any)?
+        .arg(replicas_option(alloc).requires_arg(ANY)?)?
+        .arg(sum_flag(alloc).requires_arg(ANY)?)?
+        .arg(address)?
+        .arg(key)?
+        .arg(body)
+}
+
+/// A running node.
+fn host_word<'a>(alloc: Global) -> Arg<'a> {
+    word(
+        alloc,
+        HOST,
+        "HOST",
+        "A running node: an IPv4 address and a port",
+    )
+}
+
+fn members_command<'a>(alloc: Global) -> Result<Command<'a>, AllocError> {
+    let lines = Arg::new(alloc, LINES)
+        .long(LINES)
+        .action(ArgAction::SetTrue)
+        .help("Print a change line for each member, as owner and fold read them");
+    Command::new(alloc, "members")
+        .about("Prints the members that a running node holds, and their digest")
+        .arg(lines)?
+        .arg(host_word(alloc))
+}
+
+fn tell_command<'a>(alloc: Global) -> Result<Command<'a>, AllocError> {
+    Command::new(alloc, "tell")
+        .about(
+            "Reads change lines; tells them to a running node, and prints how many members it then holds",
+        )
+        .arg(host_word(alloc))
+}
+
 /// The subcommands and their words.
 pub fn ringpop_command<'a>(alloc: Global) -> Result<Command<'a>, AllocError> {
     Command::new(alloc, "ringpop")
         .bin_name("ringpop")?
         .version("0.1.0")
         .about(
-            "The members of a cluster and the owners of its keys, from change lines on standard input. With no command it is fold.",
+            "The members of a cluster and the owners of its keys, from change lines on standard input or from its running nodes. With no command it is fold.",
         )
         .after_help(BELOW)
         .subcommand(fold_command(alloc))?
         .subcommand(hash_command(alloc)?)?
         .subcommand(owner_command(alloc)?)?
-        .subcommand(sim_command(alloc)?)
+        .subcommand(sim_command(alloc)?)?
+        .subcommand(ask_command(alloc)?)?
+        .subcommand(members_command(alloc)?)?
+        .subcommand(tell_command(alloc)?)
 }

@@ -1,9 +1,10 @@
 //! Why the program ends before its end.
 ghost use Rattle.std.specs.Prelude.{◌≡◌};
-ghost use Rattle.ringpop_cli.specs.declared.faults.Fault.TheVariants.{NoMemory, Subcommand};
+ghost use Rattle.ringpop_cli.specs.declared.faults.Fault.TheVariants.{Cluster, NoMemory, Subcommand};
 
 use clap::error::ErrorKind;
 use cli_core::SubcommandFault;
+use serve_core::ClusterFault;
 use std::alloc::{AllocError, AllocFailed};
 use std::fmt;
 
@@ -12,10 +13,14 @@ use std::fmt;
 pub enum Fault {
     /// The words are refused, or ask for help: `clap`'s own text.
     Usage(clap::Error),
+    /// A word that is to be an address is none.
+    BadAddress,
     /// A growth was refused before the subcommand began.
     NoMemory,
     /// The subcommand ended early.
     Subcommand(SubcommandFault),
+    /// The command that speaks to nodes ended early.
+    Cluster(ClusterFault),
 }
 
 impl Fault {
@@ -26,8 +31,8 @@ impl Fault {
         ensures { result ≡ status_of self.now }
     {
         match self {
-            Fault::Usage(_) => 2,
-            Fault::NoMemory | Fault::Subcommand(_) => 1,
+            Fault::Usage(_) | Fault::BadAddress => 2,
+            Fault::NoMemory | Fault::Subcommand(_) | Fault::Cluster(_) => 1,
         }
     }
 }
@@ -36,8 +41,10 @@ impl fmt::Display for Fault {
     fn fmt<W: fmt::Write>(&self, f: &mut fmt::Formatter<W>) -> fmt::Result {
         match self {
             Fault::Usage(error) => write!(f, "{error}"),
+            Fault::BadAddress => writeln!(f, "ringpop: bad address"),
             Fault::NoMemory => writeln!(f, "ringpop: out of memory"),
             Fault::Subcommand(fault) => writeln!(f, "ringpop: {fault}"),
+            Fault::Cluster(fault) => writeln!(f, "ringpop: {fault}"),
         }
     }
 }
@@ -47,6 +54,14 @@ impl From<SubcommandFault> for Fault {
 
     fn from(fault: SubcommandFault) -> Fault {
         Fault::Subcommand(fault)
+    }
+}
+
+impl From<ClusterFault> for Fault {
+    ghost from_gives = { λ e f. f ≡ Cluster e };
+
+    fn from(fault: ClusterFault) -> Fault {
+        Fault::Cluster(fault)
     }
 }
 

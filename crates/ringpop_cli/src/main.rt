@@ -1,6 +1,7 @@
-//! The members of a cluster, from a command line.
+//! The members of a cluster and the owners of its keys, from a command line.
 #![tactic(auto)]
 
+mod cluster_words;
 mod commands;
 mod faults;
 #[cfg(test)]
@@ -9,11 +10,16 @@ mod words;
 
 use cli_core::subcommand_run;
 use faults::Fault;
+use serve_core::cluster_command_run;
 use std::alloc::{Alloc, Global};
 use std::env::Env;
 use std::io::{BufReader, BufWriter, ErrorKind};
+use std::net::Net;
 use std::process::ExitCode;
+use std::sync::Wait;
+use std::time::Clock;
 use std::{env, io};
+use words::Words;
 
 /// The words that the program was given, its name first.
 fn given_words(rt: &(impl Env + Alloc<A = Global>)) -> Result<Vec<String>, Fault> {
@@ -29,14 +35,22 @@ fn given_words(rt: &(impl Env + Alloc<A = Global>)) -> Result<Vec<String>, Fault
     Ok(words)
 }
 
-/// Reads the words, and runs what they ask for over standard input and standard output.
-fn run(rt: &(impl Input + Print + Env + Alloc<A = Global>)) -> Result<(), Fault> {
+/// Reads the words, and runs what they ask for over standard input, standard output and sockets.
+fn run(
+    rt: &(impl Input + Print + Env + Net + Clock + Wait + Alloc<A = Global>),
+) -> Result<(), Fault> {
     let alloc = rt.alloc();
     let given = given_words(rt)?;
-    let subcommand = words::read_words(alloc, given.as_slice())?;
+    let words = words::read_words(alloc, given.as_slice())?;
     let mut reader = BufReader::new(alloc, rt.reader()).map_err(|_| Fault::NoMemory)?;
     let mut writer = BufWriter::new(alloc, io::writer(rt)).map_err(|_| Fault::NoMemory)?;
-    Ok(subcommand_run(alloc, &subcommand, &mut reader, &mut writer)?)
+    match &words {
+        Words::Lines(subcommand) => subcommand_run(alloc, subcommand, &mut reader, &mut writer)?,
+        Words::Cluster(command) => {
+            cluster_command_run(rt, alloc, command, &mut reader, &mut writer)?;
+        }
+    }
+    Ok(())
 }
 
 fn main(rt: HostRuntime) -> ExitCode {

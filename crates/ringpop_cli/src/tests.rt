@@ -3,12 +3,17 @@ ghost use Rattle.change_core.specs.Numbers.{most_members};
 ghost use Rattle.hash_ring.specs.Points.{IsReplicas};
 
 use crate::faults::Fault;
-use crate::words::{read_words, words_not_text};
+use crate::words::{Words, read_words, words_not_text};
+use change_core::Address;
 use cli_core::{
     LineFault, OwnerWords, RunFault, ScriptFault, SimFault, SimWords, Subcommand, SubcommandFault,
 };
+use serve_core::{
+    AskAnyWords, AskFault, AskWords, ClusterCommand, ClusterFault, MembersWords, TellFault,
+};
 use std::alloc::Global;
 use std::process::Abort;
+use wire_json::{Reason, WireError};
 
 /// What is said of a fault. After a refused growth it is said again.
 fn told(rt: &impl Abort, alloc: Global, fault: &Fault) -> String {
@@ -66,6 +71,61 @@ const FAULTS: [(SubcommandFault, &str); 8] = [
     ),
 ];
 
+/// Faults of commands that speak to nodes, and what is said of them.
+const CLUSTER_FAULTS: [(ClusterFault, &str); 11] = [
+    (
+        ClusterFault::Ask(AskFault::NoAnswer),
+        "ringpop: no answer\n",
+    ),
+    (
+        ClusterFault::Ask(AskFault::NotOwner),
+        "ringpop: not owner\n",
+    ),
+    (
+        ClusterFault::Ask(AskFault::Refused(Reason::Nobody)),
+        "ringpop: refused nobody\n",
+    ),
+    (
+        ClusterFault::Ask(AskFault::Refused(Reason::Malformed)),
+        "ringpop: refused malformed\n",
+    ),
+    (
+        ClusterFault::Ask(AskFault::Unexpected),
+        "ringpop: unexpected answer\n",
+    ),
+    (
+        ClusterFault::Ask(AskFault::CannotWrite),
+        "ringpop: cannot write\n",
+    ),
+    (
+        ClusterFault::Ask(AskFault::NoMemory),
+        "ringpop: out of memory\n",
+    ),
+    (
+        ClusterFault::Tell(TellFault::AtLine(3, LineFault::Wire(WireError::BadJson))),
+        "ringpop: line 3: not JSON\n",
+    ),
+    (
+        ClusterFault::Tell(TellFault::AtLine(3, LineFault::ReadFailed)),
+        "ringpop: line 3: read failed\n",
+    ),
+    (
+        ClusterFault::Tell(TellFault::TooManyChanges),
+        "ringpop: line 4097: too many changes\n",
+    ),
+    (
+        ClusterFault::Tell(TellFault::Asked(AskFault::NoAnswer)),
+        "ringpop: no answer\n",
+    ),
+];
+
+#[test]
+fn tells_why_a_node_did_not_answer(rt: HostRuntime) {
+    for (fault, text) in CLUSTER_FAULTS {
+        tells(&rt, rt.alloc(), &Fault::from(fault), text);
+    }
+}
+
 #[test]
 fn tells_what_the_machine_refused(rt: HostRuntime) {
     tells(
@@ -80,7 +140,7 @@ fn tells_what_the_machine_refused(rt: HostRuntime) {
 }
 
 /// What the words ask for, or the refusal. After a refused growth they are read again.
-fn read<'a>(alloc: Global, words: &'a [&'a str]) -> Result<Subcommand<'a>, Fault> {
+fn read<'a>(alloc: Global, words: &'a [&'a str]) -> Result<Words<'a>, Fault> {
     match read_words(alloc, words) {
         Err(Fault::NoMemory) => read_words(alloc, words),
         ended => ended,
@@ -145,12 +205,103 @@ fn reads_the_words(rt: HostRuntime) {
     ];
     for (words, wanted) in cases {
         let words = read(rt.alloc(), words);
-        assert!(rt; matches!(words, Ok(words) if words == wanted));
+        assert!(rt; matches!(&words, Ok(Words::Lines(words)) if *words == wanted));
     }
 }
 
+/// 127.0.0.1:1.
+fn local(rt: &impl Abort) -> Address {
+    Address::new(0x7f00_0001, 1).expect(rt, "an address")
+}
+
+/// The address of the words about nodes.
+const AT: &str = "127.0.0.1:1";
+
+/// That the words ask 127.0.0.1:1 this.
+fn asks(rt: &impl Abort, alloc: Global, words: &[&str], key: &str, body: &str) {
+    let wanted = AskWords {
+        address: local(rt),
+        key,
+        body,
+    };
+    let words = read(alloc, words);
+    assert!(rt;
+        matches!(&words, Ok(Words::Cluster(ClusterCommand::Ask(words))) if *words == wanted)
+    );
+}
+
+/// That the words ask the owner of the key k for b, by 127.0.0.1:1 and with so many points of a server.
+fn asks_any(rt: &impl Abort, alloc: Global, words: &[&str], replicas: u32, sum: bool)
+    requires { IsReplicas replicas }
+{
+    let wanted = AskAnyWords {
+        host: local(rt),
+        replicas,
+        sum,
+        key: "k",
+        body: "b",
+    };
+    let words = read(alloc, words);
+    assert!(rt;
+        matches!(&words, Ok(Words::Cluster(ClusterCommand::AskAny(words))) if *words == wanted)
+    );
+}
+
+/// That the words ask 127.0.0.1:1 for its members.
+fn shows(rt: &impl Abort, alloc: Global, words: &[&str], lines: bool) {
+    let wanted = MembersWords {
+        host: local(rt),
+        lines,
+    };
+    let words = read(alloc, words);
+    assert!(rt;
+        matches!(&words, Ok(Words::Cluster(ClusterCommand::Members(words))) if *words == wanted)
+    );
+}
+
+#[test]
+fn reads_the_words_of_ask(rt: HostRuntime) {
+    let alloc = rt.alloc();
+    let words = ["ringpop", "ask", AT, "k", "b"];
+    asks(&rt, alloc, &words, "k", "b");
+    let words = ["ringpop", "ask", AT, "", ""];
+    asks(&rt, alloc, &words, "", "");
+    let words = ["ringpop", "ask", AT, "--", "-k", "-b"];
+    asks(&rt, alloc, &words, "-k", "-b");
+}
+
+#[test]
+fn reads_the_words_of_ask_any(rt: HostRuntime) {
+    let alloc = rt.alloc();
+    let words = ["ringpop", "ask", "--any", AT, "k", "b"];
+    asks_any(&rt, alloc, &words, 100, false);
+    let words = [
+        "ringpop",
+        "ask",
+        "--any",
+        "--replicas",
+        "2",
+        "--sum",
+        AT,
+        "k",
+        "b",
+    ];
+    asks_any(&rt, alloc, &words, 2, true);
+}
+
+#[test]
+fn reads_the_words_of_members_and_tell(rt: HostRuntime) {
+    let alloc = rt.alloc();
+    shows(&rt, alloc, &["ringpop", "members", AT], false);
+    shows(&rt, alloc, &["ringpop", "members", "--lines", AT], true);
+    let host = local(&rt);
+    let words = ["ringpop", "tell", AT];
+    let words = read(alloc, &words);
+    assert!(rt; matches!(&words, Ok(Words::Cluster(ClusterCommand::Tell(told))) if *told == host));
+}
+
 /// Words, and how their refusal begins.
-const REFUSED_WORDS: [(&[&str], &str); 15] = [
+const REFUSED_WORDS: [(&[&str], &str); 28] = [
     (&["ringpop", ""], "error: unrecognized subcommand ''\n"),
     (
         &["ringpop", "serve"],
@@ -204,6 +355,52 @@ const REFUSED_WORDS: [(&[&str], &str); 15] = [
     (
         &["ringpop", "sim", "--replicas", "1001"],
         "error: invalid value '1001' for '--replicas <R>'",
+    ),
+    (
+        &["ringpop", "ask", "127.0.0.1:1", "k"],
+        "error: the following required arguments were not provided:\n",
+    ),
+    (
+        &["ringpop", "ask", "--sum", "127.0.0.1:1", "k", "b"],
+        "error: the following required arguments were not provided:\n  --any\n",
+    ),
+    (
+        &["ringpop", "ask", "--replicas", "2", "127.0.0.1:1", "k", "b"],
+        "error: the following required arguments were not provided:\n  --any\n",
+    ),
+    (
+        &["ringpop", "ask", "--any", "--replicas", "0", "x", "k", "b"],
+        "error: invalid value '0' for '--replicas <R>'",
+    ),
+    (
+        &["ringpop", "members"],
+        "error: the following required arguments were not provided:\n",
+    ),
+    (
+        &["ringpop", "members", "127.0.0.1:1", "l"],
+        "error: unexpected argument 'l' found\n",
+    ),
+    (
+        &["ringpop", "tell"],
+        "error: the following required arguments were not provided:\n",
+    ),
+    (
+        &["ringpop", "ask", "10.0.0.01:1", "k", "b"],
+        "ringpop: bad address\n",
+    ),
+    (
+        &["ringpop", "ask", "--any", "x", "k", "b"],
+        "ringpop: bad address\n",
+    ),
+    (
+        &["ringpop", "members", "10.0.0.1:0"],
+        "ringpop: bad address\n",
+    ),
+    (&["ringpop", "members", ""], "ringpop: bad address\n"),
+    (&["ringpop", "tell", "x"], "ringpop: bad address\n"),
+    (
+        &["ringpop", "tell", "--help"],
+        "Reads change lines; tells them to a running node, and prints how many members it then holds\n\nUsage: ringpop tell <HOST>\n",
     ),
 ];
 

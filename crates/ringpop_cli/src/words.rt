@@ -4,6 +4,7 @@ ghost use Rattle.clap.specs.Values.{kind_of};
 ghost use Rattle.hash_ring.specs.Points.{IsReplicas};
 ghost use Rattle.ringpop_cli.specs.Faults.{IsWordsFault};
 
+use crate::cluster_words::cluster_command_of;
 use crate::commands::{COUNT, KEY, REPLICAS, SUM, TEXT, ringpop_command};
 use crate::faults::Fault;
 use change_core::MOST_MEMBERS;
@@ -11,11 +12,21 @@ use clap::ArgMatches;
 use clap::error::ErrorKind;
 use cli_core::{OwnerWords, SimWords, Subcommand};
 use hash_ring::MOST_REPLICAS;
+use serve_core::ClusterCommand;
 use std::alloc::{AllocError, Global};
 use std::convert::AsStr;
 
+/// What the words ask for.
+#[derive(Debug, PartialEq, Drop)]
+pub enum Words<'a> {
+    /// Lines in, and lines out.
+    Lines(Subcommand<'a>),
+    /// A word with running nodes.
+    Cluster(ClusterCommand<'a>),
+}
+
 /// A number, if it is there and in this range.
-fn number(matches: &ArgMatches<'_>, id: &str, least: u64, most: u64) -> Option<u64>
+pub fn number(matches: &ArgMatches<'_>, id: &str, least: u64, most: u64) -> Option<u64>
     ensures { IfSome result (λ n. (least ≤ n) × (n ≤ most)) }
 {
     let given = matches.get_one::<u64>(id)?;
@@ -23,7 +34,7 @@ fn number(matches: &ArgMatches<'_>, id: &str, least: u64, most: u64) -> Option<u
 }
 
 /// How many points a server has for each of its weight, if that is there and in its range.
-fn replicas(matches: &ArgMatches<'_>) -> Option<u32>
+pub fn replicas(matches: &ArgMatches<'_>) -> Option<u32>
     ensures { IfSome result IsReplicas }
 {
     let replicas = number(matches, REPLICAS, 1, u64::from(MOST_REPLICAS))?;
@@ -52,7 +63,7 @@ fn sim_words(matches: &ArgMatches<'_>) -> Option<SimWords> {
     })
 }
 
-/// What the words that `clap` took ask for, if each is there and in its range.
+/// What the words that `clap` took ask for, if each is there and in its range, and they ask for lines.
 fn subcommand_of<'a>(matches: &ArgMatches<'a>) -> Option<Subcommand<'a>> {
     match matches.subcommand() {
         None | Some(("fold", _)) => Some(Subcommand::Fold),
@@ -72,18 +83,38 @@ fn subcommand_of<'a>(matches: &ArgMatches<'a>) -> Option<Subcommand<'a>> {
     }
 }
 
+/// What the words that `clap` took ask for.
+fn words_of<'a>(alloc: Global, matches: &ArgMatches<'a>) -> Result<Words<'a>, Fault>
+    ensures { IfErr result IsWordsFault }
+{
+    if let Some(command) = cluster_command_of(alloc, matches)? {
+        return Ok(Words::Cluster(command));
+    }
+    match subcommand_of(matches) {
+        Some(subcommand) => Ok(Words::Lines(subcommand)),
+        None => Err(absent(alloc)),
+    }
+}
+
 /// Reads the words, of which the first is the program's name. With no other they ask for `fold`. What `clap` refuses, a
-/// call for help among it, is a `Fault::Usage`. Each number in the words is in its range.
-pub fn read_words<'a, S: AsStr>(alloc: Global, words: &'a [S]) -> Result<Subcommand<'a>, Fault>
-    ensures alone { length words.now ≤ 1 → result ≡ Ok Subcommand.Fold }
+/// call for help among it, is a `Fault::Usage`; then the first address that is none is `Fault::BadAddress`. Each number in the
+/// words is in its range.
+pub fn read_words<'a, S: AsStr>(alloc: Global, words: &'a [S]) -> Result<Words<'a>, Fault>
+    ensures alone { length words.now ≤ 1 → result ≡ Ok (Words.Lines Subcommand.Fold) }
     ensures fault { IfErr result IsWordsFault }
 {
     if words.len() < 2 {
-        return Ok(Subcommand::Fold);
+        return Ok(Words::Lines(Subcommand::Fold));
     }
     let matches = ringpop_command(alloc)?.try_get_matches_from(words)?;
-    // `clap` has tested the words, so that none of them is refused here.
-    subcommand_of(&matches).ok_or_else(|| refusal(alloc, "a word is absent or not in its range"))
+    words_of(alloc, &matches)
+}
+
+/// The refusal of words in which one is absent or not in its range. `clap` has tested them, so that none is refused so.
+pub fn absent(alloc: Global) -> Fault
+    ensures { IsWordsFault result }
+{
+    refusal(alloc, "a word is absent or not in its range")
 }
 
 /// A refusal of the words in the form of `clap`'s, or a want of memory.

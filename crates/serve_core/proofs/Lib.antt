@@ -1,2 +1,7 @@
 pub mod Told
+pub mod ToldLines
 pub mod Owned
+pub mod Answered
+pub mod Written
+pub mod Entered
+pub mod Heard

@@ -3,14 +3,14 @@ use Rattle.std.specs.Prelude.{ℕ, List, Option, Result, Ok, Err, IfErr}
 use Rattle.std.proofs.KnownBytes.{Keeps-refl}
 use Rattle.change_core.specs.declared.addresses.Address.{Address}
 use Rattle.cluster_core.specs.Links.{MayAnswer}
-use Rattle.serve_core.specs.Asking.{IsNoReply, Leaves, request}
+use Rattle.serve_core.specs.Asking.{IsUnasked, LeavesReply, request}
 use Rattle.serve_core.specs.Owning.{IsOwner, IsUnanswered}
 use Rattle.serve_core.specs.declared.faults.AskFault.{AskFault}
 use Rattle.serve_core.specs.declared.faults.AskFault.TheVariants as fault
 
 -- the owner did not reply
 pub unsaid_by : {A : Type 0} (May : MayAnswer) (host : Address) (hash : List ℕ → ℕ) (replicas : ℕ) (key body : List ℕ) (to : Address)
-    → IsOwner May host hash replicas key to → (r : Result A AskFault) → IfErr r (IsNoReply May to (request key body))
+    → IsOwner May host hash replicas key to → (r : Result A AskFault) → IfErr r (IsUnasked May to (request key body))
     → IfErr r (IsUnanswered May host hash replicas key body)
 unsaid_by May host hash replicas key body to o (Ok a) h = tt
 unsaid_by May host hash replicas key body to o (Err e) h = IsUnanswered.unsaid to o h
@@ -22,7 +22,7 @@ module _ (May : MayAnswer) (host : Address) (hash : List ℕ → ℕ) (replicas 
 
   -- where no owner replied nothing is written
   pub left_by : (Came : List ℕ → Type 0) (e : AskFault) (old : Option (List ℕ)) → IsUnanswered May host hash replicas key body e
-      → Leaves Came (IsUnanswered May host hash replicas key body) e old old
+      → LeavesReply Came (IsUnanswered May host hash replicas key body) e old old
   left_by Came fault.NoAnswer old u = (u, Keeps-refl old)
   left_by Came fault.NotOwner old u = (u, Keeps-refl old)
   left_by Came (fault.Refused reason) old u = (u, Keeps-refl old)

@@ -31,31 +31,40 @@ Asked May to told came = (answer : Result Message LinkError) × May to (by_nobod
 abbrev pub request : List ℕ → List ℕ → Content
 request key body = content.Forward (key ∷ []) body
 
--- no content that answers a request
+-- a content that answers no request
 abbrev pub IsBeside : Content → Type 0
-IsBeside (content.Reply text) = ⊥
-IsBeside content.NotOwner = ⊥
-IsBeside (content.Refused reason) = ⊥
-IsBeside other = Unit {0}
+IsBeside (content.Join news) = Unit {0}
+IsBeside (content.Joined news) = Unit {0}
+IsBeside (content.Ping news) = Unit {0}
+IsBeside (content.Ack news) = Unit {0}
+IsBeside (content.PingReq news target) = Unit {0}
+IsBeside (content.PingReqAck news target reached) = Unit {0}
+IsBeside (content.Forward keys body) = Unit {0}
+IsBeside other = ⊥
 
 -- a reply came with this text
 abbrev pub IsReply : MayAnswer → Address → Content → List ℕ → Type 0
 IsReply May to told text = Asked May to told (Ok (content.Reply text))
 
--- why no reply came
+-- why no reply came to what was asked; it is want of memory only where the link found none
 abbrev pub IsNoReply : MayAnswer → Address → Content → AskFault → Type 0
 IsNoReply May to told fault.NotOwner = Asked May to told (Ok content.NotOwner)
 IsNoReply May to told (fault.Refused reason) = Asked May to told (Ok (content.Refused reason))
 IsNoReply May to told fault.Unexpected = (other : Content) × Asked May to told (Ok other) × IsBeside other
 IsNoReply May to told fault.NoAnswer = Asked May to told (Err fault.NoAnswer)
-IsNoReply May to told fault.NoMemory = Unit {0}
+IsNoReply May to told fault.NoMemory = Asked May to told (Err fault.NoMemory)
 IsNoReply May to told fault.CannotWrite = ⊥
 
--- a text came, and it and a newline are written
-abbrev pub Writes : (List ℕ → Type 0) → Option (List ℕ) → Option (List ℕ) → Type 0
-Writes Came old new = (text : List ℕ) × Came text × Appends old new (text ++ 10 ∷ [])
+-- the same where the request itself is still to be made, for which there may be no memory
+abbrev pub IsUnasked : MayAnswer → Address → Content → AskFault → Type 0
+IsUnasked May to told fault.NoMemory = Unit {0}
+IsUnasked May to told other = IsNoReply May to told other
 
--- what a fault leaves written: a front of the line where a text came and the writer failed, else nothing
-abbrev pub Leaves : (List ℕ → Type 0) → (AskFault → Type 0) → AskFault → Option (List ℕ) → Option (List ℕ) → Type 0
-Leaves Came Failed fault.CannotWrite old new = (text : List ℕ) × Came text × AppendsFront old new (text ++ 10 ∷ [])
-Leaves Came Failed other old new = Failed other × Keeps old new
+-- a reply came with a text, and it and a newline are written
+abbrev pub WritesReply : (List ℕ → Type 0) → Option (List ℕ) → Option (List ℕ) → Type 0
+WritesReply Came old new = (text : List ℕ) × Came text × Appends old new (text ++ 10 ∷ [])
+
+-- what a fault leaves written of a reply: a front of its line where one came and the writer failed, else nothing
+abbrev pub LeavesReply : (List ℕ → Type 0) → (AskFault → Type 0) → AskFault → Option (List ℕ) → Option (List ℕ) → Type 0
+LeavesReply Came Failed fault.CannotWrite old new = (text : List ℕ) × Came text × AppendsFront old new (text ++ 10 ∷ [])
+LeavesReply Came Failed other old new = Failed other × Keeps old new

@@ -1,3 +1,9 @@
+pub mod Answering
 pub mod Asking
+pub mod Commands
+pub mod Echoes
 pub mod Membership
 pub mod Owning
+pub mod Service
+pub mod Telling
+pub mod Words

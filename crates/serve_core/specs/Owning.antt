@@ -1,12 +1,12 @@
 -- A request to whichever node owns its key, by what one node tells of the members. Own.
-use Rattle.std.specs.Prelude.{◌≡◌, ◌⊎◌, ℕ, List, Option, Some, None}
+use Rattle.std.specs.Prelude.{◌≡◌, ◌⊎◌, ℕ, List, [], Option, Some, None}
 use Rattle.change_core.specs.declared.addresses.Address.{Address}
 use Rattle.wire_json.specs.declared.kinds.Reason.TheVariants as reason
 use Rattle.wire_json.specs.declared.messages.News.{News}
 use Rattle.hash_ring.specs.Points.{owner}
 use Rattle.hash_ring.specs.Serving.{servers_of}
 use Rattle.cluster_core.specs.Links.{MayAnswer}
-use Rattle.serve_core.specs.Asking.{IsNoReply, IsReply, request}
+use Rattle.serve_core.specs.Asking.{IsReply, IsUnasked, request}
 use Rattle.serve_core.specs.Membership.{IsNotSeen, IsSeen, told_members}
 use Rattle.serve_core.specs.declared.faults.AskFault.{AskFault}
 use Rattle.serve_core.specs.declared.faults.AskFault.TheVariants as fault
@@ -24,20 +24,20 @@ IsUnnamed found other = ⊥
 -- the host told its members, and this is the key's owner among them
 pub record IsOwner (May : MayAnswer) (host : Address) (hash : List ℕ → ℕ) (replicas : ℕ) (key : List ℕ) (to : Address) : Type 0 where
   pub news : News
-  pub seen : IsSeen May host news
+  pub seen : IsSeen May host [] news
   pub is : told_owner hash replicas key news ≡ Some to
 
 -- the host told its members, and none of them serves
 pub record IsUnowned (May : MayAnswer) (host : Address) (hash : List ℕ → ℕ) (replicas : ℕ) (key : List ℕ) : Type 0 where
   pub news : News
-  pub seen : IsSeen May host news
+  pub seen : IsSeen May host [] news
   pub is : told_owner hash replicas key news ≡ None
 
--- why no owner was found
+-- why no owner was found: no membership was seen; or one was, and none of it serves, or there was no memory to find the owner
 abbrev pub IsNoOwner : MayAnswer → Address → (List ℕ → ℕ) → ℕ → List ℕ → AskFault → Type 0
 IsNoOwner May host hash replicas key (fault.Refused reason.Nobody) =
-    IsNotSeen May host (fault.Refused reason.Nobody) ⊎ IsUnowned May host hash replicas key
-IsNoOwner May host hash replicas key other = IsNotSeen May host other
+    IsNotSeen May host [] (fault.Refused reason.Nobody) ⊎ IsUnowned May host hash replicas key
+IsNoOwner May host hash replicas key other = IsNotSeen May host [] other
 
 module _ (May : MayAnswer) (host : Address) (hash : List ℕ → ℕ) (replicas : ℕ) (key body : List ℕ) where
   -- an owner replied with this text
@@ -49,4 +49,4 @@ module _ (May : MayAnswer) (host : Address) (hash : List ℕ → ℕ) (replicas 
   -- no owner was found; or one was, and it did not reply
   pub data IsUnanswered (e : AskFault) : Type 0 where
     unfound : IsNoOwner May host hash replicas key e → IsUnanswered e
-    unsaid : (to : Address) → IsOwner May host hash replicas key to → IsNoReply May to (request key body) e → IsUnanswered e
+    unsaid : (to : Address) → IsOwner May host hash replicas key to → IsUnasked May to (request key body) e → IsUnanswered e

@@ -1,6 +1,7 @@
 //! A request to one node.
 ghost use Rattle.std.specs.Prelude.{◌≡◌, IfOk, IfErr, OnOk, IsOkUnless};
-ghost use Rattle.serve_core.specs.Asking.{IsNoReply, IsReply, Leaves, Writes, request};
+ghost use Rattle.cluster_links.specs.Channels.{any_answer};
+ghost use Rattle.serve_core.specs.Asking.{IsNoReply, IsReply, IsUnasked, LeavesReply, WritesReply, request};
 
 use crate::faults::AskFault;
 use crate::questions::{ask_for, write_text};
@@ -25,6 +26,27 @@ fn request(alloc: Global, key: &str, body: &str) -> Result<Content, AskFault>
     Ok(Content::Forward(keys, body))
 }
 
+/// What the node replies to a request.
+///
+/// Errors: those of `ask_over` but `CannotWrite`; `NoMemory` only where the link found none.
+fn reply_to<R: Wait, L: Link>(
+    rt: &R,
+    alloc: Global,
+    link: &mut L,
+    to: Address,
+    content: Content,
+) -> Result<Text, AskFault>
+    ensures reply { IfOk result (IsReply L.may_answer to content) }
+    ensures fault { IfErr result (IsNoReply L.may_answer to content) }
+{
+    match ask_for(rt, alloc, link, to, content)? {
+        Content::Reply(text) => Ok(text),
+        Content::NotOwner => Err(AskFault::NotOwner),
+        Content::Refused(reason) => Err(AskFault::Refused(reason)),
+        _ => Err(AskFault::Unexpected),
+    }
+}
+
 /// Sends the request for a key to the node. The text of its reply.
 ///
 /// Errors: those of `ask_over` but `CannotWrite`.
@@ -37,15 +59,10 @@ pub fn reply_of<R: Wait, L: Link>(
     body: &str,
 ) -> Result<Text, AskFault>
     ensures reply { IfOk result (IsReply L.may_answer to (request key.now body.now)) }
-    ensures fault { IfErr result (IsNoReply L.may_answer to (request key.now body.now)) }
+    ensures fault { IfErr result (IsUnasked L.may_answer to (request key.now body.now)) }
 {
     let content = request(alloc, key, body)?;
-    match ask_for(rt, alloc, link, to, content)? {
-        Content::Reply(text) => Ok(text),
-        Content::NotOwner => Err(AskFault::NotOwner),
-        Content::Refused(reason) => Err(AskFault::Refused(reason)),
-        _ => Err(AskFault::Unexpected),
-    }
+    reply_to(rt, alloc, link, to, content)
 }
 
 /// Sends the request for a key to the node, and writes the reply's text and a newline. Where no reply came nothing is written.
@@ -61,16 +78,17 @@ pub fn ask_over<R: Wait, L: Link, W: Write>(
     body: &str,
     writer: &mut W,
 ) -> Result<(), AskFault>
-    ensures replied { OnOk result (Writes (IsReply L.may_answer address (request key.now body.now))
+    ensures replied { OnOk result (WritesReply (IsReply L.may_answer address (request key.now body.now))
         (W.contents writer.old) (W.contents writer.new)) }
-    ensures fault { IfErr result (λ e. Leaves (IsReply L.may_answer address (request key.now body.now))
-        (IsNoReply L.may_answer address (request key.now body.now)) e (W.contents writer.old) (W.contents writer.new)) }
+    ensures fault { IfErr result (λ e. LeavesReply (IsReply L.may_answer address (request key.now body.now))
+        (IsUnasked L.may_answer address (request key.now body.now)) e (W.contents writer.old) (W.contents writer.new)) }
 {
     let text = reply_of(rt, alloc, link, address, key, body)?;
     write_text(writer, text.as_str().as_bytes())
 }
 
-/// `ask_over` over sockets, with the standard limits.
+/// `ask_over` over sockets, with the standard limits. A request whose line would have more than 1,048,576 bytes is not sent:
+/// `NoAnswer`.
 pub fn ask_run<R: Net + Clock + Wait, W: Write>(
     rt: &R,
     alloc: Global,
@@ -78,7 +96,12 @@ pub fn ask_run<R: Net + Clock + Wait, W: Write>(
     key: &str,
     body: &str,
     writer: &mut W,
-) -> Result<(), AskFault> {
+) -> Result<(), AskFault>
+    ensures replied { OnOk result (WritesReply (IsReply any_answer address (request key.now body.now))
+        (W.contents writer.old) (W.contents writer.new)) }
+    ensures fault { IfErr result (λ e. LeavesReply (IsReply any_answer address (request key.now body.now))
+        (IsUnasked any_answer address (request key.now body.now)) e (W.contents writer.old) (W.contents writer.new)) }
+{
     let mut link = TcpLink::new(rt);
     ask_over(rt, alloc, &mut link, address, key, body, writer)
 }

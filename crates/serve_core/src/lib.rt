@@ -1,15 +1,33 @@
-//! What is asked of a running node over sockets: `ask` and `members`.
+//! A node that serves over sockets, and what is asked of a running one: `serve`, `ask`, `members` and `tell`.
 #![tactic(auto)]
 
+mod answering;
 mod asking;
+mod commands;
+mod connections;
+mod echoes;
 mod faults;
+mod hosts;
+mod inputs;
 mod looks;
+mod nodes;
 mod owners;
 mod questions;
+mod servers;
+mod serving;
+mod telling;
+mod threads;
+mod waits;
+mod watches;
 mod words;
 
 pub use asking::{ask_over, ask_run};
-pub use faults::AskFault;
+pub use commands::{ClusterCommand, ClusterFault, cluster_command_run};
+pub use faults::{AskFault, ServeFault, TellFault};
+pub use hosts::Host;
 pub use looks::{members_over, members_run};
 pub use owners::{ask_any_over, ask_any_run};
-pub use words::AskAnyWords;
+pub use serving::{serve_run, serve_within};
+pub use telling::{tell_over, tell_run};
+pub use waits::Waits;
+pub use words::{AskAnyWords, AskWords, MOST_REQUESTS, MembersWords, ServeWords};

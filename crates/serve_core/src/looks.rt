@@ -1,14 +1,15 @@
 //! The members that a running node holds.
-ghost use Rattle.std.specs.Prelude.{◌≡◌, ◌∷◌, ◌++◌, [], map, IfOk, IfErr, OnOk, IsOkUnless, string_bytes};
+ghost use Rattle.std.specs.Prelude.{◌≡◌, ◌≤◌, ◌∷◌, ◌++◌, [], length, map, IfOk, IfErr, OnOk, IsOkUnless};
 ghost use Rattle.std.specs.List.{flat_map};
 ghost use Rattle.std.specs.Io.KnownBytes.{Appends};
 ghost use Rattle.change_core.specs.Members.{members};
+ghost use Rattle.change_core.specs.Numbers.{most_members};
 ghost use Rattle.serde_json.specs.Written.{compact_text};
 ghost use Rattle.wire_json.specs.Forms.{change_data};
-ghost use Rattle.wire_json.specs.declared.messages.News.{News};
 ghost use Rattle.cli_core.specs.Changes.{change_of};
 ghost use Rattle.cli_core.specs.Fold.{fold_text};
-ghost use Rattle.serve_core.specs.Membership.{IsNotSeen, IsSeen, IsUnwritten, LeavesText, change_line, membership_text, told_members};
+ghost use Rattle.cluster_links.specs.Channels.{any_answer};
+ghost use Rattle.serve_core.specs.Membership.{IsNotSeen, IsSeen, IsUnwritten, LeavesText, WritesSeen, change_line, membership_text, told_members};
 
 use crate::faults::AskFault;
 use crate::questions::{join_with, write_text};
@@ -16,47 +17,70 @@ use change_core::{Address, MOST_MEMBERS, Sourced};
 use cli_core::fold_text;
 use cluster_core::Link;
 use cluster_links::TcpLink;
-use member_core::MemberTable;
+use member_core::{MemberError, MemberTable};
 use std::alloc::Global;
 use std::io::Write;
 use std::net::Net;
 use std::sync::Wait;
 use std::time::Clock;
-use wire_json::{News, encode_change};
+use wire_json::{Changes, News, encode_change};
 
-/// The members that changes come to. No more are told than a table holds.
+/// The members that changes come to.
 fn folded(alloc: Global, changes: &[Sourced]) -> Result<MemberTable, AskFault>
+    requires { length changes.now ≤ most_members }
     ensures members { IfOk result (λ t. t.members ≡ members (map change_of changes.now)) }
     ensures refusal { IsOkUnless result AskFault.NoMemory }
 {
-    let mut table = MemberTable::new(alloc, MOST_MEMBERS).map_err(|_| AskFault::NoMemory)?;
+    let mut table = MemberTable::new(alloc, MOST_MEMBERS).unwrap();
     'changes: for sourced in changes {
-        let Ok(_) = table.take(sourced.change) else {
-            return Err(AskFault::NoMemory);
-        };
+        match table.take(sourced.change) {
+            Ok(_) => {}
+            Err(MemberError::Memory) => return Err(AskFault::NoMemory),
+            Err(MemberError::Full | MemberError::BadLimit) => unreachable!(),
+        }
     }
     Ok(table)
 }
 
-/// The membership that a node holds, as it tells it to whoever joins. `Unexpected` where its digest is another than the
-/// one that came with it.
+/// The membership that a node holds once it was told these changes, as it tells it to whoever joins.
+///
+/// Errors: `NoMemory`, of the link's too; `NoAnswer` where no message came; `Refused` as the node says; `Unexpected` at any other
+/// message, and where the digest that came is not that of the members.
 pub fn look<R: Wait, L: Link>(
     rt: &R,
     alloc: Global,
     link: &mut L,
     host: Address,
+    changes: Changes,
 ) -> Result<(News, MemberTable), AskFault>
-    ensures seen { IfOk result (λ seen. IsSeen L.may_answer host seen.0) }
+    ensures seen { IfOk result (λ seen. IsSeen L.may_answer host changes seen.0) }
     ensures members { IfOk result (λ seen. seen.1.members ≡ told_members seen.0) }
-    ensures fault { IfErr result (λ e. IsNotSeen L.may_answer host e) }
+    ensures fault { IfErr result (λ e. IsNotSeen L.may_answer host changes e) }
 {
-    let news = join_with(rt, alloc, link, host, &[])?;
+    let news = join_with(rt, alloc, link, host, changes)?;
     let table = folded(alloc, news.changes.as_slice())?;
     let digest = table.digest().map_err(|_| AskFault::NoMemory)?;
     if digest.bytes() != news.checksum.bytes() {
         return Err(AskFault::Unexpected);
     }
     Ok((news, table))
+}
+
+/// `look` without changes.
+pub fn look_only<R: Wait, L: Link>(
+    rt: &R,
+    alloc: Global,
+    link: &mut L,
+    host: Address,
+) -> Result<(News, MemberTable), AskFault>
+    ensures seen { IfOk result (λ seen. IsSeen L.may_answer host [] seen.0) }
+    ensures members { IfOk result (λ seen. seen.1.members ≡ told_members seen.0) }
+    ensures fault { IfErr result (λ e. IsNotSeen L.may_answer host [] e) }
+{
+    let Ok(nothing) = Changes::from_vec(Vec::new(alloc)) else {
+        unreachable!()
+    };
+    look(rt, alloc, link, host, nothing)
 }
 
 /// The line of a change, without its newline.
@@ -126,12 +150,12 @@ pub fn members_over<R: Wait, L: Link, W: Write>(
     lines: bool,
     writer: &mut W,
 ) -> Result<(), AskFault>
-    ensures written { OnOk result ((news : News) × IsSeen L.may_answer host news
-        × Appends (W.contents writer.old) (W.contents writer.new) (membership_text lines news)) }
-    ensures fault { IfErr result (λ e. IsUnwritten L.may_answer host lines e
+    ensures written { OnOk result (WritesSeen L.may_answer host [] (membership_text lines)
+        (W.contents writer.old) (W.contents writer.new)) }
+    ensures fault { IfErr result (λ e. IsUnwritten L.may_answer host [] (membership_text lines) e
         (W.contents writer.old) (W.contents writer.new)) }
 {
-    let (news, table) = look(rt, alloc, link, host)?;
+    let (news, table) = look_only(rt, alloc, link, host)?;
     if lines {
         write_changes(alloc, news.changes.as_slice(), writer)
     } else {
@@ -146,7 +170,12 @@ pub fn members_run<R: Net + Clock + Wait, W: Write>(
     host: Address,
     lines: bool,
     writer: &mut W,
-) -> Result<(), AskFault> {
+) -> Result<(), AskFault>
+    ensures written { OnOk result (WritesSeen any_answer host [] (membership_text lines)
+        (W.contents writer.old) (W.contents writer.new)) }
+    ensures fault { IfErr result (λ e. IsUnwritten any_answer host [] (membership_text lines) e
+        (W.contents writer.old) (W.contents writer.new)) }
+{
     let mut link = TcpLink::new(rt);
     members_over(rt, alloc, &mut link, host, lines, writer)
 }

@@ -5,12 +5,13 @@ ghost use Rattle.change_core.specs.Members.{IsMemberList};
 ghost use Rattle.hash_ring.specs.Points.{IsReplicas, owner};
 ghost use Rattle.hash_ring.specs.Serving.{servers_of};
 ghost use Rattle.cli_core.specs.Owner.{hash_by};
-ghost use Rattle.serve_core.specs.Asking.{Leaves, Writes};
+ghost use Rattle.cluster_links.specs.Channels.{any_answer};
+ghost use Rattle.serve_core.specs.Asking.{LeavesReply, WritesReply};
 ghost use Rattle.serve_core.specs.Owning.{IsAnswered, IsNoOwner, IsOwner, IsUnanswered, IsUnnamed};
 
 use crate::asking::reply_of;
 use crate::faults::AskFault;
-use crate::looks::look;
+use crate::looks::look_only;
 use crate::questions::write_text;
 use crate::words::AskAnyWords;
 use change_core::{Address, Change};
@@ -68,7 +69,7 @@ fn find_owner<R: Wait, L: Link>(
     ensures owner { IfOk result (IsOwner L.may_answer words.now.host (hash_by words.now.sum) words.now.replicas words.now.key.now) }
     ensures fault { IfErr result (IsNoOwner L.may_answer words.now.host (hash_by words.now.sum) words.now.replicas words.now.key.now) }
 {
-    let (_news, table) = look(rt, alloc, link, words.host)?;
+    let (_news, table) = look_only(rt, alloc, link, words.host)?;
     let members = table.list().map_err(|_| AskFault::NoMemory)?;
     owner_in(alloc, words, members.as_slice())
 }
@@ -119,10 +120,10 @@ pub fn ask_any_over<R: Wait, L: Link, W: Write>(
     words: &AskAnyWords<'_>,
     writer: &mut W,
 ) -> Result<(), AskFault>
-    ensures answered { OnOk result (Writes
+    ensures answered { OnOk result (WritesReply
         (IsAnswered L.may_answer words.now.host (hash_by words.now.sum) words.now.replicas words.now.key.now words.now.body.now)
         (W.contents writer.old) (W.contents writer.new)) }
-    ensures fault { IfErr result (λ e. Leaves
+    ensures fault { IfErr result (λ e. LeavesReply
         (IsAnswered L.may_answer words.now.host (hash_by words.now.sum) words.now.replicas words.now.key.now words.now.body.now)
         (IsUnanswered L.may_answer words.now.host (hash_by words.now.sum) words.now.replicas words.now.key.now words.now.body.now)
         e (W.contents writer.old) (W.contents writer.new)) }
@@ -137,7 +138,15 @@ pub fn ask_any_run<R: Net + Clock + Wait, W: Write>(
     alloc: Global,
     words: &AskAnyWords<'_>,
     writer: &mut W,
-) -> Result<(), AskFault> {
+) -> Result<(), AskFault>
+    ensures answered { OnOk result (WritesReply
+        (IsAnswered any_answer words.now.host (hash_by words.now.sum) words.now.replicas words.now.key.now words.now.body.now)
+        (W.contents writer.old) (W.contents writer.new)) }
+    ensures fault { IfErr result (λ e. LeavesReply
+        (IsAnswered any_answer words.now.host (hash_by words.now.sum) words.now.replicas words.now.key.now words.now.body.now)
+        (IsUnanswered any_answer words.now.host (hash_by words.now.sum) words.now.replicas words.now.key.now words.now.body.now)
+        e (W.contents writer.old) (W.contents writer.new)) }
+{
     let mut link = TcpLink::new(rt);
     ask_any_over(rt, alloc, &mut link, words, writer)
 }

@@ -1,13 +1,12 @@
 //! One question to a running node, by nobody: from 0.0.0.0:1 at incarnation 0.
-ghost use Rattle.std.specs.Prelude.{◌≡◌, ◌∷◌, ◌++◌, [], length, IfOk, IfErr, OnOk, IsOkUnless, ◌≤◌};
+ghost use Rattle.std.specs.Prelude.{◌≡◌, ◌∷◌, ◌++◌, [], IfOk, IfErr, OnOk, IsOkUnless};
 ghost use Rattle.std.specs.Io.KnownBytes.{Appends};
-ghost use Rattle.change_core.specs.Numbers.{most_members};
 ghost use Rattle.wire_json.specs.Input.{AppendsFront};
 ghost use Rattle.serve_core.specs.Asking.{Asked, by_nobody};
 ghost use Rattle.serve_core.specs.Membership.{IsNotTold, IsTold};
 
 use crate::faults::AskFault;
-use change_core::{Address, Digest, Incarnation, Sourced};
+use change_core::{Address, Digest, Incarnation};
 use cluster_core::{Link, LinkError};
 use std::alloc::Global;
 use std::io::Write;
@@ -47,24 +46,20 @@ pub fn ask_for<R: Wait, L: Link>(
     }
 }
 
-/// Joins with these changes, at most 4,096, without being a member. The membership that is answered.
+/// Joins with these changes without being a member. The membership that is answered.
 ///
-/// Errors: `NoMemory`, of the link's too; `NoAnswer` where no message came; `Refused` as the node says, and `Unexpected` at any
-/// other message.
+/// Errors: `NoMemory` where the link found none; `NoAnswer` where no message came; `Refused` as the node says, and `Unexpected` at
+/// any other message.
 pub fn join_with<R: Wait, L: Link>(
     rt: &R,
     alloc: Global,
     link: &mut L,
     to: Address,
-    changes: &[Sourced],
+    changes: Changes,
 ) -> Result<News, AskFault>
-    requires { length changes.now ≤ most_members }
-    ensures told { IfOk result (λ news. IsTold L.may_answer to changes.now news) }
-    ensures fault { IfErr result (λ e. IsNotTold L.may_answer to changes.now e) }
+    ensures told { IfOk result (λ news. IsTold L.may_answer to changes news) }
+    ensures fault { IfErr result (λ e. IsNotTold L.may_answer to changes e) }
 {
-    let Ok(changes) = Changes::from_slice(alloc, changes) else {
-        return Err(AskFault::NoMemory);
-    };
     let told = News {
         checksum: Digest::new([0; 32]),
         changes,

@@ -15,8 +15,8 @@ const ADDRESSES: [&str; 3] = ["10.0.0.1:7946", "10.0.0.2:7946", "10.0.0.3:7946"]
 
 fn main(rt: HostRuntime) -> anyhow::Result<()> {
     let alloc = rt.alloc();
-    let nodes = nodes::start(alloc, &ADDRESSES)?;
-    let view = nodes::view(&nodes)?;
+    let mut nodes = nodes::start(alloc, &ADDRESSES)?;
+    let view = nodes::view(&mut nodes)?;
     let started = Cluster::start(&rt, alloc, nodes, 1, Trips::new(alloc));
     let mut cluster = started.ok().context("the cluster was not started")?;
     nodes::gossip(&rt, alloc, &mut cluster, &ADDRESSES)?;

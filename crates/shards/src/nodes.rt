@@ -68,8 +68,8 @@ pub fn start(alloc: Global, addresses: &[&str]) -> anyhow::Result<Vec<Node>> {
 }
 
 /// The owners of keys as the first node knows them, which all others have joined.
-pub fn view(nodes: &[Node]) -> anyhow::Result<View<Sha256Hash>> {
-    let host = nodes.first().context("there is no node")?;
+pub fn view(nodes: &mut [Node]) -> anyhow::Result<View<Sha256Hash>> {
+    let host = nodes.first_mut().context("there is no node")?;
     Ok(host.view()?)
 }
 

@@ -1,11 +1,11 @@
 -- What a pass's seat is at the steps between, and what the passes come to together. No contract that another crate reads cites these.
-use Rattle.std.specs.Prelude.{◌≡◌, ℕ, List, [], ◌∷◌, Some, All}
+use Rattle.std.specs.Prelude.{◌≡◌, ℕ, List, [], ◌∷◌, ◌++◌, Option, Some, All}
 use Rattle.atomic_table.specs.Seated.{TableId}
 use Rattle.turn_lock.specs.declared.kept.Turn.{Turn}
 use Rattle.turn_lock.specs.declared.lock.TurnLock.{TurnLock}
 use Rattle.turn_lock.specs.declared.pass.Pass.{Pass}
 use Rattle.turn_lock.specs.declared.table.Known.{Known}
-use Rattle.turn_lock.specs.History.{GoesOn, entries_of}
+use Rattle.turn_lock.specs.History.{turn, GoesOn, entries_of}
 use Rattle.turn_lock.specs.Passes.{IsPassOf, opening_of, seen}
 use Rattle.turn_lock.specs.Rule.{known, outside, waiting, inside, ticket_of, times}
 
@@ -18,6 +18,12 @@ module _ {S E : Type 0} where
   abbrev pub IsServed : (S → List (Turn E) → S → Type 0) → TurnLock S E → Pass S E → Type 0
   IsServed stands_for lock p = IsPassOf lock p
       × ((y : S) × (p.seat.me ≡ (inside (opening_of lock) p.number (seen p) p.seat.me.0.used (ticket_of p.seat.me.0.stage), (0, Some y) ∷ [])) × stands_for (opening_of lock) (seen p) y)
+
+  -- the pass has put back into the slot a state that stands for what it has seen and one entry more, which is this one, of its own
+  abbrev pub IsToGive : (S → List (Turn E) → S → Type 0) → TurnLock S E → Option E → Pass S E → Type 0
+  IsToGive stands_for lock told p = (e : E) × (told ≡ Some e)
+      × ((y : S) × (p.seat.me ≡ (inside (opening_of lock) p.number (seen p) p.seat.me.0.used (ticket_of p.seat.me.0.stage), (0, Some y) ∷ []))
+      × stands_for (opening_of lock) (seen p ++ turn p.number e ∷ []) y)
 
   -- a pass of the lock with this name and table, which has seen nothing
   abbrev pub IsDealt : TableId → S → ℕ → ℕ → Pass S E → Type 0

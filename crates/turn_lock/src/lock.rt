@@ -1,7 +1,7 @@
 //! The lock: how a pass enters and leaves.
-ghost use Rattle.std.specs.Prelude.{◌≡◌, ◌≢◌, ◌<◌, ◌+◌, ◌++◌, ◌∷◌, [], Some, IfOk, IfErr};
+ghost use Rattle.std.specs.Prelude.{◌≡◌, ◌≢◌, ◌<◌, ◌+◌, ◌++◌, ◌∷◌, [], IfOk, IfErr};
 ghost use Rattle.turn_lock.specs.History.{turn, GoesOn};
-ghost use Rattle.turn_lock.specs.Rule.{inside, ticket_of, told_by};
+ghost use Rattle.turn_lock.specs.Rule.{told_by};
 
 use crate::errors::LockError;
 use crate::kept::{Kept, Told};
@@ -39,7 +39,7 @@ pub struct TurnLock<S: Kept> {
 
 impl<S: Kept> TurnLock<S> {
     ghost use Rattle.turn_lock.specs.Passes.{opening_of, number_of, left_of, seen, calls_of, Fits, Refuses, IsPassOf, IsOutside, IsInside, IsSamePass};
-    ghost use Rattle.turn_lock.specs.Seats.{IsWaiting, IsServed};
+    ghost use Rattle.turn_lock.specs.Seats.{IsWaiting, IsServed, IsToGive};
 
     pub(crate) fn of(name: u64, passes: u64, board: Board<S>) -> TurnLock<S>
         requires { (board.shared.table_id.words ≡ 2) × (board.shared.table_id.slots ≡ 1) × (board.shared.key.passes ≡ passes) × (0 < passes) }
@@ -174,7 +174,7 @@ impl<S: Kept> TurnLock<S> {
     #[tactic(auto, unfolding(crate::specs::Passes::IsOutside))]
     fn give<J: Told<S::Entry>>(&self, pass: &mut Pass<S>)
         requires inside { IsPassOf self.now pass.old }
-        requires told { (e : S.Entry) × (J.entry ≡ Some e) × ((y : S) × (pass.old.seat.me ≡ (inside (opening_of self.now) pass.old.number (seen pass.old) pass.old.seat.me.0.used (ticket_of pass.old.seat.me.0.stage), (0, Some y) ∷ [])) × S.stands_for (opening_of self.now) (seen pass.old ++ turn pass.old.number e ∷ []) y) }
+        requires told { IsToGive S.stands_for self.now J.entry pass.old }
         ensures left { IsOutside self.now pass.new × IsSamePass pass.old pass.new × (pass.new.left ≡ pass.old.left) }
         ensures seen { seen pass.new ≡ seen pass.old ++ told_by pass.old.number J.entry }
     {

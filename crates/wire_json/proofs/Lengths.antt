@@ -25,9 +25,9 @@ use Rattle.wire_json.specs.Fields.{name}
 use Rattle.wire_json.specs.Forms.{with_members, written}
 use Rattle.wire_json.specs.Words.{kind_word}
 
--- a byte that a string writes as itself
+-- a byte that a string writes as itself, and that is a character
 abbrev pub IsPlainByte : ℕ → Type 0
-IsPlainByte x = (34 < x) × (x ≢ 92)
+IsPlainByte x = (34 < x) × (x < 128) × (x ≢ 92)
 
 abbrev pub IsPlain : List ℕ → Type 0
 IsPlain = AllByRecursion IsPlainByte
@@ -40,7 +40,7 @@ escape_byte-plain : (x : ℕ) → IsPlainByte x → escape_byte x ≡ x ∷ []
 unfolding escape_byte
 escape_byte-plain x h =
     let above = h.0 in
-    let other = h.1 in
+    let other = h.2 in
     grind (arith, common_steps, nat_tests)
 
 pub escape-plain : (s : List ℕ) → IsPlain s → escape s ≡ s
@@ -155,14 +155,17 @@ kind_short kind.Refused = omega arith
 
 digits_plain : (s : List ℕ) → Digits s → IsPlain s
 digits_plain [] h = tt
-digits_plain (x ∷ s) h = ((let low = h.0.0 in omega arith, let high = h.0.1 in omega arith), digits_plain s h.1)
+digits_plain (x ∷ s) h =
+    let low = h.0.0 in
+    let high = h.0.1 in
+    ((omega arith, omega arith, omega arith), digits_plain s h.1)
 
 decimal_plain : (n : ℕ) → IsPlain (number_text n)
 decimal_plain n = digits_plain (number_text n) (Digits-number_text n)
 
 -- a byte between numbers
 mark : (x : ℕ) → 34 < x → x < 92 → IsPlainByte x
-mark x low high = (low, omega arith)
+mark x low high = (low, omega arith, omega arith)
 
 pub address_plain : (a : ℕ) → IsPlain (address_text a)
 address_plain a =

@@ -11,7 +11,6 @@ use Rattle.wire_json.specs.declared.fields.Field.{Field}
 use Rattle.wire_json.specs.declared.fields.Field.TheVariants as field
 use Rattle.wire_json.specs.declared.kinds.Kind.{Kind}
 use Rattle.wire_json.specs.declared.kinds.Kind.TheVariants as kind
-use Rattle.wire_json.specs.declared.kinds.Reason.{Reason}
 use Rattle.wire_json.specs.Fields.{name}
 use Rattle.wire_json.specs.Words.{kind_word}
 use Rattle.wire_json.specs.Forms.{HasText, ChangeForm, ChangeFault, Form, text, address, whole, digest, truth, reason, IsGood, IsBad}

@@ -1,14 +1,14 @@
 //! The words of a line, one after another.
-ghost use Rattle.std.specs.Prelude.{◌≡◌, ◌≢◌, ℕ, ◌<◌, ◌≤◌, ◌^◌, ◌++◌, ◌∷◌, List, All, Some, None, IfSome, IsSomeAnd, IsTrue, ◌↔◌, Option, option_copied, ◌==◌};
+ghost use Rattle.std.specs.Prelude.{◌≡◌, ℕ, ◌≤◌, ◌++◌, ◌∷◌, List, Some, None, IfSome, IsSomeAnd, Option, option_copied, ◌==◌};
 ghost use Rattle.std.specs.List.{position};
 ghost use Rattle.change_core.specs.declared.statuses.Status.{Status};
 ghost use Rattle.change_core.specs.Address.{IsAddress, address_text};
 ghost use Rattle.change_core.specs.Numbers.{IsWeight, greatest_number};
-ghost use Rattle.change_core.specs.Numeral.{IsPlain, number_text};
+ghost use Rattle.change_core.specs.Numeral.{number_text};
 ghost use Rattle.change_core.specs.Status.{status_word};
 ghost use Rattle.cli_core.specs.ScriptLines.{IsLast, IsVisible, IsWeightWord, IsWeighted};
 
-use change_core::{Address, GREATEST_NUMBER, Incarnation, Status, Weight};
+use change_core::{Address, Incarnation, Status, Weight};
 
 /// Where the first space stands.
 fn space_in(line: &[u8]) -> Option<usize>
@@ -36,41 +36,12 @@ pub fn read_text(word: &[u8]) -> Option<&str>
     str::from_utf8(word).ok()
 }
 
-/// Reads a decimal number of 64 bits, with no sign and no leading zero.
-fn read_decimal(text: &str) -> Option<u64>
-    ensures read { IfSome result (λ n. (n < 2 ^ 64) × (text.now ≡ number_text n)) }
-    ensures exact { (n : ℕ) → n < 2 ^ 64 → text.now ≡ number_text n → result ≡ Some n }
-{
-    if !is_plain(text.as_bytes()) {
-        return None;
-    }
-    match text.parse::<u64>() {
-        Ok(number) => Some(number),
-        Err(_) => None,
-    }
-}
-
 /// Reads a decimal number up to 9007199254740991, with no sign and no leading zero.
 pub fn read_number(word: &[u8]) -> Option<u64>
     ensures read { IfSome result (λ n. (n ≤ greatest_number) × (word.now ≡ number_text n)) }
     ensures exact { (n : ℕ) → n ≤ greatest_number → word.now ≡ number_text n → result ≡ Some n }
 {
-    let number = read_decimal(read_text(word)?)?;
-    if number <= GREATEST_NUMBER {
-        Some(number)
-    } else {
-        None
-    }
-}
-
-/// Whether no sign stands in front, and no zero but alone.
-fn is_plain(word: &[u8]) -> bool
-    ensures { IsTrue result ↔ IsPlain word.now }
-{
-    if word.is_empty() {
-        return false;
-    }
-    word[0] != b'+' && (word[0] != b'0' || word.len() == 1)
+    change_core::read_number(read_text(word)?)
 }
 
 /// Reads an address.

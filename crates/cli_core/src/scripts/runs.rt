@@ -1,21 +1,21 @@
 //! The lines of a script in, their answers out.
-ghost use Rattle.std.specs.Prelude.{◌≡◌, ◌≤◌, ◌⊎◌, true, length, vec_len, IfOk, IfErr, IfSome, IsSome, IsOkUnless, string_bytes};
+ghost use Rattle.std.specs.Prelude.{◌≡◌, ◌≤◌, true, length, IfOk, IfErr, IfSome, string_bytes};
 ghost use Rattle.change_core.specs.Numbers.{greatest_number};
 ghost use Rattle.hash_ring.specs.Points.{IsReplicas};
 ghost use Rattle.wire_json.specs.Lines.{max_line};
 ghost use Rattle.cli_core.specs.Script.{beginning};
-ghost use Rattle.cli_core.specs.ScriptRuns.{AnswersLine, Completes, CompletesBy, EndsScript, IsCountedLine, IsLineRefused, ReadsLine, Stops, StopsBy, Turns, fault_of_read};
+ghost use Rattle.cli_core.specs.ScriptRuns.{AnswersLine, Completes, CompletesBy, IsLineRefused, Stops, StopsBy, Turns, fault_of_read};
 
+use crate::counted::next_line;
 use crate::outputs::write_text;
 use crate::scripts::faults::{ScriptFault, SimFault};
 use crate::scripts::lines::read_command;
 use crate::scripts::worlds::World;
 use crate::words::SimWords;
-use change_core::GREATEST_NUMBER;
 use hash_ring::{PointHash, Sha256Hash, SumHash};
 use std::alloc::Global;
 use std::io::{Read, Write};
-use wire_json::{WireError, read_line};
+use wire_json::WireError;
 
 /// What a fault of reading a line is to a script.
 fn fault_of_read(fault: WireError) -> ScriptFault
@@ -25,39 +25,6 @@ fn fault_of_read(fault: WireError) -> ScriptFault
         WireError::LineTooLong => ScriptFault::LineTooLong,
         WireError::Memory => ScriptFault::OutOfMemory,
         _ => ScriptFault::ReadFailed,
-    }
-}
-
-/// What was read in place of a line that can't be counted: nothing at the end of the input, and a fault for any line.
-fn end_of_lines(read: Result<Option<Vec<u8>>, WireError>) -> Result<Option<Vec<u8>>, ScriptFault>
-    ensures { EndsScript read result }
-{
-    match read {
-        Ok(None) => Ok(None),
-        Err(WireError::Memory) => Err(ScriptFault::OutOfMemory),
-        _ => Err(ScriptFault::ReadFailed),
-    }
-}
-
-/// Reads the line of this number; None at the end of the input. A line that can't be counted is `ReadFailed`, whatever it
-/// is, or `OutOfMemory` where a growth is refused in reading it.
-fn next_line<R: Read>(
-    alloc: Global,
-    reader: &mut R,
-    number: u64,
-) -> Result<Option<Vec<u8>>, ScriptFault>
-    ensures read { IfSome (R.remaining reader.old) (λ xs. ReadsLine xs result (R.remaining reader.new)) }
-    ensures counted { IfOk result (λ line. IsSome line → number ≤ greatest_number) }
-    ensures short { IfOk result (λ line. IfSome line (λ v. vec_len v ≤ max_line)) }
-    ensures own { IfErr result (λ f. IsCountedLine number f) }
-{
-    let read = read_line(alloc, reader);
-    if number > GREATEST_NUMBER {
-        return end_of_lines(read);
-    }
-    match read {
-        Ok(line) => Ok(line),
-        Err(fault) => Err(fault_of_read(fault)),
     }
 }
 
@@ -93,7 +60,7 @@ fn turn<H: PointHash, R: Read, W: Write>(
     let line = match next_line(alloc, reader, number) {
         Ok(Some(line)) => line,
         Ok(None) => return Ok(false),
-        Err(fault) => return Err(SimFault::AtLine(number, fault)),
+        Err(fault) => return Err(SimFault::AtLine(number, fault_of_read(fault))),
     };
     let text = match answer_line(alloc, world, line.as_slice()) {
         Ok(text) => text,

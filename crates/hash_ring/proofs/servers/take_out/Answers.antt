@@ -1,19 +1,8 @@
-use Rattle.std.proofs.Common.{not, rules, ap, sym, ◌∙◌}
-use Rattle.std.proofs.lemmas.Fn.{filter_same}
-use Rattle.hash_ring.specs.declared.servers.Server.{Server}
-use Rattle.std.specs.Option.{is_some}
-use Rattle.hash_ring.specs.Servers.{is_same, weight_of}
-use Rattle.hash_ring.proofs.Weights.{none_if_not_some, without_none, points_none}
+use Rattle.std.proofs.Common.{sym, ◌∙◌}
+use Rattle.hash_ring.specs.Servers.{weight_of}
+use Rattle.hash_ring.proofs.Weights.{none_if_not_some, points_none}
 use Rattle.hash_ring.proofs.servers.take_out.Goals as goal
 
-pub returns-then-is_none-clause-servers : goal.returns-then-is_none-clause-servers
-returns-then-is_none-clause-servers c =
-    sym (without_none c.args.address c.args.servers.now.items (none_if_not_some (weight_of c.args.address c.args.servers.now.items) (ap (λ ss. is_some (weight_of c.args.address ss)) (sym c.deref.ensures.value) ∙ (ap is_some (sym c.weight_among.ensures) ∙ c.if-is_none.ensures))))
-
-pub returns-then-is_none-clause-points : goal.returns-then-is_none-clause-points
-returns-then-is_none-clause-points c =
-    sym (points_none c.args.address c.args.servers.now.items c.args.places.now.points (none_if_not_some (weight_of c.args.address c.args.servers.now.items) (ap (λ ss. is_some (weight_of c.args.address ss)) (sym c.deref.ensures.value) ∙ (ap is_some (sym c.weight_among.ensures) ∙ c.if-is_none.ensures))) c.requires.theirs)
-
-pub returns-clause-servers : goal.returns-clause-servers
-returns-clause-servers c =
-    filter_same _ (λ (s : Server). not (is_same s.address c.args.address)) _ (λ x b f' k. search rules) _ _ c.retain.ensures.filtered
+pub returns-then-not-take_server-clause-points : goal.returns-then-not-take_server-clause-points
+returns-then-not-take_server-clause-points c =
+    sym (points_none c.args.address c.args.servers.now.items c.args.points.now.items (none_if_not_some (weight_of c.args.address c.args.servers.now.items) (sym c.take_server.ensures.there ∙ c.if-not-take_server.true)) c.requires.theirs)

@@ -5,7 +5,7 @@ use Rattle.std.specs.List.{AllZip}
 use Rattle.std.specs.Vec.Iter.{into_iter_items}
 use Rattle.cluster_links.specs.declared.channel_links.Post.{Post}
 use Rattle.cluster_links.specs.Clusters.{IsSeat, Seats}
-use Rattle.cluster_links.proofs.Crews.{closed_all, closes, one_left}
+use Rattle.cluster_links.proofs.Crews.{closed_all, closes, one_left, seated_addresses}
 use Rattle.cluster_links.proofs.clusters.Cluster.launch.Goals as goal
 
 pub seated-init : goal.seated-init
@@ -27,6 +27,15 @@ seated-preserved g c = record {
   whole = subst (λ xs. All IsSeat xs) (sym c.in_ok-push-in-Ok.ensures.items) (All-push IsSeat c.seated.seats.items c.in-Ok.seat c.seated.invariant.whole c.in-Ok.ensures.seated);
   so_far = closes (Seats c.args.workers (arc_value c.in_ok-posts-2.posts).items) c.in-Some.node c.in-Ok.seat c.args.nodes.items (into_iter_items c.next.new.self) (into_iter_items c.seated.node-iterator)
       c.seated.seats.items _ c.in-Some.ensures.steps.0 c.in_ok-push-in-Ok.ensures.items c.in-Ok.ensures.serves c.seated.invariant.so_far;
+}
+
+pub returns-clause-launched : goal.returns-clause-launched
+returns-clause-launched g c = record {
+  seats = c.seated.invariant.whole;
+  posts = ap (λ v. map (λ (p : Post). p.address) v.items) c.in_ok-posts-2.ensures.ok ∙ rw c.deref.ensures.value at c.in_ok-posts.ensures.posts
+      ∙ seated_addresses (arc_value c.in_ok-posts-2.posts).items c.args.workers c.args.nodes.items c.seated.seats.items
+      (closed_all (Seats c.args.workers (arc_value c.in_ok-posts-2.posts).items) c.args.nodes.items (into_iter_items c.seated.node-iterator) c.seated.seats.items
+      (sym c.seated.invariant.length_is ∙ c.in-None.ensures.steps.0) c.seated.invariant.so_far);
 }
 
 pub returns-clause-serves : goal.returns-clause-serves

@@ -1,31 +1,4 @@
-use Rattle.std.proofs.Common.{◌≡◌, ◌∙◌, suc, [], ap, arith, length, subst, sym, All}
-use Rattle.std.proofs.lemmas.Grind.{common_steps}
-use Rattle.std.proofs.lemmas.List.Elements.{All-head, All-rest}
-use Rattle.std.specs.Vec.Iter.{into_iter_items}
-use Rattle.cluster_links.specs.Clusters.{IsOfSeat, IsSeat}
-use Rattle.cluster_links.proofs.Crews.{closed_all, closes}
 use Rattle.cluster_links.proofs.clusters.Cluster.stop.Goals as goal
 
-pub closed-init : goal.closed-init
-closed-init g c = record {
-  length_is = c.into_iter-seat-iterator.ensures.into_iter_gives.1 ∙ c.args.self.seats.ok.0 ∙ sym (ap length c.into_iter-seat-iterator.ensures.into_iter_gives.0);
-  left = subst (λ xs. All IsSeat xs) (sym c.into_iter-seat-iterator.ensures.into_iter_gives.0) c.requires;
-  so_far = ([], sym c.into_iter-seat-iterator.ensures.into_iter_gives.0, grind (arith, common_steps));
-}
-
-pub close-requires : goal.close-requires
-close-requires g c =
-    All-head IsSeat c.in-Some.seat (into_iter_items c.next.new.self) (subst (λ xs. All IsSeat xs) c.in-Some.ensures.steps.0 c.closed.invariant.left)
-
-pub closed-preserved : goal.closed-preserved
-closed-preserved g c = record {
-  length_is = (let cut : length (into_iter_items c.closed.seat-iterator) ≡ suc (length (into_iter_items c.next.new.self)) = ap length c.in-Some.ensures.steps.0 in omega (arith, c.in-Some.ensures.steps.1));
-  left = All-rest IsSeat c.in-Some.seat (into_iter_items c.next.new.self) (into_iter_items c.closed.seat-iterator) c.in-Some.ensures.steps.0 c.closed.invariant.left;
-  so_far = closes (IsOfSeat g.H.PointHash.hash_of) c.in-Some.seat c.in_ok-node.node c.args.self.seats.items (into_iter_items c.next.new.self) (into_iter_items c.closed.seat-iterator)
-      c.closed.nodes.items c.push.new.self.items c.in-Some.ensures.steps.0 (grind (arith, common_steps)) c.in_ok-node.ensures c.closed.invariant.so_far;
-}
-
-pub returns-clause-closed : goal.returns-clause-closed
-returns-clause-closed g c =
-    closed_all (IsOfSeat g.H.PointHash.hash_of) c.args.self.seats.items (into_iter_items c.closed.seat-iterator) c.closed.nodes.items
-    (sym c.closed.invariant.length_is ∙ c.in-None.ensures.steps.0) c.closed.invariant.so_far
+pub end_all-requires : goal.end_all-requires
+end_all-requires g c = c.requires.seats

@@ -10,7 +10,7 @@ use Rattle.node_core.proofs.node.NodeState.new.Goals as goal
 pub invariant_of-result : goal.invariant_of-result
 invariant_of-result g c =
     parts_begun g.H.PointHash.hash_of c.args.hash c.args.config c.args.own c.args.incarnation c.args.moment (seeded c.args.seed)
-    c.in_ok-members.members c.in_ok-ring.ring c.reserve_for.new.self c.add.new.self c.in_ok-gossip.gossip c.put.new.self c.new-4.result c.new-5.result
+    c.in_ok-members.members c.in_ok-ring.ring c.reserve_for.new.self c.of.result c.in_ok-gossip.gossip c.put.new.self c.new-4.result c.new-5.result
     (record {
       own_is = c.in_ok-members.ensures.ok.0;
       members_are = c.in_ok-members.ensures.ok.1;
@@ -18,7 +18,7 @@ invariant_of-result g c =
       membership = c.in_ok-members.ensures.valid;
       made_is = c.in_ok-ring.ensures.empty;
       reserved_is = c.reserve_for.ensures.same;
-      ring_is = c.add.ensures.ring;
+      ring_is = rw c.of.ensures c.add.ensures.ring;
       empty_is = c.in_ok-gossip.ensures.made;
       gossip_is = c.in_ok-put.ensures.ok ∙ ap (λ (s : Sourced). with_news c.in_ok-gossip.gossip s) (c.asserted.ensures ∙ ap (λ (d : Change). asserted_by d.address d) c.own-birth.ensures.own);
       timers_are = c.new-4.ensures;

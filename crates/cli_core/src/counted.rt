@@ -1,0 +1,42 @@
+//! The lines of an input, one after another, counted from 1.
+ghost use Rattle.std.specs.Prelude.{◌≡◌, ◌≤◌, vec_len, IfOk, IfErr, IfSome, IsSome};
+ghost use Rattle.change_core.specs.Numbers.{greatest_number};
+ghost use Rattle.wire_json.specs.Lines.{max_line};
+ghost use Rattle.cli_core.specs.Counted.{EndsLines, IsCountedFault, ReadsLine};
+
+use change_core::GREATEST_NUMBER;
+use std::alloc::Global;
+use std::io::Read;
+use wire_json::{WireError, read_line};
+
+/// What was read in place of a line that can't be counted: nothing at the end of the input, and a fault for any line.
+fn end_of_lines(read: Result<Option<Vec<u8>>, WireError>) -> Result<Option<Vec<u8>>, WireError>
+    ensures { EndsLines read result }
+{
+    match read {
+        Ok(None) => Ok(None),
+        Err(WireError::Memory) => Err(WireError::Memory),
+        _ => Err(WireError::Io),
+    }
+}
+
+/// Reads the line of this number; None at the end of the input. Lines are counted from 1 to 9007199254740991.
+///
+/// Errors: `LineTooLong`, for more than 1,048,576 bytes; `Io`, where the reader failed, and for a line that can't be
+/// counted, whatever it is; `Memory`, where a growth was refused in reading the line.
+pub(crate) fn next_line<R: Read>(
+    alloc: Global,
+    reader: &mut R,
+    number: u64,
+) -> Result<Option<Vec<u8>>, WireError>
+    ensures read { IfSome (R.remaining reader.old) (λ xs. ReadsLine xs result (R.remaining reader.new)) }
+    ensures counted { IfOk result (λ line. IsSome line → number ≤ greatest_number) }
+    ensures short { IfOk result (λ line. IfSome line (λ v. vec_len v ≤ max_line)) }
+    ensures fault { IfErr result (λ e. IsCountedFault number e) }
+{
+    let read = read_line(alloc, reader);
+    if number > GREATEST_NUMBER {
+        return end_of_lines(read);
+    }
+    read
+}

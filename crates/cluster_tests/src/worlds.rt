@@ -1,0 +1,476 @@
+//! Three nodes over a link that loses, repeats and holds back messages, as a seed says, some of which start anew. Nobody holds of
+//! another what that one has not said of itself, and once all is told to all they hold the same. A helper answers none or false
+//! where a growth was refused; the test then goes on with another world, once.
+ghost use Rattle.std.specs.Prelude.{◌≡◌, [], IfSome};
+ghost use Rattle.locked_node.specs.Passes.{Fits};
+
+use crate::fakes::{Echo, Fake, Mood};
+use crate::messages::{member, moment};
+use crate::nodes::born;
+use crate::shared::{Caller, Shared};
+use change_core::{Address, Change, Incarnation, Moment, Status};
+use cluster_core::{Link, LinkError, gossip_round, join, serve_one};
+use hash_ring::SumHash;
+use locked_node::LockedNode;
+use node_core::{NodeState, Received};
+use rand_core::{Rng, SeedableRng};
+use rand_pcg::Pcg32;
+use std::alloc::Global;
+use std::process::Abort;
+use std::sync::Wait;
+use wire_json::{Message, decode, encode};
+
+const WILLING: Echo = Echo {
+    mood: Mood::Willing,
+};
+
+/// A message that is held back, as its line.
+#[derive(Drop)]
+struct Held {
+    to: Address,
+    line: Vec<u8>,
+}
+
+/// The nodes that make no call just now, what is on its way between them, and what each has said of itself.
+#[derive(Drop)]
+struct World {
+    nodes: Vec<NodeState<SumHash>>,
+    held: Vec<Held>,
+    said: Vec<Change>,
+    sources: Vec<(Address, Incarnation)>,
+    dice: Pcg32,
+    now: Moment,
+}
+
+impl World {
+    /// Takes the node of an address out, to make a call.
+    fn call_away(&mut self, address: Address) -> Option<NodeState<SumHash>> {
+        for i in 0..self.nodes.len() {
+            if self.nodes[i].own().address == address {
+                return Some(self.nodes.remove(i));
+            }
+        }
+        None
+    }
+
+    /// Puts a node back, and notes what it says of itself.
+    fn come_back(&mut self, node: NodeState<SumHash>) -> bool {
+        let own = node.own();
+        let is_noted = self.said.contains(&own) || self.said.push(own).is_ok();
+        is_noted && self.nodes.push(node).is_ok()
+    }
+
+    /// Notes of whom a message is.
+    fn note(&mut self, message: &Message) -> bool {
+        let source = (message.source, message.source_incarnation);
+        self.sources.contains(&source) || self.sources.push(source).is_ok()
+    }
+
+    /// Whether a member has said this of itself.
+    fn was_said(&self, change: &Change) -> bool {
+        let source = (change.address, change.incarnation);
+        self.said.contains(change) || self.sources.contains(&source)
+    }
+
+    /// Holds a message back.
+    fn hold(&mut self, alloc: Global, to: Address, message: &Message) -> bool {
+        match encode(alloc, message) {
+            Ok(line) => self.held.push(Held { to, line }).is_ok(),
+            Err(_) => false,
+        }
+    }
+}
+
+/// A node that is shared by one pass, and the list that the pass came in, now empty.
+fn lock(alloc: Global, node: NodeState<SumHash>) -> Option<(Shared, Caller, Vec<Caller>)>
+    ensures fits { IfSome result (λ r. Fits r.0 r.1) }
+    ensures room { IfSome result (λ r. r.2.items ≡ []) }
+{
+    let (shared, mut passes) = LockedNode::new(alloc, node, 1, 99).ok()?;
+    let pass = passes.pop()?;
+    passes.clear();
+    Some((shared, pass, passes))
+}
+
+/// The node again.
+fn unlock(shared: Shared, pass: Caller, passes: Vec<Caller>) -> Option<NodeState<SumHash>>
+    requires fits { Fits shared pass }
+    requires room { passes.items ≡ [] }
+{
+    let mut passes = passes;
+    passes.push(pass).ok()?;
+    shared.close(passes).ok()
+}
+
+/// What a node answers to a message, and the node after it.
+fn serve_by<R: Wait, L: Link>(
+    rt: &R,
+    alloc: Global,
+    node: NodeState<SumHash>,
+    link: &mut L,
+    now: Moment,
+    message: &Message,
+) -> Option<(NodeState<SumHash>, Message)> {
+    let (shared, mut pass, passes) = lock(alloc, node)?;
+    let answer = serve_one(rt, alloc, &shared, &mut pass, link, &WILLING, now, message);
+    let node = unlock(shared, pass, passes)?;
+    Some((node, answer.ok()?))
+}
+
+/// What the node of an address answers, if it is there, by way of this link.
+fn answer_near<R: Wait>(
+    rt: &R,
+    alloc: Global,
+    world: &mut World,
+    to: Address,
+    message: &Message,
+) -> Option<Message> {
+    let node = world.call_away(to)?;
+    let now = world.now;
+    let mut nobody = Fake::new(Mood::Broken);
+    let (node, answer) = serve_by(rt, alloc, node, &mut nobody, now, message)?;
+    if world.come_back(node) && world.note(message) {
+        Some(answer)
+    } else {
+        None
+    }
+}
+
+/// How a helper reaches a target: one message in four is lost.
+#[derive(Drop)]
+struct Near<'a> {
+    world: &'a mut World,
+    failures: u64,
+}
+
+impl<'a> Link for Near<'a> {
+    ghost may_answer = { λ _ _ _. Unit {0} };
+
+    ghost failed = { λ l. l.failures };
+
+    fn failures(&self) -> u64 {
+        self.failures
+    }
+
+    fn call<R: Wait>(
+        &mut self,
+        rt: &R,
+        alloc: Global,
+        to: Address,
+        message: &Message,
+    ) -> Result<Message, LinkError> {
+        if self.failures == u64::MAX {
+            return Err(LinkError::Spent);
+        }
+        let is_lost = self.world.dice.next_u32() % 4 == 0;
+        if !is_lost {
+            if let Some(answer) = answer_near(rt, alloc, self.world, to, message) {
+                return Ok(answer);
+            }
+        }
+        self.failures += 1;
+        Err(LinkError::Io)
+    }
+}
+
+/// What the node of an address answers, if it is there; it reaches others in turn.
+fn answer_far<R: Wait>(
+    rt: &R,
+    alloc: Global,
+    world: &mut World,
+    to: Address,
+    message: &Message,
+) -> Option<Message> {
+    let node = world.call_away(to)?;
+    let now = world.now;
+    let mut near = Near {
+        world: &mut *world,
+        failures: 0,
+    };
+    let (node, answer) = serve_by(rt, alloc, node, &mut near, now, message)?;
+    if world.come_back(node) && world.note(message) {
+        Some(answer)
+    } else {
+        None
+    }
+}
+
+/// What comes of a message: it is lost, held back, answered in vain, answered twice, or answered.
+fn deliver<R: Wait>(
+    rt: &R,
+    alloc: Global,
+    world: &mut World,
+    to: Address,
+    message: &Message,
+) -> Option<Message> {
+    match world.dice.next_u32() % 8 {
+        0 => None,
+        1 => {
+            let _held = world.hold(alloc, to, message);
+            None
+        }
+        2 => {
+            let _unheard = answer_far(rt, alloc, world, to, message);
+            None
+        }
+        3 => {
+            let _first = answer_far(rt, alloc, world, to, message);
+            answer_far(rt, alloc, world, to, message)
+        }
+        _ => answer_far(rt, alloc, world, to, message),
+    }
+}
+
+/// The link of whoever makes rounds and joins.
+#[derive(Drop)]
+struct Far<'a> {
+    world: &'a mut World,
+    failures: u64,
+}
+
+impl<'a> Link for Far<'a> {
+    ghost may_answer = { λ _ _ _. Unit {0} };
+
+    ghost failed = { λ l. l.failures };
+
+    fn failures(&self) -> u64 {
+        self.failures
+    }
+
+    fn call<R: Wait>(
+        &mut self,
+        rt: &R,
+        alloc: Global,
+        to: Address,
+        message: &Message,
+    ) -> Result<Message, LinkError> {
+        if self.failures == u64::MAX {
+            return Err(LinkError::Spent);
+        }
+        if let Some(answer) = deliver(rt, alloc, self.world, to, message) {
+            return Ok(answer);
+        }
+        self.failures += 1;
+        Err(LinkError::Io)
+    }
+}
+
+/// A round of a node, and the node after it.
+fn round_by<R: Wait>(
+    rt: &R,
+    alloc: Global,
+    node: NodeState<SumHash>,
+    world: &mut World,
+) -> Option<NodeState<SumHash>> {
+    let now = world.now;
+    let (shared, mut pass, passes) = lock(alloc, node)?;
+    let mut link = Far { world, failures: 0 };
+    let _round = gossip_round(rt, alloc, &shared, &mut pass, &mut link, now);
+    unlock(shared, pass, passes)
+}
+
+/// A join of a node with two hosts, and the node after it.
+fn join_by<R: Wait>(
+    rt: &R,
+    alloc: Global,
+    node: NodeState<SumHash>,
+    world: &mut World,
+    hosts: &[Address; 3],
+) -> Option<NodeState<SumHash>> {
+    let now = world.now;
+    let (shared, mut pass, passes) = lock(alloc, node)?;
+    let mut link = Far { world, failures: 0 };
+    let _joined = join(
+        rt,
+        alloc,
+        &shared,
+        &mut pass,
+        &mut link,
+        hosts.as_slice(),
+        now,
+    );
+    unlock(shared, pass, passes)
+}
+
+/// The nodes of these worlds.
+fn all(rt: &impl Abort) -> [Address; 3] {
+    [member(rt, 1), member(rt, 2), member(rt, 3)]
+}
+
+/// One message that was held back comes, perhaps.
+fn release<R: Wait>(rt: &R, alloc: Global, world: &mut World) {
+    if world.dice.next_u32() % 2 == 0 {
+        return;
+    }
+    let Some(held) = world.held.pop() else {
+        return;
+    };
+    if let Ok(message) = decode(alloc, held.line.as_slice()) {
+        let _answer = answer_far(rt, alloc, world, held.to, &message);
+    }
+}
+
+/// The node as it starts anew, at the incarnation after its last.
+fn restarted(
+    rt: &impl Abort,
+    alloc: Global,
+    number: u8,
+    old: &NodeState<SumHash>,
+    world: &mut World,
+) -> NodeState<SumHash> {
+    let next = old.own().incarnation.next().expect(rt, "an incarnation");
+    let seed = world.dice.next_u64();
+    born(rt, alloc, number, 4096, next, seed, world.now)
+}
+
+/// Leaves, or comes back.
+fn turn_round(node: &mut NodeState<SumHash>) {
+    if node.own().status == Status::Leave {
+        let _back = node.rejoin();
+    } else {
+        let _left = node.leave();
+    }
+}
+
+/// One step of a node: it starts anew and joins, leaves or comes back, or makes a round.
+fn step<R: Wait + Abort>(rt: &R, alloc: Global, world: &mut World, number: u8) -> bool {
+    let later = world.now.number().wrapping_add(200);
+    world.now = moment(rt, later);
+    release(rt, alloc, world);
+    let Some(node) = world.call_away(member(rt, number)) else {
+        return false;
+    };
+    let after = match world.dice.next_u32() % 64 {
+        0 => {
+            let node = restarted(rt, alloc, number, &node, world);
+            join_by(rt, alloc, node, world, &all(rt))
+        }
+        1 => {
+            let mut node = node;
+            turn_round(&mut node);
+            Some(node)
+        }
+        _ => round_by(rt, alloc, node, world),
+    };
+    match after {
+        Some(node) => world.come_back(node) && world.nodes.len() == 3,
+        None => false,
+    }
+}
+
+/// Whether what one node holds of another is no newer than that other, and was said by it where it is alive or has left.
+fn is_founded(world: &World, one: &NodeState<SumHash>, other: &NodeState<SumHash>) -> bool {
+    let own = other.own();
+    let Some(entry) = one.member(own.address) else {
+        return true;
+    };
+    let change = Change {
+        address: own.address,
+        incarnation: entry.incarnation,
+        status: entry.status,
+        weight: entry.weight,
+    };
+    let wants_word = entry.status == Status::Alive || entry.status == Status::Leave;
+    entry.incarnation <= own.incarnation && (!wants_word || world.was_said(&change))
+}
+
+/// Whether that holds of each two nodes.
+fn are_founded(world: &World) -> bool {
+    for one in &world.nodes {
+        for other in &world.nodes {
+            if !is_founded(world, one, other) {
+                return false;
+            }
+        }
+    }
+    true
+}
+
+/// Has a node take all that another holds: how many changes altered an entry; none where a growth was refused.
+fn synchronise(world: &mut World, from: usize, to: usize) -> Option<usize> {
+    let now = world.now;
+    let join = world.nodes.get(to)?.join_message().ok()?;
+    let Received::Answer(_, joined) = world.nodes.get_mut(from)?.receive(&join, now) else {
+        return None;
+    };
+    let Received::Done(taken) = world.nodes.get_mut(to)?.receive(&joined, now) else {
+        return None;
+    };
+    Some(taken.applied)
+}
+
+/// Synchronises each two nodes once: whether that altered anything.
+fn mingle(world: &mut World) -> Option<bool> {
+    let mut altered = false;
+    for from in 0..3 {
+        for to in 0..3 {
+            if from != to && synchronise(world, from, to)? != 0 {
+                altered = true;
+            }
+        }
+    }
+    Some(altered)
+}
+
+/// Whether all nodes hold the same.
+fn agree(world: &World) -> Option<bool> {
+    let first = world.nodes.first()?.digest().ok()?;
+    for node in &world.nodes {
+        if node.digest().ok()? != first {
+            return Some(false);
+        }
+    }
+    Some(true)
+}
+
+/// Three nodes that know of nobody.
+fn begin(rt: &impl Abort, alloc: Global, seed: u64) -> Option<World> {
+    let mut world = World {
+        nodes: Vec::new(alloc),
+        held: Vec::new(alloc),
+        said: Vec::new(alloc),
+        sources: Vec::new(alloc),
+        dice: Pcg32::seed_from_u64(seed),
+        now: moment(rt, 0),
+    };
+    let first = Incarnation::new(7).expect(rt, "an incarnation");
+    for number in 1..4 {
+        let node = born(rt, alloc, number, 4096, first, seed, world.now);
+        if !world.come_back(node) {
+            return None;
+        }
+    }
+    Some(world)
+}
+
+/// So many steps of a world, then synchronisations until nothing is altered; none where a growth was refused.
+fn run<R: Wait + Abort>(rt: &R, alloc: Global, seed: u64, steps: u32) -> Option<()> {
+    let mut world = begin(rt, alloc, seed)?;
+    for at in 0..steps {
+        let number = (at % 3) as u8 + 1;
+        if !step(rt, alloc, &mut world, number) {
+            return None;
+        }
+        if !are_founded(&world) {
+            panic!(rt; "seed {seed}, step {at}: an entry that nobody said");
+        }
+    }
+    for _ in 0..9 {
+        if !mingle(&mut world)? {
+            break;
+        }
+    }
+    if !agree(&world)? {
+        panic!(rt; "seed {seed}: the digests differ");
+    }
+    Some(())
+}
+
+#[test]
+fn nobody_holds_what_was_not_said(rt: HostRuntime) {
+    let alloc = rt.alloc();
+    for seed in 1..4 {
+        let done = run(&rt, alloc, seed, 1_000);
+        assert!(&rt; done.is_some() || run(&rt, alloc, seed, 1_000).is_some());
+    }
+}

@@ -1,0 +1,56 @@
+//! A ring of many servers at once: its points are hashed one server after another and sorted once.
+ghost use Rattle.std.specs.Prelude.{◌≡◌, ◌*◌, ◌≤◌, [], OnOk, vec_capacity};
+ghost use Rattle.change_core.specs.Ascending.{In};
+ghost use Rattle.hash_ring.specs.Points.{IsReplicas, AreSmall, points};
+ghost use Rattle.hash_ring.specs.Servers.{AreServers, with_each};
+ghost use Rattle.hash_ring.specs.declared.servers.Server.{Server};
+
+use crate::hash::PointHash;
+use crate::points::{Point, point_count, push_points};
+use crate::servers::{Server, put_server};
+use std::alloc::AllocError;
+
+/// Puts servers into a list that is empty, in the place of any other of their address, and makes room in `fresh` for the points of
+/// each.
+pub(crate) fn list_servers(
+    list: &mut Vec<Server>,
+    fresh: &mut Vec<Point>,
+    replicas: u32,
+    servers: &[Server],
+) -> Result<(), AllocError>
+    requires replicas { IsReplicas replicas }
+    requires none { list.old.items ≡ [] }
+    requires nothing_fresh { fresh.old.items ≡ [] }
+    ensures listed { OnOk result (list.new.items ≡ with_each servers.now []) }
+    ensures servers { OnOk result (AreServers list.new.items) }
+    ensures fits { OnOk result ((s : Server) → In s list.new.items → replicas * s.weight ≤ vec_capacity fresh.new) }
+{
+    for server in servers {
+        let count = point_count(replicas, server.weight);
+        fresh.reserve(count as usize)?;
+        put_server(list, server)?;
+    }
+    Ok(())
+}
+
+/// Makes a list that is empty that of the points of servers, ascending.
+pub(crate) fn fill_all<H: PointHash>(
+    list: &mut Vec<Point>,
+    hash: H,
+    replicas: u32,
+    servers: &[Server],
+) -> Result<(), AllocError>
+    requires replicas { IsReplicas replicas }
+    requires none { list.old.items ≡ [] }
+    ensures made { OnOk result (list.new.items ≡ points (H.hash_of hash) replicas servers.now) }
+    ensures small { OnOk result (AreSmall list.new.items) }
+{
+    for server in servers {
+        let count = point_count(replicas, server.weight);
+        list.reserve(count as usize)?;
+        push_points(list, hash, server.address, count);
+    }
+    list.sort_unstable();
+    list.dedup();
+    Ok(())
+}

@@ -1,0 +1,113 @@
+//! The node's ring, and the copy of it that views share.
+ghost use Rattle.std.specs.Prelude.{◌≡◌, ◌≤◌, ◌<◌, length, take, IfOk, OnOk, OnErr, IsOk, IsOkUnless};
+ghost use Rattle.std.specs.Arc.{arc_value};
+ghost use Rattle.hash_ring.specs.Points.{owner, owners};
+ghost use Rattle.hash_ring.specs.RingModel.{ring_of, HasRoom};
+ghost use Rattle.hash_ring.specs.Servers.{with_server, without};
+
+use change_core::{Address, Weight};
+use hash_ring::{PointHash, Ring, RingError};
+use std::alloc::Global;
+use std::marker::Model;
+use std::sync::Arc;
+
+/// A ring, and the copy of it that was handed out last, while it is still the same. Contracts see the ring alone.
+#[derive(Drop)]
+pub(crate) struct SharedRing<H: PointHash> {
+    ring: Ring<H>,
+    shown: Option<Arc<Ring<H>>>,
+    alloc: Global,
+}
+
+impl<H: PointHash> Model for SharedRing<H> {
+    ghost use Rattle.std.specs.Prelude.{◌≡◌, IfSome};
+    ghost use Rattle.std.specs.Arc.{arc_value};
+    ghost use Rattle.hash_ring.specs.RingModel.{RingModel};
+
+    ghost Value = { RingModel H };
+
+    ghost view = { λ r. r.ring };
+
+    ghost invariant = { λ r. IfSome r.shown (λ shown. arc_value shown ≡ record r.ring { room = (arc_value shown).room }) };
+}
+
+impl<H: PointHash> SharedRing<H> {
+    /// A ring of which nothing was handed out.
+    pub(crate) fn of(alloc: Global, ring: Ring<H>) -> Self
+        ensures { result ≡ ring }
+    {
+        SharedRing {
+            ring,
+            shown: None,
+            alloc,
+        }
+    }
+
+    /// How many servers there are.
+    pub(crate) fn len(&self) -> usize
+        ensures count { result ≡ length self.now.servers }
+        ensures kept { self.now ≡ ring_of self.now.hash (H.hash_of self.now.hash) self.now.replicas self.now.servers self.now.room }
+    {
+        self.ring.len()
+    }
+
+    /// Makes room for a server, as the ring does.
+    pub(crate) fn reserve_for(&mut self, address: Address, weight: Weight) -> Result<(), RingError>
+        ensures room { OnOk result (HasRoom self.new (record { address = address; weight = weight })) }
+        ensures same { self.new ≡ record self.old { room = self.new.room } }
+        ensures refusal { IsOkUnless result RingError.Memory }
+    {
+        self.ring.reserve_for(address, weight)
+    }
+
+    /// Adds a server, as the ring does.
+    pub(crate) fn add(&mut self, address: Address, weight: Weight)
+        requires { HasRoom self.old (record { address = address; weight = weight }) }
+        ensures ring { self.new ≡ ring_of self.old.hash (H.hash_of self.old.hash) self.old.replicas (with_server (record { address = address; weight = weight }) self.old.servers) self.new.room }
+    {
+        if self.ring.add(address, weight) {
+            self.shown = None;
+        }
+    }
+
+    /// Removes a server, as the ring does.
+    pub(crate) fn remove(&mut self, address: Address)
+        ensures ring { self.new ≡ ring_of self.old.hash (H.hash_of self.old.hash) self.old.replicas (without address self.old.servers) self.new.room }
+    {
+        self.shown = None;
+        self.ring.remove(address);
+    }
+
+    /// The owner of a key.
+    pub(crate) fn owner(&self, key: &[u8]) -> Option<Address>
+        ensures first { result ≡ owner (H.hash_of self.now.hash) self.now.replicas self.now.servers key.now }
+    {
+        self.ring.owner(key)
+    }
+
+    /// The first owners of a key. `Memory`: the list was refused.
+    pub(crate) fn owners(&self, key: &[u8], count: usize) -> Result<Vec<Address>, RingError>
+        ensures named { IfOk result (λ named. named.items ≡ take count (owners (H.hash_of self.now.hash) self.now.replicas self.now.servers key.now)) }
+        ensures growth { OnErr result ((0 < count) × (0 < length self.now.servers)) }
+        ensures refusal { IsOkUnless result RingError.Memory }
+    {
+        self.ring.owners(key, count)
+    }
+
+    /// The ring as it is now, shared with whoever asked for it since it last changed. It is copied where nobody did.
+    /// `Memory`: a growth was refused.
+    pub(crate) fn shared(&mut self) -> Result<Arc<Ring<H>>, RingError>
+        ensures same { self.new ≡ self.old }
+        ensures shown { IfOk result (λ shown. arc_value shown ≡ record self.old { room = (arc_value shown).room }) }
+        ensures refusal { IsOkUnless result RingError.Memory }
+    {
+        if let Some(shown) = &self.shown
+            && let Ok(another) = Arc::try_clone(shown)
+        {
+            return Ok(another);
+        }
+        let shown = Arc::new(self.alloc, self.ring.copy()?)?;
+        self.shown = Arc::try_clone(&shown).ok();
+        Ok(shown)
+    }
+}

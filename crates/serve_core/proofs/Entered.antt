@@ -1,0 +1,79 @@
+-- How a server's node enters its cluster.
+use Rattle.std.proofs.Common.{◌≡◌, ◌≢◌, ℕ, ◌-◌, ◌^◌, ◌∙◌, refl, sym, subst, List, [], ◌∷◌, ◌++◌, Option, Some, None, Result, Ok, Err, inl, inr, ◌⊎◌, IfErr, IsOk, IsOkUnless, IsErrAnd}
+use Rattle.std.proofs.lemmas.Bool.{false≢true}
+use Rattle.std.proofs.lemmas.List.Elements.{All-pop}
+use Rattle.change_core.specs.declared.addresses.Address.{Address}
+use Rattle.locked_node.specs.declared.node.LockedNode.{LockedNode}
+use Rattle.locked_node.specs.Passes.{NodePass, IsNew, opening_of}
+use Rattle.cluster_core.specs.Links.{MayAnswer}
+use Rattle.cluster_links.specs.Clusters.{AreFresh}
+use Rattle.serve_core.specs.Service.{HasEntered, IsBorn, IsJoinedTo, IsThreadFault, LeavesServing, TellsEntry}
+use Rattle.serve_core.specs.declared.faults.ServeFault.{ServeFault}
+use Rattle.serve_core.specs.declared.faults.ServeFault.TheVariants as serve
+use Rattle.serve_core.specs.declared.words.ServeWords.{ServeWords}
+
+-- what may end a server that was let in
+abbrev pub MayFollow : ServeFault → Type 0
+MayFollow serve.NoneJoined = ⊥
+MayFollow other = Unit {0}
+
+pub cannot_listen : (e : ServeFault) → e ≡ serve.CannotListen → MayFollow e
+cannot_listen e is = subst MayFollow (sym is) tt
+
+pub cannot_serve : (e : ServeFault) → IsThreadFault e → MayFollow e
+cannot_serve serve.NoneJoined h = h
+cannot_serve serve.CannotListen h = tt
+cannot_serve serve.NoThread h = tt
+cannot_serve serve.CannotWrite h = tt
+cannot_serve serve.NoMemory h = tt
+
+pub cannot_begin : (a : ℕ) (e : ServeFault) (old new : Option (List ℕ)) → LeavesServing a e old new → MayFollow e
+cannot_begin a serve.NoneJoined old new h = h
+cannot_begin a serve.CannotListen old new h = tt
+cannot_begin a serve.NoThread old new h = tt
+cannot_begin a serve.CannotWrite old new h = tt
+cannot_begin a serve.NoMemory old new h = tt
+
+pub cannot_end : (r : Result (Unit {0}) ServeFault) → IsOkUnless r serve.CannotWrite → IfErr r MayFollow
+cannot_end (Ok u) fault = tt
+cannot_end (Err e) fault = subst MayFollow (sym fault) tt
+
+module _ {H : Type 0} (hash_of : H → List ℕ → ℕ) (Came : MayAnswer) (hash : H) (words : ServeWords) (node : LockedNode H) (passes : List (NodePass H)) (timer new : NodePass H)
+    (hosts : List Address) (now : ℕ) (born : IsBorn hash_of hash words (opening_of node)) (fresh : AreFresh node (passes ++ timer ∷ [])) (same : hosts ≡ words.hosts.items) where
+  -- what its join came to
+  entered_by : (fault : Option ServeFault) → IsJoinedTo Came node hosts now fault timer new → HasEntered hash_of Came hash words fault
+  entered_by fault joined = record {
+    node = node;
+    now = now;
+    old = timer;
+    new = new;
+    born = born;
+    fresh = (All-pop (IsNew node (2 ^ 32 - 1)) (passes ++ timer ∷ []) passes (Some timer) refl fresh).1;
+    joined = subst (λ (xs : List Address). IsJoinedTo Came node xs now fault timer new) same joined;
+  }
+
+  -- it was let in, and ended after that
+  pub let_in_by : (r : Result (Unit {0}) ServeFault) → IfErr r MayFollow → (hosts ≢ [] → IsJoinedTo Came node hosts now None timer new)
+      → words.hosts.items ≢ [] → TellsEntry (HasEntered hash_of Came hash words) r
+  let_in_by (Ok u) after joined named = entered_by None (joined (λ none. named (sym same ∙ none)))
+  let_in_by (Err serve.NoneJoined) after joined named = absurd after
+  let_in_by (Err serve.CannotListen) after joined named = entered_by None (joined (λ none. named (sym same ∙ none)))
+  let_in_by (Err serve.NoThread) after joined named = entered_by None (joined (λ none. named (sym same ∙ none)))
+  let_in_by (Err serve.CannotWrite) after joined named = entered_by None (joined (λ none. named (sym same ∙ none)))
+  let_in_by (Err serve.NoMemory) after joined named = tt
+
+  -- it was not
+  pub kept_out_by : (e : ServeFault) (out : Result (Unit {0}) ServeFault) → (e ≡ serve.NoneJoined) ⊎ (e ≡ serve.NoMemory)
+      → (hosts ≢ [] → IsJoinedTo Came node hosts now (Some e) timer new) → IsErrAnd out (λ x. x ≡ e)
+      → words.hosts.items ≢ [] → TellsEntry (HasEntered hash_of Came hash words) out
+  kept_out_by e (Ok u) which joined so named = absurd so
+  kept_out_by e (Err x) (inl none) joined so named =
+      let refused : IsJoinedTo Came node hosts now (Some serve.NoneJoined) timer new =
+      subst (λ (f : ServeFault). IsJoinedTo Came node hosts now (Some f) timer new) none (joined (λ n. named (sym same ∙ n))) in
+      subst (λ (f : ServeFault). TellsEntry (HasEntered hash_of Came hash words) (Err f)) (sym (so ∙ none)) (entered_by (Some serve.NoneJoined) refused)
+  kept_out_by e (Err x) (inr memory) joined so named =
+      subst (λ (f : ServeFault). TellsEntry (HasEntered hash_of Came hash words) (Err f)) (sym (so ∙ memory)) tt
+
+  -- who does not enter had hosts to ask
+  pub had_hosts : (e : ServeFault) → (hosts ≡ [] → IsOk {T = Unit {0}} (Err e) × (new ≡ timer)) → words.hosts.items ≢ []
+  had_hosts e alone none = false≢true (alone (same ∙ none)).0

@@ -1,0 +1,104 @@
+-- What a server is, writes and leaves. Own.
+use Rattle.std.specs.Prelude.{◌≡◌, ◌⊎◌, ℕ, ◌*◌, ◌^◌, ◌-◌, Bool, true, false, List, [], ◌∷◌, ◌++◌, Option, Some, None, Result, Ok, Err, codes}
+use Rattle.std.specs.Io.KnownBytes.{Appends, Keeps}
+use Rattle.std.specs.Duration.{as_nanos}
+use Rattle.change_core.specs.Address.{address_text}
+use Rattle.change_core.specs.declared.addresses.Address.{Address}
+use Rattle.wire_json.specs.Input.{AppendsFront}
+use Rattle.detector_core.specs.Choices.{seeded}
+use Rattle.hash_ring.specs.declared.hash.Sha256Hash.{Sha256Hash}
+use Rattle.hash_ring.specs.declared.hash.SumHash.{SumHash}
+use Rattle.node_core.specs.Configs.{standard}
+use Rattle.node_core.specs.declared.configs.Config.{Config}
+use Rattle.node_core.specs.Node.{Seen}
+use Rattle.node_core.specs.Parts.{seen_of}
+use Rattle.node_core.specs.World.{newborn}
+use Rattle.locked_node.specs.declared.node.LockedNode.{LockedNode}
+use Rattle.locked_node.specs.Passes.{NodePass, IsNew, opening_of}
+use Rattle.cluster_core.specs.declared.errors.ClusterError.{ClusterError}
+use Rattle.cluster_core.specs.declared.errors.ClusterError.TheVariants as error
+use Rattle.cluster_core.specs.Joining.{IsJoin}
+use Rattle.cluster_core.specs.Links.{MayAnswer}
+use Rattle.cluster_core.specs.Parts.{Does}
+use Rattle.cluster_links.specs.Channels.{any_answer}
+use Rattle.cluster_links.specs.Limits.{IsStandard}
+use Rattle.cli_core.specs.Owner.{hash_by}
+use Rattle.serve_core.specs.declared.faults.ServeFault.{ServeFault}
+use Rattle.serve_core.specs.declared.faults.ServeFault.TheVariants as serve
+use Rattle.serve_core.specs.declared.waits.Waits.{Waits}
+use Rattle.serve_core.specs.declared.words.ServeWords.{ServeWords}
+
+-- 500 milliseconds for a line, and a link's standard limits
+abbrev pub IsStandardWaits : Waits → Type 0
+IsStandardWaits waits = (as_nanos waits.line ≡ 500 * 10 ^ 6) × IsStandard waits.links
+
+-- the standard configuration with the points and the weight of the words
+abbrev pub config_of : ServeWords → Config
+config_of words = record standard { replicas = words.replicas; weight = words.weight }
+
+module _ {H : Type 0} (hash_of : H → List ℕ → ℕ) where
+  -- the node that the words ask for, alone and newborn at moment 0, its incarnation its seed
+  abbrev pub IsBorn : H → ServeWords → Seen H → Type 0
+  IsBorn hash words node = node ≡ seen_of hash_of (newborn hash (config_of words) words.address words.incarnation 0 (seeded words.incarnation))
+
+-- what a join comes to for a server
+abbrev pub join_fault : Result ℕ ClusterError → Option ServeFault
+join_fault (Ok n) = None
+join_fault (Err error.Memory) = Some serve.NoMemory
+join_fault (Err other) = Some serve.NoneJoined
+
+-- `serving`, a space, the address and a newline
+abbrev pub serving_line : ℕ → List ℕ
+serving_line a = codes "serving " ++ (address_text a ++ 10 ∷ [])
+
+-- all that is written by a server that serves its last connection
+abbrev pub service_text : ℕ → List ℕ
+service_text a = serving_line a ++ (codes "done" ++ 10 ∷ [])
+
+-- what a fault leaves written: nothing before the node listens, its first line after, a front of all where the writer failed
+abbrev pub LeavesService : ℕ → ServeFault → Option (List ℕ) → Option (List ℕ) → Type 0
+LeavesService a serve.NoneJoined old new = Keeps old new
+LeavesService a serve.CannotListen old new = Keeps old new
+LeavesService a serve.NoThread old new = Appends old new (serving_line a)
+LeavesService a serve.CannotWrite old new = AppendsFront old new (service_text a)
+LeavesService a serve.NoMemory old new = Keeps old new ⊎ Appends old new (serving_line a)
+
+-- what a fault of saying that a server listens leaves written
+abbrev pub LeavesServing : ℕ → ServeFault → Option (List ℕ) → Option (List ℕ) → Type 0
+LeavesServing a serve.CannotWrite old new = AppendsFront old new (serving_line a)
+LeavesServing a serve.NoMemory old new = Keeps old new
+LeavesServing a other old new = ⊥
+
+-- why threads do not serve to the end
+abbrev pub IsThreadFault : ServeFault → Type 0
+IsThreadFault serve.NoThread = Unit {0}
+IsThreadFault serve.NoMemory = Unit {0}
+IsThreadFault other = ⊥
+
+-- The node asked these hosts to let it in, over a link that answered so, and this came of it.
+pub record IsJoinedTo {H : Type 0} (Came : MayAnswer) (node : LockedNode H) (hosts : List Address) (now : ℕ) (fault : Option ServeFault) (old new : NodePass H) : Type 0 where
+  pub joined : Result ℕ ClusterError
+  pub does : Does node (IsJoin Came now hosts) joined old new
+  pub is : fault ≡ join_fault joined
+
+-- The node was born as the words say and asked their hosts to let it in, by a new pass and over a link that answered anything; this came of it.
+pub record HasEntered {H : Type 0} (hash_of : H → List ℕ → ℕ) (Came : MayAnswer) (hash : H) (words : ServeWords) (fault : Option ServeFault) : Type 0 where
+  pub node : LockedNode H
+  pub now : ℕ
+  pub old : NodePass H
+  pub new : NodePass H
+  pub born : IsBorn hash_of hash words (opening_of node)
+  pub fresh : IsNew node (2 ^ 32 - 1) old
+  pub joined : IsJoinedTo Came node words.hosts.items now fault old new
+
+-- the same over a link of which nothing is known, under the sum of the bytes or under SHA-256's first eight
+abbrev pub EntersBy : Bool → ServeWords → Option ServeFault → Type 0
+EntersBy true words = let hash : SumHash = record {} in HasEntered (λ (h : SumHash). hash_by true) any_answer hash words
+EntersBy false words = let hash : Sha256Hash = record {} in HasEntered (λ (h : Sha256Hash). hash_by false) any_answer hash words
+
+-- how a server ends tells what its entering came to: nobody let it in; or, but at a want of memory, it was let in before
+abbrev pub TellsEntry : (Option ServeFault → Type 0) → Result (Unit {0}) ServeFault → Type 0
+TellsEntry Entered (Ok u) = Entered None
+TellsEntry Entered (Err serve.NoneJoined) = Entered (Some serve.NoneJoined)
+TellsEntry Entered (Err serve.NoMemory) = Unit {0}
+TellsEntry Entered (Err other) = Entered None

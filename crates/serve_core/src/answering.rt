@@ -1,0 +1,174 @@
+//! What a server answers to what came.
+ghost use Rattle.std.specs.Prelude.{◌≡◌, Ok, IfOk, IfErr, IfSome};
+ghost use Rattle.wire_json.specs.Lines.{IsLine};
+ghost use Rattle.wire_json.specs.Messages.{MessageForm};
+ghost use Rattle.locked_node.specs.Passes.{Fits};
+ghost use Rattle.cluster_core.specs.Acts.{Makes};
+ghost use Rattle.cluster_core.specs.Parts.{Does, let_in};
+ghost use Rattle.serve_core.specs.Answering.{AnswersInput, AnswersLine, AnswersMessage, IsRefusalLine, IsSentAs, IsUnread, IsUnsent, Responds, line_text, unread_as};
+
+use crate::echoes::Echo;
+use crate::inputs::Input;
+use change_core::Moment;
+use cluster_core::{Link, refuse, serve_one};
+use hash_ring::PointHash;
+use locked_node::{LockedNode, NodePass};
+use std::alloc::Global;
+use std::sync::Wait;
+use turn_lock::LockError;
+use wire_json::{Message, Reason, WireError, decode, encode};
+
+/// How a refusal names what is wrong with a line.
+fn reason_of(fault: WireError) -> Reason
+    ensures { result ≡ unread_as fault }
+{
+    match fault {
+        WireError::Memory => Reason::Memory,
+        _ => Reason::Malformed,
+    }
+}
+
+/// The message that a line is, or why it is refused: `Malformed` where it is none, `Memory` where there was none to read it.
+fn read_message(alloc: Global, line: &[u8]) -> Result<Message, Reason>
+    ensures message { IfOk result (λ m. IsLine (λ v. MessageForm v m) line.now) }
+    ensures reason { IfErr result (IsUnread line.now) }
+{
+    match decode(alloc, line) {
+        Ok(message) => Ok(message),
+        Err(fault) => Err(reason_of(fault)),
+    }
+}
+
+/// What is answered to a message.
+fn answer_message<R: Wait, H: PointHash, L: Link>(
+    rt: &R,
+    alloc: Global,
+    node: &LockedNode<H>,
+    pass: &mut NodePass<H>,
+    link: &mut L,
+    echo: &Echo,
+    now: Moment,
+    message: &Message,
+) -> Result<Message, LockError>
+    requires { Fits node.now pass.old }
+    ensures did { Does node.now (AnswersMessage H.hash_of L.may_answer now message.now) (let_in result) pass.old pass.new }
+    ensures fits { Fits node.now pass.new }
+{
+    serve_one(rt, alloc, node, pass, link, echo, now, message)
+}
+
+/// What is answered to a line.
+fn answer_line<R: Wait, H: PointHash, L: Link>(
+    rt: &R,
+    alloc: Global,
+    node: &LockedNode<H>,
+    pass: &mut NodePass<H>,
+    link: &mut L,
+    echo: &Echo,
+    now: Moment,
+    line: &[u8],
+) -> Result<Message, LockError>
+    requires { Fits node.now pass.old }
+    ensures did { Does node.now (AnswersLine H.hash_of L.may_answer now line.now) (let_in result) pass.old pass.new }
+    ensures fits { Fits node.now pass.new }
+{
+    match read_message(alloc, line) {
+        Ok(message) => answer_message(rt, alloc, node, pass, link, echo, now, &message),
+        Err(reason) => refuse(rt, node, pass, reason),
+    }
+}
+
+/// What is answered to what came; none where nothing is answered, or the lock refused a call of the answer.
+fn answer<R: Wait, H: PointHash, L: Link>(
+    rt: &R,
+    alloc: Global,
+    node: &LockedNode<H>,
+    pass: &mut NodePass<H>,
+    link: &mut L,
+    echo: &Echo,
+    now: Moment,
+    input: &Input,
+) -> Option<Message>
+    requires { Fits node.now pass.old }
+    ensures answered { IfSome result (λ m. Makes node.now (AnswersInput H.hash_of L.may_answer now input.now (Ok m)) pass.old pass.new) }
+    ensures fits { Fits node.now pass.new }
+{
+    match input {
+        Input::Line(line) => {
+            answer_line(rt, alloc, node, pass, link, echo, now, line.as_slice()).ok()
+        }
+        Input::Refused(reason) => refuse(rt, node, pass, *reason).ok(),
+        Input::Nothing => None,
+    }
+}
+
+/// The line of an answer, or the reason why it has none: `Failed` where it is too long, else `Memory`.
+fn own_line(alloc: Global, answer: &Message) -> Result<Vec<u8>, Reason>
+    ensures line { IfOk result (λ v. v.items ≡ line_text answer.now) }
+    ensures reason { IfErr result (IsUnsent answer.now) }
+{
+    match encode(alloc, answer) {
+        Ok(line) => Ok(line),
+        Err(WireError::LineTooLong) => Err(Reason::Failed),
+        Err(_) => Err(Reason::Memory),
+    }
+}
+
+/// The line of a refusal; none where the lock refuses the call for it, or there is no memory for its line.
+fn refusal_line<R: Wait, H: PointHash>(
+    rt: &R,
+    alloc: Global,
+    node: &LockedNode<H>,
+    pass: &mut NodePass<H>,
+    reason: Reason,
+) -> Option<Vec<u8>>
+    requires { Fits node.now pass.old }
+    ensures refusal { IfSome result (λ v. Makes node.now (IsRefusalLine reason v.items) pass.old pass.new) }
+    ensures fits { Fits node.now pass.new }
+{
+    let Ok(refusal) = refuse(rt, node, pass, reason) else {
+        return None;
+    };
+    match encode(alloc, &refusal) {
+        Ok(line) => Some(line),
+        Err(_) => None,
+    }
+}
+
+/// The line of an answer, or of the refusal that stands for it where it has none.
+fn line_of<R: Wait, H: PointHash>(
+    rt: &R,
+    alloc: Global,
+    node: &LockedNode<H>,
+    pass: &mut NodePass<H>,
+    answer: &Message,
+) -> Option<Vec<u8>>
+    requires { Fits node.now pass.old }
+    ensures sent { IfSome result (λ v. Makes node.now (IsSentAs answer.now v.items) pass.old pass.new) }
+    ensures fits { Fits node.now pass.new }
+{
+    match own_line(alloc, answer) {
+        Ok(line) => Some(line),
+        Err(reason) => refusal_line(rt, alloc, node, pass, reason),
+    }
+}
+
+/// The line that goes back for what came at a moment; none where the connection is closed without an answer: where nothing
+/// that is answered came, where the lock refused a call, and where there was no memory even for a refusal.
+pub fn respond<R: Wait, H: PointHash, L: Link>(
+    rt: &R,
+    alloc: Global,
+    node: &LockedNode<H>,
+    pass: &mut NodePass<H>,
+    link: &mut L,
+    echo: &Echo,
+    now: Moment,
+    input: &Input,
+) -> Option<Vec<u8>>
+    requires { Fits node.now pass.old }
+    ensures sent { IfSome result (λ v. Makes node.now (Responds H.hash_of L.may_answer now input.now v.items) pass.old pass.new) }
+    ensures fits { Fits node.now pass.new }
+{
+    let answer = answer(rt, alloc, node, pass, link, echo, now, input)?;
+    line_of(rt, alloc, node, pass, &answer)
+}

@@ -1,0 +1,84 @@
+//! The commands of the program that speak to nodes, each as its words say.
+ghost use Rattle.std.specs.Prelude.{◌≡◌, IfErr, OnOk};
+ghost use Rattle.serve_core.specs.Commands.{CommandFails, CommandFinishes, CommandReads};
+ghost use Rattle.serve_core.specs.declared.commands.ClusterFault.TheVariants as fault;
+
+use crate::asking::ask_run;
+use crate::faults::{AskFault, TellFault};
+use crate::looks::members_run;
+use crate::owners::ask_any_run;
+use crate::telling::tell_run;
+use crate::words::{AskAnyWords, AskWords, MembersWords};
+use change_core::Address;
+use std::alloc::Global;
+use std::io::{Read, Write};
+use std::net::Net;
+use std::sync::Wait;
+use std::time::Clock;
+use thiserror::Error;
+
+/// What the program is asked to do with nodes.
+#[derive(Clone, Copy, Debug, PartialEq, Eq)]
+pub enum ClusterCommand<'a> {
+    /// A request to a node.
+    Ask(AskWords<'a>),
+    /// A request to the owner of its key.
+    AskAny(AskAnyWords<'a>),
+    /// The members that a node holds.
+    Members(MembersWords),
+    /// Changes that a node is told.
+    Tell(Address),
+}
+
+/// Why such a command ended before its end.
+#[derive(Clone, Copy, Debug, PartialEq, Eq, Error)]
+pub enum ClusterFault {
+    /// That of `ask`, `ask --any` and `members`.
+    #[error("{0}")]
+    Ask(AskFault),
+    /// That of `tell`.
+    #[error("{0}")]
+    Tell(TellFault),
+}
+
+impl From<AskFault> for ClusterFault {
+    ghost from_gives = { λ e f. f ≡ fault.Ask e };
+
+    fn from(fault: AskFault) -> ClusterFault {
+        ClusterFault::Ask(fault)
+    }
+}
+
+impl From<TellFault> for ClusterFault {
+    ghost from_gives = { λ e f. f ≡ fault.Tell e };
+
+    fn from(fault: TellFault) -> ClusterFault {
+        ClusterFault::Tell(fault)
+    }
+}
+
+/// Runs the command over sockets, the reader and the writer, as `ask_run`, `ask_any_run`, `members_run` or `tell_run` does. Only
+/// `tell` reads.
+pub fn cluster_command_run<R: Net + Clock + Wait, I: Read, W: Write>(
+    rt: &R,
+    alloc: Global,
+    command: &ClusterCommand<'_>,
+    reader: &mut I,
+    writer: &mut W,
+) -> Result<(), ClusterFault>
+    ensures output { OnOk result (CommandFinishes command.now
+        (I.remaining reader.old) (W.contents writer.old) (W.contents writer.new)) }
+    ensures fault { IfErr result (λ e. CommandFails command.now e
+        (I.remaining reader.old) (W.contents writer.old) (W.contents writer.new)) }
+    ensures unread { CommandReads command.now (I.remaining reader.old) (I.remaining reader.new) }
+{
+    match command {
+        ClusterCommand::Ask(words) => {
+            ask_run(rt, alloc, words.address, words.key, words.body, writer)?
+        }
+        ClusterCommand::AskAny(words) => ask_any_run(rt, alloc, words, writer)?,
+        ClusterCommand::Members(words) => members_run(rt, alloc, words.host, words.lines, writer)?,
+        ClusterCommand::Tell(host) => tell_run(rt, alloc, *host, reader, writer)?,
+    }
+    Ok(())
+}

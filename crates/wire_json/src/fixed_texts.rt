@@ -1,0 +1,216 @@
+//! Addresses and digests as text, in fixed buffers.
+ghost use Rattle.std.specs.Prelude.{◌≡◌, ℕ, List, ◌+◌, ◌*◌, ◌/◌, ◌%◌, ◌<◌, ◌≤◌, [], ◌∷◌, ◌++◌, length, take, IsAscii};
+ghost use Rattle.std.specs.Fmt.{decimal};
+ghost use Rattle.change_core.specs.Address.{IsAddress, address_text};
+ghost use Rattle.change_core.specs.Digest.{IsDigest, digest_digits, hex_digit};
+ghost use Rattle.wire_json.specs.Printing.{upto};
+
+use change_core::{Address, Digest};
+use std::marker::Model;
+
+/// How many bytes the longest address has, `255.255.255.255:65535`.
+const ADDRESS_BYTES: usize = 21;
+
+/// How many bytes the digits of a digest have.
+const DIGEST_BYTES: usize = 64;
+
+/// The text of an address, which takes no memory.
+#[derive(Drop)]
+pub(crate) struct AddressText {
+    bytes: [u8; ADDRESS_BYTES],
+    len: usize,
+}
+
+impl Model for AddressText {
+    ghost Value = { List ℕ };
+
+    ghost view = { λ t. take t.len t.bytes };
+
+    ghost invariant = { λ t. (t.len ≤ 21) × IsAscii (take t.len t.bytes) };
+}
+
+impl AddressText {
+    /// The text of the address.
+    pub(crate) fn of(address: Address) -> Self
+        ensures text { result ≡ address_text address }
+        ensures valid { IsAddress address }
+    {
+        let mut text = AddressText::new();
+        text.push_address(address);
+        text
+    }
+
+    fn new() -> Self
+        ensures { result ≡ [] }
+    {
+        AddressText {
+            bytes: [0; ADDRESS_BYTES],
+            len: 0,
+        }
+    }
+
+    /// The text, lent.
+    pub(crate) fn as_str(&self) -> &str
+        ensures { result.now ≡ self.now }
+    {
+        unsafe { std::str::from_utf8_unchecked(&self.bytes[..self.len]) }
+    }
+
+    #[inline(always)]
+    fn push(&mut self, byte: u8)
+        requires room { length self.old < 21 }
+        requires ascii { byte < 128 }
+        ensures { self.new ≡ self.old ++ byte ∷ [] }
+    {
+        self.bytes[self.len] = byte;
+        self.len += 1;
+    }
+
+    /// Adds the last digit of a number, unless that is 0: the digits of a number, one after another.
+    #[inline(always)]
+    #[tactic(auto, using(crate::proofs::Decimals::upto_step, crate::proofs::Decimals::upto_none))]
+    fn push_digit(&mut self, number: u16)
+        requires { length self.old < 21 }
+        ensures digits { (front : List ℕ) → self.old ≡ front ++ upto (number / 10)
+            → self.new ≡ front ++ upto number }
+        ensures len { length self.new ≤ length self.old + 1 }
+    {
+        if number > 0 {
+            self.push(48 + (number % 10) as u8);
+        }
+    }
+
+    /// Adds a number below 256 in decimal.
+    #[inline(always)]
+    fn push_octet(&mut self, number: u8)
+        requires { length self.old + 3 ≤ 21 }
+        ensures text { self.new ≡ self.old ++ decimal number }
+        ensures len { length self.new ≤ length self.old + 3 }
+    {
+        let number = u16::from(number);
+        self.push_digit(number / 100);
+        self.push_digit(number / 10);
+        self.push(48 + (number % 10) as u8);
+    }
+
+    /// Adds a port in decimal.
+    #[inline(always)]
+    fn push_port(&mut self, number: u16)
+        requires { length self.old + 5 ≤ 21 }
+        ensures { self.new ≡ self.old ++ decimal number }
+    {
+        self.push_digit(number / 10_000);
+        self.push_digit(number / 1_000);
+        self.push_digit(number / 100);
+        self.push_digit(number / 10);
+        self.push(48 + (number % 10) as u8);
+    }
+
+    /// Adds a number below 256 in decimal, and the byte that ends it.
+    #[inline(always)]
+    fn push_part(&mut self, number: u8, end: u8)
+        requires ascii { end < 128 }
+        requires room { length self.old + 4 ≤ 21 }
+        ensures text { self.new ≡ self.old ++ (decimal number ++ end ∷ []) }
+        ensures len { length self.new ≤ length self.old + 4 }
+    {
+        self.push_octet(number);
+        self.push(end);
+    }
+
+    /// Adds an address's text: four numbers joined by dots, a colon and the port.
+    #[inline(always)]
+    #[tactic(auto, using(crate::proofs::Decimals::text_parts))]
+    fn push_address(&mut self, address: Address)
+        requires { length self.old ≡ 0 }
+        ensures text { self.new ≡ self.old ++ address_text address }
+        ensures valid { IsAddress address }
+    {
+        let ip = address.ip();
+        let port = address.port();
+        self.push_part((ip / 16_777_216 % 256) as u8, b'.');
+        self.push_part((ip / 65_536 % 256) as u8, b'.');
+        self.push_part((ip / 256 % 256) as u8, b'.');
+        self.push_part((ip % 256) as u8, b':');
+        self.push_port(port);
+    }
+}
+
+/// The digits of a digest, which take no memory.
+#[derive(Drop)]
+pub(crate) struct DigestText {
+    bytes: [u8; DIGEST_BYTES],
+    len: usize,
+}
+
+impl Model for DigestText {
+    ghost Value = { List ℕ };
+
+    ghost view = { λ t. take t.len t.bytes };
+
+    ghost invariant = { λ t. (t.len ≤ 64) × IsAscii (take t.len t.bytes) };
+}
+
+impl DigestText {
+    /// The digits of the digest.
+    pub(crate) fn of(digest: &Digest) -> Self
+        ensures text { result ≡ digest_digits digest.now.bytes }
+        ensures valid { IsDigest digest.now.bytes }
+    {
+        let mut text = DigestText::new();
+        for byte in digest.bytes() {
+            text.push_byte(byte);
+        }
+        text
+    }
+
+    fn new() -> Self
+        ensures { result ≡ [] }
+    {
+        DigestText {
+            bytes: [0; DIGEST_BYTES],
+            len: 0,
+        }
+    }
+
+    /// The text, lent.
+    pub(crate) fn as_str(&self) -> &str
+        ensures { result.now ≡ self.now }
+    {
+        unsafe { std::str::from_utf8_unchecked(&self.bytes[..self.len]) }
+    }
+
+    /// Adds the two digits of a byte.
+    #[inline(always)]
+    fn push_byte(&mut self, byte: u8)
+        requires { length self.old + 2 ≤ 64 }
+        ensures { self.new ≡ self.old ++ hex_digit (byte / 16) ∷ hex_digit (byte % 16) ∷ [] }
+    {
+        self.push(digit_of(byte / 16));
+        self.push(digit_of(byte % 16));
+    }
+
+    #[inline(always)]
+    fn push(&mut self, byte: u8)
+        requires room { length self.old < 64 }
+        requires ascii { byte < 128 }
+        ensures { self.new ≡ self.old ++ byte ∷ [] }
+    {
+        self.bytes[self.len] = byte;
+        self.len += 1;
+    }
+}
+
+/// The lower-case hexadecimal digit of a number below 16.
+#[inline(always)]
+fn digit_of(number: u8) -> u8
+    requires { number < 16 }
+    ensures value { result ≡ hex_digit number }
+    ensures ascii { result < 128 }
+{
+    if number < 10 {
+        b'0' + number
+    } else {
+        b'a' + (number - 10)
+    }
+}

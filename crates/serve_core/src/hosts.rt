@@ -1,25 +1,10 @@
-//! What a server runs on.
+//! What the threads of a server run on.
 
-use std::net::{Net, TcpListener, TcpStream};
 use std::sync::Wait;
 use std::thread::Threads;
 use std::time::Clock;
 
-/// A handle of the system's sockets, threads and clock, of which each thread has a copy.
-pub trait Host: Net<Listener = TcpListener, Stream = TcpStream>
-    + Threads
-    + Wait
-    + Clock
-    + Copy
-    + Send
-    + 'static {}
+/// A handle of the system's threads and clock, of which each thread has a copy.
+pub trait Host: Threads + Wait + Clock + Copy + Send + 'static {}
 
-impl<
-    R: Net<Listener = TcpListener, Stream = TcpStream>
-        + Threads
-        + Wait
-        + Clock
-        + Copy
-        + Send
-        + 'static,
-> Host for R {}
+impl<R: Threads + Wait + Clock + Copy + Send + 'static> Host for R {}

@@ -18,7 +18,7 @@ use cluster_links::{TcpLink, socket_address};
 use hash_ring::{PointHash, Sha256Hash, SumHash};
 use std::alloc::Global;
 use std::io::Write;
-use std::net::{Net, TcpListener};
+use std::net::{Net, TcpListener, TcpStream};
 use std::sync::Arc;
 use wire_json::write_line;
 
@@ -48,7 +48,11 @@ fn say_serving<W: Write>(alloc: Global, address: Address, writer: &mut W) -> Res
 }
 
 /// `serve_within` under a hash.
-fn serve_by<R: Host, H: PointHash + Send + Sync + 'static, W: Write>(
+fn serve_by<
+    R: Net<Listener = TcpListener, Stream = TcpStream> + Host,
+    H: PointHash + Send + Sync + 'static,
+    W: Write,
+>(
     rt: &R,
     alloc: Global,
     hash: H,
@@ -85,7 +89,7 @@ fn serve_by<R: Host, H: PointHash + Send + Sync + 'static, W: Write>(
 /// Errors, in this order: `NoMemory` where a growth was refused; `NoneJoined` where hosts were named and none let the node in;
 /// `CannotListen`; `CannotWrite`, before any thread runs or after all have ended; `NoThread`, where none has served and those
 /// that were started have ended.
-pub fn serve_within<R: Host, W: Write>(
+pub fn serve_within<R: Net<Listener = TcpListener, Stream = TcpStream> + Host, W: Write>(
     rt: &R,
     alloc: Global,
     waits: Waits,
@@ -105,7 +109,7 @@ pub fn serve_within<R: Host, W: Write>(
 }
 
 /// `serve_within` the standard waits.
-pub fn serve_run<R: Host, W: Write>(
+pub fn serve_run<R: Net<Listener = TcpListener, Stream = TcpStream> + Host, W: Write>(
     rt: &R,
     alloc: Global,
     words: &ServeWords,

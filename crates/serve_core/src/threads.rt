@@ -12,13 +12,16 @@ use crate::servers::{Server, make_rounds, work};
 use hash_ring::PointHash;
 use locked_node::NodePass;
 use std::alloc::Global;
-use std::net::Net;
+use std::net::{Net, TcpListener, TcpStream};
 use std::sync::Arc;
 use std::thread;
 use std::thread::JoinHandle;
 
 /// A thread that serves connections.
-fn start_worker<R: Net + Host, H: PointHash + Send + Sync + 'static>(
+fn start_worker<
+    R: Net<Listener = TcpListener, Stream = TcpStream> + Host,
+    H: PointHash + Send + Sync + 'static,
+>(
     rt: &R,
     alloc: Global,
     server: &Arc<Server<H>, Global>,
@@ -45,7 +48,10 @@ fn start_worker<R: Net + Host, H: PointHash + Send + Sync + 'static>(
 }
 
 /// A thread that makes rounds; none where the period is 0.
-fn start_rounds<R: Net + Host, H: PointHash + Send + Sync + 'static>(
+fn start_rounds<
+    R: Net<Listener = TcpListener, Stream = TcpStream> + Host,
+    H: PointHash + Send + Sync + 'static,
+>(
     rt: &R,
     alloc: Global,
     server: &Arc<Server<H>, Global>,
@@ -76,7 +82,10 @@ fn start_rounds<R: Net + Host, H: PointHash + Send + Sync + 'static>(
 }
 
 /// Starts a worker for each pass, into `workers`, which has room for all. Those that were started before one was refused are there too.
-fn start_workers<R: Net + Host, H: PointHash + Send + Sync + 'static>(
+fn start_workers<
+    R: Net<Listener = TcpListener, Stream = TcpStream> + Host,
+    H: PointHash + Send + Sync + 'static,
+>(
     rt: &R,
     alloc: Global,
     server: &Arc<Server<H>, Global>,
@@ -96,7 +105,10 @@ fn start_workers<R: Net + Host, H: PointHash + Send + Sync + 'static>(
 
 /// Starts a worker for each pass, into `workers`, and then the thread that makes rounds, if any is to be made. No worker serves
 /// before all stand; where one is refused, none of them ever does.
-fn start_all<R: Net + Host, H: PointHash + Send + Sync + 'static>(
+fn start_all<
+    R: Net<Listener = TcpListener, Stream = TcpStream> + Host,
+    H: PointHash + Send + Sync + 'static,
+>(
     rt: &R,
     alloc: Global,
     server: &Arc<Server<H>, Global>,
@@ -127,7 +139,10 @@ fn start_all<R: Net + Host, H: PointHash + Send + Sync + 'static>(
 /// serves, and those that were started have ended.
 ///
 /// Errors: `NoThread`; `NoMemory` where a growth was refused.
-pub fn run_threads<R: Net + Host, H: PointHash + Send + Sync + 'static>(
+pub fn run_threads<
+    R: Net<Listener = TcpListener, Stream = TcpStream> + Host,
+    H: PointHash + Send + Sync + 'static,
+>(
     rt: &R,
     alloc: Global,
     server: &Arc<Server<H>, Global>,

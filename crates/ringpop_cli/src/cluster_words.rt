@@ -1,14 +1,17 @@
 //! The words of the commands that speak to nodes.
-ghost use Rattle.std.specs.Prelude.{◌≡◌, ◌≢◌, ℕ, IfErr, IfOk};
+ghost use Rattle.std.specs.Prelude.{◌≡◌, ◌≢◌, ℕ, map, IfErr, IfOk, IfSome};
 ghost use Rattle.change_core.specs.Address.{IsAddress, address_text};
 ghost use Rattle.ringpop_cli.specs.Faults.{IsWordsFault};
 
-use crate::commands::{ADDRESS, ANY, BODY, HOST, KEY, LINES, SUM};
+use crate::commands::{
+    ADDRESS, ANY, BODY, HOST, INCARNATION, KEY, LINES, PERIOD, REQUESTS, SUM, WEIGHT, WORKERS,
+};
 use crate::faults::Fault;
-use crate::words::{absent, replicas};
-use change_core::Address;
+use crate::words::{absent, number, replicas};
+use change_core::{Address, GREATEST_NUMBER, GREATEST_WEIGHT, Incarnation, Weight};
 use clap::ArgMatches;
-use serve_core::{AskAnyWords, AskWords, ClusterCommand, MembersWords};
+use cluster_links::MOST_WORKERS;
+use serve_core::{AskAnyWords, AskWords, ClusterCommand, MOST_REQUESTS, MembersWords, ServeWords};
 use std::alloc::Global;
 
 /// An address by its one text. Any other text is `BadAddress`.
@@ -25,6 +28,73 @@ fn address_at(alloc: Global, matches: &ArgMatches<'_>, id: &str) -> Result<Addre
 {
     match matches.get_str(id) {
         Some(text) => address_of(text),
+        None => Err(absent(alloc)),
+    }
+}
+
+/// The addresses that these texts are, in their order. The first text that is none is `BadAddress`.
+fn addresses_of(alloc: Global, texts: &[&str]) -> Result<Vec<Address>, Fault>
+    ensures ok { IfOk result (λ hosts. map (λ s. s.now) texts.now ≡ map address_text hosts.items) }
+    ensures fault { IfErr result IsWordsFault }
+{
+    let mut addresses = Vec::with_capacity(alloc, texts.len())?;
+    for text in texts {
+        let address = address_of(text)?;
+        addresses.push(address)?;
+    }
+    Ok(addresses)
+}
+
+/// The hosts that a node asks to let it join.
+fn hosts_at(alloc: Global, matches: &ArgMatches<'_>) -> Result<Vec<Address>, Fault>
+    ensures { IfErr result IsWordsFault }
+{
+    match matches.get_strs(HOST) {
+        Some(texts) => addresses_of(alloc, texts),
+        None => Ok(Vec::new(alloc)),
+    }
+}
+
+/// The words of `serve` with these addresses, if each number is in its range, and so is the number of hosts.
+fn serve_words_at(
+    matches: &ArgMatches<'_>,
+    address: Address,
+    hosts: Vec<Address>,
+) -> Option<ServeWords>
+    ensures address { IfSome result (λ words. words.address ≡ address) }
+    ensures hosts { IfSome result (λ words. words.hosts ≡ hosts) }
+{
+    let incarnation = Incarnation::new(number(matches, INCARNATION, 0, GREATEST_NUMBER)?)?;
+    let requests = number(matches, REQUESTS, 1, MOST_REQUESTS)?;
+    let workers = number(matches, WORKERS, 1, u64::from(MOST_WORKERS))?;
+    let period = number(matches, PERIOD, 0, GREATEST_NUMBER)?;
+    let replicas = replicas(matches)?;
+    let weight = number(matches, WEIGHT, 1, u64::from(GREATEST_WEIGHT))?;
+    let weight = Weight::new(weight as u8)?;
+    if hosts.len() > u32::MAX as usize {
+        return None;
+    }
+    Some(ServeWords {
+        address,
+        incarnation,
+        requests,
+        workers: workers as u32,
+        period,
+        replicas,
+        weight,
+        sum: matches.get_flag(SUM),
+        hosts,
+    })
+}
+
+/// The words of `serve`.
+fn serve_words(alloc: Global, matches: &ArgMatches<'_>) -> Result<ServeWords, Fault>
+    ensures { IfErr result IsWordsFault }
+{
+    let address = address_at(alloc, matches, ADDRESS)?;
+    let hosts = hosts_at(alloc, matches)?;
+    match serve_words_at(matches, address, hosts) {
+        Some(words) => Ok(words),
         None => Err(absent(alloc)),
     }
 }
@@ -65,6 +135,7 @@ pub fn cluster_command_of<'a>(
     ensures { IfErr result IsWordsFault }
 {
     let command = match matches.subcommand() {
+        Some(("serve", inner)) => ClusterCommand::Serve(serve_words(alloc, inner)?),
         Some(("ask", inner)) if inner.get_flag(ANY) => {
             ClusterCommand::AskAny(ask_any_words(alloc, inner)?)
         }

@@ -1,9 +1,11 @@
 //! The command line, as `clap` reads it.
 
-use change_core::MOST_MEMBERS;
-use clap::builder::ValueParser;
+use change_core::{GREATEST_NUMBER, GREATEST_WEIGHT, MOST_MEMBERS};
+use clap::builder::{ValueParser, ValueRange};
 use clap::{Arg, ArgAction, Command};
+use cluster_links::MOST_WORKERS;
 use hash_ring::MOST_REPLICAS;
+use serve_core::MOST_REQUESTS;
 use std::alloc::{AllocError, Global};
 
 /// How many owners are named.
@@ -21,8 +23,23 @@ pub const KEY: &str = "key";
 /// A node: where it is reached.
 pub const ADDRESS: &str = "address";
 
-/// A running node that is asked about the cluster.
+/// A running node that is asked about the cluster, or to let a node join.
 pub const HOST: &str = "host";
+
+/// A node's first incarnation.
+pub const INCARNATION: &str = "incarnation";
+
+/// How many connections are served.
+pub const REQUESTS: &str = "requests";
+
+/// How many connections are served at a time.
+pub const WORKERS: &str = "workers";
+
+/// How many milliseconds lie between two rounds of gossip.
+pub const PERIOD: &str = "period";
+
+/// A node's weight.
+pub const WEIGHT: &str = "weight";
 
 /// What a request says.
 pub const BODY: &str = "body";
@@ -47,9 +64,12 @@ Examples:
   ringpop owner --n 2 trip-42 < changes.jsonl    the two members that own the key trip-42, the first first
   ringpop members 10.0.0.2:7946                  the members that a running node holds, and their digest
   ringpop ask --any 10.0.0.2:7946 trip-42 where  what the owner of the key trip-42 answers to the request
+  ringpop serve 10.0.0.1:7946 1 1000             the first node of a cluster, which ends after 1,000 connections
+  ringpop serve --period 200 10.0.0.2:7946 1 1000 10.0.0.1:7946
+                                                 a second one, which joins the first and gossips each 200 milliseconds
 
-Exit status: 0 if all went well; 1 if a line is at fault, if no node answers as it was asked, or if reading, writing or
-memory failed; 2 if the words are refused, an address among them, or ask for help or the version, which go to standard
+Exit status: 0 if all went well; 1 if a line is at fault, if no node answers as it was asked, if a node is let in by no host,
+cannot listen or has no thread, or if reading, writing or memory failed; 2 if the words are refused, an address among them, or ask for help or the version, which go to standard
 error."#;
 
 /// What stands below the help of `sim`.
@@ -141,6 +161,83 @@ fn sim_command<'a>(alloc: Global) -> Result<Command<'a>, AllocError> {
         .arg(sum_flag(alloc))
 }
 
+/// How many connections are served at a time.
+fn workers_option<'a>(alloc: Global) -> Arg<'a> {
+    option(alloc, WORKERS, "W", "2", 1, u64::from(MOST_WORKERS)).help(
+        "How many connections are served at a time: 1 to 16",
+    )
+}
+
+/// How many milliseconds lie between two rounds of gossip.
+fn period_option<'a>(alloc: Global) -> Arg<'a> {
+    option(alloc, PERIOD, "MS", "0", 0, GREATEST_NUMBER).help(
+        "Milliseconds between two rounds of gossip; 0 makes none",
+    )
+}
+
+/// A node's weight.
+fn weight_option<'a>(alloc: Global) -> Arg<'a> {
+    option(alloc, WEIGHT, "W", "1", 1, u64::from(GREATEST_WEIGHT)).help(
+        "The node's weight, its share of the keys: 1 to 8",
+    )
+}
+
+/// A word that has to be given: a whole number in a range.
+fn number_word<'a>(
+    alloc: Global,
+    name: &'a str,
+    value: &'a str,
+    help: &'a str,
+    least: u64,
+    most: u64,
+) -> Arg<'a> {
+    word(alloc, name, value, help).value_parser(ValueParser::unsigned(least, most))
+}
+
+/// A node's first incarnation.
+fn incarnation_word<'a>(alloc: Global) -> Arg<'a> {
+    let help =
+        "The node's first incarnation, and its seed: 0 to 9007199254740991; greater than any that it had before";
+    number_word(alloc, INCARNATION, "INCARNATION", help, 0, GREATEST_NUMBER)
+}
+
+/// How many connections are served.
+fn requests_word<'a>(alloc: Global) -> Arg<'a> {
+    let help = "How many connections are served, those of gossip too: 1 to 1000000";
+    number_word(alloc, REQUESTS, "REQUESTS", help, 1, MOST_REQUESTS)
+}
+
+/// The nodes that are asked to let the node join.
+fn hosts_word<'a>(alloc: Global) -> Arg<'a> {
+    Arg::new(alloc, HOST)
+        .num_args(ValueRange::from(0..))
+        .action(ArgAction::Append)
+        .value_name("HOST")
+        .help("Running nodes that are asked to let this one join; none for the first of a cluster")
+}
+
+fn serve_command<'a>(alloc: Global) -> Result<Command<'a>, AllocError> {
+    let address = word(
+        alloc,
+        ADDRESS,
+        "ADDRESS",
+        "Where the node listens, and how the others name it: an IPv4 address and a port",
+    );
+    Command::new(alloc, "serve")
+        .about(
+            "Runs a node: joins the hosts, if any, serves so many connections, and ends; a request is answered by the node's address and the request",
+        )
+        .arg(workers_option(alloc))?
+        .arg(period_option(alloc))?
+        .arg(replicas_option(alloc))?
+        .arg(sum_flag(alloc))?
+        .arg(weight_option(alloc))?
+        .arg(address)?
+        .arg(incarnation_word(alloc))?
+        .arg(requests_word(alloc))?
+        .arg(hosts_word(alloc))
+}
+
 fn ask_command<'a>(alloc: Global) -> Result<Command<'a>, AllocError> {
     let any = Arg::new(alloc, ANY)
         .long(ANY)
@@ -204,13 +301,14 @@ pub fn ringpop_command<'a>(alloc: Global) -> Result<Command<'a>, AllocError> {
         .bin_name("ringpop")?
         .version("0.1.0")
         .about(
-            "The members of a cluster and the owners of its keys, from change lines on standard input or from its running nodes. With no command it is fold.",
+            "The members of a cluster and the owners of its keys, from change lines on standard input or from its running nodes; and a node that serves. With no command it is fold.",
         )
         .after_help(BELOW)
         .subcommand(fold_command(alloc))?
         .subcommand(hash_command(alloc)?)?
         .subcommand(owner_command(alloc)?)?
         .subcommand(sim_command(alloc)?)?
+        .subcommand(serve_command(alloc)?)?
         .subcommand(ask_command(alloc)?)?
         .subcommand(members_command(alloc)?)?
         .subcommand(tell_command(alloc)?)

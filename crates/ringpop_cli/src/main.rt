@@ -10,14 +10,12 @@ mod words;
 
 use cli_core::subcommand_run;
 use faults::Fault;
-use serve_core::cluster_command_run;
+use serve_core::{Host, cluster_command_run};
 use std::alloc::{Alloc, Global};
 use std::env::Env;
 use std::io::{BufReader, BufWriter, ErrorKind};
-use std::net::Net;
+use std::net::{Net, TcpListener, TcpStream};
 use std::process::ExitCode;
-use std::sync::Wait;
-use std::time::Clock;
 use std::{env, io};
 use words::Words;
 
@@ -36,9 +34,14 @@ fn given_words(rt: &(impl Env + Alloc<A = Global>)) -> Result<Vec<String>, Fault
 }
 
 /// Reads the words, and runs what they ask for over standard input, standard output and sockets.
-fn run(
-    rt: &(impl Input + Print + Env + Net + Clock + Wait + Alloc<A = Global>),
-) -> Result<(), Fault> {
+fn run<
+    R: Input
+        + Print
+        + Env
+        + Net<Listener = TcpListener, Stream = TcpStream>
+        + Host
+        + Alloc<A = Global>,
+>(rt: &R) -> Result<(), Fault> {
     let alloc = rt.alloc();
     let given = given_words(rt)?;
     let words = words::read_words(alloc, given.as_slice())?;

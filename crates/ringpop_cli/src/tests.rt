@@ -1,15 +1,16 @@
-ghost use Rattle.std.specs.Prelude.{◌≤◌};
+ghost use Rattle.std.specs.Prelude.{◌≡◌, ◌≤◌, ◌<◌, ◌^◌, vec_len};
 ghost use Rattle.change_core.specs.Numbers.{most_members};
 ghost use Rattle.hash_ring.specs.Points.{IsReplicas};
 
 use crate::faults::Fault;
 use crate::words::{Words, read_words, words_not_text};
-use change_core::Address;
+use change_core::{Address, GREATEST_NUMBER, Incarnation, Weight};
 use cli_core::{
     LineFault, OwnerWords, RunFault, ScriptFault, SimFault, SimWords, Subcommand, SubcommandFault,
 };
 use serve_core::{
-    AskAnyWords, AskFault, AskWords, ClusterCommand, ClusterFault, MembersWords, TellFault,
+    AskAnyWords, AskFault, AskWords, ClusterCommand, ClusterFault, MembersWords, ServeFault,
+    ServeWords, TellFault,
 };
 use std::alloc::Global;
 use std::process::Abort;
@@ -72,7 +73,27 @@ const FAULTS: [(SubcommandFault, &str); 8] = [
 ];
 
 /// Faults of commands that speak to nodes, and what is said of them.
-const CLUSTER_FAULTS: [(ClusterFault, &str); 11] = [
+const CLUSTER_FAULTS: [(ClusterFault, &str); 16] = [
+    (
+        ClusterFault::Serve(ServeFault::NoneJoined),
+        "ringpop: no host joined\n",
+    ),
+    (
+        ClusterFault::Serve(ServeFault::CannotListen),
+        "ringpop: cannot listen\n",
+    ),
+    (
+        ClusterFault::Serve(ServeFault::NoThread),
+        "ringpop: no thread\n",
+    ),
+    (
+        ClusterFault::Serve(ServeFault::CannotWrite),
+        "ringpop: cannot write\n",
+    ),
+    (
+        ClusterFault::Serve(ServeFault::NoMemory),
+        "ringpop: out of memory\n",
+    ),
     (
         ClusterFault::Ask(AskFault::NoAnswer),
         "ringpop: no answer\n",
@@ -300,12 +321,188 @@ fn reads_the_words_of_members_and_tell(rt: HostRuntime) {
     assert!(rt; matches!(&words, Ok(Words::Cluster(ClusterCommand::Tell(told))) if *told == host));
 }
 
+/// That the words serve so.
+fn serves(rt: &impl Abort, alloc: Global, words: &[&str], wanted: &ServeWords) {
+    let words = read(alloc, words);
+    assert!(rt;
+        matches!(&words, Ok(Words::Cluster(ClusterCommand::Serve(words))) if words == wanted)
+    );
+}
+
+/// What serves at 127.0.0.1:1 where only the incarnation 1 and one connection are told, but for the hosts.
+fn least_server(rt: &impl Abort, hosts: Vec<Address>) -> ServeWords
+    requires { vec_len hosts < 2 ^ 32 }
+{
+    ServeWords {
+        address: local(rt),
+        incarnation: Incarnation::new(1).expect(rt, "an incarnation"),
+        requests: 1,
+        workers: 2,
+        period: 0,
+        replicas: 100,
+        weight: Weight::new(1).expect(rt, "a weight"),
+        sum: false,
+        hosts,
+    }
+}
+
+/// What serves at 127.0.0.1:1 with the greatest numbers.
+fn greatest_server(rt: &impl Abort, alloc: Global) -> ServeWords {
+    ServeWords {
+        address: local(rt),
+        incarnation: Incarnation::new(GREATEST_NUMBER).expect(rt, "an incarnation"),
+        requests: 1_000_000,
+        workers: 16,
+        period: GREATEST_NUMBER,
+        replicas: 1000,
+        weight: Weight::new(8).expect(rt, "a weight"),
+        sum: true,
+        hosts: Vec::new(alloc),
+    }
+}
+
+/// 10.0.0.2:7946, and 127.0.0.1:1 twice.
+fn three_hosts(rt: &impl Abort, alloc: Global) -> Vec<Address>
+    ensures { vec_len result ≡ 3 }
+{
+    let other = Address::new(0x0a00_0002, 7946).expect(rt, "an address");
+    match vec![in alloc; other, local(rt), local(rt)] {
+        Ok(hosts) => hosts,
+        Err(_) => panic!(rt; "out of memory"),
+    }
+}
+
+#[test]
+fn reads_the_words_of_serve(rt: HostRuntime) {
+    let alloc = rt.alloc();
+    let words = ["ringpop", "serve", AT, "1", "1"];
+    serves(&rt, alloc, &words, &least_server(&rt, Vec::new(alloc)));
+    let words = [
+        "ringpop",
+        "serve",
+        "--workers=16",
+        "--period",
+        "9007199254740991",
+        "--replicas=1000",
+        "--sum",
+        "--weight",
+        "8",
+        AT,
+        "9007199254740991",
+        "1000000",
+    ];
+    serves(&rt, alloc, &words, &greatest_server(&rt, alloc));
+}
+
+#[test]
+fn reads_the_hosts_of_serve_in_their_order(rt: HostRuntime) {
+    let alloc = rt.alloc();
+    let other = "10.0.0.2:7946";
+    let words = ["ringpop", "serve", AT, "1", "1", other, AT, AT];
+    let hosts = three_hosts(&rt, alloc);
+    serves(&rt, alloc, &words, &least_server(&rt, hosts));
+}
+
+/// Words of `serve`, and how their refusal begins.
+const REFUSED_SERVERS: [(&[&str], &str); 18] = [
+    (
+        &["ringpop", "serve"],
+        "error: the following required arguments were not provided:\n  <ADDRESS>\n  <INCARNATION>\n  <REQUESTS>\n",
+    ),
+    (
+        &["ringpop", "serve", AT, "1"],
+        "error: the following required arguments were not provided:\n  <REQUESTS>\n",
+    ),
+    (
+        &["ringpop", "serve", AT, "one", "1"],
+        "error: invalid value 'one' for '<INCARNATION>'",
+    ),
+    (
+        &["ringpop", "serve", AT, "9007199254740992", "1"],
+        "error: invalid value '9007199254740992' for '<INCARNATION>'",
+    ),
+    (
+        &["ringpop", "serve", AT, "1", "0"],
+        "error: invalid value '0' for '<REQUESTS>'",
+    ),
+    (
+        &["ringpop", "serve", AT, "1", "1000001"],
+        "error: invalid value '1000001' for '<REQUESTS>'",
+    ),
+    (
+        &["ringpop", "serve", "--workers", "0", AT, "1", "1"],
+        "error: invalid value '0' for '--workers <W>'",
+    ),
+    (
+        &["ringpop", "serve", "--workers", "17", AT, "1", "1"],
+        "error: invalid value '17' for '--workers <W>'",
+    ),
+    (
+        &[
+            "ringpop",
+            "serve",
+            "--period",
+            "9007199254740992",
+            AT,
+            "1",
+            "1",
+        ],
+        "error: invalid value '9007199254740992' for '--period <MS>'",
+    ),
+    (
+        &["ringpop", "serve", "--replicas", "0", AT, "1", "1"],
+        "error: invalid value '0' for '--replicas <R>'",
+    ),
+    (
+        &["ringpop", "serve", "--replicas", "1001", AT, "1", "1"],
+        "error: invalid value '1001' for '--replicas <R>'",
+    ),
+    (
+        &["ringpop", "serve", "--weight", "0", AT, "1", "1"],
+        "error: invalid value '0' for '--weight <W>'",
+    ),
+    (
+        &["ringpop", "serve", "--weight", "9", AT, "1", "1"],
+        "error: invalid value '9' for '--weight <W>'",
+    ),
+    (
+        &["ringpop", "serve", "--lines", AT, "1", "1"],
+        "error: unexpected argument '--lines' found\n",
+    ),
+    (
+        &["ringpop", "serve", "127.0.0.1:01", "1", "1"],
+        "ringpop: bad address\n",
+    ),
+    (
+        &["ringpop", "serve", AT, "1", "1", "x"],
+        "ringpop: bad address\n",
+    ),
+    (
+        &["ringpop", "serve", AT, "1", "1", AT, "127.0.0.1:0", AT],
+        "ringpop: bad address\n",
+    ),
+    (
+        &["ringpop", "serve", AT, "1", "1", AT, ""],
+        "ringpop: bad address\n",
+    ),
+];
+
+#[test]
+fn refuses_the_words_of_a_server(rt: HostRuntime) {
+    for (words, text) in REFUSED_SERVERS {
+        let Err(fault) = read(rt.alloc(), words) else {
+            panic!(rt; "not refused: {text}")
+        };
+        begins(&rt, rt.alloc(), &fault, text);
+    }
+}
+
 /// Words, and how their refusal begins.
 const REFUSED_WORDS: [(&[&str], &str); 28] = [
     (&["ringpop", ""], "error: unrecognized subcommand ''\n"),
     (
-        &["ringpop", "serve"],
-        "error: unrecognized subcommand 'serve'\n",
+        &["ringpop", "server"],
+        "error: unrecognized subcommand 'server'\n",
     ),
     (
         &["ringpop", "--help"],

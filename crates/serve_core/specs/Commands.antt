@@ -5,22 +5,26 @@ use Rattle.cluster_links.specs.Channels.{any_answer}
 use Rattle.serve_core.specs.Asking.{IsReply, IsUnasked, LeavesReply, WritesReply, request}
 use Rattle.serve_core.specs.Membership.{IsUnwritten, WritesSeen, membership_text}
 use Rattle.serve_core.specs.Owning.{IsAnswered, IsUnanswered}
+use Rattle.serve_core.specs.Service.{IsUnserved, Served}
 use Rattle.serve_core.specs.Telling.{IsUntold, Tells}
 use Rattle.serve_core.specs.declared.commands.ClusterCommand.{ClusterCommand}
-use Rattle.serve_core.specs.declared.commands.ClusterCommand.TheVariants.{Ask, AskAny, Members, Tell}
+use Rattle.serve_core.specs.declared.commands.ClusterCommand.TheVariants.{Serve, Ask, AskAny, Members, Tell}
 use Rattle.serve_core.specs.declared.commands.ClusterFault.{ClusterFault}
 use Rattle.serve_core.specs.declared.commands.ClusterFault.TheVariants as fault
 
--- what is written where the command comes to its end, by what was answered; `tell` tells the known input
+-- What is written where the command comes to its end, by what was answered; of `serve` also that a host let the node in, where
+-- hosts are named. `tell` tells the known input.
 abbrev pub CommandFinishes : ClusterCommand → Option (List ℕ) → Option (List ℕ) → Option (List ℕ) → Type 0
+CommandFinishes (Serve words) known old new = Served words old new
 CommandFinishes (Ask words) known old new = WritesReply (IsReply any_answer words.address (request words.key.now words.body.now)) old new
 CommandFinishes (AskAny words) known old new =
     WritesReply (IsAnswered any_answer words.host (hash_by words.sum) words.replicas words.key.now words.body.now) old new
 CommandFinishes (Members words) known old new = WritesSeen any_answer words.host [] (membership_text words.lines) old new
 CommandFinishes (Tell host) known old new = Tells any_answer host known old new
 
--- why it does not, and what is written then; `tell` has faults of its own
+-- why it does not, and what is written then; `serve` and `tell` have faults of their own
 abbrev pub CommandFails : ClusterCommand → ClusterFault → Option (List ℕ) → Option (List ℕ) → Option (List ℕ) → Type 0
+CommandFails (Serve words) (fault.Serve e) known old new = IsUnserved words e old new
 CommandFails (Ask words) (fault.Ask e) known old new =
     LeavesReply (IsReply any_answer words.address (request words.key.now words.body.now))
     (IsUnasked any_answer words.address (request words.key.now words.body.now)) e old new

@@ -1,5 +1,5 @@
 -- What a server is, writes and leaves. Own.
-use Rattle.std.specs.Prelude.{◌≡◌, ◌⊎◌, ℕ, ◌*◌, ◌^◌, ◌-◌, Bool, true, false, List, [], ◌∷◌, ◌++◌, Option, Some, None, Result, Ok, Err, codes}
+use Rattle.std.specs.Prelude.{◌≡◌, ◌≢◌, ◌⊎◌, ℕ, ◌*◌, ◌^◌, ◌-◌, Bool, true, false, List, [], ◌∷◌, ◌++◌, Option, Some, None, Result, Ok, Err, codes}
 use Rattle.std.specs.Io.KnownBytes.{Appends, Keeps}
 use Rattle.std.specs.Duration.{as_nanos}
 use Rattle.change_core.specs.Address.{address_text}
@@ -102,3 +102,13 @@ TellsEntry Entered (Ok u) = Entered None
 TellsEntry Entered (Err serve.NoneJoined) = Entered (Some serve.NoneJoined)
 TellsEntry Entered (Err serve.NoMemory) = Unit {0}
 TellsEntry Entered (Err other) = Entered None
+
+-- the server of these words served its last connection: all is written, and where hosts are named one let the node in before
+abbrev pub Served : ServeWords → Option (List ℕ) → Option (List ℕ) → Type 0
+Served words old new = Appends old new (service_text words.address) × (words.hosts.items ≢ [] → EntersBy words.sum words None)
+
+-- why it did not, and what is written then: nobody let it in only where hosts are named, and there the fault tells what came of asking them
+pub record IsUnserved (words : ServeWords) (e : ServeFault) (old new : Option (List ℕ)) : Type 0 where
+  pub left : LeavesService words.address e old new
+  pub named : e ≡ serve.NoneJoined → words.hosts.items ≢ []
+  pub entered : words.hosts.items ≢ [] → TellsEntry (EntersBy words.sum words) (Err e)

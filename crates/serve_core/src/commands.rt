@@ -4,22 +4,24 @@ ghost use Rattle.serve_core.specs.Commands.{CommandFails, CommandFinishes, Comma
 ghost use Rattle.serve_core.specs.declared.commands.ClusterFault.TheVariants as fault;
 
 use crate::asking::ask_run;
-use crate::faults::{AskFault, TellFault};
+use crate::faults::{AskFault, ServeFault, TellFault};
+use crate::hosts::Host;
 use crate::looks::members_run;
 use crate::owners::ask_any_run;
+use crate::serving::serve_run;
 use crate::telling::tell_run;
-use crate::words::{AskAnyWords, AskWords, MembersWords};
+use crate::words::{AskAnyWords, AskWords, MembersWords, ServeWords};
 use change_core::Address;
 use std::alloc::Global;
 use std::io::{Read, Write};
-use std::net::Net;
-use std::sync::Wait;
-use std::time::Clock;
+use std::net::{Net, TcpListener, TcpStream};
 use thiserror::Error;
 
 /// What the program is asked to do with nodes.
-#[derive(Clone, Copy, Debug, PartialEq, Eq)]
+#[derive(Debug, PartialEq, Drop)]
 pub enum ClusterCommand<'a> {
+    /// A node that serves.
+    Serve(ServeWords),
     /// A request to a node.
     Ask(AskWords<'a>),
     /// A request to the owner of its key.
@@ -33,12 +35,23 @@ pub enum ClusterCommand<'a> {
 /// Why such a command ended before its end.
 #[derive(Clone, Copy, Debug, PartialEq, Eq, Error)]
 pub enum ClusterFault {
+    /// That of `serve`.
+    #[error("{0}")]
+    Serve(ServeFault),
     /// That of `ask`, `ask --any` and `members`.
     #[error("{0}")]
     Ask(AskFault),
     /// That of `tell`.
     #[error("{0}")]
     Tell(TellFault),
+}
+
+impl From<ServeFault> for ClusterFault {
+    ghost from_gives = { λ e f. f ≡ fault.Serve e };
+
+    fn from(fault: ServeFault) -> ClusterFault {
+        ClusterFault::Serve(fault)
+    }
 }
 
 impl From<AskFault> for ClusterFault {
@@ -57,9 +70,13 @@ impl From<TellFault> for ClusterFault {
     }
 }
 
-/// Runs the command over sockets, the reader and the writer, as `ask_run`, `ask_any_run`, `members_run` or `tell_run` does. Only
-/// `tell` reads.
-pub fn cluster_command_run<R: Net + Clock + Wait, I: Read, W: Write>(
+/// Runs the command over sockets, the reader and the writer, as `serve_run`, `ask_run`, `ask_any_run`, `members_run` or `tell_run`
+/// does. Only `tell` reads.
+pub fn cluster_command_run<
+    R: Net<Listener = TcpListener, Stream = TcpStream> + Host,
+    I: Read,
+    W: Write,
+>(
     rt: &R,
     alloc: Global,
     command: &ClusterCommand<'_>,
@@ -73,6 +90,7 @@ pub fn cluster_command_run<R: Net + Clock + Wait, I: Read, W: Write>(
     ensures unread { CommandReads command.now (I.remaining reader.old) (I.remaining reader.new) }
 {
     match command {
+        ClusterCommand::Serve(words) => serve_run(rt, alloc, words, writer)?,
         ClusterCommand::Ask(words) => {
             ask_run(rt, alloc, words.address, words.key, words.body, writer)?
         }

@@ -1,0 +1,100 @@
+/* The proved node of one thread, for C. docs/EMBEDDING.md says which call comes after which.
+
+   Proved of the library: each call ends and touches no memory but its handle, its buffers and its own heap; it answers
+   for one step of the node in the handle, or says why there was none, as the clause of its export says (crates/ringpop_c).
+
+   What C owes, which nothing checks:
+   - A handle is RINGPOP_NODE_EMPTY at first. Only the library writes its members; a full one is never copied.
+   - One call at a time uses a handle, look-ups too, and always from the thread that made its node.
+   - No pointer is null, also where its length is 0; each points to as many bytes as are said, of which none overlap in a call.
+   - malloc, realloc and free are one allocator's, and align a block to each power of two up to 16 that divides its size.
+   - No call from a signal handler, or from the forked child of a process with threads. */
+#ifndef RINGPOP_H
+#define RINGPOP_H
+#include <stdbool.h>
+#include <stddef.h>
+#include <stdint.h>
+
+/* A node's handle: empty, or full with a node. */
+typedef struct ringpop_node {
+  void *at;
+  bool full;
+} ringpop_node;
+#define RINGPOP_NODE_EMPTY {NULL, false}
+
+/* What a node is made with. ringpop_config_standard fills it. */
+typedef struct ringpop_config {
+  uint32_t replicas;    /* points of the ring for each unit of weight, 1 to 1,000 */
+  uint32_t piggyback;   /* how often a change goes out, for each digit of the number of serving members, 1 to 1,000 */
+  size_t max_members;   /* members held at most, 1 to 4,096 */
+  uint64_t suspect_ms;  /* until a suspect is faulty, 1 to 2^53 - 1 */
+  uint64_t faulty_ms;   /* until a faulty member is a tombstone, 1 to 2^53 - 1 */
+  size_t helpers;       /* helpers asked about a target that did not answer, 0 to 16 */
+  size_t per_message;   /* changes in a message at most, 1 to 4,096 */
+  uint8_t weight;       /* shares of the ring, 1 to 8 */
+} ringpop_config;
+
+/* What a call answers. After any but DONE, NOTHING, MEMORY, UNANSWERED, EXHAUSTED and FULL the node is as it was. */
+enum ringpop_code {
+  RINGPOP_DONE = 0,
+  RINGPOP_NOTHING = 1,          /* done, and there is nothing to tell */
+  RINGPOP_NO_NODE = 2,          /* the handle is empty */
+  RINGPOP_HAS_NODE = 3,         /* the handle is full */
+  RINGPOP_SHORT_BUFFER = 4,     /* nothing is written but the count that is needed */
+  RINGPOP_BAD_ADDRESS = 5,      /* port 0 */
+  RINGPOP_BAD_NUMBER = 6,       /* an incarnation or a moment over 2^53 - 1 */
+  RINGPOP_BAD_WEIGHT = 7,
+  RINGPOP_BAD_REPLICAS = 8,
+  RINGPOP_BAD_MAX_MEMBERS = 9,
+  RINGPOP_BAD_SUSPECT_MS = 10,
+  RINGPOP_BAD_FAULTY_MS = 11,
+  RINGPOP_BAD_HELPERS = 12,
+  RINGPOP_BAD_PIGGYBACK = 13,
+  RINGPOP_BAD_PER_MESSAGE = 14,
+  RINGPOP_EXHAUSTED = 15,       /* no incarnation is left */
+  RINGPOP_FULL = 16,            /* as many members as may be */
+  RINGPOP_ALREADY_LEFT = 17,
+  RINGPOP_NOT_LEFT = 18,
+  RINGPOP_BUSY = 19,            /* a probe is running */
+  RINGPOP_SPENT = 20,           /* no probe number is left */
+  RINGPOP_STALE_PROBE = 21,     /* the probe is not the running one */
+  RINGPOP_NOT_ASKED = 22,       /* the helper was not asked, or has answered */
+  RINGPOP_MEMORY = 23,          /* an allocation failed */
+  RINGPOP_LINE_TOO_LONG = 24,   /* a line over 1,048,576 bytes */
+  RINGPOP_BAD_JSON = 25,
+  RINGPOP_NOT_OBJECT = 26,
+  RINGPOP_UNKNOWN_KIND = 27,
+  RINGPOP_MISSING_FIELD = 28,
+  RINGPOP_BAD_FIELD = 29,
+  RINGPOP_TOO_MANY = 30,        /* more than 4,096 changes, or more than 256 keys */
+  RINGPOP_NOT_GOSSIP = 31,      /* a message that is none of the membership */
+  RINGPOP_UNANSWERED = 32       /* the message's changes are taken, and its answer found no memory */
+};
+
+/* The bytes that a call which writes a message asks for; it writes a line of so many at most, without a newline. */
+#define RINGPOP_MAX_LINE 1048576
+
+void ringpop_config_standard(ringpop_config *config);
+
+/* A node alone in its cluster, at an incarnation over all that its address had before. The seed decides its random choices. */
+uint32_t ringpop_node_new(ringpop_node *node, const ringpop_config *config, uint32_t ip, uint16_t port, uint64_t incarnation,
+                          uint64_t seed, uint64_t moment);
+/* Frees it: the handle is empty then. */
+uint32_t ringpop_node_free(ringpop_node *node);
+
+/* The line that joins a cluster at any of its members, and the line that pings a member. MEMORY: a ping may count as sent. */
+uint32_t ringpop_node_join(ringpop_node *node, uint8_t *out, size_t room, size_t *count);
+uint32_t ringpop_node_ping(ringpop_node *node, uint32_t ip, uint16_t port, uint8_t *out, size_t room, size_t *count);
+/* A line that came. DONE: an answer is written, which goes back. NOTHING: it wants none. EXHAUSTED, FULL, MEMORY: of its
+   changes those before the one that is refused are taken, or the line found no memory and none is. */
+uint32_t ringpop_node_receive(ringpop_node *node, const uint8_t *line, size_t length, uint64_t moment, uint8_t *out, size_t room,
+                              size_t *count);
+
+/* The first entry at its deadline becomes what it does then. DONE: call again. NOTHING: none is due. */
+uint32_t ringpop_node_expire(ringpop_node *node, uint64_t moment);
+uint32_t ringpop_node_leave(ringpop_node *node);
+uint32_t ringpop_node_rejoin(ringpop_node *node);
+
+/* The owner of a key. NOTHING: nobody serves. */
+uint32_t ringpop_node_owner(ringpop_node *node, const uint8_t *key, size_t length, uint32_t *ip, uint16_t *port);
+#endif

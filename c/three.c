@@ -1,0 +1,83 @@
+/* Three nodes in one process talk by lines until they name one owner; then look-ups are counted. */
+#include <stdio.h>
+#include <string.h>
+#include <time.h>
+
+#include "ringpop.h"
+
+#define IP(last) (0x0A000000u + (last))
+#define PORT 7946
+#define LOOKUPS 1000000
+
+static ringpop_node nodes[3] = {RINGPOP_NODE_EMPTY, RINGPOP_NODE_EMPTY, RINGPOP_NODE_EMPTY};
+static uint8_t line[RINGPOP_MAX_LINE], answer[RINGPOP_MAX_LINE];
+static uint64_t moment = 1000;
+static int faults = 0;
+
+static void expect(const char *what, uint32_t code, uint32_t wanted) {
+  if (code != wanted) {
+    printf("%s: code %u, not %u\n", what, code, wanted);
+    faults++;
+  }
+}
+
+/* One node says something to another, which answers it. */
+static void talk(int from, int to, bool join) {
+  size_t length = 0, answered = 0;
+  uint32_t code = join ? ringpop_node_join(&nodes[from], line, sizeof line, &length)
+                       : ringpop_node_ping(&nodes[from], IP(to + 1), PORT, line, sizeof line, &length);
+  expect("say", code, RINGPOP_DONE);
+  expect("receive", ringpop_node_receive(&nodes[to], line, length, ++moment, answer, sizeof answer, &answered), RINGPOP_DONE);
+  expect("answer", ringpop_node_receive(&nodes[from], answer, answered, ++moment, line, sizeof line, &length), RINGPOP_NOTHING);
+}
+
+static uint32_t owner_of(int node, const char *key) {
+  uint32_t ip = 0;
+  uint16_t port = 0;
+  expect("owner", ringpop_node_owner(&nodes[node], (const uint8_t *)key, strlen(key), &ip, &port), RINGPOP_DONE);
+  return port == PORT ? ip : 0;
+}
+
+static void count_lookups(void) {
+  struct timespec begin, end;
+  uint32_t ip = 0, sum = 0;
+  uint16_t port = 0;
+  clock_gettime(CLOCK_MONOTONIC, &begin);
+  for (uint32_t i = 0; i < LOOKUPS; i++) {
+    uint8_t key[12] = "trip-000";
+    memcpy(key + 8, &i, sizeof i);
+    ringpop_node_owner(&nodes[0], key, sizeof key, &ip, &port);
+    sum += ip;
+  }
+  clock_gettime(CLOCK_MONOTONIC, &end);
+  double seconds = (double)(end.tv_sec - begin.tv_sec) + (double)(end.tv_nsec - begin.tv_nsec) * 1e-9;
+  fprintf(stderr, "%.0f look-ups a second (%u)\n", LOOKUPS / seconds, sum);
+}
+
+int main(int words, char **word) {
+  ringpop_config config;
+  for (int i = 0; i < 3; i++) {
+    ringpop_config_standard(&config);
+    config.weight = i == 1 ? 2 : 1;
+    expect("new", ringpop_node_new(&nodes[i], &config, IP(i + 1), PORT, 7, (uint64_t)i, moment), RINGPOP_DONE);
+  }
+  talk(1, 0, true);
+  talk(2, 0, true);
+  talk(0, 1, false);
+  talk(0, 2, false);
+  for (int i = 0; i < 8; i++) {
+    char key[16];
+    snprintf(key, sizeof key, "trip-%d", i);
+    uint32_t owner = owner_of(0, key);
+    printf("%s is on 10.0.0.%u\n", key, owner & 255);
+    if (owner != owner_of(1, key) || owner != owner_of(2, key)) {
+      printf("the nodes differ\n");
+      faults++;
+    }
+  }
+  if (words > 1 && strcmp(word[1], "count") == 0) count_lookups();
+  expect("leave", ringpop_node_leave(&nodes[2]), RINGPOP_DONE);
+  expect("rejoin", ringpop_node_rejoin(&nodes[2]), RINGPOP_DONE);
+  for (int i = 0; i < 3; i++) expect("free", ringpop_node_free(&nodes[i]), RINGPOP_DONE);
+  return faults != 0;
+}

@@ -1,0 +1,82 @@
+"""Three nodes in one process, by ctypes: usage: three.py LIBRINGPOP.SO [count]"""
+import ctypes as c
+import sys
+import time
+
+MAX_LINE, PORT, LOOKUPS = 1 << 20, 7946, 300_000
+DONE, NOTHING = 0, 1
+lib = c.CDLL(sys.argv[1])
+
+
+class Handle(c.Structure):
+    _fields_ = [("at", c.c_void_p), ("full", c.c_bool)]
+
+
+class Config(c.Structure):
+    _fields_ = [("replicas", c.c_uint32), ("piggyback", c.c_uint32), ("max_members", c.c_size_t), ("suspect_ms", c.c_uint64),
+                ("faulty_ms", c.c_uint64), ("helpers", c.c_size_t), ("per_message", c.c_size_t), ("weight", c.c_uint8)]
+
+
+handle, size = c.POINTER(Handle), c.POINTER(c.c_size_t)
+lib.ringpop_config_standard.argtypes, lib.ringpop_config_standard.restype = [c.POINTER(Config)], None
+for name, types in {
+    "new": [handle, c.POINTER(Config), c.c_uint32, c.c_uint16, c.c_uint64, c.c_uint64, c.c_uint64],
+    "free": [handle],
+    "join": [handle, c.c_char_p, c.c_size_t, size],
+    "ping": [handle, c.c_uint32, c.c_uint16, c.c_char_p, c.c_size_t, size],
+    "receive": [handle, c.c_char_p, c.c_size_t, c.c_uint64, c.c_char_p, c.c_size_t, size],
+    "owner": [handle, c.c_char_p, c.c_size_t, c.POINTER(c.c_uint32), c.POINTER(c.c_uint16)],
+}.items():
+    function = getattr(lib, f"ringpop_node_{name}")
+    function.argtypes, function.restype = types, c.c_uint32
+
+out, count = c.create_string_buffer(MAX_LINE), c.c_size_t()
+
+
+class Node:
+    def __init__(self, last, weight=1):
+        self.handle, self.ip, config = Handle(), 0x0A000000 + last, Config()
+        lib.ringpop_config_standard(config)
+        config.weight = weight
+        assert lib.ringpop_node_new(self.handle, config, self.ip, PORT, 7, last, 1000) == DONE
+
+    def join(self):
+        assert lib.ringpop_node_join(self.handle, out, MAX_LINE, count) == DONE
+        return c.string_at(out, count.value)
+
+    def ping(self, to):
+        assert lib.ringpop_node_ping(self.handle, to.ip, PORT, out, MAX_LINE, count) == DONE
+        return c.string_at(out, count.value)
+
+    def receive(self, line, moment):
+        code = lib.ringpop_node_receive(self.handle, line, len(line), moment, out, MAX_LINE, count)
+        assert code in (DONE, NOTHING), code
+        return c.string_at(out, count.value) if code == DONE else None
+
+    def owner(self, key, ip=c.c_uint32(), port=c.c_uint16()):
+        return ip.value if lib.ringpop_node_owner(self.handle, key, len(key), ip, port) == DONE else None
+
+    def free(self):
+        assert lib.ringpop_node_free(self.handle) == DONE
+
+
+def talk(one, other, line):
+    one.receive(other.receive(line, 1001), 1002)
+
+
+nodes = [Node(1), Node(2, 2), Node(3)]
+talk(nodes[1], nodes[0], nodes[1].join())
+talk(nodes[2], nodes[0], nodes[2].join())
+talk(nodes[0], nodes[1], nodes[0].ping(nodes[1]))
+talk(nodes[0], nodes[2], nodes[0].ping(nodes[2]))
+for i in range(8):
+    owners = {node.owner(b"trip-%d" % i) for node in nodes}
+    assert len(owners) == 1, owners
+    print(f"trip-{i} is on 10.0.0.{owners.pop() & 255}")
+if sys.argv[2:] == ["count"]:
+    keys, begin = [b"trip-%d" % i for i in range(LOOKUPS)], time.perf_counter()
+    for key in keys:
+        nodes[0].owner(key)
+    print(f"{LOOKUPS / (time.perf_counter() - begin):.0f} look-ups a second", file=sys.stderr)
+for node in nodes:
+    node.free()

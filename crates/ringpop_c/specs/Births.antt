@@ -1,0 +1,49 @@
+-- How a node begins in an empty handle.
+use Rattle.std.specs.Prelude.{◌≡◌, ◌<◌, ◌⊎◌, ℕ, Option, Some, None}
+use Rattle.change_core.specs.Numbers.{greatest_number, IsWeight}
+use Rattle.detector_core.specs.Choices.{seeded}
+use Rattle.hash_ring.specs.declared.hash.Sha256Hash.{Sha256Hash}
+use Rattle.node_core.specs.declared.configs.Config.{Config}
+use Rattle.node_core.specs.declared.configs.ConfigField.{ConfigField}
+use Rattle.node_core.specs.Configs.{bad_field}
+use Rattle.node_core.specs.Parts.{seen_of}
+use Rattle.node_core.specs.World.{newborn}
+use Rattle.ringpop_c.specs.declared.codes.Code.{Code}
+use Rattle.ringpop_c.specs.declared.codes.Code.TheVariants as code
+use Rattle.ringpop_c.specs.declared.configs.RingpopConfig.{RingpopConfig}
+use Rattle.ringpop_c.specs.Codes.{code_number, code_of_field}
+use Rattle.ringpop_c.specs.Owned.{Held}
+use Rattle.ringpop_c.specs.Steps.{sha_hash}
+
+-- the configuration that a caller's one stands for
+abbrev pub config_of : RingpopConfig → Config
+config_of c = record {
+  replicas = c.replicas;
+  max_members = c.max_members;
+  suspect_ms = c.suspect_ms;
+  faulty_ms = c.faulty_ms;
+  helpers = c.helpers;
+  piggyback = c.piggyback;
+  per_message = c.per_message;
+  weight = c.weight;
+}
+
+-- what a handle holds of a node that is alone in its cluster
+abbrev pub born : RingpopConfig → ℕ → ℕ → ℕ → ℕ → Held
+born config own incarnation seed moment =
+    let hash : Sha256Hash = record {} in record { node = seen_of sha_hash (newborn hash (config_of config) own incarnation moment (seeded seed)) }
+
+-- why no node is made
+abbrev pub IsBirthFault : RingpopConfig → ℕ → ℕ → ℕ → Code → Type 0
+IsBirthFault config port incarnation moment fault =
+    ((fault ≡ code.BadAddress) × (port ≡ 0))
+    ⊎ (((fault ≡ code.BadNumber) × ((greatest_number < incarnation) ⊎ (greatest_number < moment)))
+    ⊎ (((fault ≡ code.BadWeight) × (IsWeight config.weight → ⊥))
+    ⊎ (((field : ConfigField) × (bad_field (config_of config) ≡ Some field) × (fault ≡ code_of_field field))
+    ⊎ (fault ≡ code.Memory))))
+
+-- a full handle answers that it is full, and stays as it is; an empty one holds the node that is born, or stays empty and says why
+abbrev pub Begins : RingpopConfig → ℕ → ℕ → ℕ → ℕ → ℕ → Option Held → ℕ → Option Held → Type 0
+Begins config own port incarnation seed moment (Some held) number new = (number ≡ code_number code.HasNode) × (new ≡ Some held)
+Begins config own port incarnation seed moment None number (Some held) = (number ≡ code_number code.Done) × (held ≡ born config own incarnation seed moment)
+Begins config own port incarnation seed moment None number None = (fault : Code) × (number ≡ code_number fault) × IsBirthFault config port incarnation moment fault

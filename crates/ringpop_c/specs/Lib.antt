@@ -1,0 +1,5 @@
+pub mod Births
+pub mod Codes
+pub mod Lines
+pub mod Owned
+pub mod Steps

@@ -1,0 +1,69 @@
+-- The lines that an export writes and reads.
+use Rattle.std.specs.Prelude.{◌≡◌, ◌≢◌, ◌<◌, ◌⊎◌, ◌++◌, ℕ, List, length, drop}
+use Rattle.serde_json.specs.Written.{compact_text}
+use Rattle.hash_ring.specs.declared.hash.Sha256Hash.{Sha256Hash}
+use Rattle.wire_json.specs.declared.errors.WireError.{WireError}
+use Rattle.wire_json.specs.declared.errors.WireError.TheVariants as wire
+use Rattle.wire_json.specs.declared.messages.Message.{Message}
+use Rattle.wire_json.specs.Lines.{IsLine, Faults, max_line}
+use Rattle.wire_json.specs.Messages.{MessageForm, message_data}
+use Rattle.wire_json.specs.MessageFaults.{MessageFault}
+use Rattle.node_core.specs.declared.events.Received.{Received}
+use Rattle.node_core.specs.declared.events.Received.TheVariants as received
+use Rattle.node_core.specs.Node.{Node}
+use Rattle.node_core.specs.Receiving.{ReceiveStep}
+use Rattle.ringpop_c.specs.declared.codes.Code.{Code}
+use Rattle.ringpop_c.specs.declared.codes.Code.TheVariants as code
+use Rattle.ringpop_c.specs.Codes.{code_of_stop, code_of_wire}
+
+-- the line of a message, without a newline
+abbrev pub line_of : Message → List ℕ
+line_of message = compact_text (message_data message)
+
+-- a buffer of the caller's: what was in it, and what is in it and told of its length then
+pub record Buffer : Type 0 where
+  pub before : List ℕ
+  pub after : List ℕ
+  pub count : ℕ
+
+-- the text is written at the front of the buffer, and its length told
+pub record Fills (text : List ℕ) (buffer : Buffer) : Type 0 where
+  pub count_is : buffer.count ≡ length text
+  pub after_is : buffer.after ≡ text ++ drop (length text) buffer.before
+
+-- the buffer is shorter than the longest line, and how long that is is told
+pub record IsShort (buffer : Buffer) : Type 0 where
+  pub is_less : length buffer.before < max_line
+  pub count_is : buffer.count ≡ max_line
+
+-- a line is written for a message, or there was no memory for it
+abbrev pub WritesLine : Message → Buffer → Code → Type 0
+WritesLine message buffer answer = ((answer ≡ code.Done) × Fills (line_of message) buffer) ⊎ (answer ≡ code.Memory)
+
+-- the node makes a message and goes on, and its line is written, or there was no memory: then it stays, or goes on without; in too short a buffer nothing is written, and it stays
+abbrev pub SaysBy : (Node Sha256Hash → Message) → (Node Sha256Hash → Node Sha256Hash) → Buffer → Node Sha256Hash → Code → Node Sha256Hash → Type 0
+SaysBy message after buffer old answer new =
+    ((new ≡ after old) × WritesLine (message old) buffer answer)
+    ⊎ (((new ≡ old) × (answer ≡ code.Memory)) ⊎ ((new ≡ old) × (answer ≡ code.ShortBuffer) × IsShort buffer))
+
+-- what a message came to: its answer's line is written, or there was no memory for it
+abbrev pub TellsReceived : Received → Buffer → Code → Type 0
+TellsReceived (received.Done taken) buffer answer = answer ≡ code.Nothing
+TellsReceived (received.Answer taken message) buffer answer = ((answer ≡ code.Done) × Fills (line_of message) buffer) ⊎ (answer ≡ code.Unanswered)
+TellsReceived (received.NoAnswer taken) buffer answer = answer ≡ code.Unanswered
+TellsReceived (received.Stopped stopped) buffer answer = answer ≡ code_of_stop stopped.cause
+TellsReceived received.NotGossip buffer answer = answer ≡ code.NotGossip
+
+-- the node receives the message at this moment, and what that came to is told
+abbrev pub ReceivesBy : Message → ℕ → Buffer → Node Sha256Hash → Code → Node Sha256Hash → Type 0
+ReceivesBy message moment buffer old answer new = (outcome : Received) × ReceiveStep old message moment outcome new × TellsReceived outcome buffer answer
+
+-- the code says what is wrong with a line, or that there was no memory to read it
+abbrev pub IsUnread : List ℕ → Code → Type 0
+IsUnread line answer = (fault : WireError) × (answer ≡ code_of_wire fault) × (fault ≢ wire.Memory → Faults MessageFault line fault)
+
+-- the node receives the message of a line; where it is none the node stays, and so it does in too short a buffer
+abbrev pub HearsBy : List ℕ → ℕ → Buffer → Node Sha256Hash → Code → Node Sha256Hash → Type 0
+HearsBy line moment buffer old answer new =
+    ((message : Message) × IsLine (λ v. MessageForm v message) line × ReceivesBy message moment buffer old answer new)
+    ⊎ (((new ≡ old) × IsUnread line answer) ⊎ ((new ≡ old) × (answer ≡ code.ShortBuffer) × IsShort buffer))

@@ -1,0 +1,63 @@
+-- What an export does with the node in its handle.
+use Rattle.std.specs.Prelude.{◌≡◌, ℕ, List, Option, Some, None, Result, Ok, Err, take, slice_get}
+use Rattle.std.specs.Int.{w64, from_be_bytes}
+use Rattle.sha2.specs.Sha256.{sha256}
+use Rattle.change_core.specs.Address.{ip_of, port_of}
+use Rattle.change_core.specs.declared.changes.Change.{Change}
+use Rattle.hash_ring.specs.declared.hash.Sha256Hash.{Sha256Hash}
+use Rattle.node_core.specs.declared.errors.NodeError.{NodeError}
+use Rattle.node_core.specs.Asserting.{LeaveStep, RejoinStep}
+use Rattle.node_core.specs.Expiring.{ExpireStep}
+use Rattle.node_core.specs.Node.{Node}
+use Rattle.node_core.specs.Step.{owners_by}
+use Rattle.ringpop_c.specs.declared.codes.Code.{Code}
+use Rattle.ringpop_c.specs.declared.codes.Code.TheVariants as code
+use Rattle.ringpop_c.specs.Codes.{code_number, code_of_error}
+use Rattle.ringpop_c.specs.Owned.{Held}
+
+-- the hash of the ring: the first eight bytes of SHA-256, the high byte first
+abbrev pub sha_hash : Sha256Hash → List ℕ → ℕ
+sha_hash hash bytes = from_be_bytes w64 (take 8 (sha256 bytes))
+
+-- an empty handle answers that it is empty, and stays so; a full one answers a code and goes on to a node that the step allows
+abbrev pub Does : (Node Sha256Hash → Code → Node Sha256Hash → Type 0) → Option Held → ℕ → Option Held → Type 0
+Does step None number new = (number ≡ code_number code.NoNode) × (new ≡ None)
+Does step (Some held) number None = ⊥
+Does step (Some held) number (Some after) = (answer : Code) × (number ≡ code_number answer) × step held.node.node answer after.node.node
+
+-- what a change that was made, or its refusal, answers
+abbrev pub code_of_change : Result Change NodeError → Code
+code_of_change (Ok change) = code.Done
+code_of_change (Err error) = code_of_error error
+
+-- the node leaves, or is refused with the code of why
+abbrev pub LeavesBy : Node Sha256Hash → Code → Node Sha256Hash → Type 0
+LeavesBy old answer new = (left : Result Change NodeError) × (answer ≡ code_of_change left) × LeaveStep old left new
+
+-- the node is back, or is refused with the code of why
+abbrev pub RejoinsBy : Node Sha256Hash → Code → Node Sha256Hash → Type 0
+RejoinsBy old answer new = (back : Result Change NodeError) × (answer ≡ code_of_change back) × RejoinStep old back new
+
+-- what an expiry, or its refusal, answers: nothing to tell where no entry was due
+abbrev pub code_of_expiry : Result (Option Change) NodeError → Code
+code_of_expiry (Ok None) = code.Nothing
+code_of_expiry (Ok (Some change)) = code.Done
+code_of_expiry (Err error) = code_of_error error
+
+-- the first entry that is due becomes what it does at its deadline, or none is due, or it is refused
+abbrev pub ExpiresBy : ℕ → Node Sha256Hash → Code → Node Sha256Hash → Type 0
+ExpiresBy moment old answer new = (expired : Result (Option Change) NodeError) × (answer ≡ code_of_expiry expired) × ExpireStep old moment expired new
+
+-- the owner of a key among the members of a node, by the first eight bytes of SHA-256
+abbrev pub owner_by : Node Sha256Hash → List ℕ → Option ℕ
+owner_by node key = slice_get (owners_by sha_hash node key) 0
+
+-- an address that is told, or that there is none
+abbrev pub TellsAddress : Option ℕ → ℕ → ℕ → Code → Type 0
+TellsAddress None ip port answer = answer ≡ code.Nothing
+TellsAddress (Some address) ip port answer = (answer ≡ code.Done) × (ip ≡ ip_of address) × (port ≡ port_of address)
+
+-- an empty handle answers that it is empty; what a look at a full one answers
+abbrev pub Looks : (Node Sha256Hash → Code → Type 0) → Option Held → ℕ → Type 0
+Looks look None number = number ≡ code_number code.NoNode
+Looks look (Some held) number = (answer : Code) × (number ≡ code_number answer) × look held.node.node answer

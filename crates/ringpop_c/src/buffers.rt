@@ -1,0 +1,44 @@
+//! Bytes that go out through the caller's buffer.
+ghost use Rattle.std.specs.Prelude.{◌≡◌, ◌≤◌, length, true, false};
+ghost use Rattle.ringpop_c.specs.Lines.{Buffer, Fills, IsShort, WritesLine};
+ghost use Rattle.wire_json.specs.Lines.{max_line};
+
+use crate::codes::Code;
+use std::alloc::Global;
+use wire_json::{MAX_LINE, Message, encode};
+
+/// Puts bytes at the front of a buffer, and how many there are into `count`.
+pub(crate) fn put(out: &mut [u8], count: &mut usize, bytes: &[u8])
+    requires { length bytes.now ≤ length out.old }
+    ensures { Fills bytes.now (record { before = out.old; after = out.new; count = count.new }) }
+{
+    let length = bytes.len();
+    *count = length;
+    out[..length].copy_from_slice(bytes);
+}
+
+/// Whether a buffer has room for the longest line. Where it has not, `count` tells how long that is.
+pub(crate) fn is_short(out: &[u8], count: &mut usize) -> bool
+    ensures short { result ≡ true → IsShort (record { before = out.now; after = out.now; count = count.new }) }
+    ensures room { result ≡ false → max_line ≤ length out.now }
+{
+    if out.len() < MAX_LINE {
+        *count = MAX_LINE;
+        return true;
+    }
+    false
+}
+
+/// Writes a message as a line, without a newline. `Memory`.
+pub(crate) fn send(alloc: Global, message: &Message, out: &mut [u8], count: &mut usize) -> Code
+    requires room { max_line ≤ length out.old }
+    ensures line { WritesLine message.now (record { before = out.old; after = out.new; count = count.new }) result }
+{
+    match encode(alloc, message) {
+        Ok(line) => {
+            put(out, count, line.as_slice());
+            Code::Done
+        }
+        Err(_) => Code::Memory,
+    }
+}

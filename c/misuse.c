@@ -49,6 +49,18 @@ static void refuse_lines(ringpop_node *node) {
   expect("unknown kind", receive(node, "{\"kind\":\"hello\"}"), RINGPOP_UNKNOWN_KIND);
 }
 
+static void refuse_probes(ringpop_node *node) {
+  uint64_t number = 0;
+  uint32_t ip = 0;
+  uint16_t port = 0;
+  expect("probe with nobody to ping", ringpop_node_probe(node, &number, &ip, &port), RINGPOP_NOTHING);
+  expect("ack of no probe", ringpop_node_acked(node, 1), RINGPOP_STALE_PROBE);
+  expect("loss of no probe", ringpop_node_lost(node, 1, 2500), RINGPOP_STALE_PROBE);
+  expect("word 3", ringpop_node_helper_said(node, 1, 1, 1, 3, 2500), RINGPOP_BAD_WORD);
+  expect("word of port 0", ringpop_node_helper_said(node, 1, 1, 0, 0, 2500), RINGPOP_BAD_ADDRESS);
+  expect("word for no probe", ringpop_node_helper_said(node, 1, 1, 1, 0, 2500), RINGPOP_STALE_PROBE);
+}
+
 int main(void) {
   ringpop_node node = RINGPOP_NODE_EMPTY;
   ringpop_config config;
@@ -62,6 +74,8 @@ int main(void) {
   expect("which asks for", (uint32_t)count, RINGPOP_MAX_LINE);
   expect("ping of port 0", ringpop_node_ping(&node, 0x0A000002, 0, out, sizeof out, &count), RINGPOP_BAD_ADDRESS);
   refuse_lines(&node);
+  refuse_probes(&node);
+  expect("members in a short buffer", ringpop_node_members(&node, out, 3, &count), RINGPOP_SHORT_BUFFER);
   expect("expire at 2^53", ringpop_node_expire(&node, (uint64_t)1 << 53), RINGPOP_BAD_NUMBER);
   expect("expire", ringpop_node_expire(&node, 3000), RINGPOP_NOTHING);
   expect("rejoin before it left", ringpop_node_rejoin(&node), RINGPOP_NOT_LEFT);

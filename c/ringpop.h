@@ -34,7 +34,8 @@ typedef struct ringpop_config {
   uint8_t weight;       /* shares of the ring, 1 to 8 */
 } ringpop_config;
 
-/* What a call answers. After any but DONE, NOTHING, MEMORY, UNANSWERED, EXHAUSTED and FULL the node is as it was. */
+/* What a call answers. After a code from NO_NODE to BAD_PER_MESSAGE, from ALREADY_LEFT to NOT_ASKED, from LINE_TOO_LONG to
+   NOT_GOSSIP, or BAD_WORD the node is as it was. */
 enum ringpop_code {
   RINGPOP_DONE = 0,
   RINGPOP_NOTHING = 1,          /* done, and there is nothing to tell */
@@ -68,7 +69,11 @@ enum ringpop_code {
   RINGPOP_BAD_FIELD = 29,
   RINGPOP_TOO_MANY = 30,        /* more than 4,096 changes, or more than 256 keys */
   RINGPOP_NOT_GOSSIP = 31,      /* a message that is none of the membership */
-  RINGPOP_UNANSWERED = 32       /* the message's changes are taken, and its answer found no memory */
+  RINGPOP_UNANSWERED = 32,      /* the message's changes are taken, and its answer found no memory */
+  RINGPOP_SUSPECTED = 33,       /* the target is suspect: nobody could be asked, or a helper did not reach it */
+  RINGPOP_WAITING = 34,         /* another helper has not answered */
+  RINGPOP_INCONCLUSIVE = 35,    /* every helper failed */
+  RINGPOP_BAD_WORD = 36         /* a helper's word that is not 0 to 2 */
 };
 
 /* The bytes that a call which writes a message asks for; it writes a line of so many at most, without a newline. */
@@ -85,16 +90,39 @@ uint32_t ringpop_node_free(ringpop_node *node);
 /* The line that joins a cluster at any of its members, and the line that pings a member. MEMORY: a ping may count as sent. */
 uint32_t ringpop_node_join(ringpop_node *node, uint8_t *out, size_t room, size_t *count);
 uint32_t ringpop_node_ping(ringpop_node *node, uint32_t ip, uint16_t port, uint8_t *out, size_t room, size_t *count);
+/* The line that asks a helper to ping a target, and the line that tells a requester whether its target was reached. */
+uint32_t ringpop_node_ping_req(ringpop_node *node, uint32_t helper_ip, uint16_t helper_port, uint32_t target_ip,
+                               uint16_t target_port, uint8_t *out, size_t room, size_t *count);
+uint32_t ringpop_node_ping_req_ack(ringpop_node *node, uint32_t requester_ip, uint16_t requester_port, uint32_t target_ip,
+                                   uint16_t target_port, bool reached, uint8_t *out, size_t room, size_t *count);
 /* A line that came. DONE: an answer is written, which goes back. NOTHING: it wants none. EXHAUSTED, FULL, MEMORY: of its
    changes those before the one that is refused are taken, or the line found no memory and none is. */
 uint32_t ringpop_node_receive(ringpop_node *node, const uint8_t *line, size_t length, uint64_t moment, uint8_t *out, size_t room,
                               size_t *count);
+
+/* The target that a line asks to ping, which ringpop_node_ping_req_ack answers; whether a helper's line says that it was
+   reached. Both only read: the line goes to ringpop_node_receive as well. NOTHING: the line is no such one. */
+uint32_t ringpop_line_target(const uint8_t *line, size_t length, uint32_t *ip, uint16_t *port);
+uint32_t ringpop_line_reached(const uint8_t *line, size_t length, bool *reached);
 
 /* The first entry at its deadline becomes what it does then. DONE: call again. NOTHING: none is due. */
 uint32_t ringpop_node_expire(ringpop_node *node, uint64_t moment);
 uint32_t ringpop_node_leave(ringpop_node *node);
 uint32_t ringpop_node_rejoin(ringpop_node *node);
 
+/* Begins a probe: its number, and the address to ping. NOTHING: there is nobody to ping. */
+uint32_t ringpop_node_probe(ringpop_node *node, uint64_t *number, uint32_t *ip, uint16_t *port);
+/* Its target answered. */
+uint32_t ringpop_node_acked(ringpop_node *node, uint64_t number);
+/* Its target did not answer. DONE: helpers are to be asked. SUSPECTED: nobody could be. */
+uint32_t ringpop_node_lost(ringpop_node *node, uint64_t number, uint64_t moment);
+/* The running probe's number, and a helper of it that is to be asked and has not answered. NOTHING: there is none. */
+uint32_t ringpop_node_waiting(ringpop_node *node, uint64_t *number, uint32_t *ip, uint16_t *port);
+/* What a helper said: 0, it reached the target; 1, it did not; 2, nothing, since it failed. DONE: the target was reached. */
+uint32_t ringpop_node_helper_said(ringpop_node *node, uint64_t number, uint32_t ip, uint16_t port, uint8_t word, uint64_t moment);
+
+/* The members as one line of text, which no other member list has: the same where the nodes agree. */
+uint32_t ringpop_node_members(ringpop_node *node, uint8_t *out, size_t room, size_t *count);
 /* The owner of a key. NOTHING: nobody serves. */
 uint32_t ringpop_node_owner(ringpop_node *node, const uint8_t *key, size_t length, uint32_t *ip, uint16_t *port);
 #endif

@@ -31,6 +31,62 @@ static void talk(int from, int to, bool join) {
   expect("answer", ringpop_node_receive(&nodes[from], answer, answered, ++moment, line, sizeof line, &length), RINGPOP_NOTHING);
 }
 
+/* A line that wants no answer goes from one node, of which it was just written, to another. */
+static void tell(uint32_t written, int to, size_t length) {
+  size_t answered = 0;
+  expect("say", written, RINGPOP_DONE);
+  expect("hear", ringpop_node_receive(&nodes[to], line, length, ++moment, answer, sizeof answer, &answered), RINGPOP_NOTHING);
+}
+
+/* A probe whose target answers no ping, until a helper reaches it. */
+static void probe_by_helper(int prober) {
+  uint64_t number = 0, running = 0;
+  uint32_t target_ip = 0, helper_ip = 0;
+  uint16_t target_port = 0, helper_port = 0;
+  size_t length = 0;
+  expect("probe", ringpop_node_probe(&nodes[prober], &number, &target_ip, &target_port), RINGPOP_DONE);
+  expect("lost", ringpop_node_lost(&nodes[prober], number, ++moment), RINGPOP_DONE);
+  expect("waiting", ringpop_node_waiting(&nodes[prober], &running, &helper_ip, &helper_port), RINGPOP_DONE);
+  int target = (int)(target_ip - IP(1)), helper = (int)(helper_ip - IP(1));
+  uint32_t asked_ip = 0;
+  uint16_t asked_port = 0;
+  bool reached = false;
+  uint32_t code =
+      ringpop_node_ping_req(&nodes[prober], helper_ip, helper_port, target_ip, target_port, line, sizeof line, &length);
+  tell(code, helper, length);
+  expect("target", ringpop_line_target(line, length, &asked_ip, &asked_port), RINGPOP_DONE);
+  if (asked_ip != target_ip || asked_port != target_port) expect("asked", 1, 0);
+  talk(helper, target, false);
+  code = ringpop_node_ping_req_ack(&nodes[helper], IP(prober + 1), PORT, target_ip, target_port, true, line, sizeof line, &length);
+  tell(code, prober, length);
+  expect("reached", ringpop_line_reached(line, length, &reached), RINGPOP_DONE);
+  if (!reached) expect("was reached", 0, 1);
+  expect("helper said", ringpop_node_helper_said(&nodes[prober], running, helper_ip, helper_port, 0, ++moment), RINGPOP_DONE);
+  expect("no probe runs", ringpop_node_waiting(&nodes[prober], &running, &helper_ip, &helper_port), RINGPOP_NOTHING);
+}
+
+/* A probe whose target answers. */
+static void probe(int prober) {
+  uint64_t number = 0;
+  uint32_t ip = 0;
+  uint16_t port = 0;
+  expect("probe", ringpop_node_probe(&nodes[prober], &number, &ip, &port), RINGPOP_DONE);
+  talk(prober, (int)(ip - IP(1)), false);
+  expect("acked", ringpop_node_acked(&nodes[prober], number), RINGPOP_DONE);
+}
+
+static void compare_members(void) {
+  size_t length = 0, other = 0;
+  expect("members", ringpop_node_members(&nodes[0], line, sizeof line, &length), RINGPOP_DONE);
+  for (int i = 1; i < 3; i++) {
+    expect("members", ringpop_node_members(&nodes[i], answer, sizeof answer, &other), RINGPOP_DONE);
+    if (other != length || memcmp(line, answer, length) != 0) {
+      printf("the members differ\n");
+      faults++;
+    }
+  }
+}
+
 static uint32_t owner_of(int node, const char *key) {
   uint32_t ip = 0;
   uint16_t port = 0;
@@ -65,6 +121,9 @@ int main(int words, char **word) {
   talk(2, 0, true);
   talk(0, 1, false);
   talk(0, 2, false);
+  compare_members();
+  probe(0);
+  probe_by_helper(0);
   for (int i = 0; i < 8; i++) {
     char key[16];
     snprintf(key, sizeof key, "trip-%d", i);

@@ -46,6 +46,10 @@ code_number code.BadField = 29
 code_number code.TooMany = 30
 code_number code.NotGossip = 31
 code_number code.Unanswered = 32
+code_number code.Suspected = 33
+code_number code.Waiting = 34
+code_number code.Inconclusive = 35
+code_number code.BadWord = 36
 
 -- the code of a field of the configuration that is out of its range
 abbrev pub code_of_field : ConfigField → Code

@@ -67,3 +67,9 @@ abbrev pub HearsBy : List ℕ → ℕ → Buffer → Node Sha256Hash → Code �
 HearsBy line moment buffer old answer new =
     ((message : Message) × IsLine (λ v. MessageForm v message) line × ReceivesBy message moment buffer old answer new)
     ⊎ (((new ≡ old) × IsUnread line answer) ⊎ ((new ≡ old) × (answer ≡ code.ShortBuffer) × IsShort buffer))
+
+-- a text is written, or the buffer is shorter and its length is told, or there was no memory for it
+abbrev pub TellsText : List ℕ → Buffer → Code → Type 0
+TellsText text buffer answer =
+    ((answer ≡ code.Done) × Fills text buffer)
+    ⊎ (((answer ≡ code.ShortBuffer) × (length buffer.before < length text) × (buffer.count ≡ length text) × (buffer.after ≡ buffer.before)) ⊎ (answer ≡ code.Memory))

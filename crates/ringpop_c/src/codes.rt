@@ -74,6 +74,14 @@ pub enum Code {
     NotGossip,
     /// The changes of the message are taken, and its answer found no memory.
     Unanswered,
+    /// The target is suspect: nobody could be asked, or a helper did not reach it.
+    Suspected,
+    /// Another helper has not answered.
+    Waiting,
+    /// Every helper failed, and nothing is known of the target.
+    Inconclusive,
+    /// A helper's word is not one of 0 to 2.
+    BadWord,
 }
 
 impl Code {
@@ -115,6 +123,10 @@ impl Code {
             Code::TooMany => 30,
             Code::NotGossip => 31,
             Code::Unanswered => 32,
+            Code::Suspected => 33,
+            Code::Waiting => 34,
+            Code::Inconclusive => 35,
+            Code::BadWord => 36,
         }
     }
 

@@ -11,7 +11,10 @@ mod lookups;
 mod makers;
 mod messages;
 mod parts;
+mod probes;
+mod reading;
 mod receiving;
+mod relaying;
 
 pub use codes::Code;
 pub use configs::RingpopConfig;

@@ -1,10 +1,15 @@
 //! What is looked up in a node, which stays as it is.
 ghost use Rattle.std.specs.Prelude.{◌≡◌};
+ghost use Rattle.change_core.specs.Members.{digest_text};
+ghost use Rattle.ringpop_c.specs.Lines.{TellsText};
 ghost use Rattle.ringpop_c.specs.Steps.{Looks, TellsAddress, owner_by};
 
+use crate::buffers::put;
 use crate::codes::Code;
 use crate::handles::{RingpopNode, lift, put_back};
 use change_core::Address;
+use hash_ring::Sha256Hash;
+use node_core::NodeState;
 use std::alloc::Global;
 
 /// Tells an address, if there is one.
@@ -39,4 +44,40 @@ pub extern "C" fn ringpop_node_owner(
     let owner = served.node.owner(key);
     put_back(node, served);
     tell_address(owner, ip, port).number()
+}
+
+/// The members as a text.
+fn tell_members(node: &NodeState<Sha256Hash>, out: &mut [u8], count: &mut usize) -> Code
+    ensures told { TellsText (digest_text node.now.node.members) (record { before = out.old; after = out.new; count = count.new }) result }
+{
+    let Ok(text) = node.digest_text() else {
+        return Code::Memory;
+    };
+    let bytes = text.as_str().as_bytes();
+    if out.len() < bytes.len() {
+        *count = bytes.len();
+        return Code::ShortBuffer;
+    }
+    put(out, count, bytes);
+    Code::Done
+}
+
+/// The members as one line of text, ascending by address, which no other member list has. `ShortBuffer`, with the count
+/// that is needed; `Memory`.
+#[unsafe(no_mangle)]
+pub extern "C" fn ringpop_node_members(
+    alloc: Global,
+    node: &mut RingpopNode,
+    out: &mut [u8],
+    count: &mut usize,
+) -> u32
+    ensures told { Looks (λ n answer. TellsText (digest_text n.members) (record { before = out.old; after = out.new; count = count.new }) answer) node.old.at.value result }
+    ensures same { node.new.at.value ≡ node.old.at.value }
+{
+    let Some(served) = lift(alloc, node) else {
+        return Code::NoNode.number();
+    };
+    let code = tell_members(&served.node, out, count);
+    put_back(node, served);
+    code.number()
 }

@@ -1,0 +1,76 @@
+-- What an export of a probe does, and what it answers.
+use Rattle.std.specs.Prelude.{◌≡◌, ◌==◌, ℕ, cond, Option, Some, None, Result, Ok, Err}
+use Rattle.change_core.specs.Address.{ip_of, port_of}
+use Rattle.detector_core.specs.declared.asked.Said.{Said}
+use Rattle.detector_core.specs.declared.asked.Said.TheVariants as said
+use Rattle.detector_core.specs.declared.prober.Probe.{Probe}
+use Rattle.detector_core.specs.declared.prober.Running.{Running}
+use Rattle.hash_ring.specs.declared.hash.Sha256Hash.{Sha256Hash}
+use Rattle.node_core.specs.declared.errors.NodeError.{NodeError}
+use Rattle.node_core.specs.declared.events.NodeLost.{NodeLost}
+use Rattle.node_core.specs.declared.events.NodeLost.TheVariants as lost
+use Rattle.node_core.specs.declared.events.NodeOutcome.{NodeOutcome}
+use Rattle.node_core.specs.declared.events.NodeOutcome.TheVariants as word
+use Rattle.node_core.specs.Node.{Node}
+use Rattle.node_core.specs.Probes.{AckedStep, HelperStep, LostDraw, LostStep, ProbeDraw, ProbeStep}
+use Rattle.ringpop_c.specs.declared.codes.Code.{Code}
+use Rattle.ringpop_c.specs.declared.codes.Code.TheVariants as code
+use Rattle.ringpop_c.specs.Codes.{code_of_error}
+
+-- a probe that began, and whom it is to ping; that there is nobody to ping; or why none began
+abbrev pub TellsProbe : Result (Option Probe) NodeError → ℕ → ℕ → ℕ → Code → Type 0
+TellsProbe (Ok None) number ip port answer = answer ≡ code.Nothing
+TellsProbe (Ok (Some pick)) number ip port answer = (answer ≡ code.Done) × (number ≡ pick.number) × (ip ≡ ip_of pick.target) × (port ≡ port_of pick.target)
+TellsProbe (Err error) number ip port answer = answer ≡ code_of_error error
+
+-- a probe begins, of whom the node's generator draws, or it is refused with the code of why
+abbrev pub ProbesBy : ℕ → ℕ → ℕ → Node Sha256Hash → Code → Node Sha256Hash → Type 0
+ProbesBy number ip port old answer new =
+    (begun : Result (Option Probe) NodeError) × TellsProbe begun number ip port answer × ProbeStep old begun new × ProbeDraw old begun new
+
+-- what an ack, or its refusal, answers
+abbrev pub code_of_ack : Result (Unit {0}) NodeError → Code
+code_of_ack (Ok done) = code.Done
+code_of_ack (Err error) = code_of_error error
+
+-- the probe ends, its target reached, or it is refused with the code of why
+abbrev pub AcksBy : ℕ → Node Sha256Hash → Code → Node Sha256Hash → Type 0
+AcksBy number old answer new = (acked : Result (Unit {0}) NodeError) × (answer ≡ code_of_ack acked) × AckedStep old number acked new
+
+-- what a lost target, or its refusal, answers
+abbrev pub code_of_loss : Result NodeLost NodeError → Code
+code_of_loss (Ok (lost.Ask helpers)) = code.Done
+code_of_loss (Ok (lost.Suspect change)) = code.Suspected
+code_of_loss (Err error) = code_of_error error
+
+-- helpers are asked that the node's generator draws, or nobody can be and the target is suspect, or it is refused with the code of why
+abbrev pub LosesBy : ℕ → ℕ → Node Sha256Hash → Code → Node Sha256Hash → Type 0
+LosesBy number moment old answer new =
+    (loss : Result NodeLost NodeError) × (answer ≡ code_of_loss loss) × LostStep old number moment loss new × LostDraw old number loss new
+
+-- what a helper's word, or its refusal, answers
+abbrev pub code_of_outcome : Result NodeOutcome NodeError → Code
+code_of_outcome (Ok word.Waiting) = code.Waiting
+code_of_outcome (Ok word.Reached) = code.Done
+code_of_outcome (Ok (word.Suspect change)) = code.Suspected
+code_of_outcome (Ok word.Inconclusive) = code.Inconclusive
+code_of_outcome (Err error) = code_of_error error
+
+-- a helper's word is taken, or it is refused with the code of why
+abbrev pub HearsHelper : ℕ → ℕ → Said → ℕ → Node Sha256Hash → Code → Node Sha256Hash → Type 0
+HearsHelper number helper said moment old answer new =
+    (outcome : Result NodeOutcome NodeError) × (answer ≡ code_of_outcome outcome) × HelperStep old number helper said moment outcome new
+
+-- a helper that is waited for is told; that none is
+abbrev pub TellsHelper : Option ℕ → ℕ → ℕ → Code → Type 0
+TellsHelper None ip port answer = answer ≡ code.Nothing
+TellsHelper (Some helper) ip port answer = (answer ≡ code.Done) × (ip ≡ ip_of helper) × (port ≡ port_of helper)
+
+-- the running probe's number, and the helper of least address that is waited for; that no probe runs, or nobody is waited for
+abbrev pub TellsWaiting : Option Running → ℕ → ℕ → ℕ → Code → Type 0
+TellsWaiting None number ip port answer = answer ≡ code.Nothing
+TellsWaiting (Some running) number ip port answer = (number ≡ running.number) × TellsHelper running.waiting ip port answer
+
+-- what a helper said, by its number: that it reached the target, that it did not, or that it failed
+abbrev pub said_of : ℕ → Option Said
+said_of n = cond (n == 0) (Some said.Reached) (cond (n == 1) (Some said.NotReached) (cond (n == 2) (Some said.Failed) None))

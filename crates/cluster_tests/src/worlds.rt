@@ -2,7 +2,8 @@
 //! another what that one has not said of itself, and once all is told to all they hold the same. A helper answers none or false
 //! where a growth was refused; the test then goes on with another world, once.
 ghost use Rattle.std.specs.Prelude.{◌≡◌, [], IfSome};
-ghost use Rattle.locked_node.specs.Passes.{Fits};
+ghost use Rattle.std.specs.List.{All};
+ghost use Rattle.locked_node.specs.Passes.{Fits, IsNew};
 
 use crate::fakes::{Echo, Fake, Mood};
 use crate::messages::{member, moment};
@@ -81,12 +82,22 @@ impl World {
     }
 }
 
-/// A node that is shared by one pass, and the list that the pass came in, now empty.
+/// A node that is shared by one pass of 99 turns.
+fn share(alloc: Global, node: NodeState<SumHash>) -> Option<(Shared, Vec<Caller>)>
+    ensures { IfSome result (λ r. All (IsNew r.0 99) r.1.items) }
+{
+    match LockedNode::new(alloc, node, 1, 99) {
+        Ok(made) => Some(made),
+        Err(_) => None,
+    }
+}
+
+/// The same, with its pass, and the list that the pass came in, now empty.
 fn lock(alloc: Global, node: NodeState<SumHash>) -> Option<(Shared, Caller, Vec<Caller>)>
     ensures fits { IfSome result (λ r. Fits r.0 r.1) }
     ensures room { IfSome result (λ r. r.2.items ≡ []) }
 {
-    let (shared, mut passes) = LockedNode::new(alloc, node, 1, 99).ok()?;
+    let (shared, mut passes) = share(alloc, node)?;
     let pass = passes.pop()?;
     passes.clear();
     Some((shared, pass, passes))

@@ -4,6 +4,16 @@
 #[cfg(test)]
 mod answers;
 #[cfg(test)]
+mod lines;
+#[cfg(test)]
+mod pairs;
+#[cfg(test)]
 mod peers;
+#[cfg(test)]
+mod plans;
+#[cfg(test)]
+mod servers;
+#[cfg(test)]
+mod shared;
 #[cfg(test)]
 mod tells;

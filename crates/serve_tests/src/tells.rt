@@ -27,7 +27,7 @@ const OF_SUSPECT: &str = "12e01587fa883c32c6b64e19957814e6c7120b69e8b68fbd3513c2
 
 /// A text, so many times, and then another. The reader fails after so many bytes.
 #[derive(Clone, Copy)]
-struct Lines {
+pub(crate) struct Lines {
     text: &'static [u8],
     times: usize,
     last: &'static [u8],
@@ -36,7 +36,7 @@ struct Lines {
 }
 
 impl Lines {
-    fn new(text: &'static str, times: usize, last: &'static str) -> Lines {
+    pub(crate) fn new(text: &'static str, times: usize, last: &'static str) -> Lines {
         Lines {
             text: text.as_bytes(),
             times,

@@ -1,0 +1,76 @@
+//! How servers of tests are to be.
+use change_core::{Address, Incarnation, Weight};
+use serve_core::{MOST_REQUESTS, ServeWords};
+use std::alloc::Global;
+
+/// More bytes than a server or a command ever writes here.
+pub(crate) const ALL: usize = 4096;
+
+/// A server at a port of 127.0.0.1, at incarnation 1.
+#[derive(Clone, Copy)]
+pub(crate) struct Plan {
+    pub(crate) port: u16,
+    pub(crate) requests: u64,
+    pub(crate) workers: u32,
+    /// Milliseconds, an hour at most.
+    pub(crate) period: u64,
+    pub(crate) sum: bool,
+    /// The port of the host that it joins, if any.
+    pub(crate) host: Option<u16>,
+    /// How long it waits for a line, in milliseconds; none for the standard waits.
+    pub(crate) line: Option<u64>,
+    /// How many bytes its writer takes.
+    pub(crate) room: usize,
+    /// How often it tries to listen.
+    pub(crate) tries: u32,
+}
+
+/// Two workers, no rounds and no host.
+pub(crate) fn plan_at(port: u16, requests: u64) -> Plan {
+    Plan {
+        port,
+        requests,
+        workers: 2,
+        period: 0,
+        sum: false,
+        host: None,
+        line: None,
+        room: ALL,
+        tries: 1,
+    }
+}
+
+/// A port of 127.0.0.1; none where it is 0.
+pub(crate) fn local(port: u16) -> Option<Address> {
+    Address::new(0x7f00_0001, port)
+}
+
+/// The hosts of a plan; none where there was no memory.
+fn hosts_of(alloc: Global, plan: &Plan) -> Option<Vec<Address>> {
+    let mut hosts = Vec::new(alloc);
+    if let Some(port) = plan.host {
+        hosts.push(local(port)?).ok()?;
+    }
+    Some(hosts)
+}
+
+/// The words of a plan; none where there was no memory, or there are no such words.
+pub(crate) fn words_of(alloc: Global, plan: &Plan) -> Option<ServeWords> {
+    let hosts = hosts_of(alloc, plan)?;
+    let (requests, workers, period) = (plan.requests, plan.workers, plan.period);
+    let are_words = requests >= 1 && requests <= MOST_REQUESTS && workers >= 1 && workers <= 16;
+    if !are_words || period > 3_600_000 || hosts.len() > 1 {
+        return None;
+    }
+    Some(ServeWords {
+        address: local(plan.port)?,
+        incarnation: Incarnation::new(1)?,
+        requests,
+        workers,
+        period,
+        replicas: 100,
+        weight: Weight::new(1)?,
+        sum: plan.sum,
+        hosts,
+    })
+}

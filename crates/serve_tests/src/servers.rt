@@ -1,0 +1,211 @@
+//! Servers from their words to their last connection.
+use crate::peers::Page;
+use crate::plans::{ALL, Plan, plan_at};
+use crate::shared::{Question, TRIES, answers, end, start, turn};
+use crate::tells::Lines;
+use change_core::Address;
+use serve_core::{
+    AskAnyWords, AskWords, ClusterCommand, Host, MembersWords, ServeFault, cluster_command_run,
+};
+use std::alloc::Global;
+use std::net::{Net, TcpListener, TcpStream};
+
+/// Two requests at a port that the system may have given to a connection, so that both sides try again.
+fn echoes_twice<R: Net<Listener = TcpListener, Stream = TcpStream> + Host>(
+    rt: &R,
+    alloc: Global,
+) -> bool {
+    let plan = Plan {
+        tries: TRIES,
+        ..plan_at(39_171, 2)
+    };
+    let Some(server) = start(rt, alloc, &plan) else {
+        return false;
+    };
+    let line = "127.0.0.1:39171 hi\n";
+    let is_served = answers(rt, alloc, &server, Question::Ask, line)
+        && answers(rt, alloc, &server, Question::Ask, line);
+    match end(rt, server, is_served) {
+        Some(ended) => ended.is(Ok(()), "serving 127.0.0.1:39171\ndone\n"),
+        None => false,
+    }
+}
+
+#[test]
+fn two_requests_are_echoed(rt: HostRuntime) {
+    let alloc: Global = rt.alloc();
+    let turn = turn(&rt).expect(&rt, "a turn");
+    assert!(&rt; echoes_twice(&rt, alloc) || echoes_twice(&rt, alloc));
+    drop(turn);
+}
+
+/// 127.0.0.1:1 has left at 1.
+const LEFT: &str =
+    "{\"address\":\"127.0.0.1:1\",\"incarnationNumber\":1,\"source\":\"127.0.0.1:1\",\"sourceIncarnationNumber\":1,\"status\":\"leave\"}\n";
+
+/// A server alone, as a change line.
+const ALONE: &str =
+    "{\"address\":\"127.0.0.1:29172\",\"incarnationNumber\":1,\"source\":\"127.0.0.1:29172\",\"sourceIncarnationNumber\":1,\"status\":\"alive\"}\n";
+
+/// Its members and their digest.
+const ALONE_FOLDED: &str =
+    "127.0.0.1:29172alive1\nf7b1ed7dcd92859900b46a000dd99c0086401418981c70a7f1a0ddb42015c244\n";
+
+/// Whether a command, with a change line as its input, writes this text.
+fn finishes<R: Net<Listener = TcpListener, Stream = TcpStream> + Host>(
+    rt: &R,
+    alloc: Global,
+    command: &ClusterCommand<'_>,
+    text: &str,
+) -> bool {
+    let mut reader = Lines::new(LEFT, 1, "");
+    let mut page = Page::new(alloc, ALL);
+    let ended = cluster_command_run(rt, alloc, command, &mut reader, &mut page);
+    ended.is_ok() && page.bytes.as_slice() == text.as_bytes()
+}
+
+/// Whether each command writes what it is to write of a server alone. They are five requests.
+fn all_finish<R: Net<Listener = TcpListener, Stream = TcpStream> + Host>(
+    rt: &R,
+    alloc: Global,
+    host: Address,
+) -> bool {
+    let (key, body) = ("k", "hi there");
+    let ask = ClusterCommand::Ask(AskWords {
+        address: host,
+        key,
+        body,
+    });
+    let ask_any = ClusterCommand::AskAny(AskAnyWords {
+        host,
+        replicas: 100,
+        sum: true,
+        key,
+        body,
+    });
+    let members = ClusterCommand::Members(MembersWords { host, lines: false });
+    let lines = ClusterCommand::Members(MembersWords { host, lines: true });
+    let echo = "127.0.0.1:29172 hi there\n";
+    finishes(rt, alloc, &ask, echo)
+        && finishes(rt, alloc, &members, ALONE_FOLDED)
+        && finishes(rt, alloc, &lines, ALONE)
+        && finishes(rt, alloc, &ClusterCommand::Tell(host), "2\n")
+        && finishes(rt, alloc, &ask_any, echo)
+}
+
+/// One request to wait for the server, and those of all commands.
+fn serves_commands<R: Net<Listener = TcpListener, Stream = TcpStream> + Host>(
+    rt: &R,
+    alloc: Global,
+) -> bool {
+    let plan = Plan {
+        sum: true,
+        ..plan_at(29_172, 7)
+    };
+    let Some(server) = start(rt, alloc, &plan) else {
+        return false;
+    };
+    let is_served = answers(rt, alloc, &server, Question::Members, ALONE_FOLDED)
+        && all_finish(rt, alloc, server.address);
+    match end(rt, server, is_served) {
+        Some(ended) => ended.is(Ok(()), "serving 127.0.0.1:29172\ndone\n"),
+        None => false,
+    }
+}
+
+#[test]
+fn each_command_is_served(rt: HostRuntime) {
+    let alloc: Global = rt.alloc();
+    let turn = turn(&rt).expect(&rt, "a turn");
+    assert!(&rt; serves_commands(&rt, alloc) || serves_commands(&rt, alloc));
+    drop(turn);
+}
+
+/// Whether a server of one request ends with it, so and with this text written.
+fn ends_with_one<R: Net<Listener = TcpListener, Stream = TcpStream> + Host>(
+    rt: &R,
+    alloc: Global,
+    plan: &Plan,
+    outcome: Result<(), ServeFault>,
+    text: &str,
+) -> bool {
+    let Some(server) = start(rt, alloc, plan) else {
+        return false;
+    };
+    let is_served = answers(rt, alloc, &server, Question::Ask, "127.0.0.1:29173 hi\n");
+    match end(rt, server, is_served) {
+        Some(ended) => ended.is(outcome, text),
+        None => false,
+    }
+}
+
+#[test]
+fn all_threads_end_with_the_last_request(rt: HostRuntime) {
+    let alloc: Global = rt.alloc();
+    let turn = turn(&rt).expect(&rt, "a turn");
+    let (serving, all) = (
+        "serving 127.0.0.1:29173\n",
+        "serving 127.0.0.1:29173\ndone\n",
+    );
+    let rows = [
+        (16, 0, ALL, Ok(()), all),
+        (2, 3_600_000, ALL, Ok(()), all),
+        (1, 1, ALL, Ok(()), all),
+        (2, 1, 24, Err(ServeFault::CannotWrite), serving),
+    ];
+    for (workers, period, room, outcome, text) in rows {
+        let plan = Plan {
+            workers,
+            period,
+            room,
+            ..plan_at(29_173, 1)
+        };
+        let is_ended = ends_with_one(&rt, alloc, &plan, outcome, text)
+            || ends_with_one(&rt, alloc, &plan, outcome, text);
+        assert!(&rt; is_ended, "{workers} workers, period {period}");
+    }
+    drop(turn);
+}
+
+/// Whether a server ends so before it serves, with so much written.
+fn ends_early<R: Net<Listener = TcpListener, Stream = TcpStream> + Host>(
+    rt: &R,
+    alloc: Global,
+    plan: &Plan,
+    fault: ServeFault,
+    text: &str,
+) -> bool {
+    let Some(server) = start(rt, alloc, plan) else {
+        return false;
+    };
+    match end(rt, server, true) {
+        Some(ended) => ended.is(Err(fault), text),
+        None => false,
+    }
+}
+
+#[test]
+fn faults_come_before_serving(rt: HostRuntime) {
+    let alloc: Global = rt.alloc();
+    let turn = turn(&rt).expect(&rt, "a turn");
+    let (own, nobody, taken) = (29_174, 29_179, 29_170);
+    let rows = [
+        (own, Some(own), ALL, ServeFault::NoneJoined, ""),
+        (own, Some(nobody), ALL, ServeFault::NoneJoined, ""),
+        (taken, Some(nobody), ALL, ServeFault::NoneJoined, ""),
+        (taken, None, ALL, ServeFault::CannotListen, ""),
+        (own, None, 0, ServeFault::CannotWrite, ""),
+        (own, None, 9, ServeFault::CannotWrite, "serving 1"),
+    ];
+    for (port, host, room, fault, text) in rows {
+        let plan = Plan {
+            host,
+            room,
+            ..plan_at(port, 1)
+        };
+        let is_ended = ends_early(&rt, alloc, &plan, fault, text)
+            || ends_early(&rt, alloc, &plan, fault, text);
+        assert!(&rt; is_ended, "{fault}");
+    }
+    drop(turn);
+}

@@ -56,7 +56,12 @@ fn ask<R: Wait + Abort>(
     room: usize,
 ) -> (Result<(), AskFault>, Vec<u8>, u32) {
     let asked = ask_once(rt, alloc, question, mood, room);
-    if matches!(&asked.0, Err(AskFault::NoMemory | AskFault::CannotWrite)) {
+    let is_starved = match &asked.0 {
+        Err(AskFault::NoMemory) => true,
+        Err(AskFault::CannotWrite) => asked.1.len() < room,
+        _ => false,
+    };
+    if is_starved {
         return ask_once(rt, alloc, question, mood, room);
     }
     asked

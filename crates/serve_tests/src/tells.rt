@@ -104,13 +104,16 @@ fn tell<R: Wait + Abort>(
 ) -> (Result<(), TellFault>, Vec<u8>, u32) {
     let host = Address::new(0x0a00_0001, 1).expect(rt, "an address");
     let told = tell_once(rt, alloc, host, lines, mood, room);
-    match &told.0 {
-        Err(
-            TellFault::AtLine(_, LineFault::OutOfMemory)
-            | TellFault::Asked(AskFault::NoMemory | AskFault::CannotWrite),
-        ) => tell_once(rt, alloc, host, lines, mood, room),
-        _ => told,
+    let is_starved = match &told.0 {
+        Err(TellFault::AtLine(_, LineFault::OutOfMemory) | TellFault::Asked(AskFault::NoMemory)) =>
+            { true }
+        Err(TellFault::Asked(AskFault::CannotWrite)) => told.1.len() < room,
+        _ => false,
+    };
+    if is_starved {
+        return tell_once(rt, alloc, host, lines, mood, room);
     }
+    told
 }
 
 /// A peer that answers a Join with this membership and this digest.

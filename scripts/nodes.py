@@ -1,0 +1,157 @@
+"""Nodes in processes of their own, and what scripts ask of them."""
+import argparse
+import json
+import os
+import pathlib
+import signal
+import socket
+import subprocess
+import sys
+import time
+
+ROOT = pathlib.Path(__file__).resolve().parent.parent
+PROGRAM = ROOT / "crates" / "ringpop_cli" / "out" / "ringpop_cli"
+# the digest of no members
+NOBODY = "e3b0c44298fc1c149afbf4c8996fb92427ae41e4649b934ca495991b7852b855"
+# the greatest number of connections that a node serves
+MOST = 1_000_000
+
+
+class Wrong(Exception):
+    """What was to be seen was not seen."""
+
+
+def words(text):
+    """The words of a script, the program among them; `text` is the script's."""
+    given = argparse.ArgumentParser(description=text.splitlines()[0])
+    given.add_argument("--program", type=pathlib.Path, default=PROGRAM)
+    return given
+
+
+def find(program):
+    if not program.is_file():
+        sys.exit(f"{program}: no program: run rt ci first, or rt run in crates/ringpop_cli")
+    return str(program.resolve())
+
+
+def address(port):
+    return f"127.0.0.1:{port}"
+
+
+def first_port():
+    """A port below those that the system gives to connections, and hardly another script's."""
+    return 12_000 + os.getpid() % 1_000 * 16
+
+
+class Node:
+    """A node as a process of its own, at a port of 127.0.0.1."""
+
+    def __init__(self, program, port, incarnation, hosts=(), period=200, more=()):
+        self.program, self.port, self.address = program, port, address(port)
+        line = [program, "serve", "--period", str(period), *more, self.address, str(incarnation), str(MOST)]
+        self.process = subprocess.Popen([*line, *map(address, hosts)], stdout=subprocess.PIPE, text=True)
+        said = self.process.stdout.readline()
+        if said != f"serving {self.address}\n":
+            raise Wrong(f"{self.address} says {said!r} and ends with {self.process.wait()}")
+
+    def is_up(self):
+        return self.process.poll() is None
+
+    def view(self):
+        return view(self.port)
+
+    def kill(self):
+        self.process.send_signal(signal.SIGKILL)
+        self.process.wait()
+        self.process.stdout.close()
+
+    def descriptors(self):
+        return len(os.listdir(f"/proc/{self.process.pid}/fd"))
+
+    def memory(self):
+        """How many KiB of memory it holds."""
+        for line in pathlib.Path(f"/proc/{self.process.pid}/status").read_text().splitlines():
+            if line.startswith("VmRSS:"):
+                return int(line.split()[1])
+        raise Wrong(f"{self.address} has no memory")
+
+
+def connect(port, seconds=5.0):
+    stream = socket.create_connection(("127.0.0.1", port), seconds)
+    stream.settimeout(seconds)
+    return stream
+
+
+def rest(stream):
+    """All that comes until the other side hangs up."""
+    came = b""
+    try:
+        while more := stream.recv(65_536):
+            came += more
+    except ConnectionResetError:
+        pass
+    return came
+
+
+def call(port, message, seconds=5.0):
+    """The answer to a message, or None where the other side hangs up without one."""
+    with connect(port, seconds) as stream:
+        stream.sendall(json.dumps(message).encode() + b"\n")
+        answer = rest(stream)
+    return json.loads(answer) if answer else None
+
+
+def message(kind, **more):
+    return {"kind": kind, "source": "0.0.0.0:1", "sourceIncarnationNumber": 0, **more}
+
+
+def request(key, body):
+    return message("forward", keys=[key], body=body)
+
+
+def view(port, seconds=5.0):
+    """The digest that a node tells, and its members: address to incarnation and status."""
+    answer = call(port, message("join", checksum=NOBODY, changes=[]), seconds)
+    if not answer or answer["kind"] != "joined":
+        raise Wrong(f"{address(port)} answers {answer}")
+    held = {told["address"]: (told["incarnationNumber"], told["status"]) for told in answer["changes"]}
+    return answer["checksum"], held
+
+
+def run(program, *given, text=""):
+    """What a command writes."""
+    ran = subprocess.run([program, *given], input=text, capture_output=True, text=True, timeout=60)
+    if ran.returncode:
+        raise Wrong(f"{' '.join(given)}: {ran.stderr.strip()}")
+    return ran.stdout
+
+
+def until(what, seconds, ports, is_so):
+    """Waits until `is_so` holds of the views of the nodes at all ports, and tells how long that took."""
+    begun = time.monotonic()
+    while True:
+        views = [view(port) for port in ports]
+        spent = time.monotonic() - begun
+        if spent > seconds:
+            raise Wrong(f"not {what} within {seconds} s: {views}")
+        if is_so(views):
+            print(f"{what} after {spent:.2f} s", flush=True)
+            return
+        time.sleep(0.01)
+
+
+def agree(views):
+    """Whether all tell the same members, each of them alive."""
+    digests = {digest for digest, _ in views}
+    return len(digests) == 1 and all(status == "alive" for _, status in views[0][1].values())
+
+
+def judged(script, *given):
+    """Runs a script, says whether it passed, and ends with its status."""
+    name = pathlib.Path(sys.argv[0]).name
+    try:
+        script(*given)
+    except (Wrong, OSError, subprocess.TimeoutExpired) as fault:
+        print(f"{name}: FAILED: {fault}")
+        sys.exit(1)
+    print(f"{name}: passed")

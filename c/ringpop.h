@@ -5,7 +5,8 @@
 
    What C owes, which nothing checks:
    - A handle is RINGPOP_NODE_EMPTY at first. Only the library writes its members; a full one is never copied.
-   - One call at a time uses a handle, look-ups too, and always from the thread that made its node.
+   - One call at a time uses a handle, look-ups too. Another thread may make the next call, where a lock, a start or join of
+     a thread, or a sequentially consistent atomic puts it after the last: that a handle may go to it is proved.
    - No pointer is null, also where its length is 0; each points to as many bytes as are said, of which none overlap in a call.
    - malloc, realloc and free are one allocator's, and align a block to each power of two up to 16 that divides its size.
    - No call from a signal handler, or from the forked child of a process with threads. */

@@ -29,6 +29,9 @@ impl Model for At {
     ghost also_owns = { λ h. handle_owns h.heap h.at h.value };
 }
 
+// It owns nothing, or a box of a node, and both may go to another thread.
+unsafe impl Send for At {}
+
 impl At {
     /// The handle of a box.
     fn of_parts(parts: Parts<Served, Global>) -> At
@@ -106,4 +109,12 @@ pub(crate) fn is_full(node: &RingpopNode) -> bool
     ensures { result ≡ is_some node.now.at.value }
 {
     node.full
+}
+
+/// Takes a type whose values may go to another thread.
+fn takes_send<T: Send>() {}
+
+/// A handle may go to another thread, one call at a time.
+pub fn may_move() {
+    takes_send::<RingpopNode>();
 }

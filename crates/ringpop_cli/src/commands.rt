@@ -69,8 +69,8 @@ Examples:
                                                  a second one, which joins the first and gossips each 200 milliseconds
 
 Exit status: 0 if all went well; 1 if a line is at fault, if no node answers as it was asked, if a node is let in by no host,
-cannot listen or has no thread, or if reading, writing or memory failed; 2 if the words are refused, an address among them, or ask for help or the version, which go to standard
-error."#;
+cannot listen or has no thread, or if reading, writing or memory failed; 2 if the words are refused, an address among them,
+or ask for help or the version, which go to standard error."#;
 
 /// What stands below the help of `sim`.
 const BELOW_SIM: &str =

@@ -66,7 +66,12 @@ class Node:
         self.process.stdout.close()
 
     def descriptors(self):
-        return len(os.listdir(f"/proc/{self.process.pid}/fd"))
+        """How many descriptors it holds between its rounds, which have a link of their own."""
+        seen = []
+        for _ in range(50):
+            seen.append(len(os.listdir(f"/proc/{self.process.pid}/fd")))
+            time.sleep(0.01)
+        return min(seen)
 
     def memory(self):
         """How many KiB of memory it holds."""

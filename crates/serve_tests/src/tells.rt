@@ -94,7 +94,17 @@ fn tell_once<R: Wait>(
     (ended, page.bytes, peer.calls)
 }
 
-/// The same, and once more where there was no memory.
+/// Whether a growth may have been refused; `is_short` where less was written than the writer takes.
+fn is_starved(ended: &Result<(), TellFault>, is_short: bool) -> bool {
+    match ended {
+        Err(TellFault::AtLine(_, LineFault::OutOfMemory)) => true,
+        Err(TellFault::Asked(AskFault::NoMemory)) => true,
+        Err(TellFault::Asked(AskFault::CannotWrite)) => is_short,
+        _ => false,
+    }
+}
+
+/// The same, and once more where there was no memory; a peer may have none each time, so that a line is then read a third time.
 fn tell<R: Wait + Abort>(
     rt: &R,
     alloc: Global,
@@ -104,16 +114,14 @@ fn tell<R: Wait + Abort>(
 ) -> (Result<(), TellFault>, Vec<u8>, u32) {
     let host = Address::new(0x0a00_0001, 1).expect(rt, "an address");
     let told = tell_once(rt, alloc, host, lines, mood, room);
-    let is_starved = match &told.0 {
-        Err(TellFault::AtLine(_, LineFault::OutOfMemory) | TellFault::Asked(AskFault::NoMemory)) =>
-            { true }
-        Err(TellFault::Asked(AskFault::CannotWrite)) => told.1.len() < room,
-        _ => false,
-    };
-    if is_starved {
+    if !is_starved(&told.0, told.1.len() < room) {
+        return told;
+    }
+    let again = tell_once(rt, alloc, host, lines, mood, room);
+    if matches!(&again.0, Err(TellFault::AtLine(_, LineFault::OutOfMemory))) {
         return tell_once(rt, alloc, host, lines, mood, room);
     }
-    told
+    again
 }
 
 /// A peer that answers a Join with this membership and this digest.

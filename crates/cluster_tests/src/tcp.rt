@@ -196,6 +196,23 @@ fn what_is_no_answer_is_a_fault(rt: HostRuntime) {
     }
 }
 
+#[test]
+fn an_answer_may_be_cut_anywhere(rt: HostRuntime) {
+    let alloc: Global = rt.alloc();
+    let limits = Limits::standard();
+    let ping = ping(&rt, alloc);
+    let mut line = ack_line(&rt, alloc);
+    let _newline = line.pop();
+    let whole = call(&rt, alloc, limits, &ping, AT_ONCE, line.as_slice());
+    assert!(&rt; whole.answer.is_ok() && whole.failures == 0);
+    for _ in 1..line.len() {
+        let _last = line.pop();
+        let called = call(&rt, alloc, limits, &ping, AT_ONCE, line.as_slice());
+        let fault = LinkError::Wire(WireError::BadJson);
+        assert!(&rt; called.answer.err() == Some(fault) && called.failures == 0);
+    }
+}
+
 /// A fifth of a second for a ping, and a minute for all else.
 fn short_pings() -> Limits {
     let minute = Duration::from_secs(60);

@@ -366,10 +366,13 @@ fn three_hosts(rt: &impl Abort, alloc: Global) -> Vec<Address>
     ensures { vec_len result ≡ 3 }
 {
     let other = Address::new(0x0a00_0002, 7946).expect(rt, "an address");
-    match vec![in alloc; other, local(rt), local(rt)] {
-        Ok(hosts) => hosts,
-        Err(_) => panic!(rt; "out of memory"),
+    if let Ok(hosts) = vec![in alloc; other, local(rt), local(rt)] {
+        return hosts;
     }
+    let Ok(hosts) = vec![in alloc; other, local(rt), local(rt)] else {
+        panic!(rt; "out of memory")
+    };
+    hosts
 }
 
 #[test]

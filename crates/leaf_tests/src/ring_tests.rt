@@ -216,6 +216,13 @@ fn sha256_begins_with_eight_bytes(rt: HostRuntime) -> Result<(), Fail> {
     Ok(())
 }
 
+fn server(text: &str, number: u8) -> Result<Server, Fail> {
+    Ok(Server {
+        address: address(text)?,
+        weight: weight(number)?,
+    })
+}
+
 /// A ring of these servers at once, at the second try where the first was refused.
 fn at_once<H: PointHash>(alloc: Global, hash: H, servers: &[Server]) -> Result<Ring<H>, Fail> {
     match Ring::with_servers(alloc, hash, 2, servers) {
@@ -226,13 +233,7 @@ fn at_once<H: PointHash>(alloc: Global, hash: H, servers: &[Server]) -> Result<R
 
 #[test]
 fn a_ring_of_many_servers_at_once(rt: HostRuntime) -> Result<(), Fail> {
-    let mut servers = Vec::with_capacity(rt.alloc(), 4)?;
-    for (text, number) in [(C, 1), (B, 8), (A, 1), (B, 3)] {
-        servers.push(Server {
-            address: address(text)?,
-            weight: weight(number)?,
-        })?;
-    }
+    let servers = [server(C, 1)?, server(B, 8)?, server(A, 1)?, server(B, 3)?];
     let ring = at_once(rt.alloc(), SumHash, &servers)?;
     assert!(rt; ring.len() == 3 && ring.weight(address(B)?) == Weight::new(3));
     check_rows(

@@ -31,6 +31,24 @@ const AT_ONCE: Drip = Drip {
     rest: Duration::ZERO,
 };
 
+/// A minute for each call, so that a busy machine fails none.
+fn patient() -> Limits {
+    let minute = Duration::from_secs(60);
+    Limits {
+        ping: minute,
+        helper: minute,
+        other: minute,
+    }
+}
+
+/// The same, but a fifth of a second for a ping.
+fn short_pings() -> Limits {
+    Limits {
+        ping: Duration::from_millis(200),
+        ..patient()
+    }
+}
+
 /// The next line; none where a growth was refused, or nothing came.
 fn heard<S: Read + Drop>(alloc: Global, stream: S) -> Option<Vec<u8>> {
     let mut reader = BufReader::new(alloc, stream).ok()?;
@@ -64,7 +82,7 @@ fn answer_once<R: Clock>(
 
 /// Connects and hangs up, so that a peer that waits still is done.
 fn knock<R: Net<Listener = TcpListener, Stream = TcpStream>>(rt: &R, to: Address) {
-    let wait = Duration::from_secs(1);
+    let wait = Duration::from_secs(10);
     let _stream = TcpStream::connect_timeout(rt, &socket_address(to), wait);
 }
 
@@ -161,14 +179,7 @@ fn a_line_goes_out_and_a_line_comes_back(rt: HostRuntime) {
     let alloc: Global = rt.alloc();
     let line = ack_line(&rt, alloc);
     let ping = ping(&rt, alloc);
-    let called = call(
-        &rt,
-        alloc,
-        Limits::standard(),
-        &ping,
-        AT_ONCE,
-        line.as_slice(),
-    );
+    let called = call(&rt, alloc, patient(), &ping, AT_ONCE, line.as_slice());
     let answer = called.answer.ok().expect(&rt, "an answer");
     assert!(&rt; answer.source == member(&rt, 3) && matches!(&answer.content, Content::Ack(_)));
     assert!(&rt; called.failures == 0);
@@ -187,7 +198,7 @@ fn what_is_no_answer_is_a_fault(rt: HostRuntime) {
             0,
         ),
     ];
-    let limits = Limits::standard();
+    let limits = patient();
     let ping = ping(&rt, rt.alloc());
     for (text, fault, counted) in rows {
         let text = text.as_bytes();
@@ -199,7 +210,7 @@ fn what_is_no_answer_is_a_fault(rt: HostRuntime) {
 #[test]
 fn an_answer_may_be_cut_anywhere(rt: HostRuntime) {
     let alloc: Global = rt.alloc();
-    let limits = Limits::standard();
+    let limits = patient();
     let ping = ping(&rt, alloc);
     let mut line = ack_line(&rt, alloc);
     let _newline = line.pop();
@@ -210,16 +221,6 @@ fn an_answer_may_be_cut_anywhere(rt: HostRuntime) {
         let called = call(&rt, alloc, limits, &ping, AT_ONCE, line.as_slice());
         let fault = LinkError::Wire(WireError::BadJson);
         assert!(&rt; called.answer.err() == Some(fault) && called.failures == 0);
-    }
-}
-
-/// A fifth of a second for a ping, and a minute for all else.
-fn short_pings() -> Limits {
-    let minute = Duration::from_secs(60);
-    Limits {
-        ping: Duration::from_millis(200),
-        helper: minute,
-        other: minute,
     }
 }
 
@@ -271,8 +272,7 @@ fn an_answer_may_be_too_long(rt: HostRuntime) {
     let alloc: Global = rt.alloc();
     let endless = letters(&rt, alloc, 1_048_577);
     let request = message(&rt, 9, Content::NotOwner);
-    let limits = short_pings();
-    let called = call(&rt, alloc, limits, &request, AT_ONCE, endless.as_slice());
+    let called = call(&rt, alloc, patient(), &request, AT_ONCE, endless.as_slice());
     let too_long = LinkError::Wire(WireError::LineTooLong);
     assert!(&rt; called.answer.err() == Some(too_long) && called.failures == 0);
 }

@@ -9,5 +9,6 @@ pub mod Members
 pub mod Numbers
 pub mod Numeral
 pub mod Order
+pub mod Printing
 pub mod Refutation
 pub mod Status

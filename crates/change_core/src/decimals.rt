@@ -1,8 +1,8 @@
 //! Decimal numbers as texts write them.
-ghost use Rattle.std.specs.Prelude.{◌≡◌, ℕ, ◌^◌, ◌<◌, ◌≤◌, IfSome, IsTrue, ◌↔◌, Some};
+ghost use Rattle.std.specs.Prelude.{◌≡◌, ℕ, List, ◌+◌, ◌∷◌, ◌++◌, ◌^◌, ◌<◌, ◌≤◌, IfSome, IsSomeAnd, IsTrue, ◌↔◌, Some, None};
 ghost use Rattle.std.specs.Fmt.{decimal};
 ghost use Rattle.change_core.specs.Numbers.{greatest_number};
-ghost use Rattle.change_core.specs.Numeral.{IsPlain, number_text};
+ghost use Rattle.change_core.specs.Numeral.{IsPlain, StopsDigits, number_text};
 
 use crate::numbers::GREATEST_NUMBER;
 
@@ -20,7 +20,7 @@ pub fn read_number(text: &str) -> Option<u64>
 }
 
 /// Reads a number of 64 bits in decimal, with no sign and no leading zero.
-pub(crate) fn read_decimal(text: &str) -> Option<u64>
+fn read_decimal(text: &str) -> Option<u64>
     ensures read { IfSome result (λ n. (n < 2 ^ 64) × (text.now ≡ decimal n)) }
     ensures exact { (n : ℕ) → n < 2 ^ 64 → text.now ≡ decimal n → result ≡ Some n }
 {
@@ -41,4 +41,46 @@ fn is_plain(bytes: &[u8]) -> bool
         return false;
     }
     bytes[0] != b'+' && (bytes[0] != b'0' || bytes.len() == 1)
+}
+
+/// The value of the digit at the front, and what stands behind it.
+#[inline(always)]
+fn first_digit(bytes: &[u8]) -> Option<(u32, &[u8])>
+    ensures digit { IfSome result (λ p. (p.0 < 10) × (bytes.now ≡ (48 + p.0) ∷ p.1.now)) }
+    ensures none { result ≡ None → StopsDigits bytes.now }
+{
+    if bytes.is_empty() || bytes[0] < b'0' || bytes[0] > b'9' {
+        return None;
+    }
+    Some((u32::from(bytes[0] - b'0'), &bytes[1..]))
+}
+
+/// Reads the number at the front in decimal, as far as digits go, and gives what stands behind it; a zero in front is read
+/// alone, so that no number has leading zeros. None where no digit stands in front, and where the number is over `most`.
+#[inline(always)]
+pub(crate) fn read_front(bytes: &[u8], most: u32) -> Option<(u32, &[u8])>
+    requires { most < 2 ^ 16 }
+    ensures read { IfSome result (λ p. (p.0 ≤ most) × (bytes.now ≡ decimal p.0 ++ p.1.now)) }
+    ensures exact { (n : ℕ) (rest : List ℕ) → n ≤ most → StopsDigits rest → bytes.now ≡ decimal n ++ rest
+        → IsSomeAnd result (λ p. (p.0 ≡ n) × (p.1.now ≡ rest)) }
+{
+    let mut number = 0u32;
+    let mut rest = bytes;
+    'digits: loop {
+        let Some((digit, behind)) = first_digit(rest) else {
+            break 'digits;
+        };
+        number = 10 * number + digit;
+        rest = behind;
+        if number == 0 {
+            return Some((0, rest));
+        }
+        if number > most {
+            return None;
+        }
+    }
+    if number == 0 {
+        return None;
+    }
+    Some((number, rest))
 }

@@ -10,8 +10,7 @@ ghost use Rattle.wire_json.specs.Sending.{Sends};
 
 use crate::errors::WireError;
 use crate::fields::Field;
-use crate::fixed_texts::AddressText;
-use change_core::{Address, Incarnation};
+use change_core::{Address, AddressText, Incarnation};
 use serde::{Serialize, Serializer};
 use std::alloc::Global;
 

@@ -1,7 +1,7 @@
 use Rattle.std.proofs.Common.{◌≡◌, ◌/◌, ◌++◌, ◌∙◌, ap, decimal, arith}
-use Rattle.wire_json.specs.Printing.{upto}
-use Rattle.wire_json.proofs.Decimals.{upto_start, decimal_upto}
-use Rattle.wire_json.proofs.fixed_texts.AddressText.push_octet.Goals as goal
+use Rattle.change_core.specs.Printing.{upto}
+use Rattle.change_core.proofs.DecimalTexts.{upto_start, decimal_upto}
+use Rattle.change_core.proofs.fixed_texts.AddressText.push_octet.Goals as goal
 
 pub returns-clause-text : goal.returns-clause-text
 returns-clause-text c =

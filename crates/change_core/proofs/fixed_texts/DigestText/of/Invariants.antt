@@ -1,7 +1,7 @@
 use Rattle.std.proofs.Common.{◌≡◌, ◌<◌, ◌*◌, length, take}
 use Rattle.std.specs.List.{All}
 use Rattle.change_core.specs.Digest.{digest_digits}
-use Rattle.wire_json.proofs.fixed_texts.DigestText.of.Given as goal
+use Rattle.change_core.proofs.fixed_texts.DigestText.of.Given as goal
 
 abbrev pub invariant-loop-byte : goal.invariant-loop-byte
 invariant-loop-byte l = record {

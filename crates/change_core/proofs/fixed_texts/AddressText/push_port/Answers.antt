@@ -1,7 +1,7 @@
 use Rattle.std.proofs.Common.{◌/◌, ◌++◌, ◌∙◌, ap, arith}
-use Rattle.wire_json.specs.Printing.{upto}
-use Rattle.wire_json.proofs.Decimals.{upto_start, decimal_upto}
-use Rattle.wire_json.proofs.fixed_texts.AddressText.push_port.Goals as goal
+use Rattle.change_core.specs.Printing.{upto}
+use Rattle.change_core.proofs.DecimalTexts.{upto_start, decimal_upto}
+use Rattle.change_core.proofs.fixed_texts.AddressText.push_port.Goals as goal
 
 pub returns : goal.returns
 returns c =

@@ -3,9 +3,10 @@ ghost use Rattle.std.specs.Prelude.{◌≡◌, ℕ, List, ◌+◌, ◌*◌, ◌/
 ghost use Rattle.std.specs.Fmt.{decimal};
 ghost use Rattle.change_core.specs.Address.{IsAddress, address_text};
 ghost use Rattle.change_core.specs.Digest.{IsDigest, digest_digits, hex_digit};
-ghost use Rattle.wire_json.specs.Printing.{upto};
+ghost use Rattle.change_core.specs.Printing.{upto};
 
-use change_core::{Address, Digest};
+use crate::addresses::Address;
+use crate::digests::Digest;
 use std::marker::Model;
 
 /// How many bytes the longest address has, `255.255.255.255:65535`.
@@ -14,9 +15,10 @@ const ADDRESS_BYTES: usize = 21;
 /// How many bytes the digits of a digest have.
 const DIGEST_BYTES: usize = 64;
 
-/// The text of an address, which takes no memory.
+/// The one text of an address, as `Address::text` gives it, in a buffer of 21 bytes: it takes no memory. Contracts see its
+/// bytes.
 #[derive(Drop)]
-pub(crate) struct AddressText {
+pub struct AddressText {
     bytes: [u8; ADDRESS_BYTES],
     len: usize,
 }
@@ -30,8 +32,8 @@ impl Model for AddressText {
 }
 
 impl AddressText {
-    /// The text of the address.
-    pub(crate) fn of(address: Address) -> Self
+    /// The text of the address: four numbers joined by '.', then ':' and the port, at most 21 bytes.
+    pub fn of(address: Address) -> Self
         ensures text { result ≡ address_text address }
         ensures valid { IsAddress address }
     {
@@ -50,7 +52,7 @@ impl AddressText {
     }
 
     /// The text, lent.
-    pub(crate) fn as_str(&self) -> &str
+    pub fn as_str(&self) -> &str
         ensures { result.now ≡ self.now }
     {
         unsafe { std::str::from_utf8_unchecked(&self.bytes[..self.len]) }
@@ -68,7 +70,7 @@ impl AddressText {
 
     /// Adds the last digit of a number, unless that is 0: the digits of a number, one after another.
     #[inline(always)]
-    #[tactic(auto, using(crate::proofs::Decimals::upto_step, crate::proofs::Decimals::upto_none))]
+    #[tactic(auto, using(crate::proofs::DecimalTexts::upto_step, crate::proofs::DecimalTexts::upto_none))]
     fn push_digit(&mut self, number: u16)
         requires { length self.old < 21 }
         ensures digits { (front : List ℕ) → self.old ≡ front ++ upto (number / 10)
@@ -120,7 +122,7 @@ impl AddressText {
 
     /// Adds an address's text: four numbers joined by dots, a colon and the port.
     #[inline(always)]
-    #[tactic(auto, using(crate::proofs::Decimals::text_parts))]
+    #[tactic(auto, using(crate::proofs::DecimalTexts::text_parts))]
     fn push_address(&mut self, address: Address)
         requires { length self.old ≡ 0 }
         ensures text { self.new ≡ self.old ++ address_text address }
@@ -136,9 +138,10 @@ impl AddressText {
     }
 }
 
-/// The digits of a digest, which take no memory.
+/// The one text of a digest, as `Digest::text` gives it, in a buffer of 64 bytes: it takes no memory. Contracts see its
+/// bytes.
 #[derive(Drop)]
-pub(crate) struct DigestText {
+pub struct DigestText {
     bytes: [u8; DIGEST_BYTES],
     len: usize,
 }
@@ -152,8 +155,8 @@ impl Model for DigestText {
 }
 
 impl DigestText {
-    /// The digits of the digest.
-    pub(crate) fn of(digest: &Digest) -> Self
+    /// The text of the digest: 64 lower-case hexadecimal digits.
+    pub fn of(digest: &Digest) -> Self
         ensures text { result ≡ digest_digits digest.now.bytes }
         ensures valid { IsDigest digest.now.bytes }
     {
@@ -174,7 +177,7 @@ impl DigestText {
     }
 
     /// The text, lent.
-    pub(crate) fn as_str(&self) -> &str
+    pub fn as_str(&self) -> &str
         ensures { result.now ≡ self.now }
     {
         unsafe { std::str::from_utf8_unchecked(&self.bytes[..self.len]) }

@@ -6,9 +6,9 @@ use Rattle.change_core.specs.IpText.{address_decimals}
 use Rattle.change_core.proofs.AddressTexts.{address_text-decimals}
 use Rattle.std.proofs.lemmas.Bool.{cases_order}
 use Rattle.std.proofs.lemmas.Fmt.{decimal_step, decimal_digit, length-decimal-le}
-use Rattle.wire_json.specs.Printing.{upto}
+use Rattle.change_core.specs.Printing.{upto}
 
-upto_is : (n : ℕ) → 0 < n → upto n ≡ decimal n
+pub upto_is : (n : ℕ) → 0 < n → upto n ≡ decimal n
 upto_is zero h = absurd (omega arith)
 upto_is (suc n) h = refl
 
@@ -36,7 +36,7 @@ decimal_last n small = elim (cases_order n 10) [
   ]
 ]
 
-upto_more : (n : ℕ) → 0 < n → n < 2 ^ 32 → upto n ≡ upto (n / 10) ++ (48 + n % 10) ∷ []
+pub upto_more : (n : ℕ) → 0 < n → n < 2 ^ 32 → upto n ≡ upto (n / 10) ++ (48 + n % 10) ∷ []
 upto_more n some small = upto_is n some ∙ decimal_last n small
 
 -- the text of an address, part by part

@@ -1,9 +1,13 @@
 -- The first servers of a list of points, up to a count, and those of a ring.
-use Rattle.std.proofs.Common.{◌≡◌, ℕ, zero, suc, ◌+◌, ◌^◌, ◌<◌, ◌≤◌, true, false, List, [], ◌∷◌, ◌++◌, take, drop, length, get_or, ◌-◌, ap, sym, ◌∙◌, subst, inl, inr, arith, append_assoc, length-take, min}
-use Rattle.std.proofs.lemmas.List.{length-map, take_all, take-append-le, take-append-drop, append-nil, drop_more, take_rest}
+use Rattle.std.proofs.Common.{◌≡◌, ℕ, zero, suc, ◌+◌, ◌^◌, ◌<◌, ◌≤◌, true, false, List, [], ◌∷◌, ◌++◌, take, drop, length, get_or, ap, sym, ◌∙◌, subst, inl, inr, arith, append_assoc, length-take, length-append, min}
+use Rattle.std.proofs.lemmas.List.{length-map, take_all, take-append-le, take-append-drop, append-nil, drop_more}
 use Rattle.std.proofs.lemmas.Bool.{cases_lt}
 use Rattle.change_core.specs.declared.addresses.Address.{Address}
-use Rattle.hash_ring.specs.Steps.{firsts, has}
+use Rattle.std.specs.Ordering.{nat_cmp}
+use Rattle.change_core.proofs.Ascends.{address_exact}
+use Rattle.change_core.proofs.Order.{in_put, put_new, put_old, put_ascends, in_append, in_append_left, in_append_right}
+use Rattle.hash_ring.proofs.Placed.{put_there}
+use Rattle.hash_ring.specs.Steps.{firsts, has, IsSorted}
 use Rattle.hash_ring.specs.declared.points.Point.{Point}
 use Rattle.hash_ring.specs.declared.servers.Server.{Server}
 use Rattle.std.specs.declared.cmp.Ordering.{Ordering}
@@ -12,7 +16,7 @@ use Rattle.change_core.specs.Ascending.{put, ascending, In}
 use Rattle.hash_ring.specs.Servers.{addresses_of, address_of_server}
 use Rattle.hash_ring.specs.Points.{by_distance, owners}
 use Rattle.hash_ring.specs.RingModel.{IsRing}
-use Rattle.hash_ring.proofs.Firsts.{firsts_seen, firsts_new, test_cases}
+use Rattle.hash_ring.proofs.Firsts.{firsts_seen, firsts_new, test_cases, has_in, in_has}
 use Rattle.hash_ring.proofs.Walk.{walk_owners}
 
 pub firsts-append : (named : List Address) (xs ys : List Point) → firsts named (xs ++ ys) ≡ firsts named xs ++ firsts (named ++ firsts named xs) ys
@@ -74,11 +78,11 @@ named_more_new n named new ps i x at low h e =
     ∙ ap (take n) (sym (named_new named x (drop (i + 1) ps) h) ∙ ap (λ qs. named ++ firsts named qs) (ap (λ p. p ∷ drop (i + 1) ps) at ∙ sym (drop_more ps i x low)))
 
 -- the points from i on, and then those before
-pub named_around : (n i : ℕ) (ps ps2 ps3 : List Point) (none some all : List Address) → none ≡ [] → ps2 ≡ ps → ps3 ≡ ps → some ≡ take n (none ++ firsts none (take (length ps2 - i) (drop i ps2))) → all ≡ take n (some ++ firsts some (take i ps3)) → all ≡ take n (firsts [] (drop i ps ++ take i ps))
-named_around n i ps ps2 ps3 none some all e f g h k =
+pub named_around : (n i : ℕ) (ps front back : List Point) (none some all : List Address) → none ≡ [] → front ≡ take i ps → back ≡ drop i ps → some ≡ take n (none ++ firsts none back) → all ≡ take n (some ++ firsts some front) → all ≡ take n (firsts [] (drop i ps ++ take i ps))
+named_around n i ps front back none some all e f g h k =
     named_in_parts n (drop i ps) (take i ps) some all
-    (h ∙ (ap (λ z. take n (z ++ firsts z (take (length ps2 - i) (drop i ps2)))) e ∙ ap (λ qs. take n (firsts [] qs)) (take_rest ps2 i ∙ ap (drop i) f)))
-    (k ∙ ap (λ qs. take n (some ++ firsts some (take i qs))) g)
+    (h ∙ (ap (λ z. take n (z ++ firsts z back)) e ∙ ap (λ qs. take n (firsts [] qs)) g))
+    (k ∙ ap (λ qs. take n (some ++ firsts some qs)) f)
 
 length-put : {K : Type 0} (R : K → K → Ordering) (x : K) (ys : List K) → length (put R x ys) ≤ length ys + 1
 length-put R x [] = omega arith
@@ -99,3 +103,41 @@ owners_enough hash replicas servers key count n e =
       | inl less ↦ let same : n ≡ count = omega arith in ap (λ k. take k all) same
       | inr le ↦ take_all n all (omega arith) ∙ sym (take_all count all (omega (arith, few, le)))
     ]
+
+-- ---- those named, sorted
+
+pub IsSorted-none : (named sorted : List Address) → named ≡ [] → sorted ≡ [] → IsSorted named sorted
+IsSorted-none named sorted e f = subst (λ ns. IsSorted ns sorted) (sym e) (subst (IsSorted []) (sym f) (record {
+  ascends = tt;
+  listed = λ a h. h;
+  all = λ a h. h;
+  fits = omega arith;
+}))
+
+-- a server that is not there is named, and put in
+pub IsSorted-put : (a : Address) (named new sorted after : List Address) → IsSorted named sorted → new ≡ named ++ a ∷ [] → after ≡ put nat_cmp a sorted → IsSorted new after
+IsSorted-put a named new sorted after is e f =
+    subst (λ ns. IsSorted ns after) (sym e) (subst (IsSorted (named ++ a ∷ [])) (sym f) (record {
+      ascends = put_ascends address_exact a sorted is.ascends;
+      listed = λ b h. elim (in_put address_exact a b sorted h) [
+        | inl q ↦ in_append_right b named (a ∷ []) (inl q)
+        | inr k ↦ in_append_left b named (a ∷ []) (is.listed b k)
+      ];
+      all = λ b h. elim (in_append b named (a ∷ []) h) [
+        | inl k ↦ put_old address_exact a b sorted (is.all b k)
+        | inr (inl q) ↦ subst (λ c. In c (put nat_cmp a sorted)) (sym q) (put_new address_exact a sorted)
+        | inr (inr n) ↦ absurd n
+      ];
+      fits = omega (arith, length-put nat_cmp a sorted, is.fits, length-append named (a ∷ []));
+    }))
+
+-- and one that is there changes nothing
+pub IsSorted-there : (a : Address) (named new sorted after : List Address) → IsSorted named sorted → In a sorted → new ≡ named → after ≡ put nat_cmp a sorted → IsSorted new after
+IsSorted-there a named new sorted after is h e f =
+    subst (λ ns. IsSorted ns after) (sym e) (subst (IsSorted named) (sym (f ∙ put_there address_exact a sorted is.ascends h)) is)
+
+pub has_sorted : (named sorted : List Address) (a : Address) → IsSorted named sorted → In a sorted → has named a ≡ true
+has_sorted named sorted a is h = in_has named a (is.listed a h)
+
+pub has_unsorted : (named sorted : List Address) (a : Address) → IsSorted named sorted → ¬ In a sorted → has named a ≡ false
+has_unsorted named sorted a is n = test_cases _ (has named a) (λ t. absurd (n (is.all a (has_in named a t)))) (λ f. f)

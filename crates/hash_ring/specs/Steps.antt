@@ -1,9 +1,10 @@
 -- Words of private functions alone: no public clause cites them.
-use Rattle.std.specs.Prelude.{ℕ, ◌<◌, ◌≤◌, Bool, List, [], ◌∷◌, ◌++◌, if◌then◌else◌}
+use Rattle.std.specs.Prelude.{ℕ, ◌<◌, ◌≤◌, Bool, List, [], ◌∷◌, ◌++◌, length, if◌then◌else◌}
 use Rattle.std.specs.List.{list_any}
 use Rattle.change_core.specs.declared.addresses.Address.{Address}
 use Rattle.hash_ring.specs.declared.points.Point.{Point}
-use Rattle.change_core.specs.Ascending.{In}
+use Rattle.std.specs.Ordering.{nat_cmp}
+use Rattle.change_core.specs.Ascending.{In, IsAscending}
 use Rattle.hash_ring.specs.Servers.{is_same}
 
 -- as `contains` of a list of addresses tests
@@ -21,3 +22,10 @@ IsBelow h ps = (p : Point) → In p ps → p.hash < h
 
 abbrev pub IsFrom : ℕ → List Point → Type 0
 IsFrom h ps = (p : Point) → In p ps → h ≤ p.hash
+
+-- those named, each once and in the order of addresses
+pub record IsSorted (named sorted : List Address) : Type 0 where
+  pub ascends : IsAscending nat_cmp sorted
+  pub listed : (a : Address) → In a sorted → In a named
+  pub all : (a : Address) → In a named → In a sorted
+  pub fits : length sorted ≤ length named

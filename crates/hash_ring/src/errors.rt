@@ -7,7 +7,7 @@ use thiserror::Error;
 /// Why a call of this crate was refused.
 #[derive(Clone, Copy, Debug, PartialEq, Eq, Error)]
 pub enum RingError {
-    /// The number of points for each of a server's weight is not from 1 to 1,000.
+    /// The number of points for each unit of a server's weight is not from 1 to 1,000.
     #[error("bad replicas")]
     BadReplicas,
     /// A growth was refused.

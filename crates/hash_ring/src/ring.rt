@@ -8,7 +8,7 @@ use crate::builds::{fill_all, list_servers};
 use crate::errors::RingError;
 use crate::hash::PointHash;
 use crate::points::{MOST_REPLICAS, Point, fill_points, merge_points, point_count, reserve_points};
-use crate::search::{first_at, first_server, name_servers};
+use crate::search::{first_at, first_server, name_around};
 use crate::servers::{Server, take_out, weighs, weight_among};
 use crate::sorted::place;
 use crate::starts::Starts;
@@ -16,7 +16,7 @@ use change_core::{Address, Weight};
 use std::alloc::Global;
 use std::marker::Model;
 
-/// A ring of servers: `replicas` points for each of a server's weight, and of a key the server whose point
+/// A ring of servers: `replicas` points for each unit of a server's weight, and of a key the server whose point
 /// comes first at or after the key's hash, as in ringpop-go's package hashring. Contracts see the hash, the
 /// replicas, the servers with their weights, the points, and the room that is made.
 #[derive(Drop)]
@@ -191,7 +191,7 @@ impl<H: PointHash> Ring<H> {
     }
 
     /// The first `count` owners of a key, the owner first, or all servers where there are fewer. `Memory`: the
-    /// list was refused.
+    /// list was refused, or the one in which many that are named are looked for.
     pub fn owners(&self, key: &[u8], count: usize) -> Result<Vec<Address>, RingError>
         ensures named { IfOk result (λ named. named.items ≡ take count (owners (H.hash_of self.now.hash) self.now.replicas self.now.servers key.now)) }
         ensures growth { OnErr result ((0 < count) × (0 < length self.now.servers)) }
@@ -200,8 +200,7 @@ impl<H: PointHash> Ring<H> {
         let start = first_at(&self.points, &self.starts, self.hash.hash(key));
         let count = count.min(self.servers.len());
         let mut named = Vec::with_capacity(*self.servers.allocator(), count)?;
-        name_servers(&self.points[start..], count, &mut named);
-        name_servers(&self.points[..start], count, &mut named);
+        name_around(&self.points, start, count, &mut named)?;
         Ok(named)
     }
 

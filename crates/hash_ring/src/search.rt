@@ -1,17 +1,22 @@
 //! Searching the points for a hash, and walking on from there.
-ghost use Rattle.std.specs.Prelude.{◌≡◌, ℕ, ◌+◌, ◌-◌, ◌<◌, ◌≤◌, [], ◌++◌, length, take, drop, not, ltb, slice_get, IfSome, vec_capacity};
+ghost use Rattle.std.specs.Prelude.{◌≡◌, ℕ, ◌+◌, ◌-◌, ◌<◌, ◌≤◌, [], ◌++◌, length, take, drop, not, ltb, slice_get, IfSome, OnOk, OnErr, vec_capacity};
 ghost use Rattle.std.specs.List.{position};
 ghost use Rattle.change_core.specs.Ascending.{In, IsAscending};
 ghost use Rattle.hash_ring.specs.Points.{point_cmp};
-ghost use Rattle.hash_ring.specs.Steps.{IsBelow, IsFrom, firsts};
+ghost use Rattle.hash_ring.specs.Steps.{IsBelow, IsFrom, IsSorted, firsts};
 ghost use Rattle.hash_ring.specs.declared.points.Point.{Point};
 
 use crate::points::Point;
+use crate::sorted::place;
 use crate::starts::Starts;
 use change_core::Address;
+use std::alloc::AllocError;
 
 /// How many points a search looks at one by one before it halves all of them.
 const REACH: usize = 48;
+
+/// Up to how many servers those named are looked through one by one.
+const FEW: usize = 32;
 
 /// The place of the first point at or after a hash.
 pub(crate) fn first_at(points: &[Point], starts: &Starts, hash: u64) -> usize
@@ -59,6 +64,32 @@ pub(crate) fn first_server(points: &[Point], start: usize) -> Option<Address>
     Some(point.server)
 }
 
+/// Names the points' servers from a place on, going round, each where it comes first, up to a count. Many are looked for in
+/// a sorted list of their own, so that none of them is compared with all that are named.
+pub(crate) fn name_around(
+    points: &[Point],
+    start: usize,
+    count: usize,
+    named: &mut Vec<Address>,
+) -> Result<(), AllocError>
+    requires start { start ≤ length points.now }
+    requires nobody { named.old.items ≡ [] }
+    requires room { count ≤ vec_capacity named.old }
+    ensures named { OnOk result (named.new.items ≡ take count (firsts [] (drop start points.now ++ take start points.now))) }
+    ensures growth { OnErr result (0 < count) }
+{
+    let (before, after) = points.split_at(start);
+    if count <= FEW {
+        name_servers(after, count, named);
+        name_servers(before, count, named);
+        return Ok(());
+    }
+    let mut sorted = Vec::with_capacity(*named.allocator(), count)?;
+    name_many(after, count, named, &mut sorted);
+    name_many(before, count, named, &mut sorted);
+    Ok(())
+}
+
 /// Adds the points' servers that are not named yet, up to a count. With room this takes no memory.
 pub(crate) fn name_servers(points: &[Point], count: usize, named: &mut Vec<Address>)
     requires few { length named.old.items ≤ count }
@@ -73,6 +104,32 @@ pub(crate) fn name_servers(points: &[Point], count: usize, named: &mut Vec<Addre
         }
         if !named.contains(&point.server) {
             named.push_reserved(point.server);
+        }
+    }
+}
+
+/// The same for many servers: those named stand in `sorted` too, to be found by halves. With room this takes no memory.
+fn name_many(points: &[Point], count: usize, named: &mut Vec<Address>, sorted: &mut Vec<Address>)
+    requires few { length named.old.items ≤ count }
+    requires room { count ≤ vec_capacity named.old }
+    requires sorted_room { count ≤ vec_capacity sorted.old }
+    requires sorted { IsSorted named.old.items sorted.old.items }
+    ensures named { named.new.items ≡ take count (named.old.items ++ firsts named.old.items points.now) }
+    ensures len { length named.new.items ≤ count }
+    ensures capacity { vec_capacity named.new ≡ vec_capacity named.old }
+    ensures sorted_capacity { vec_capacity sorted.new ≡ vec_capacity sorted.old }
+    ensures sorted { IsSorted named.new.items sorted.new.items }
+{
+    for point in points {
+        if named.len() >= count {
+            break;
+        }
+        let server = point.server;
+        let Ok(added) = place(sorted, server) else {
+            unreachable!()
+        };
+        if added {
+            named.push_reserved(server);
         }
     }
 }

@@ -1,7 +1,8 @@
-use Rattle.std.proofs.Common.{◌≡◌, min, length, ap, sym, ◌∙◌, subst, take, arith}
+use Rattle.std.proofs.Common.{◌≡◌, min, length, ap, sym, ◌∙◌, subst, [], ◌++◌, take, drop, arith}
 use Rattle.change_core.specs.Ascending.{IsAscending}
 use Rattle.hash_ring.specs.Points.{point_cmp}
-use Rattle.hash_ring.proofs.Named.{ring_owners, named_around, owners_enough}
+use Rattle.hash_ring.specs.Steps.{firsts}
+use Rattle.hash_ring.proofs.Named.{ring_owners, owners_enough}
 use Rattle.hash_ring.proofs.Rings.{ring_ascends}
 use Rattle.hash_ring.proofs.ring.Ring.owners.Goals as goal
 
@@ -15,8 +16,7 @@ returns-clause-named g c =
     let same = ring_owners _ _ _ _ c.deref.result.now c.args.key.now start c.hash.result c.self.invariant c.hash.ensures c.hash.type_inv c.deref.ensures.value c.first_at-start.ensures.low c.first_at-start.ensures.high in
     let fewer : count ≡ min c.args.count (length c.self.inside.servers.items) = omega (arith, c.min-count.ensures, c.len.ensures) in
     rw (← c.self.view_is)
-    (named_around count start c.deref.result.now c.deref-2.result.now c.deref-3.result.now c.in_ok-named.named.items c.name_servers.new.named.items _
-    c.in_ok-named.ensures.items (c.deref-2.ensures.value ∙ sym c.deref.ensures.value) (c.deref-3.ensures.value ∙ sym c.deref.ensures.value)
-    c.name_servers.ensures.named c.name_servers-2.ensures.named
+    (c.in_ok-name_around.ensures.named
+    ∙ ap (λ ps. take count (firsts [] (drop start ps ++ take start ps))) (c.deref-2.ensures.value ∙ sym c.deref.ensures.value)
     ∙ ap (take count) same
     ∙ owners_enough (g.H.PointHash.hash_of c.self.inside.hash) c.self.inside.replicas c.self.inside.servers.items c.args.key.now c.args.count count fewer)

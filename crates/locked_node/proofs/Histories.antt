@@ -1,6 +1,7 @@
 -- A call more keeps a history legal, and what a call and a closing show by it.
 use Rattle.std.proofs.Common.{◌≡◌, ℕ, ◌+◌, List, [], ◌∷◌, ◌++◌, refl, sym, ap, ◌∙◌, subst, arith}
 use Rattle.std.proofs.lemmas.List.{append_assoc, length-append}
+use Rattle.std.proofs.lemmas.List.Elements.{All-weaker}
 use Rattle.std.specs.List.{filter_map}
 use Rattle.turn_lock.specs.declared.kept.Turn.{Turn}
 use Rattle.turn_lock.specs.History.{turn, GrownBy, GoesOn}
@@ -18,7 +19,7 @@ use Rattle.node_core.proofs.Itself.{run_itself}
 use Rattle.node_core.proofs.RunLoop.{IsNodeOf-run}
 use Rattle.locked_node.specs.declared.node.LockedNode.{LockedNode}
 use Rattle.locked_node.specs.History.{CallEntry, entry_of, event_in, reply_in, History, LegalHistory, HistoriesKeepIt, StandsFor, log_of}
-use Rattle.locked_node.specs.Passes.{NodePass, opening_of, IsCalled, MadeInTurn}
+use Rattle.locked_node.specs.Passes.{NodePass, opening_of, CallsShowLegal, ClosingShowsLegal, HasSeenLegal, IsCalled, MadeInTurn}
 
 module _ {H : Type 0} (hash_of : H → List ℕ → ℕ) where
   pub legal_push : (opening : Node H) (history : History H) (before : Node H) (n : ℕ) (call : Call) (answer : Answer H) (after : Node H)
@@ -108,3 +109,22 @@ made_in_turn {H} locked old mid new es fs a b =
       turns = omega (arith, length-append es fs, a.turns, b.turns);
       fits = λ h. b.fits (a.fits h);
     }
+
+module _ {H : Type 0} (hash_of : H → List ℕ → ℕ) where
+  -- a legal history is legal up to any call
+  legal_beginning : (opening last : Node H) (first rest : History H) → LegalHistory hash_of opening (first ++ rest) last
+      → (mid : Node H) × LegalHistory hash_of opening first mid
+  legal_beginning opening last [] rest legal = (opening, refl)
+  legal_beginning opening last (t ∷ ts) rest legal =
+      let more = legal_beginning t.entry.after last ts rest legal.1 in (more.0, (legal.0, more.1))
+
+  pub calls_show_legal : CallsShowLegal hash_of
+  calls_show_legal locked old new call answer called =
+      legal_beginning (opening_of locked).node called.before (lock.seen old) called.between called.legal_before
+
+  pub closing_shows_legal : ClosingShowsLegal hash_of
+  closing_shows_legal locked passes now closed =
+      let opening : Node H = (opening_of locked).node in
+      All-weaker (λ (p : NodePass H). GoesOn (lock.number_of p) closed.history (lock.seen p)) (HasSeenLegal hash_of locked)
+      (λ p goes. legal_beginning opening now.node (lock.seen p) goes.0 (subst (λ (l : History H). LegalHistory hash_of opening l now.node) goes.1 closed.legal))
+      passes closed.whole.begins

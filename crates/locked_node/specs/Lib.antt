@@ -1,3 +1,4 @@
 pub mod History
 pub mod Passes
 pub mod Agreement
+pub mod Losses

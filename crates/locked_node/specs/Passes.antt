@@ -1,5 +1,6 @@
 -- What a pass of a locked node is, and what a call by it says.
 use Rattle.std.specs.Prelude.{◌≡◌, ℕ, ◌+◌, List, [], ◌∷◌, ◌++◌, length}
+use Rattle.std.specs.List.{All}
 use Rattle.turn_lock.specs.declared.errors.CloseError.{CloseError}
 use Rattle.turn_lock.specs.declared.errors.LockError.{LockError}
 use Rattle.turn_lock.specs.declared.pass.Pass.{Pass}
@@ -108,3 +109,17 @@ module _ {H : Type 0} where
 abbrev pub MadeInTurn : Type 0 → Type 0
 MadeInTurn H =
     (locked : LockedNode H) (old mid new : NodePass H) (es fs : List (CallEntry H)) → Made locked old mid es → Made locked mid new fs → Made locked old new (es ++ fs)
+
+-- all that the pass has seen is a history that is legal from the node's opening
+abbrev pub HasSeenLegal : {H : Type 0} → (H → List ℕ → ℕ) → LockedNode H → NodePass H → Type 0
+HasSeenLegal {H} hash_of locked p = (last : Node H) × LegalHistory hash_of (opening_of locked).node (lock.seen p) last
+
+-- a call that is let in shows this of the pass as it was handed in, whatever made it so
+abbrev pub CallsShowLegal : {H : Type 0} → (H → List ℕ → ℕ) → Type 0
+CallsShowLegal {H} hash_of =
+    (locked : LockedNode H) (old new : NodePass H) (call : Call) (answer : Answer H) → IsCalled hash_of locked old new call answer → HasSeenLegal hash_of locked old
+
+-- and closing shows it of every pass
+abbrev pub ClosingShowsLegal : {H : Type 0} → (H → List ℕ → ℕ) → Type 0
+ClosingShowsLegal {H} hash_of =
+    (locked : LockedNode H) (passes : List (NodePass H)) (now : Seen H) → IsClosed hash_of locked passes now → All (HasSeenLegal hash_of locked) passes

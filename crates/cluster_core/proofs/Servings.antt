@@ -17,20 +17,15 @@ use Rattle.node_core.specs.declared.events.Received.{Received}
 use Rattle.node_core.specs.declared.events.Received.TheVariants as received
 use Rattle.node_core.specs.declared.events.Reply.TheVariants as reply
 use Rattle.node_core.specs.Viewing.{Viewed}
-use Rattle.forward_core.specs.declared.errors.ForwardError.{ForwardError}
-use Rattle.forward_core.specs.declared.errors.ForwardError.TheVariants as refusal
-use Rattle.forward_core.specs.declared.routes.Route.{Route}
-use Rattle.forward_core.specs.declared.routes.Route.TheVariants as route
-use Rattle.cluster_core.specs.declared.errors.HandlerFault.{HandlerFault}
 use Rattle.cluster_core.specs.declared.errors.LinkError.{LinkError}
 use Rattle.cluster_core.specs.declared.hearing.Heard.{Heard}
 use Rattle.cluster_core.specs.declared.hearing.Heard.TheVariants as heard
-use Rattle.cluster_core.specs.Acts.{Act, did}
+use Rattle.cluster_core.specs.Acts.{Act, did, looked}
 use Rattle.cluster_core.specs.Asking.{IsSent}
-use Rattle.cluster_core.specs.Handling.{MayHandle, handled_as}
+use Rattle.cluster_core.specs.Handling.{MayHandle}
 use Rattle.cluster_core.specs.Links.{MayAnswer, IsAckOf}
-use Rattle.cluster_core.specs.Provenance.{pinged, AnswersSo, IsFound, IsMadeOf, IsReport, ServingsRest}
-use Rattle.cluster_core.specs.Serving.{message_by, Answers, Finds, AnswersPingReq, Forwards, Gossips, IsDecided, IsRouted, PassesOn, Reaches, Reports, Says, Seeks, GivesMade, Serves, TellsRequester}
+use Rattle.cluster_core.specs.Provenance.{pinged, AnswersSo, IsDecidedSo, IsFound, IsMadeOf, IsReport, ServingsRest}
+use Rattle.cluster_core.specs.Serving.{message_by, Answers, Finds, AnswersPingReq, Forwards, Gossips, IsDecided, PassesOn, Reaches, Reports, Says, Seeks, GivesMade, Serves, TellsRequester, Views}
 
 module _ {H : Type 0} where
   says_so : (told : Content) (answer : Message) (acts : List (Act H)) → Says told (Ok answer) acts → answer.content ≡ told
@@ -184,41 +179,31 @@ module _ {H : Type 0} (Came : MayAnswer) (now : ℕ) (target : Address) where
   passes_so message answer acts (inr t) = follows_by message.source answer t.0 acts t.1.0 t.1.1 t.1.2 t.1.4
 
 module _ {H : Type 0} (hash_of : H → List ℕ → ℕ) (Handled : MayHandle) (keys : List (List ℕ)) (body : List ℕ) (answer : Message) where
-  abbrev Owned : Type 0
-  Owned = (answer.content ≡ content.NotOwner) ⊎ ((text : Result (List ℕ) HandlerFault) × Handled keys body text × (answer.content ≡ handled_as text))
+  decided_by : (view : Result (Viewed H) NodeError) (acts xs ys : List (Act H)) → acts ≡ xs ++ ys → Views (Ok view) xs
+      → (told : Content) → answer.content ≡ told → IsDecided hash_of Handled keys body view told
+      → IsDecidedSo hash_of Handled keys body answer.content acts
+  decided_by (Ok view) acts xs ys e seen told is p =
+      (Ok view, has_first (looked (Ok view)) acts xs ys e seen, subst (λ (c : Content). IsDecided hash_of Handled keys body (Ok view) c) (sym is) p)
+  decided_by (Err n) acts xs ys e seen told is p =
+      (Err n, has_first (looked (Err n)) acts xs ys e seen.0, subst (λ (c : Content). IsDecided {H = H} hash_of Handled keys body (Err n) c) (sym is) p)
 
-  routed_by : (way : Result Route ForwardError) (told : Content) → answer.content ≡ told → IsRouted Handled keys body way told
-      → (kind_of answer.content ≡ kind.Refused) ⊎ Owned
-  routed_by (Ok route.Here) told e p = inr (inr (p.0, p.1, e ∙ p.2))
-  routed_by (Ok (route.To owner)) told e p = inr (inl (e ∙ p))
-  routed_by (Ok route.Nobody) told e p = inl (ap kind_of (e ∙ p))
-  routed_by (Err refusal.Diverged) told e p = inl (ap kind_of (e ∙ p))
-  routed_by (Err refusal.Nobody) told e p = absurd p
-  routed_by (Err refusal.RetriesSpent) told e p = absurd p
-  routed_by (Err refusal.InFlight) told e p = absurd p
-  routed_by (Err refusal.NotInFlight) told e p = absurd p
-
-  decided_by : (view : Result (Viewed H) NodeError) (told : Content) → answer.content ≡ told → IsDecided hash_of Handled keys body view told
-      → (kind_of answer.content ≡ kind.Refused) ⊎ Owned
-  decided_by (Ok view) told e p = routed_by p.0 told e p.2
-  decided_by (Err n) told e p = inl (ap kind_of (e ∙ p))
-
-  forwards_so : (acts : List (Act H)) → Forwards hash_of Handled keys body (Ok answer) acts → (kind_of answer.content ≡ kind.Refused) ⊎ Owned
+  forwards_so : (acts : List (Act H)) → Forwards hash_of Handled keys body (Ok answer) acts → IsDecidedSo hash_of Handled keys body answer.content acts
   forwards_so acts (inl h) = absurd h
-  forwards_so acts (inr t) = decided_by t.0 t.1.4.0 (says_so t.1.4.0 answer t.1.1 t.1.4.2) t.1.4.1
+  forwards_so acts (inr t) =
+      decided_by t.0 acts t.1.0 t.1.1 t.1.2 t.1.3 t.1.4.0 (says_so t.1.4.0 answer t.1.1 t.1.4.2) t.1.4.1
 
 pub servings_rest : {H : Type 0} (hash_of : H → List ℕ → ℕ) (Came : MayAnswer) (Handled : MayHandle) → ServingsRest hash_of Came Handled
 servings_rest {H} hash_of Came Handled message answer now acts p = by_content message.content p
   where
     by_content : (c : Content) → Serves hash_of Came Handled message now c (Ok answer) acts
-        → (kind_of answer.content ≡ kind.Refused) ⊎ AnswersSo Came Handled message now c answer acts
+        → AnswersSo hash_of Came Handled message now c answer acts
     by_content (content.Join news) h = gossips_so message answer now acts h
     by_content (content.Ping news) h = gossips_so message answer now acts h
     by_content (content.PingReq news target) h = passes_so Came now target message answer acts h
     by_content (content.Forward keys body) h = forwards_so hash_of Handled keys body answer acts h
-    by_content (content.Joined news) h = inl (refuses_so _ answer acts h)
-    by_content (content.Ack news) h = inl (refuses_so _ answer acts h)
-    by_content (content.PingReqAck news target reached) h = inl (refuses_so _ answer acts h)
-    by_content (content.Reply body) h = inl (refuses_so _ answer acts h)
-    by_content content.NotOwner h = inl (refuses_so _ answer acts h)
-    by_content (content.Refused why) h = inl (refuses_so _ answer acts h)
+    by_content (content.Joined news) h = says_so _ answer acts h
+    by_content (content.Ack news) h = says_so _ answer acts h
+    by_content (content.PingReqAck news target reached) h = says_so _ answer acts h
+    by_content (content.Reply body) h = says_so _ answer acts h
+    by_content content.NotOwner h = says_so _ answer acts h
+    by_content (content.Refused why) h = says_so _ answer acts h

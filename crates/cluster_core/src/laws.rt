@@ -25,10 +25,12 @@ pub fn joins<H, L: Link>()
     ensures { JoinsRest H L.may_answer }
 {}
 
-/// An answer to a message is a refusal, or rests on this: to a Join and a Ping it is what the node made of that very message;
-/// to a PingReq it is the node's last reply, which tells its source that the target was reached only where the target is the
-/// node itself, or its Ack came over the link for a ping and was taken, and that it was not only where another answer came; to
-/// a Forward it is the handler's answer, or says that another node owns the keys. Any other message is refused.
+/// What an answer to a message rests on. To a Join and a Ping it is a refusal, or what the node made of that very message; to a
+/// PingReq a refusal, or the node's last reply, which tells its source that the target was reached only where the target is the
+/// node itself, or its Ack came over the link for a ping and was taken, and that it was not only where another answer came. To
+/// a Forward it is what one view that the node answered decides: the handler's answer where the node owns all keys, that another
+/// node does, that two keys have different owners or that nobody serves; or there was no memory for a view. Any other message
+/// is refused as unexpected.
 pub fn servings<H: PointHash, L: Link, A: Handler>()
     ensures { ServingsRest H.hash_of L.may_answer A.may_handle }
 {}

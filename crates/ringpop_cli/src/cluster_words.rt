@@ -1,13 +1,15 @@
 //! The words of the commands that speak to nodes.
-ghost use Rattle.std.specs.Prelude.{◌≡◌, ◌≢◌, ℕ, map, IfErr, IfOk, IfSome};
+ghost use Rattle.std.specs.Prelude.{◌≡◌, ◌≢◌, ℕ, Some, map, codes, IfErr, IfOk, IfSome};
+ghost use Rattle.clap.specs.Matches.{first_value, found_of};
 ghost use Rattle.change_core.specs.Address.{IsAddress, address_text};
 ghost use Rattle.ringpop_cli.specs.Faults.{IsWordsFault};
+ghost use Rattle.ringpop_cli.specs.Words.{AreAddressesAt, IsAskedAt, IsFlagAt, IsNumberAt, IsServedAt};
 
 use crate::commands::{
     ADDRESS, ANY, BODY, HOST, INCARNATION, KEY, LINES, PERIOD, REQUESTS, SUM, WEIGHT, WORKERS,
 };
 use crate::faults::Fault;
-use crate::words::{absent, number, replicas};
+use crate::words::{absent, flag, number, replicas};
 use change_core::{Address, GREATEST_NUMBER, GREATEST_WEIGHT, Incarnation, Weight};
 use clap::ArgMatches;
 use cluster_links::MOST_WORKERS;
@@ -24,7 +26,8 @@ fn address_of(text: &str) -> Result<Address, Fault>
 
 /// The address that a word is.
 fn address_at(alloc: Global, matches: &ArgMatches<'_>, id: &str) -> Result<Address, Fault>
-    ensures { IfErr result IsWordsFault }
+    ensures ok { IfOk result (λ a. first_value (found_of matches.now) id.now ≡ Some (address_text a)) }
+    ensures fault { IfErr result IsWordsFault }
 {
     match matches.get_str(id) {
         Some(text) => address_of(text),
@@ -47,7 +50,8 @@ fn addresses_of(alloc: Global, texts: &[&str]) -> Result<Vec<Address>, Fault>
 
 /// The hosts that a node asks to let it join.
 fn hosts_at(alloc: Global, matches: &ArgMatches<'_>) -> Result<Vec<Address>, Fault>
-    ensures { IfErr result IsWordsFault }
+    ensures ok { IfOk result (λ hosts. AreAddressesAt (found_of matches.now) (codes "host") hosts.items) }
+    ensures fault { IfErr result IsWordsFault }
 {
     match matches.get_strs(HOST) {
         Some(texts) => addresses_of(alloc, texts),
@@ -63,6 +67,7 @@ fn serve_words_at(
 ) -> Option<ServeWords>
     ensures address { IfSome result (λ words. words.address ≡ address) }
     ensures hosts { IfSome result (λ words. words.hosts ≡ hosts) }
+    ensures numbers { IfSome result (IsServedAt (found_of matches.now)) }
 {
     let incarnation = Incarnation::new(number(matches, INCARNATION, 0, GREATEST_NUMBER)?)?;
     let requests = number(matches, REQUESTS, 1, MOST_REQUESTS)?;
@@ -82,14 +87,17 @@ fn serve_words_at(
         period,
         replicas,
         weight,
-        sum: matches.get_flag(SUM),
+        sum: flag(matches, SUM),
         hosts,
     })
 }
 
 /// The words of `serve`.
 fn serve_words(alloc: Global, matches: &ArgMatches<'_>) -> Result<ServeWords, Fault>
-    ensures { IfErr result IsWordsFault }
+    ensures address { IfOk result (λ words. first_value (found_of matches.now) (codes "address") ≡ Some (address_text words.address)) }
+    ensures hosts { IfOk result (λ words. AreAddressesAt (found_of matches.now) (codes "host") words.hosts.items) }
+    ensures numbers { IfOk result (IsServedAt (found_of matches.now)) }
+    ensures fault { IfErr result IsWordsFault }
 {
     let address = address_at(alloc, matches, ADDRESS)?;
     let hosts = hosts_at(alloc, matches)?;
@@ -101,7 +109,8 @@ fn serve_words(alloc: Global, matches: &ArgMatches<'_>) -> Result<ServeWords, Fa
 
 /// The words of `ask`.
 fn ask_words<'a>(alloc: Global, matches: &ArgMatches<'a>) -> Result<AskWords<'a>, Fault>
-    ensures { IfErr result IsWordsFault }
+    ensures asked { IfOk result (λ words. IsAskedAt (found_of matches.now) words.address words.key.now words.body.now) }
+    ensures fault { IfErr result IsWordsFault }
 {
     let address = address_at(alloc, matches, ADDRESS)?;
     let (Some(key), Some(body)) = (matches.get_str(KEY), matches.get_str(BODY)) else {
@@ -112,7 +121,10 @@ fn ask_words<'a>(alloc: Global, matches: &ArgMatches<'a>) -> Result<AskWords<'a>
 
 /// The words of `ask --any`.
 fn ask_any_words<'a>(alloc: Global, matches: &ArgMatches<'a>) -> Result<AskAnyWords<'a>, Fault>
-    ensures { IfErr result IsWordsFault }
+    ensures asked { IfOk result (λ words. IsAskedAt (found_of matches.now) words.host words.key.now words.body.now) }
+    ensures replicas { IfOk result (λ words. IsNumberAt (found_of matches.now) (codes "replicas") words.replicas) }
+    ensures sum { IfOk result (λ words. IsFlagAt (found_of matches.now) (codes "sum") words.sum) }
+    ensures fault { IfErr result IsWordsFault }
 {
     let AskWords { address, key, body } = ask_words(alloc, matches)?;
     let Some(replicas) = replicas(matches) else {
@@ -121,7 +133,7 @@ fn ask_any_words<'a>(alloc: Global, matches: &ArgMatches<'a>) -> Result<AskAnyWo
     Ok(AskAnyWords {
         host: address,
         replicas,
-        sum: matches.get_flag(SUM),
+        sum: flag(matches, SUM),
         key,
         body,
     })

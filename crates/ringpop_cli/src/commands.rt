@@ -11,7 +11,7 @@ use std::alloc::{AllocError, Global};
 /// How many owners are named.
 pub const COUNT: &str = "n";
 
-/// How many points a server has for each of its weight.
+/// How many points a server has for each unit of its weight.
 pub const REPLICAS: &str = "replicas";
 
 /// Whether the hash is the sum of the bytes.
@@ -125,7 +125,7 @@ fn hash_command<'a>(alloc: Global) -> Result<Command<'a>, AllocError> {
         .arg(text)
 }
 
-/// How many points a server has for each of its weight.
+/// How many points a server has for each unit of its weight.
 fn replicas_option<'a>(alloc: Global) -> Arg<'a> {
     option(alloc, REPLICAS, "R", "100", 1, u64::from(MOST_REPLICAS)).help(
         "Points on the ring of a member, for each unit of its weight: 1 to 1000",

@@ -1,8 +1,10 @@
 //! The words of the command line.
-ghost use Rattle.std.specs.Prelude.{◌≡◌, ◌≤◌, length, Ok, IfOk, IfErr, IfSome};
+ghost use Rattle.std.specs.Prelude.{◌≡◌, ◌≤◌, length, codes, Ok, IfOk, IfErr, IfSome};
+ghost use Rattle.clap.specs.Matches.{found_of};
 ghost use Rattle.clap.specs.Values.{kind_of};
 ghost use Rattle.hash_ring.specs.Points.{IsReplicas};
 ghost use Rattle.ringpop_cli.specs.Faults.{IsWordsFault};
+ghost use Rattle.ringpop_cli.specs.Words.{IsFlagAt, IsNumberAt};
 
 use crate::cluster_words::cluster_command_of;
 use crate::commands::{COUNT, KEY, REPLICAS, SUM, TEXT, ringpop_command};
@@ -27,15 +29,24 @@ pub enum Words<'a> {
 
 /// A number, if it is there and in this range.
 pub fn number(matches: &ArgMatches<'_>, id: &str, least: u64, most: u64) -> Option<u64>
-    ensures { IfSome result (λ n. (least ≤ n) × (n ≤ most)) }
+    ensures range { IfSome result (λ n. (least ≤ n) × (n ≤ most)) }
+    ensures given { IfSome result (IsNumberAt (found_of matches.now) id.now) }
 {
     let given = matches.get_one::<u64>(id)?;
     (least <= given && given <= most).then_some(given)
 }
 
-/// How many points a server has for each of its weight, if that is there and in its range.
+/// Whether a flag is set.
+pub fn flag(matches: &ArgMatches<'_>, id: &str) -> bool
+    ensures { IsFlagAt (found_of matches.now) id.now result }
+{
+    matches.get_flag(id)
+}
+
+/// How many points a server has for each unit of its weight, if that is there and in its range.
 pub fn replicas(matches: &ArgMatches<'_>) -> Option<u32>
-    ensures { IfSome result IsReplicas }
+    ensures range { IfSome result IsReplicas }
+    ensures given { IfSome result (IsNumberAt (found_of matches.now) (codes "replicas")) }
 {
     let replicas = number(matches, REPLICAS, 1, u64::from(MOST_REPLICAS))?;
     Some(replicas as u32)
@@ -49,7 +60,7 @@ fn owner_words<'a>(matches: &ArgMatches<'a>) -> Option<OwnerWords<'a>> {
     Some(OwnerWords {
         count: count as usize,
         replicas,
-        sum: matches.get_flag(SUM),
+        sum: flag(matches, SUM),
         key,
     })
 }
@@ -59,7 +70,7 @@ fn sim_words(matches: &ArgMatches<'_>) -> Option<SimWords> {
     let replicas = replicas(matches)?;
     Some(SimWords {
         replicas,
-        sum: matches.get_flag(SUM),
+        sum: flag(matches, SUM),
     })
 }
 

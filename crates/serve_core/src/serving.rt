@@ -86,9 +86,9 @@ fn serve_by<
 /// and the body. Between two rounds lie the words' milliseconds. After the last connection a round that is under way is waited
 /// for, 8.5 seconds at most with the standard waits.
 ///
-/// Errors, in this order: `NoMemory` where a growth was refused; `NoneJoined` where hosts were named and none let the node in;
-/// `CannotListen`; `CannotWrite`, before any thread runs or after all have ended; `NoThread`, where none has served and those
-/// that were started have ended.
+/// Errors: `NoMemory` where a growth was refused, whichever step it was; else, in this order, `NoneJoined` where hosts were named
+/// and none let the node in; `CannotListen`; `CannotWrite`, before any thread runs or after all have ended; `NoThread`, where none
+/// has served and those that were started have ended.
 pub fn serve_within<R: Net<Listener = TcpListener, Stream = TcpStream> + Host, W: Write>(
     rt: &R,
     alloc: Global,

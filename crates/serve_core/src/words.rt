@@ -23,7 +23,7 @@ pub struct ServeWords {
     pub workers: u32,
     /// Milliseconds between two rounds of gossip, at most 9,007,199,254,740,991; 0 makes none.
     pub period: u64,
-    /// How many points a server has for each of its weight, 1 to 1,000.
+    /// How many points a server has for each unit of its weight, 1 to 1,000.
     pub replicas: u32,
     /// The node's weight.
     pub weight: Weight,
@@ -54,7 +54,7 @@ pub struct AskWords<'a> {
 pub struct AskAnyWords<'a> {
     /// A node of the cluster, which is asked for the members.
     pub host: Address,
-    /// How many points a server has for each of its weight in the cluster, 1 to 1,000.
+    /// How many points a server has for each unit of its weight in the cluster, 1 to 1,000.
     pub replicas: u32,
     /// Whether the cluster's hash is the sum of the bytes, in place of SHA-256's first eight.
     pub sum: bool,

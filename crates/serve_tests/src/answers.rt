@@ -187,6 +187,14 @@ fn the_owner_is_asked_twice_at_most(rt: HostRuntime) {
 }
 
 #[test]
+fn the_second_try_asks_the_owner_by_the_second_membership(rt: HostRuntime) {
+    let mood = Mood::Learns(digest(&rt, OF_ALONE), digest(&rt, OF_TWO));
+    let (ended, out, calls) = ask(&rt, rt.alloc(), Question::AskAny("k"), mood, ALL);
+    assert!(&rt; ended.is_ok() && out.as_slice() == b"mine 10.0.0.2:1\n".as_slice());
+    assert!(&rt; calls == 4);
+}
+
+#[test]
 fn no_request_is_sent_twice_but_to_another_owner(rt: HostRuntime) {
     let nobody = Mood::Holds(Held::Nobody, digest(&rt, OF_NOBODY), Word::Mine(0));
     let other = Mood::Holds(Held::Alone, digest(&rt, OF_NOBODY), Word::Mine(0));

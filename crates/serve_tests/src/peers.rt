@@ -44,6 +44,9 @@ pub(crate) enum Mood {
     Starved,
     /// To a Join this membership, with this digest; to a request this.
     Holds(Held, Digest, Word),
+    /// To the first call the membership of one, with the first digest, to a later Join that of two, with the second; the first request
+    /// is declined.
+    Learns(Digest, Digest),
 }
 
 /// A peer that counts what it is asked.
@@ -157,6 +160,13 @@ impl Link for Peer {
             (Mood::Holds(held, checksum, _), Content::Join(news)) => {
                 joined(alloc, held, checksum, to, news.changes.as_slice())
             }
+            (Mood::Learns(first, _), Content::Join(_)) if self.calls == 1 => {
+                joined(alloc, Held::Alone, first, to, &[])
+            }
+            (Mood::Learns(_, second), Content::Join(_)) => {
+                joined(alloc, Held::Two, second, to, &[])
+            }
+            (Mood::Learns(_, _), _) => worded(alloc, Word::Mine(2), to, self.calls),
             (Mood::Broken | Mood::Holds(_, _, Word::Broken), _) => {
                 self.failures += 1;
                 return Err(LinkError::Io);

@@ -1,7 +1,7 @@
 //! Servers from their words to their last connection.
 use crate::peers::Page;
 use crate::plans::{ALL, Plan, plan_at};
-use crate::shared::{Question, TRIES, answers, end, start, turn};
+use crate::shared::{Question, Running, TRIES, answers, asked, connect, end, start, turn};
 use crate::tells::Lines;
 use change_core::Address;
 use serve_core::{
@@ -164,6 +164,53 @@ fn all_threads_end_with_the_last_request(rt: HostRuntime) {
             || ends_with_one(&rt, alloc, &plan, outcome, text);
         assert!(&rt; is_ended, "{workers} workers, period {period}");
     }
+    drop(turn);
+}
+
+/// Whether a server answers another peer while one is silent, whose line it waits for; that one hangs up then.
+fn answers_beside<R: Net<Listener = TcpListener, Stream = TcpStream> + Host>(
+    rt: &R,
+    alloc: Global,
+    server: &Running,
+    text: &str,
+) -> bool {
+    let Some(silent) = connect(rt, server.address) else {
+        return false;
+    };
+    let answer = asked(rt, alloc, server.address, Question::Ask);
+    drop(silent);
+    match answer {
+        Ok(answer) => answer.as_slice() == text.as_bytes(),
+        Err(_) => false,
+    }
+}
+
+/// Two workers that wait a minute for a line, and a silent peer between two others.
+fn serves_beside<R: Net<Listener = TcpListener, Stream = TcpStream> + Host>(
+    rt: &R,
+    alloc: Global,
+) -> bool {
+    let plan = Plan {
+        line: Some(60_000),
+        ..plan_at(29_178, 3)
+    };
+    let Some(server) = start(rt, alloc, &plan) else {
+        return false;
+    };
+    let line = "127.0.0.1:29178 hi\n";
+    let is_served = answers(rt, alloc, &server, Question::Ask, line)
+        && answers_beside(rt, alloc, &server, line);
+    match end(rt, server, is_served) {
+        Some(ended) => ended.is(Ok(()), "serving 127.0.0.1:29178\ndone\n"),
+        None => false,
+    }
+}
+
+#[test]
+fn a_silent_peer_holds_one_worker(rt: HostRuntime) {
+    let alloc: Global = rt.alloc();
+    let turn = turn(&rt).expect(&rt, "a turn");
+    assert!(&rt; serves_beside(&rt, alloc) || serves_beside(&rt, alloc));
     drop(turn);
 }
 

@@ -192,7 +192,7 @@ pub(crate) enum Question {
 }
 
 /// What a server answers once, as it is written.
-fn asked<R: Net<Listener = TcpListener, Stream = TcpStream> + Host>(
+pub(crate) fn asked<R: Net<Listener = TcpListener, Stream = TcpStream> + Host>(
     rt: &R,
     alloc: Global,
     to: Address,

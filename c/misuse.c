@@ -1,18 +1,27 @@
-/* Calls that are refused, each with its code: nothing is touched, and nothing leaks. */
+/* Calls that are refused, each with its code: nothing is touched, and nothing leaks. Every code is met but MEMORY and UNANSWERED,
+   which memory.c meets, and SPENT, which comes after 2^53 probes. */
 #include <stdio.h>
 #include <string.h>
 
 #include "ringpop.h"
 
-static uint8_t out[RINGPOP_MAX_LINE];
+static uint8_t out[RINGPOP_MAX_LINE], longest[RINGPOP_MAX_LINE + 1];
 static int faults = 0;
+static bool seen[RINGPOP_BAD_WORD + 1];
 
 static void expect(const char *what, uint32_t code, uint32_t wanted) {
-  printf("%s: %u\n", what, code);
+  const char *text = ringpop_code_text(code);
+  printf("%s: %u, %s\n", what, code, text != NULL ? text : "no code");
   if (code != wanted) {
     printf("not %u\n", wanted);
     faults++;
   }
+  if (code <= RINGPOP_BAD_WORD) seen[code] = true;
+}
+
+static void expect_count(const char *what, size_t count, size_t wanted) {
+  printf("%s: %zu\n", what, count);
+  faults += count != wanted;
 }
 
 static uint32_t receive(ringpop_node *node, const char *line) {
@@ -20,10 +29,31 @@ static uint32_t receive(ringpop_node *node, const char *line) {
   return ringpop_node_receive(node, (const uint8_t *)line, strlen(line), 2000, out, sizeof out, &count);
 }
 
+static uint32_t take(ringpop_node *node, uint32_t ip, uint64_t incarnation, const char *status) {
+  char line[256];
+  int length = snprintf(line, sizeof line,
+                        "{\"address\":\"10.0.0.%u:7946\",\"incarnationNumber\":%llu,\"source\":\"10.0.0.9:7946\","
+                        "\"sourceIncarnationNumber\":1,\"status\":\"%s\"}",
+                        ip, (unsigned long long)incarnation, status);
+  return ringpop_node_take(node, (const uint8_t *)line, (size_t)length, 2000);
+}
+
 static void refuse_empty(ringpop_node *node) {
   size_t count = 0;
+  uint64_t number = 0;
   uint32_t ip = 0;
   uint16_t port = 0;
+  ringpop_entry entry;
+  expect("take by an empty handle", take(node, 2, 1, "alive"), RINGPOP_NO_NODE);
+  expect("own by an empty handle", ringpop_node_own(node, &ip, &port, &entry), RINGPOP_NO_NODE);
+  expect("member by an empty handle", ringpop_node_member(node, 1, 1, &entry), RINGPOP_NO_NODE);
+  expect("len by an empty handle", ringpop_node_len(node, &count), RINGPOP_NO_NODE);
+  expect("digest by an empty handle", ringpop_node_digest(node, out, sizeof out, &count), RINGPOP_NO_NODE);
+  expect("members by an empty handle", ringpop_node_members(node, out, sizeof out, &count), RINGPOP_NO_NODE);
+  expect("ping by an empty handle, in a short buffer", ringpop_node_ping(node, 1, 1, out, 3, &count), RINGPOP_NO_NODE);
+  expect("expire by an empty handle", ringpop_node_expire(node, 1), RINGPOP_NO_NODE);
+  expect("rejoin by an empty handle", ringpop_node_rejoin(node), RINGPOP_NO_NODE);
+  expect("probe by an empty handle", ringpop_node_probe(node, &number, &ip, &port), RINGPOP_NO_NODE);
   expect("free of an empty handle", ringpop_node_free(node), RINGPOP_NO_NODE);
   expect("leave of an empty handle", ringpop_node_leave(node), RINGPOP_NO_NODE);
   expect("join of an empty handle", ringpop_node_join(node, out, sizeof out, &count), RINGPOP_NO_NODE);
@@ -38,8 +68,21 @@ static void refuse_new(ringpop_node *node, ringpop_config config) {
   config.weight = 9;
   expect("weight 9", ringpop_node_new(node, &config, 1, 1, 7, 1, 1), RINGPOP_BAD_WEIGHT);
   config.weight = 1;
-  config.replicas = 0;
-  expect("no points", ringpop_node_new(node, &config, 1, 1, 7, 1, 1), RINGPOP_BAD_REPLICAS);
+  ringpop_config bad = config;
+  bad.replicas = 0;
+  expect("no points", ringpop_node_new(node, &bad, 1, 1, 7, 1, 1), RINGPOP_BAD_REPLICAS);
+  bad = config, bad.max_members = 4097;
+  expect("4,097 members", ringpop_node_new(node, &bad, 1, 1, 7, 1, 1), RINGPOP_BAD_MAX_MEMBERS);
+  bad = config, bad.suspect_ms = 0;
+  expect("no time to refute", ringpop_node_new(node, &bad, 1, 1, 7, 1, 1), RINGPOP_BAD_SUSPECT_MS);
+  bad = config, bad.faulty_ms = 0;
+  expect("no time as faulty", ringpop_node_new(node, &bad, 1, 1, 7, 1, 1), RINGPOP_BAD_FAULTY_MS);
+  bad = config, bad.helpers = 17;
+  expect("17 helpers", ringpop_node_new(node, &bad, 1, 1, 7, 1, 1), RINGPOP_BAD_HELPERS);
+  bad = config, bad.piggyback = 0;
+  expect("no change goes out", ringpop_node_new(node, &bad, 1, 1, 7, 1, 1), RINGPOP_BAD_PIGGYBACK);
+  bad = config, bad.per_message = 0;
+  expect("no change in a message", ringpop_node_new(node, &bad, 1, 1, 7, 1, 1), RINGPOP_BAD_PER_MESSAGE);
 }
 
 static void refuse_lines(ringpop_node *node) {
@@ -47,6 +90,51 @@ static void refuse_lines(ringpop_node *node) {
   expect("no object", receive(node, "[]"), RINGPOP_NOT_OBJECT);
   expect("no kind", receive(node, "{}"), RINGPOP_MISSING_FIELD);
   expect("unknown kind", receive(node, "{\"kind\":\"hello\"}"), RINGPOP_UNKNOWN_KIND);
+  expect("kind that is no text", receive(node, "{\"kind\":1}"), RINGPOP_BAD_FIELD);
+  expect("request", receive(node, "{\"kind\":\"refused\",\"source\":\"10.0.0.2:7946\",\"sourceIncarnationNumber\":1,\"reason\":\"full\"}"),
+         RINGPOP_NOT_GOSSIP);
+  size_t count = 0;
+  memset(longest, ' ', sizeof longest);
+  expect("long line", ringpop_node_receive(node, longest, sizeof longest, 2000, out, sizeof out, &count), RINGPOP_LINE_TOO_LONG);
+  expect("long change", ringpop_node_take(node, longest, sizeof longest, 2000), RINGPOP_LINE_TOO_LONG);
+}
+
+static void refuse_many(ringpop_node *node) {
+  size_t length = (size_t)snprintf((char *)longest, sizeof longest,
+                                   "{\"kind\":\"ping\",\"source\":\"10.0.0.2:7946\",\"sourceIncarnationNumber\":1,"
+                                   "\"checksum\":\"%064d\",\"changes\":[0",
+                                   0);
+  for (int i = 0; i < 4096; i++) {
+    longest[length++] = ',';
+    longest[length++] = '0';
+  }
+  longest[length++] = ']';
+  longest[length++] = '}';
+  size_t count = 0;
+  expect("4,097 changes", ringpop_node_receive(node, longest, length, 2000, out, sizeof out, &count), RINGPOP_TOO_MANY);
+}
+
+static void take_changes(ringpop_node *node) {
+  size_t count = 0;
+  uint32_t ip = 0;
+  uint16_t port = 0;
+  ringpop_entry entry;
+  expect("take a change", take(node, 2, 5, "faulty"), RINGPOP_DONE);
+  expect("take it again", take(node, 2, 5, "faulty"), RINGPOP_NOTHING);
+  expect("take at 2^53", ringpop_node_take(node, out, 1, (uint64_t)1 << 53), RINGPOP_BAD_NUMBER);
+  expect("take what would be the third member", take(node, 3, 5, "alive"), RINGPOP_FULL);
+  expect("member", ringpop_node_member(node, 0x0A000002, 7946, &entry), RINGPOP_DONE);
+  if (entry.incarnation != 5 || entry.status != RINGPOP_FAULTY || entry.weight != 1) expect("entry", 1, 0);
+  expect("no member", ringpop_node_member(node, 0x0A000003, 7946, &entry), RINGPOP_NOTHING);
+  expect("member of port 0", ringpop_node_member(node, 0x0A000003, 0, &entry), RINGPOP_BAD_ADDRESS);
+  expect("len", ringpop_node_len(node, &count), RINGPOP_DONE);
+  expect_count("members", count, 2);
+  expect("digest in a short buffer", ringpop_node_digest(node, out, 31, &count), RINGPOP_SHORT_BUFFER);
+  expect_count("which asks for", count, 32);
+  expect("digest", ringpop_node_digest(node, out, 32, &count), RINGPOP_DONE);
+  expect("own", ringpop_node_own(node, &ip, &port, &entry), RINGPOP_DONE);
+  if (ip != 0x0A000001 || port != 7946 || entry.incarnation != 7 || entry.status != RINGPOP_ALIVE) expect("own entry", 1, 0);
+  expect("take a slander at the last incarnation", take(node, 1, ((uint64_t)1 << 53) - 1, "faulty"), RINGPOP_EXHAUSTED);
 }
 
 static void refuse_probes(ringpop_node *node) {
@@ -61,21 +149,55 @@ static void refuse_probes(ringpop_node *node) {
   expect("word for no probe", ringpop_node_helper_said(node, 1, 1, 1, 0, 2500), RINGPOP_STALE_PROBE);
 }
 
+/* A node with three others. */
+static void probe_others(ringpop_config config) {
+  ringpop_node node = RINGPOP_NODE_EMPTY;
+  uint64_t number = 0, running = 0;
+  uint32_t ip = 0, helper = 0;
+  uint16_t port = 0, helper_port = 0;
+  expect("new", ringpop_node_new(&node, &config, 0x0A000001, 7946, 7, 1, 1), RINGPOP_DONE);
+  for (uint32_t last = 2; last < 5; last++) expect("take", take(&node, last, 1, "alive"), RINGPOP_DONE);
+  expect("probe", ringpop_node_probe(&node, &number, &ip, &port), RINGPOP_DONE);
+  expect("second probe", ringpop_node_probe(&node, &running, &helper, &helper_port), RINGPOP_BUSY);
+  expect("lost at 2^53", ringpop_node_lost(&node, number, (uint64_t)1 << 53), RINGPOP_BAD_NUMBER);
+  expect("lost", ringpop_node_lost(&node, number, 2000), RINGPOP_DONE);
+  expect("word of the target", ringpop_node_helper_said(&node, number, ip, port, 2, 2000), RINGPOP_NOT_ASKED);
+  expect("word at 2^53", ringpop_node_helper_said(&node, number, ip, port, 2, (uint64_t)1 << 53), RINGPOP_BAD_NUMBER);
+  expect("waiting", ringpop_node_waiting(&node, &running, &helper, &helper_port), RINGPOP_DONE);
+  expect("one failed", ringpop_node_helper_said(&node, running, helper, helper_port, 2, 2000), RINGPOP_WAITING);
+  expect("waiting", ringpop_node_waiting(&node, &running, &helper, &helper_port), RINGPOP_DONE);
+  expect("all failed", ringpop_node_helper_said(&node, running, helper, helper_port, 2, 2000), RINGPOP_INCONCLUSIVE);
+  expect("probe", ringpop_node_probe(&node, &number, &ip, &port), RINGPOP_DONE);
+  expect("lost", ringpop_node_lost(&node, number, 2000), RINGPOP_DONE);
+  expect("waiting", ringpop_node_waiting(&node, &running, &helper, &helper_port), RINGPOP_DONE);
+  expect("not reached", ringpop_node_helper_said(&node, running, helper, helper_port, 1, 2000), RINGPOP_WAITING);
+  expect("waiting", ringpop_node_waiting(&node, &running, &helper, &helper_port), RINGPOP_DONE);
+  expect("and the other failed", ringpop_node_helper_said(&node, running, helper, helper_port, 2, 2000), RINGPOP_SUSPECTED);
+  expect("free", ringpop_node_free(&node), RINGPOP_DONE);
+}
+
 int main(void) {
   ringpop_node node = RINGPOP_NODE_EMPTY;
   ringpop_config config;
   size_t count = 0;
   ringpop_config_standard(&config);
+  probe_others(config);
+  config.max_members = 2;
   refuse_empty(&node);
   refuse_new(&node, config);
   expect("new", ringpop_node_new(&node, &config, 0x0A000001, 7946, 7, 1, 1), RINGPOP_DONE);
   expect("second new", ringpop_node_new(&node, &config, 0x0A000001, 7946, 7, 1, 1), RINGPOP_HAS_NODE);
   expect("ping in a short buffer", ringpop_node_ping(&node, 0x0A000002, 7946, out, 3, &count), RINGPOP_SHORT_BUFFER);
-  expect("which asks for", (uint32_t)count, RINGPOP_MAX_LINE);
+  expect_count("which asks for", count, RINGPOP_MAX_LINE);
   expect("ping of port 0", ringpop_node_ping(&node, 0x0A000002, 0, out, sizeof out, &count), RINGPOP_BAD_ADDRESS);
+  expect("ping_req of helper port 0", ringpop_node_ping_req(&node, 1, 0, 2, 1, out, sizeof out, &count), RINGPOP_BAD_ADDRESS);
+  expect("ping_req of target port 0", ringpop_node_ping_req(&node, 1, 1, 2, 0, out, sizeof out, &count), RINGPOP_BAD_ADDRESS);
+  expect("ping_req_ack in a short buffer", ringpop_node_ping_req_ack(&node, 1, 1, 2, 1, true, out, 3, &count), RINGPOP_SHORT_BUFFER);
   refuse_lines(&node);
+  refuse_many(&node);
   refuse_probes(&node);
   expect("members in a short buffer", ringpop_node_members(&node, out, 3, &count), RINGPOP_SHORT_BUFFER);
+  take_changes(&node);
   expect("expire at 2^53", ringpop_node_expire(&node, (uint64_t)1 << 53), RINGPOP_BAD_NUMBER);
   expect("expire", ringpop_node_expire(&node, 3000), RINGPOP_NOTHING);
   expect("rejoin before it left", ringpop_node_rejoin(&node), RINGPOP_NOT_LEFT);
@@ -83,5 +205,8 @@ int main(void) {
   expect("second leave", ringpop_node_leave(&node), RINGPOP_ALREADY_LEFT);
   expect("free", ringpop_node_free(&node), RINGPOP_DONE);
   expect("second free", ringpop_node_free(&node), RINGPOP_NO_NODE);
+  for (uint32_t code = 0; code <= RINGPOP_BAD_WORD; code++)
+    if (!seen[code] && code != RINGPOP_MEMORY && code != RINGPOP_UNANSWERED && code != RINGPOP_SPENT) expect("not met", code, 0);
+  if (ringpop_code_text(RINGPOP_BAD_WORD + 1) != NULL) expect("text of no code", 1, 0);
   return faults != 0;
 }

@@ -98,16 +98,47 @@ static void count_lookups(void) {
   struct timespec begin, end;
   uint32_t ip = 0, sum = 0;
   uint16_t port = 0;
-  clock_gettime(CLOCK_MONOTONIC, &begin);
+  clock_gettime(CLOCK_PROCESS_CPUTIME_ID, &begin);
   for (uint32_t i = 0; i < LOOKUPS; i++) {
     uint8_t key[12] = "trip-000";
     memcpy(key + 8, &i, sizeof i);
     ringpop_node_owner(&nodes[0], key, sizeof key, &ip, &port);
     sum += ip;
   }
-  clock_gettime(CLOCK_MONOTONIC, &end);
+  clock_gettime(CLOCK_PROCESS_CPUTIME_ID, &end);
   double seconds = (double)(end.tv_sec - begin.tv_sec) + (double)(end.tv_nsec - begin.tv_nsec) * 1e-9;
-  fprintf(stderr, "%.0f look-ups a second (%u)\n", LOOKUPS / seconds, sum);
+  size_t members = 0;
+  expect("len", ringpop_node_len(&nodes[0], &members), RINGPOP_DONE);
+  fprintf(stderr, "%zu members: %.0f look-ups a second of processor time (%u)\n", members, LOOKUPS / seconds, sum);
+}
+
+/* Members are told to the first node, until it holds so many. */
+static void tell_members(size_t wanted) {
+  for (size_t i = 4; i <= wanted; i++) {
+    int length = snprintf((char *)line, sizeof line,
+                          "{\"address\":\"10.0.%zu.%zu:7946\",\"incarnationNumber\":1,\"source\":\"10.0.0.2:7946\","
+                          "\"sourceIncarnationNumber\":7,\"status\":\"alive\"}",
+                          i >> 8, i & 255);
+    expect("take", ringpop_node_take(&nodes[0], line, (size_t)length, moment), RINGPOP_DONE);
+  }
+}
+
+/* A view names the owners that there were when it was made. */
+static void view_before_a_leave(void) {
+  ringpop_view view = RINGPOP_VIEW_EMPTY;
+  uint32_t ip = 0, was = owner_of(2, "trip-3");
+  uint16_t port = 0;
+  expect("view", ringpop_view_new(&view, &nodes[2]), RINGPOP_DONE);
+  expect("second view", ringpop_view_new(&view, &nodes[2]), RINGPOP_HAS_NODE);
+  expect("leave", ringpop_node_leave(&nodes[2]), RINGPOP_DONE);
+  if (owner_of(2, "trip-3") == was) expect("the owner left", 1, 0);
+  expect("view's owner", ringpop_view_owner(&view, (const uint8_t *)"trip-3", 6, &ip, &port), RINGPOP_DONE);
+  if (ip != was || port != PORT) expect("the owner then", 1, 0);
+  expect("view's own", ringpop_view_own(&view, &ip, &port), RINGPOP_DONE);
+  if (ip != IP(3) || port != PORT) expect("own", 1, 0);
+  expect("free of a view", ringpop_view_free(&view), RINGPOP_DONE);
+  expect("second free of a view", ringpop_view_free(&view), RINGPOP_NO_NODE);
+  expect("view by an empty handle", ringpop_view_own(&view, &ip, &port), RINGPOP_NO_NODE);
 }
 
 int main(int words, char **word) {
@@ -134,8 +165,12 @@ int main(int words, char **word) {
       faults++;
     }
   }
-  if (words > 1 && strcmp(word[1], "count") == 0) count_lookups();
-  expect("leave", ringpop_node_leave(&nodes[2]), RINGPOP_DONE);
+  if (words > 1 && strcmp(word[1], "count") == 0) {
+    count_lookups();
+    tell_members(1000);
+    count_lookups();
+  }
+  view_before_a_leave();
   expect("rejoin", ringpop_node_rejoin(&nodes[2]), RINGPOP_DONE);
   for (int i = 0; i < 3; i++) expect("free", ringpop_node_free(&nodes[i]), RINGPOP_DONE);
   return faults != 0;

@@ -1,5 +1,6 @@
 """Three nodes in one process, by ctypes: usage: three.py LIBRINGPOP.SO [count]"""
 import ctypes as c
+import json
 import sys
 import time
 
@@ -25,6 +26,7 @@ for name, types in {
     "join": [handle, c.c_char_p, c.c_size_t, size],
     "ping": [handle, c.c_uint32, c.c_uint16, c.c_char_p, c.c_size_t, size],
     "receive": [handle, c.c_char_p, c.c_size_t, c.c_uint64, c.c_char_p, c.c_size_t, size],
+    "take": [handle, c.c_char_p, c.c_size_t, c.c_uint64],
     "owner": [handle, c.c_char_p, c.c_size_t, c.POINTER(c.c_uint32), c.POINTER(c.c_uint16)],
 }.items():
     function = getattr(lib, f"ringpop_node_{name}")
@@ -73,10 +75,22 @@ for i in range(8):
     owners = {node.owner(b"trip-%d" % i) for node in nodes}
     assert len(owners) == 1, owners
     print(f"trip-{i} is on 10.0.0.{owners.pop() & 255}")
-if sys.argv[2:] == ["count"]:
-    keys, begin = [b"trip-%d" % i for i in range(LOOKUPS)], time.perf_counter()
+
+
+def count_lookups(members):
+    keys, begin = [b"trip-%d" % i for i in range(LOOKUPS)], time.process_time()
     for key in keys:
         nodes[0].owner(key)
-    print(f"{LOOKUPS / (time.perf_counter() - begin):.0f} look-ups a second", file=sys.stderr)
+    print(f"{members} members: {LOOKUPS / (time.process_time() - begin):.0f} look-ups a second of processor time", file=sys.stderr)
+
+
+if sys.argv[2:] == ["count"]:
+    count_lookups(3)
+    for i in range(4, 1001):
+        change = {"address": f"10.0.{i >> 8}.{i & 255}:{PORT}", "incarnationNumber": 1, "source": f"10.0.0.2:{PORT}",
+                  "sourceIncarnationNumber": 7, "status": "alive"}
+        line = json.dumps(change).encode()
+        assert lib.ringpop_node_take(nodes[0].handle, line, len(line), 1003) == DONE
+    count_lookups(1000)
 for node in nodes:
     node.free()

@@ -1,5 +1,5 @@
 -- How a node begins in an empty handle.
-use Rattle.std.specs.Prelude.{◌≡◌, ◌<◌, ◌⊎◌, ℕ, Option, Some, None}
+use Rattle.std.specs.Prelude.{◌≡◌, ◌<◌, ◌≤◌, ◌⊎◌, ℕ, Option, Some, None}
 use Rattle.change_core.specs.Numbers.{greatest_number, IsWeight}
 use Rattle.detector_core.specs.Choices.{seeded}
 use Rattle.hash_ring.specs.declared.hash.Sha256Hash.{Sha256Hash}
@@ -29,18 +29,27 @@ config_of c = record {
 }
 
 -- what a handle holds of a node that is alone in its cluster
-abbrev pub born : RingpopConfig → ℕ → ℕ → ℕ → ℕ → Held
-born config own incarnation seed moment =
-    let hash : Sha256Hash = record {} in record { node = seen_of sha_hash (newborn hash (config_of config) own incarnation moment (seeded seed)) }
+abbrev pub alone : Config → ℕ → ℕ → ℕ → ℕ → Held
+alone config own incarnation seed moment =
+    let hash : Sha256Hash = record {} in record { node = seen_of sha_hash (newborn hash config own incarnation moment (seeded seed)) }
 
--- why no node is made
+-- the same by a caller's configuration
+abbrev pub born : RingpopConfig → ℕ → ℕ → ℕ → ℕ → Held
+born config own incarnation seed moment = alone (config_of config) own incarnation seed moment
+
+-- why no node is made of a configuration: its first field that is out of its range, or no memory where there is none
+abbrev pub IsConfigFault : Config → Code → Type 0
+IsConfigFault config fault =
+    ((field : ConfigField) × (bad_field config ≡ Some field) × (fault ≡ code_of_field field))
+    ⊎ ((bad_field config ≡ None) × (fault ≡ code.Memory))
+
+-- why no node is made: the first of these that is so
 abbrev pub IsBirthFault : RingpopConfig → ℕ → ℕ → ℕ → Code → Type 0
 IsBirthFault config port incarnation moment fault =
     ((fault ≡ code.BadAddress) × (port ≡ 0))
-    ⊎ (((fault ≡ code.BadNumber) × ((greatest_number < incarnation) ⊎ (greatest_number < moment)))
-    ⊎ (((fault ≡ code.BadWeight) × (IsWeight config.weight → ⊥))
-    ⊎ (((field : ConfigField) × (bad_field (config_of config) ≡ Some field) × (fault ≡ code_of_field field))
-    ⊎ (fault ≡ code.Memory))))
+    ⊎ (((fault ≡ code.BadNumber) × (0 < port) × ((greatest_number < incarnation) ⊎ (greatest_number < moment)))
+    ⊎ (((fault ≡ code.BadWeight) × (0 < port) × (incarnation ≤ greatest_number) × (moment ≤ greatest_number) × (IsWeight config.weight → ⊥))
+    ⊎ ((0 < port) × (incarnation ≤ greatest_number) × (moment ≤ greatest_number) × IsWeight config.weight × IsConfigFault (config_of config) fault)))
 
 -- a full handle answers that it is full, and stays as it is; an empty one holds the node that is born, or stays empty and says why
 abbrev pub Begins : RingpopConfig → ℕ → ℕ → ℕ → ℕ → ℕ → Option Held → ℕ → Option Held → Type 0

@@ -1,7 +1,11 @@
 pub mod Births
 pub mod Codes
+pub mod Entries
 pub mod Lines
 pub mod Owned
+pub mod OwnedViews
 pub mod Probing
 pub mod Reading
 pub mod Steps
+pub mod Taking
+pub mod Views

@@ -1,5 +1,5 @@
 -- The lines that an export writes and reads.
-use Rattle.std.specs.Prelude.{◌≡◌, ◌≢◌, ◌<◌, ◌⊎◌, ◌++◌, ℕ, List, length, drop}
+use Rattle.std.specs.Prelude.{◌≡◌, ◌≢◌, ◌<◌, ◌≤◌, ◌⊎◌, ◌++◌, ℕ, List, length, drop}
 use Rattle.serde_json.specs.Written.{compact_text}
 use Rattle.hash_ring.specs.declared.hash.Sha256Hash.{Sha256Hash}
 use Rattle.wire_json.specs.declared.errors.WireError.{WireError}
@@ -26,25 +26,31 @@ pub record Buffer : Type 0 where
   pub after : List ℕ
   pub count : ℕ
 
--- the text is written at the front of the buffer, and its length told
+-- the text fits, it is written at the front of the buffer, and its length told
 pub record Fills (text : List ℕ) (buffer : Buffer) : Type 0 where
+  pub fits : length text ≤ length buffer.before
   pub count_is : buffer.count ≡ length text
   pub after_is : buffer.after ≡ text ++ drop (length text) buffer.before
 
--- the buffer is shorter than the longest line, and how long that is is told
+-- the buffer is shorter than the longest line, nothing is written, and how long that line is is told
 pub record IsShort (buffer : Buffer) : Type 0 where
   pub is_less : length buffer.before < max_line
   pub count_is : buffer.count ≡ max_line
+  pub after_is : buffer.after ≡ buffer.before
+
+-- the buffer has room for the longest line
+abbrev pub HasRoom : Buffer → Type 0
+HasRoom buffer = max_line ≤ length buffer.before
 
 -- a line is written for a message, or there was no memory for it
 abbrev pub WritesLine : Message → Buffer → Code → Type 0
 WritesLine message buffer answer = ((answer ≡ code.Done) × Fills (line_of message) buffer) ⊎ (answer ≡ code.Memory)
 
--- the node makes a message and goes on, and its line is written, or there was no memory: then it stays, or goes on without; in too short a buffer nothing is written, and it stays
+-- where the buffer has room the node makes a message and goes on, and its line is written, or there was no memory: then it stays, or goes on without; in too short a buffer nothing is written, and it stays
 abbrev pub SaysBy : (Node Sha256Hash → Message) → (Node Sha256Hash → Node Sha256Hash) → Buffer → Node Sha256Hash → Code → Node Sha256Hash → Type 0
 SaysBy message after buffer old answer new =
-    ((new ≡ after old) × WritesLine (message old) buffer answer)
-    ⊎ (((new ≡ old) × (answer ≡ code.Memory)) ⊎ ((new ≡ old) × (answer ≡ code.ShortBuffer) × IsShort buffer))
+    (HasRoom buffer × (new ≡ after old) × WritesLine (message old) buffer answer)
+    ⊎ ((HasRoom buffer × (new ≡ old) × (answer ≡ code.Memory)) ⊎ ((new ≡ old) × (answer ≡ code.ShortBuffer) × IsShort buffer))
 
 -- what a message came to: its answer's line is written, or there was no memory for it
 abbrev pub TellsReceived : Received → Buffer → Code → Type 0
@@ -62,13 +68,13 @@ ReceivesBy message moment buffer old answer new = (outcome : Received) × Receiv
 abbrev pub IsUnread : List ℕ → Code → Type 0
 IsUnread line answer = (fault : WireError) × (answer ≡ code_of_wire fault) × (fault ≢ wire.Memory → Faults MessageFault line fault)
 
--- the node receives the message of a line; where it is none the node stays, and so it does in too short a buffer
+-- where the buffer has room the node receives the message of a line, or stays where it is none; in too short a buffer it stays
 abbrev pub HearsBy : List ℕ → ℕ → Buffer → Node Sha256Hash → Code → Node Sha256Hash → Type 0
 HearsBy line moment buffer old answer new =
-    ((message : Message) × IsLine (λ v. MessageForm v message) line × ReceivesBy message moment buffer old answer new)
-    ⊎ (((new ≡ old) × IsUnread line answer) ⊎ ((new ≡ old) × (answer ≡ code.ShortBuffer) × IsShort buffer))
+    (HasRoom buffer × (message : Message) × IsLine (λ v. MessageForm v message) line × ReceivesBy message moment buffer old answer new)
+    ⊎ ((HasRoom buffer × (new ≡ old) × IsUnread line answer) ⊎ ((new ≡ old) × (answer ≡ code.ShortBuffer) × IsShort buffer))
 
--- a text is written, or the buffer is shorter and its length is told, or there was no memory for it
+-- bytes are written, or the buffer is shorter and its length is told, or there was no memory for it
 abbrev pub TellsText : List ℕ → Buffer → Code → Type 0
 TellsText text buffer answer =
     ((answer ≡ code.Done) × Fills text buffer)

@@ -57,6 +57,10 @@ abbrev pub TellsAddress : Option ℕ → ℕ → ℕ → Code → Type 0
 TellsAddress None ip port answer = answer ≡ code.Nothing
 TellsAddress (Some address) ip port answer = (answer ≡ code.Done) × (ip ≡ ip_of address) × (port ≡ port_of address)
 
+-- a count is told
+abbrev pub TellsCount : ℕ → ℕ → Code → Type 0
+TellsCount count told answer = (answer ≡ code.Done) × (told ≡ count)
+
 -- an empty handle answers that it is empty; what a look at a full one answers
 abbrev pub Looks : (Node Sha256Hash → Code → Type 0) → Option Held → ℕ → Type 0
 Looks look None number = number ≡ code_number code.NoNode

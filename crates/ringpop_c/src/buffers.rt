@@ -1,6 +1,6 @@
 //! Bytes that go out through the caller's buffer.
 ghost use Rattle.std.specs.Prelude.{◌≡◌, ◌≤◌, length, true, false};
-ghost use Rattle.ringpop_c.specs.Lines.{Buffer, Fills, IsShort, WritesLine};
+ghost use Rattle.ringpop_c.specs.Lines.{Buffer, Fills, IsShort, TellsText, WritesLine};
 ghost use Rattle.wire_json.specs.Lines.{max_line};
 
 use crate::codes::Code;
@@ -15,6 +15,18 @@ pub(crate) fn put(out: &mut [u8], count: &mut usize, bytes: &[u8])
     let length = bytes.len();
     *count = length;
     out[..length].copy_from_slice(bytes);
+}
+
+/// Writes bytes, where there is room for them, and else tells how many there are. `ShortBuffer`.
+pub(crate) fn write(out: &mut [u8], count: &mut usize, bytes: &[u8]) -> Code
+    ensures told { TellsText bytes.now (record { before = out.old; after = out.new; count = count.new }) result }
+{
+    if out.len() < bytes.len() {
+        *count = bytes.len();
+        return Code::ShortBuffer;
+    }
+    put(out, count, bytes);
+    Code::Done
 }
 
 /// Whether a buffer has room for the longest line. Where it has not, `count` tells how long that is.

@@ -1,10 +1,11 @@
 //! What is looked up in a node, which stays as it is.
-ghost use Rattle.std.specs.Prelude.{◌≡◌};
+ghost use Rattle.std.specs.Prelude.{◌≡◌, length};
 ghost use Rattle.change_core.specs.Members.{digest_text};
+ghost use Rattle.node_core.specs.Messages.{digest_of};
 ghost use Rattle.ringpop_c.specs.Lines.{TellsText};
-ghost use Rattle.ringpop_c.specs.Steps.{Looks, TellsAddress, owner_by};
+ghost use Rattle.ringpop_c.specs.Steps.{Looks, TellsAddress, TellsCount, owner_by};
 
-use crate::buffers::put;
+use crate::buffers::write;
 use crate::codes::Code;
 use crate::handles::{RingpopNode, lift, put_back};
 use change_core::Address;
@@ -13,7 +14,7 @@ use node_core::NodeState;
 use std::alloc::Global;
 
 /// Tells an address, if there is one.
-fn tell_address(address: Option<Address>, ip: &mut u32, port: &mut u16) -> Code
+pub(crate) fn tell_address(address: Option<Address>, ip: &mut u32, port: &mut u16) -> Code
     ensures told { TellsAddress address ip.new port.new result }
 {
     match address {
@@ -53,13 +54,7 @@ fn tell_members(node: &NodeState<Sha256Hash>, out: &mut [u8], count: &mut usize)
     let Ok(text) = node.digest_text() else {
         return Code::Memory;
     };
-    let bytes = text.as_str().as_bytes();
-    if out.len() < bytes.len() {
-        *count = bytes.len();
-        return Code::ShortBuffer;
-    }
-    put(out, count, bytes);
-    Code::Done
+    write(out, count, text.as_str().as_bytes())
 }
 
 /// The members as one line of text, ascending by address, which no other member list has. `ShortBuffer`, with the count
@@ -80,4 +75,49 @@ pub extern "C" fn ringpop_node_members(
     let code = tell_members(&served.node, out, count);
     put_back(node, served);
     code.number()
+}
+
+/// The digest of the members.
+fn tell_digest(node: &NodeState<Sha256Hash>, out: &mut [u8], count: &mut usize) -> Code
+    ensures told { TellsText (digest_of node.now.node.members).bytes (record { before = out.old; after = out.new; count = count.new }) result }
+{
+    let Ok(digest) = node.digest() else {
+        return Code::Memory;
+    };
+    let bytes = digest.bytes();
+    write(out, count, &bytes)
+}
+
+/// The 32 bytes of the SHA-256 of the members' line (FIPS 180-4), which messages carry. `ShortBuffer`, with the count that
+/// is needed; `Memory`.
+#[unsafe(no_mangle)]
+pub extern "C" fn ringpop_node_digest(
+    alloc: Global,
+    node: &mut RingpopNode,
+    out: &mut [u8],
+    count: &mut usize,
+) -> u32
+    ensures told { Looks (λ n answer. TellsText (digest_of n.members).bytes (record { before = out.old; after = out.new; count = count.new }) answer) node.old.at.value result }
+    ensures same { node.new.at.value ≡ node.old.at.value }
+{
+    let Some(served) = lift(alloc, node) else {
+        return Code::NoNode.number();
+    };
+    let code = tell_digest(&served.node, out, count);
+    put_back(node, served);
+    code.number()
+}
+
+/// How many members the node holds, itself among them.
+#[unsafe(no_mangle)]
+pub extern "C" fn ringpop_node_len(alloc: Global, node: &mut RingpopNode, count: &mut usize) -> u32
+    ensures told { Looks (λ n answer. TellsCount (length n.members) count.new answer) node.old.at.value result }
+    ensures same { node.new.at.value ≡ node.old.at.value }
+{
+    let Some(served) = lift(alloc, node) else {
+        return Code::NoNode.number();
+    };
+    *count = served.node.len();
+    put_back(node, served);
+    Code::Done.number()
 }

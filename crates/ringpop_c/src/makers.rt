@@ -1,7 +1,7 @@
 //! A node begins, and is freed.
 ghost use Rattle.std.specs.Prelude.{◌≡◌, None, IfOk, IfErr, cond, is_some};
 ghost use Rattle.change_core.specs.Address.{address_of};
-ghost use Rattle.ringpop_c.specs.Births.{Begins, IsBirthFault, born};
+ghost use Rattle.ringpop_c.specs.Births.{Begins, IsBirthFault, IsConfigFault, alone, born};
 ghost use Rattle.ringpop_c.specs.Codes.{code_number};
 
 use crate::codes::Code;
@@ -9,10 +9,31 @@ use crate::configs::{RingpopConfig, read_config};
 use crate::handles::{RingpopNode, Served, is_full, lift, put_back};
 use change_core::{Address, Incarnation, Moment, Weight};
 use hash_ring::Sha256Hash;
-use node_core::NodeState;
+use node_core::{Config, NodeState};
 use std::alloc::Global;
 
 /// A node alone in its cluster, on the heap.
+fn make(
+    alloc: Global,
+    config: Config,
+    own: Address,
+    incarnation: Incarnation,
+    seed: u64,
+    moment: Moment,
+) -> Result<Box<Served>, Code>
+    ensures born { IfOk result (λ b. b.value ≡ alone config own incarnation seed moment) }
+    ensures refusal { IfErr result (λ fault. IsConfigFault config fault) }
+{
+    match NodeState::new(alloc, config, Sha256Hash, own, incarnation, seed, moment) {
+        Ok(node) => match Box::new(alloc, Served { node }) {
+            Ok(served) => Ok(served),
+            Err(_) => Err(Code::Memory),
+        },
+        Err(error) => Err(Code::of_error(error)),
+    }
+}
+
+/// The node that these arguments ask for, on the heap.
 fn begin(
     alloc: Global,
     config: &RingpopConfig,
@@ -38,13 +59,7 @@ fn begin(
         return Err(Code::BadWeight);
     };
     let config = read_config(config, weight);
-    match NodeState::new(alloc, config, Sha256Hash, own, incarnation, seed, moment) {
-        Ok(node) => match Box::new(alloc, Served { node }) {
-            Ok(served) => Ok(served),
-            Err(_) => Err(Code::Memory),
-        },
-        Err(error) => Err(Code::of_error(error)),
-    }
+    make(alloc, config, own, incarnation, seed, moment)
 }
 
 /// Makes a node, alone in its cluster, into an empty handle. `seed` decides its random choices; `moment`, in milliseconds,

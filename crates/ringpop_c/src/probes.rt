@@ -199,7 +199,9 @@ pub extern "C" fn ringpop_node_helper_said(
 ) -> u32
     ensures address { port ≡ 0 → result ≡ code_number Code.BadAddress }
     ensures address_stays { port ≡ 0 → node.new.at.value ≡ node.old.at.value }
+    ensures word { 0 < port → said_of word ≡ None → result ≡ code_number Code.BadWord }
     ensures word_stays { said_of word ≡ None → node.new.at.value ≡ node.old.at.value }
+    ensures number { (said : Said) → 0 < port → said_of word ≡ Some said → greatest_number < moment → result ≡ code_number Code.BadNumber }
     ensures moment_stays { greatest_number < moment → node.new.at.value ≡ node.old.at.value }
     ensures step { (said : Said) → 0 < port → said_of word ≡ Some said → moment ≤ greatest_number
         → Does (HearsHelper number (address_of ip port) said moment) node.old.at.value result node.new.at.value }

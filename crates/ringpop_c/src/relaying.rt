@@ -2,6 +2,7 @@
 ghost use Rattle.std.specs.Prelude.{◌≡◌, ◌<◌};
 ghost use Rattle.change_core.specs.Address.{address_of};
 ghost use Rattle.node_core.specs.Messages.{ping_req_ack_by, ping_req_by, told};
+ghost use Rattle.ringpop_c.specs.Codes.{code_number};
 ghost use Rattle.ringpop_c.specs.Lines.{SaysBy};
 ghost use Rattle.ringpop_c.specs.Steps.{Does};
 
@@ -45,7 +46,9 @@ pub extern "C" fn ringpop_node_ping_req(
     out: &mut [u8],
     count: &mut usize,
 ) -> u32
+    ensures helper { helper_port ≡ 0 → result ≡ code_number Code.BadAddress }
     ensures helper_stays { helper_port ≡ 0 → node.new.at.value ≡ node.old.at.value }
+    ensures target { target_port ≡ 0 → result ≡ code_number Code.BadAddress }
     ensures target_stays { target_port ≡ 0 → node.new.at.value ≡ node.old.at.value }
     ensures step { 0 < helper_port → 0 < target_port
         → Does (SaysBy (λ n. ping_req_by n (address_of helper_ip helper_port) (address_of target_ip target_port)) (λ n. told n (address_of helper_ip helper_port)) (record { before = out.old; after = out.new; count = count.new })) node.old.at.value result node.new.at.value }
@@ -98,7 +101,9 @@ pub extern "C" fn ringpop_node_ping_req_ack(
     out: &mut [u8],
     count: &mut usize,
 ) -> u32
+    ensures requester { requester_port ≡ 0 → result ≡ code_number Code.BadAddress }
     ensures requester_stays { requester_port ≡ 0 → node.new.at.value ≡ node.old.at.value }
+    ensures target { target_port ≡ 0 → result ≡ code_number Code.BadAddress }
     ensures target_stays { target_port ≡ 0 → node.new.at.value ≡ node.old.at.value }
     ensures step { 0 < requester_port → 0 < target_port
         → Does (SaysBy (λ n. ping_req_ack_by n (address_of requester_ip requester_port) (address_of target_ip target_port) reached) (λ n. told n (address_of requester_ip requester_port)) (record { before = out.old; after = out.new; count = count.new })) node.old.at.value result node.new.at.value }

@@ -1,0 +1,108 @@
+/* Three nodes come to one owner though an allocation fails, each in turn by scripts/c-examples: what answers MEMORY is as it
+   was, and is called again. */
+#include <stdio.h>
+#include <string.h>
+
+#include "ringpop.h"
+
+#define IP(last) (0x0A000000u + (last))
+#define PORT 7946
+
+static ringpop_node nodes[3] = {RINGPOP_NODE_EMPTY, RINGPOP_NODE_EMPTY, RINGPOP_NODE_EMPTY};
+static uint8_t line[RINGPOP_MAX_LINE], answer[RINGPOP_MAX_LINE];
+static uint64_t moment = 1000;
+static int faults = 0;
+
+static void expect(const char *what, uint32_t code, uint32_t wanted) {
+  if (code != wanted) {
+    fprintf(stderr, "%s: code %u, not %u\n", what, code, wanted);
+    faults++;
+  }
+}
+
+/* The members of a node: how many bytes of text, 0 of an empty handle. */
+static size_t members(int at, uint8_t *text, size_t room) {
+  size_t length = 0;
+  uint32_t code = ringpop_node_members(&nodes[at], text, room, &length);
+  if (code == RINGPOP_MEMORY) code = ringpop_node_members(&nodes[at], text, room, &length);
+  return code == RINGPOP_DONE ? length : 0;
+}
+
+/* Makes a call of a node, and once more where it found no memory, when the members have to be those before. */
+#define AGAIN(at, code, call)                                                                              \
+  do {                                                                                                     \
+    uint8_t before[1024], after[1024];                                                                     \
+    size_t held = members(at, before, sizeof before);                                                      \
+    code = call;                                                                                           \
+    if (code == RINGPOP_MEMORY) {                                                                          \
+      size_t now = members(at, after, sizeof after);                                                       \
+      expect("members after MEMORY", now == held && memcmp(before, after, held) == 0, 1);                  \
+      code = call;                                                                                         \
+    }                                                                                                      \
+  } while (0)
+
+/* One node says something to another, which answers it. An answer that found no memory does not come. */
+static void talk(int from, int to, bool join) {
+  size_t length = 0, answered = 0;
+  uint32_t code;
+  AGAIN(from, code,
+        join ? ringpop_node_join(&nodes[from], line, sizeof line, &length)
+             : ringpop_node_ping(&nodes[from], IP(to + 1), PORT, line, sizeof line, &length));
+  expect("say", code, RINGPOP_DONE);
+  moment++;
+  code = ringpop_node_receive(&nodes[to], line, length, moment, answer, sizeof answer, &answered);
+  if (code == RINGPOP_MEMORY || code == RINGPOP_UNANSWERED)
+    code = ringpop_node_receive(&nodes[to], line, length, moment, answer, sizeof answer, &answered);
+  expect("receive", code, RINGPOP_DONE);
+  code = ringpop_node_receive(&nodes[from], answer, answered, moment, line, sizeof line, &length);
+  if (code == RINGPOP_MEMORY) code = ringpop_node_receive(&nodes[from], answer, answered, moment, line, sizeof line, &length);
+  expect("answer", code, RINGPOP_NOTHING);
+}
+
+static void probe_nobody_answers(int prober) {
+  uint64_t number = 0;
+  uint32_t code, ip = 0;
+  uint16_t port = 0;
+  AGAIN(prober, code, ringpop_node_probe(&nodes[prober], &number, &ip, &port));
+  expect("probe", code, RINGPOP_DONE);
+  AGAIN(prober, code, ringpop_node_lost(&nodes[prober], number, moment));
+  expect("lost", code, RINGPOP_DONE);
+  AGAIN(prober, code, ringpop_node_waiting(&nodes[prober], &number, &ip, &port));
+  expect("waiting", code, RINGPOP_DONE);
+  AGAIN(prober, code, ringpop_node_helper_said(&nodes[prober], number, ip, port, 1, moment));
+  expect("helper said", code, RINGPOP_SUSPECTED);
+}
+
+static void compare(void) {
+  uint8_t first[1024], other[1024];
+  size_t length = members(0, first, sizeof first);
+  expect("members", length > 0, 1);
+  for (int i = 1; i < 3; i++) {
+    size_t now = members(i, other, sizeof other);
+    expect("the same members", now == length && memcmp(first, other, length) == 0, 1);
+  }
+}
+
+int main(void) {
+  ringpop_config config;
+  uint32_t code;
+  for (int i = 0; i < 3; i++) {
+    ringpop_config_standard(&config);
+    AGAIN(i, code, ringpop_node_new(&nodes[i], &config, IP(i + 1), PORT, 7, (uint64_t)i, moment));
+    expect("new", code, RINGPOP_DONE);
+  }
+  talk(1, 0, true);
+  talk(2, 0, true);
+  talk(0, 1, false);
+  talk(0, 2, false);
+  talk(1, 2, false);
+  talk(2, 0, false);
+  compare();
+  probe_nobody_answers(0);
+  AGAIN(2, code, ringpop_node_leave(&nodes[2]));
+  expect("leave", code, RINGPOP_DONE);
+  AGAIN(2, code, ringpop_node_rejoin(&nodes[2]));
+  expect("rejoin", code, RINGPOP_DONE);
+  for (int i = 0; i < 3; i++) expect("free", ringpop_node_free(&nodes[i]), RINGPOP_DONE);
+  return faults != 0;
+}

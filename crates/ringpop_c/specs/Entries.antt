@@ -1,0 +1,23 @@
+-- What an export tells of a member.
+use Rattle.std.specs.Prelude.{◌≡◌, ℕ, Option, Some, None}
+use Rattle.change_core.specs.Address.{ip_of, port_of}
+use Rattle.change_core.specs.Change.{entry_of}
+use Rattle.change_core.specs.Status.{rank}
+use Rattle.change_core.specs.declared.changes.Change.{Change}
+use Rattle.change_core.specs.declared.changes.Entry.{Entry}
+use Rattle.ringpop_c.specs.declared.codes.Code.{Code}
+use Rattle.ringpop_c.specs.declared.codes.Code.TheVariants as code
+use Rattle.ringpop_c.specs.declared.entries.RingpopEntry.{RingpopEntry}
+
+-- an entry as the caller has it: its status by its place in precedence
+abbrev pub entry_told : Entry → RingpopEntry
+entry_told e = record { incarnation = e.incarnation; status = rank e.status; weight = e.weight }
+
+-- an entry is told, or that there is none
+abbrev pub TellsEntry : Option Entry → RingpopEntry → Code → Type 0
+TellsEntry None told answer = answer ≡ code.Nothing
+TellsEntry (Some e) told answer = (answer ≡ code.Done) × (told ≡ entry_told e)
+
+-- a change is told: its address, and the entry beside it
+abbrev pub TellsChange : Change → ℕ → ℕ → RingpopEntry → Code → Type 0
+TellsChange change ip port told answer = (answer ≡ code.Done) × (ip ≡ ip_of change.address) × (port ≡ port_of change.address) × (told ≡ entry_told (entry_of change))

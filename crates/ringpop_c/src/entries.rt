@@ -1,0 +1,94 @@
+//! What a node holds of itself, and of any address. The node stays as it is.
+ghost use Rattle.std.specs.Prelude.{◌≡◌, ◌<◌, option_map};
+ghost use Rattle.change_core.specs.Address.{address_of};
+ghost use Rattle.change_core.specs.Change.{entry_of};
+ghost use Rattle.change_core.specs.Members.{greatest};
+ghost use Rattle.node_core.specs.Node.{own_change};
+ghost use Rattle.ringpop_c.specs.Codes.{code_number};
+ghost use Rattle.ringpop_c.specs.Entries.{TellsChange, TellsEntry};
+ghost use Rattle.ringpop_c.specs.Steps.{Looks};
+
+use crate::codes::Code;
+use crate::handles::{RingpopNode, lift, put_back};
+use change_core::{Address, Change, Entry};
+use std::alloc::Global;
+
+/// What is held of a member, whose address is told beside it.
+#[repr(C)]
+#[derive(Clone, Copy, Debug, PartialEq, Eq)]
+pub struct RingpopEntry {
+    /// Its incarnation, from 0 to 2^53 - 1.
+    pub incarnation: u64,
+    /// Its status: 0 alive, 1 suspect, 2 faulty, 3 leave, 4 tombstone.
+    pub status: u8,
+    /// How many shares of the ring it takes, from 1 to 8.
+    pub weight: u8,
+}
+
+/// Tells an entry, if there is one.
+fn tell_entry(held: Option<Entry>, entry: &mut RingpopEntry) -> Code
+    ensures told { TellsEntry held entry.new result }
+{
+    let Some(held) = held else {
+        return Code::Nothing;
+    };
+    *entry = RingpopEntry {
+        incarnation: held.incarnation.number(),
+        status: held.status.rank(),
+        weight: held.weight.number(),
+    };
+    Code::Done
+}
+
+/// What the node holds of an address. `Nothing`: no member has it. `BadAddress`.
+#[unsafe(no_mangle)]
+pub extern "C" fn ringpop_node_member(
+    alloc: Global,
+    node: &mut RingpopNode,
+    ip: u32,
+    port: u16,
+    entry: &mut RingpopEntry,
+) -> u32
+    ensures address { port ≡ 0 → result ≡ code_number Code.BadAddress }
+    ensures entry { 0 < port → Looks (λ n answer. TellsEntry (option_map entry_of (greatest n.members (address_of ip port))) entry.new answer) node.old.at.value result }
+    ensures same { node.new.at.value ≡ node.old.at.value }
+{
+    let Some(address) = Address::new(ip, port) else {
+        return Code::BadAddress.number();
+    };
+    let Some(served) = lift(alloc, node) else {
+        return Code::NoNode.number();
+    };
+    let held = served.node.member(address);
+    put_back(node, served);
+    tell_entry(held, entry).number()
+}
+
+/// Tells a change.
+fn tell_change(change: &Change, ip: &mut u32, port: &mut u16, entry: &mut RingpopEntry) -> Code
+    ensures told { TellsChange change.now ip.new port.new entry.new result }
+{
+    *ip = change.address.ip();
+    *port = change.address.port();
+    tell_entry(Some(change.entry()), entry)
+}
+
+/// The node's own address, and what it holds of itself.
+#[unsafe(no_mangle)]
+pub extern "C" fn ringpop_node_own(
+    alloc: Global,
+    node: &mut RingpopNode,
+    ip: &mut u32,
+    port: &mut u16,
+    entry: &mut RingpopEntry,
+) -> u32
+    ensures own { Looks (λ n answer. TellsChange (own_change n) ip.new port.new entry.new answer) node.old.at.value result }
+    ensures same { node.new.at.value ≡ node.old.at.value }
+{
+    let Some(served) = lift(alloc, node) else {
+        return Code::NoNode.number();
+    };
+    let own = served.node.own();
+    put_back(node, served);
+    tell_change(&own, ip, port, entry).number()
+}

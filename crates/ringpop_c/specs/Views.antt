@@ -12,7 +12,7 @@ use Rattle.ringpop_c.specs.Steps.{sha_hash}
 
 -- a full handle answers that it is full, and stays as it is; an empty one answers that the node's is empty, or holds the view of the node, or there was no memory for it
 abbrev pub Views : Option Held → Option HeldView → ℕ → Option HeldView → Type 0
-Views node (Some held) number new = (number ≡ code_number code.HasNode) × (new ≡ Some held)
+Views _ (Some held) number new = (number ≡ code_number code.HasNode) × (new ≡ Some held)
 Views None None number new = (number ≡ code_number code.NoNode) × (new ≡ None)
 Views (Some held) None number None = number ≡ code_number code.Memory
 Views (Some held) None number (Some seen) = (number ≡ code_number code.Done) × (seen.view ≡ view_of held.node.node)

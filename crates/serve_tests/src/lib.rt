@@ -4,6 +4,10 @@
 #[cfg(test)]
 mod answers;
 #[cfg(test)]
+mod lines;
+#[cfg(test)]
+mod pairs;
+#[cfg(test)]
 mod peers;
 #[cfg(test)]
 mod plans;

@@ -6,6 +6,9 @@ use std::alloc::Global;
 /// More bytes than a server or a command ever writes here.
 pub(crate) const ALL: usize = 4096;
 
+/// More milliseconds than anything takes here on a busy machine, which are waited where the limit is not what is tested.
+pub(crate) const PATIENCE: u64 = 200_000;
+
 /// A server at a port of 127.0.0.1, at incarnation 1.
 #[derive(Clone, Copy)]
 pub(crate) struct Plan {
@@ -19,13 +22,15 @@ pub(crate) struct Plan {
     pub(crate) host: Option<u16>,
     /// How long it waits for a line, in milliseconds; none for the standard waits.
     pub(crate) line: Option<u64>,
+    /// How long it waits for the answer to a ping, in milliseconds, where its waits are not the standard ones.
+    pub(crate) ping: u64,
     /// How many bytes its writer takes.
     pub(crate) room: usize,
     /// How often it tries to listen.
     pub(crate) tries: u32,
 }
 
-/// Two workers, no rounds and no host.
+/// Two workers, no rounds and no host. It waits as long as need be.
 pub(crate) fn plan_at(port: u16, requests: u64) -> Plan {
     Plan {
         port,
@@ -34,7 +39,8 @@ pub(crate) fn plan_at(port: u16, requests: u64) -> Plan {
         period: 0,
         sum: false,
         host: None,
-        line: None,
+        line: Some(PATIENCE),
+        ping: PATIENCE,
         room: ALL,
         tries: 1,
     }

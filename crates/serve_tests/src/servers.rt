@@ -1,7 +1,7 @@
 //! Servers from their words to their last connection.
 use crate::peers::Page;
 use crate::plans::{ALL, Plan, plan_at};
-use crate::shared::{Question, Running, TRIES, answers, asked, connect, end, start, turn};
+use crate::shared::{Question, Running, answers, asked, connect, end, start, turn};
 use crate::tells::Lines;
 use change_core::Address;
 use serve_core::{
@@ -10,13 +10,14 @@ use serve_core::{
 use std::alloc::Global;
 use std::net::{Net, TcpListener, TcpStream};
 
-/// Two requests at a port that the system may have given to a connection, so that both sides try again.
+/// Two requests under the standard waits, at a port that the system may have given to a connection, so that both sides try again.
 fn echoes_twice<R: Net<Listener = TcpListener, Stream = TcpStream> + Host>(
     rt: &R,
     alloc: Global,
 ) -> bool {
     let plan = Plan {
-        tries: TRIES,
+        line: None,
+        tries: 10_000,
         ..plan_at(39_171, 2)
     };
     let Some(server) = start(rt, alloc, &plan) else {
@@ -167,16 +168,23 @@ fn all_threads_end_with_the_last_request(rt: HostRuntime) {
     drop(turn);
 }
 
-/// Whether a server answers another peer while one is silent, whose line it waits for; that one hangs up then.
+/// Whether a server answers another peer while so many are silent, whose lines it waits for; they hang up then.
 fn answers_beside<R: Net<Listener = TcpListener, Stream = TcpStream> + Host>(
     rt: &R,
     alloc: Global,
     server: &Running,
+    count: u32,
     text: &str,
 ) -> bool {
-    let Some(silent) = connect(rt, server.address) else {
-        return false;
-    };
+    let mut silent = Vec::new(alloc);
+    for _ in 0..count {
+        let Some(peer) = connect(rt, server.address) else {
+            return false;
+        };
+        if silent.push(peer).is_err() {
+            return false;
+        }
+    }
     let answer = asked(rt, alloc, server.address, Question::Ask);
     drop(silent);
     match answer {
@@ -185,21 +193,23 @@ fn answers_beside<R: Net<Listener = TcpListener, Stream = TcpStream> + Host>(
     }
 }
 
-/// Two workers that wait a minute for a line, and a silent peer between two others.
+/// Workers that wait for lines, and between two peers that ask silent ones for all workers but one.
 fn serves_beside<R: Net<Listener = TcpListener, Stream = TcpStream> + Host>(
     rt: &R,
     alloc: Global,
+    workers: u32,
 ) -> bool {
+    let count = workers.saturating_sub(1);
     let plan = Plan {
-        line: Some(60_000),
-        ..plan_at(29_178, 3)
+        workers,
+        ..plan_at(29_178, u64::from(count) + 2)
     };
     let Some(server) = start(rt, alloc, &plan) else {
         return false;
     };
     let line = "127.0.0.1:29178 hi\n";
     let is_served = answers(rt, alloc, &server, Question::Ask, line)
-        && answers_beside(rt, alloc, &server, line);
+        && answers_beside(rt, alloc, &server, count, line);
     match end(rt, server, is_served) {
         Some(ended) => ended.is(Ok(()), "serving 127.0.0.1:29178\ndone\n"),
         None => false,
@@ -210,7 +220,10 @@ fn serves_beside<R: Net<Listener = TcpListener, Stream = TcpStream> + Host>(
 fn a_silent_peer_holds_one_worker(rt: HostRuntime) {
     let alloc: Global = rt.alloc();
     let turn = turn(&rt).expect(&rt, "a turn");
-    assert!(&rt; serves_beside(&rt, alloc) || serves_beside(&rt, alloc));
+    for workers in [2, 16] {
+        let is_served = serves_beside(&rt, alloc, workers) || serves_beside(&rt, alloc, workers);
+        assert!(&rt; is_served, "{workers} workers");
+    }
     drop(turn);
 }
 

@@ -1,10 +1,10 @@
 //! A server in a thread of its own, how it is asked, and how it is let end.
 use crate::peers::Page;
-use crate::plans::{ALL, Plan, local, words_of};
+use crate::plans::{ALL, PATIENCE, Plan, local, words_of};
 use change_core::Address;
-use cluster_links::{Limits, socket_address};
+use cluster_links::{Limits, TcpLink, socket_address};
 use serve_core::{
-    AskFault, Host, ServeFault, ServeWords, Waits, ask_run, members_run, serve_run, serve_within,
+    AskFault, Host, ServeFault, ServeWords, Waits, ask_over, members_over, serve_run, serve_within,
 };
 use std::alloc::Global;
 use std::io::Read;
@@ -16,7 +16,20 @@ use std::thread::JoinHandle;
 use std::time::{Clock, Duration};
 
 /// How often is tried again what may come to be, a millisecond apart.
-pub(crate) const TRIES: u32 = 10_000;
+pub(crate) const TRIES: u32 = 200_000;
+
+/// How often a turn is asked for, a millisecond apart.
+const TURN_TRIES: u32 = 250_000;
+
+/// More time for each call of a link than it wants on a busy machine.
+fn patient() -> Limits {
+    let patience = Duration::from_millis(PATIENCE);
+    Limits {
+        ping: patience,
+        helper: patience,
+        other: patience,
+    }
+}
 
 /// How a server ended, and what it wrote.
 #[derive(Drop)]
@@ -45,7 +58,10 @@ fn serve_once<R: Net<Listener = TcpListener, Stream = TcpStream> + Host>(
         Some(millis) => {
             let waits = Waits {
                 line: Duration::from_millis(millis),
-                links: Limits::standard(),
+                links: Limits {
+                    ping: Duration::from_millis(plan.ping),
+                    ..patient()
+                },
             };
             serve_within(rt, alloc, waits, words, &mut page)
         }
@@ -84,7 +100,7 @@ pub(crate) struct Running {
 
 impl Running {
     /// Whether it has ended.
-    fn has_ended(&self) -> bool {
+    pub(crate) fn has_ended(&self) -> bool {
         self.bell.load(Ordering::SeqCst)
     }
 }
@@ -112,7 +128,7 @@ pub(crate) fn start<R: Net<Listener = TcpListener, Stream = TcpStream> + Host>(
     })
 }
 
-/// Waits until a server has ended by itself, ten seconds at most; whether it has.
+/// Waits until a server has ended by itself; whether it has.
 pub(crate) fn ends<C: Clock>(clock: &C, server: &Running) -> bool {
     for _ in 0..TRIES {
         if server.has_ended() {
@@ -123,12 +139,12 @@ pub(crate) fn ends<C: Clock>(clock: &C, server: &Running) -> bool {
     false
 }
 
-/// A connection, on which nothing is waited for longer than ten seconds; none where nobody listens.
+/// A connection, on which nothing is waited for longer than patience lasts; none where nobody listens.
 pub(crate) fn connect<R: Net<Listener = TcpListener, Stream = TcpStream>>(
     rt: &R,
     to: Address,
 ) -> Option<TcpStream> {
-    let wait = Duration::from_secs(10);
+    let wait = Duration::from_millis(PATIENCE);
     let stream = TcpStream::connect_timeout(rt, &socket_address(to), wait).ok()?;
     stream.set_read_timeout(Some(wait)).ok()?;
     stream.set_write_timeout(Some(wait)).ok()?;
@@ -199,14 +215,15 @@ pub(crate) fn asked<R: Net<Listener = TcpListener, Stream = TcpStream> + Host>(
     question: Question,
 ) -> Result<Vec<u8>, AskFault> {
     let mut page = Page::new(alloc, ALL);
+    let mut link = TcpLink::with_limits(rt, patient());
     match question {
-        Question::Ask => ask_run(rt, alloc, to, "k", "hi", &mut page)?,
-        Question::Members => members_run(rt, alloc, to, false, &mut page)?,
+        Question::Ask => ask_over(rt, alloc, &mut link, to, "k", "hi", &mut page)?,
+        Question::Members => members_over(rt, alloc, &mut link, to, false, &mut page)?,
     }
     Ok(page.bytes)
 }
 
-/// What a server answers that begins so; none where it refuses, ends before, or does not answer so within ten seconds.
+/// What a server answers that begins so; none where it refuses, ends before, or never answers so.
 pub(crate) fn answer<R: Net<Listener = TcpListener, Stream = TcpStream> + Host>(
     rt: &R,
     alloc: Global,
@@ -242,12 +259,12 @@ pub(crate) fn answers<R: Net<Listener = TcpListener, Stream = TcpStream> + Host>
     }
 }
 
-/// Waits for the turn of a test, since all tests of all processes use the same ports, and keeps it; none after 50 seconds.
+/// Waits for the turn of a test, since all tests of all processes use the same ports, and keeps it; none where it never comes.
 pub(crate) fn turn<R: Net<Listener = TcpListener, Stream = TcpStream> + Clock>(
     rt: &R,
 ) -> Option<TcpListener> {
     let turns = socket_address(local(29_170)?);
-    for _ in 0..50_000 {
+    for _ in 0..TURN_TRIES {
         if let Ok(turn) = TcpListener::bind(rt, turns) {
             return Some(turn);
         }

@@ -1,0 +1,194 @@
+//! Two servers, of which the second joins the first.
+use crate::plans::{Plan, plan_at};
+use crate::shared::{Question, Running, TRIES, answers, asked, end, start, stop, turn};
+use serve_core::Host;
+use std::alloc::Global;
+use std::net::{Net, TcpListener, TcpStream};
+use std::thread;
+use std::time::Duration;
+
+/// The first alone, and the digest.
+const FIRST: &str =
+    "127.0.0.1:29175alive1\n7305a6fca14a3dd7999041c39976d50d7fcd809544f8b4fc28884e395b6ad002\n";
+
+/// Both, and the digest.
+const BOTH: &str =
+    "127.0.0.1:29175alive1;127.0.0.1:29176alive1\n295769b65fb5829d674a7faee3163ad6b656e691f463c7b32f5617dfc6d83924\n";
+
+/// What the first writes.
+const FIRST_WRITTEN: &str = "serving 127.0.0.1:29175\ndone\n";
+
+/// What the second writes.
+const SECOND_WRITTEN: &str = "serving 127.0.0.1:29176\ndone\n";
+
+/// Starts a second server, so planned, once the first tells its members.
+fn start_second<R: Net<Listener = TcpListener, Stream = TcpStream> + Host>(
+    rt: &R,
+    alloc: Global,
+    first: &Running,
+    plan: &Plan,
+) -> Option<Running> {
+    if !answers(rt, alloc, first, Question::Members, FIRST) {
+        return None;
+    }
+    start(rt, alloc, plan)
+}
+
+/// Whether two servers without rounds tell both members: to the first come a question, the second, and a question, to that one
+/// question.
+fn joins<R: Net<Listener = TcpListener, Stream = TcpStream> + Host>(rt: &R, alloc: Global) -> bool {
+    let Some(first) = start(rt, alloc, &plan_at(29_175, 3)) else {
+        return false;
+    };
+    let plan = Plan {
+        host: Some(29_175),
+        ..plan_at(29_176, 1)
+    };
+    let Some(second) = start_second(rt, alloc, &first, &plan) else {
+        let _stopped = stop(rt, first);
+        return false;
+    };
+    let are_joined = answers(rt, alloc, &second, Question::Members, BOTH)
+        && answers(rt, alloc, &first, Question::Members, BOTH);
+    let (first, second) = (end(rt, first, are_joined), end(rt, second, are_joined));
+    match (first, second) {
+        (Some(first), Some(second)) => {
+            first.is(Ok(()), FIRST_WRITTEN) && second.is(Ok(()), SECOND_WRITTEN)
+        }
+        _ => false,
+    }
+}
+
+#[test]
+fn a_server_joins_its_host(rt: HostRuntime) {
+    let alloc: Global = rt.alloc();
+    let turn = turn(&rt).expect(&rt, "a turn");
+    assert!(&rt; joins(&rt, alloc) || joins(&rt, alloc));
+    drop(turn);
+}
+
+/// The beginnings of what is told where the first is suspect, or then faulty. The second may have been pinged before it listened, and
+/// then has a greater incarnation.
+const LOST_FIRST: [&str; 2] = [
+    "127.0.0.1:29175suspect1;127.0.0.1:29176alive",
+    "127.0.0.1:29175faulty1;127.0.0.1:29176alive",
+];
+
+/// The same of the second.
+const LOST_SECOND: [&str; 2] = [
+    "127.0.0.1:29175alive1;127.0.0.1:29176suspect",
+    "127.0.0.1:29175alive1;127.0.0.1:29176faulty",
+];
+
+/// How many requests a server has that the rounds of the other one are to end.
+const FEW: u64 = 20;
+
+/// How many a server has that is to stay.
+const MANY: u64 = 300;
+
+/// How often the server that stays is asked whether it has lost the other one, a tenth of a second apart.
+const LOOKS: u32 = 100;
+
+/// Waits until a server has ended by itself, and whether it has; not once the other one has ended.
+fn is_ended_by<R: Host>(rt: &R, ending: &Running, staying: &Running) -> bool {
+    for _ in 0..TRIES {
+        if ending.has_ended() {
+            return true;
+        }
+        if staying.has_ended() {
+            return false;
+        }
+        thread::sleep(rt, Duration::from_millis(1));
+    }
+    false
+}
+
+/// Whether a server comes to tell members that begin so or so.
+fn tells<R: Net<Listener = TcpListener, Stream = TcpStream> + Host>(
+    rt: &R,
+    alloc: Global,
+    server: &Running,
+    fronts: [&str; 2],
+) -> bool {
+    for _ in 0..LOOKS {
+        if let Ok(text) = asked(rt, alloc, server.address, Question::Members) {
+            for front in fronts {
+                if text.as_slice().starts_with(front.as_bytes()) {
+                    return true;
+                }
+            }
+        }
+        if server.has_ended() {
+            return false;
+        }
+        thread::sleep(rt, Duration::from_millis(100));
+    }
+    false
+}
+
+/// Whether the rounds of the server that stays use up the requests of the other one, and it then tells that it has lost it. Both are
+/// stopped.
+fn loses<R: Net<Listener = TcpListener, Stream = TcpStream> + Host>(
+    rt: &R,
+    alloc: Global,
+    ending: (Running, &str),
+    staying: (Running, &str),
+    fronts: [&str; 2],
+) -> bool {
+    let is_used_up = is_ended_by(rt, &ending.0, &staying.0);
+    let has_served = match stop(rt, ending.0) {
+        Some(ended) => is_used_up && ended.is(Ok(()), ending.1),
+        None => false,
+    };
+    let is_lost = has_served && tells(rt, alloc, &staying.0, fronts);
+    match stop(rt, staying.0) {
+        Some(ended) => is_lost && ended.is(Ok(()), staying.1),
+        None => false,
+    }
+}
+
+/// Two servers, of which the first or the second has few requests and seldom makes a round, and the other one often.
+fn meet<R: Net<Listener = TcpListener, Stream = TcpStream> + Host>(
+    rt: &R,
+    alloc: Global,
+    ends_first: bool,
+) -> bool {
+    let (ending, staying) = ((FEW, 100), (MANY, 5));
+    let (one, other) = if ends_first {
+        (ending, staying)
+    } else {
+        (staying, ending)
+    };
+    let plan = Plan {
+        period: one.1,
+        ..plan_at(29_175, one.0)
+    };
+    let Some(first) = start(rt, alloc, &plan) else {
+        return false;
+    };
+    let plan = Plan {
+        period: other.1,
+        host: Some(29_175),
+        ..plan_at(29_176, other.0)
+    };
+    let Some(second) = start_second(rt, alloc, &first, &plan) else {
+        let _stopped = stop(rt, first);
+        return false;
+    };
+    let (first, second) = ((first, FIRST_WRITTEN), (second, SECOND_WRITTEN));
+    if ends_first {
+        loses(rt, alloc, first, second, LOST_FIRST)
+    } else {
+        loses(rt, alloc, second, first, LOST_SECOND)
+    }
+}
+
+#[test]
+fn each_of_two_servers_makes_rounds(rt: HostRuntime) {
+    let alloc: Global = rt.alloc();
+    let turn = turn(&rt).expect(&rt, "a turn");
+    for ends_first in [true, false] {
+        assert!(&rt; meet(&rt, alloc, ends_first) || meet(&rt, alloc, ends_first));
+    }
+    drop(turn);
+}

@@ -185,6 +185,9 @@ fn what_is_no_message_is_refused(rt: HostRuntime) {
 /// For how many milliseconds a server waits for a line whose limit is tested.
 const LIMIT: u64 = 1_000;
 
+/// How many requests it has: a question may miss the limit, too.
+const SPARE: u64 = 40;
+
 /// After how many of them it is not to have hung up yet: most of the limit, and more than the standard one.
 const EARLY: u64 = 900;
 
@@ -225,7 +228,7 @@ fn leaves_all<R: Net<Listener = TcpListener, Stream = TcpStream> + Host>(
     answers(rt, alloc, server, Question::Ask, ECHO)
 }
 
-/// Whether a server with a limit for a line leaves each talk. A question may miss the limit too, so that there are requests to spare.
+/// Whether a server with a limit for a line leaves each talk.
 fn cuts_all<R: Net<Listener = TcpListener, Stream = TcpStream> + Host>(
     rt: &R,
     alloc: Global,
@@ -234,7 +237,7 @@ fn cuts_all<R: Net<Listener = TcpListener, Stream = TcpStream> + Host>(
     let plan = Plan {
         workers: 1,
         line: Some(LIMIT),
-        ..plan_at(29_177, 100)
+        ..plan_at(29_177, SPARE)
     };
     let Some(server) = start(rt, alloc, &plan) else {
         return false;
@@ -308,7 +311,7 @@ fn serves_late<R: Net<Listener = TcpListener, Stream = TcpStream> + Host>(
         workers: 1,
         line: Some(LIMIT),
         ping: LIMIT + LIMIT / 2,
-        ..plan_at(29_177, 100)
+        ..plan_at(29_177, SPARE)
     };
     let Some(server) = start(rt, alloc, &plan) else {
         return false;

@@ -84,10 +84,10 @@ const LOST_SECOND: [&str; 2] = [
 const FEW: u64 = 20;
 
 /// How many a server has that is to stay.
-const MANY: u64 = 300;
+const MANY: u64 = 100;
 
 /// How often the server that stays is asked whether it has lost the other one, a tenth of a second apart.
-const LOOKS: u32 = 100;
+const LOOKS: u32 = 50;
 
 /// Waits until a server has ended by itself, and whether it has; not once the other one has ended.
 fn is_ended_by<R: Host>(rt: &R, ending: &Running, staying: &Running) -> bool {

@@ -7,7 +7,7 @@ use std::alloc::Global;
 pub(crate) const ALL: usize = 4096;
 
 /// More milliseconds than anything takes here on a busy machine, which are waited where the limit is not what is tested.
-pub(crate) const PATIENCE: u64 = 200_000;
+pub(crate) const PATIENCE: u64 = 1_000_000;
 
 /// A server at a port of 127.0.0.1, at incarnation 1.
 #[derive(Clone, Copy)]

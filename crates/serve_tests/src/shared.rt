@@ -16,10 +16,7 @@ use std::thread::JoinHandle;
 use std::time::{Clock, Duration};
 
 /// How often is tried again what may come to be, a millisecond apart.
-pub(crate) const TRIES: u32 = 200_000;
-
-/// How often a turn is asked for, a millisecond apart.
-const TURN_TRIES: u32 = 250_000;
+pub(crate) const TRIES: u32 = 1_000_000;
 
 /// More time for each call of a link than it wants on a busy machine.
 fn patient() -> Limits {
@@ -264,7 +261,7 @@ pub(crate) fn turn<R: Net<Listener = TcpListener, Stream = TcpStream> + Clock>(
     rt: &R,
 ) -> Option<TcpListener> {
     let turns = socket_address(local(29_170)?);
-    for _ in 0..TURN_TRIES {
+    for _ in 0..TRIES {
         if let Ok(turn) = TcpListener::bind(rt, turns) {
             return Some(turn);
         }

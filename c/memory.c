@@ -73,6 +73,23 @@ static void probe_nobody_answers(int prober) {
   expect("helper said", code, RINGPOP_SUSPECTED);
 }
 
+/* The owners of a key by a node, and by a view of it. */
+static void list_owners(int at) {
+  ringpop_view view = RINGPOP_VIEW_EMPTY;
+  ringpop_address owners[3], then[3];
+  size_t count = 0, counted = 0;
+  uint32_t code;
+  AGAIN(at, code, ringpop_node_owners(&nodes[at], line, 1, 3, owners, 3, &count));
+  expect("owners", code, RINGPOP_DONE);
+  AGAIN(at, code, ringpop_view_new(&view, &nodes[at]));
+  expect("view", code, RINGPOP_DONE);
+  AGAIN(at, code, ringpop_view_owners(&view, line, 1, 3, then, 3, &counted));
+  expect("owners by the view", code, RINGPOP_DONE);
+  expect("three owners", count == 3 && counted == 3, 1);
+  for (int i = 0; i < 3; i++) expect("the same owners", owners[i].ip == then[i].ip && owners[i].port == then[i].port, 1);
+  expect("free of the view", ringpop_view_free(&view), RINGPOP_DONE);
+}
+
 static void compare(void) {
   uint8_t first[1024], other[1024];
   size_t length = members(0, first, sizeof first);
@@ -98,6 +115,7 @@ int main(void) {
   talk(1, 2, false);
   talk(2, 0, false);
   compare();
+  list_owners(1);
   probe_nobody_answers(0);
   AGAIN(2, code, ringpop_node_leave(&nodes[2]));
   expect("leave", code, RINGPOP_DONE);

@@ -44,6 +44,7 @@ static void refuse_empty(ringpop_node *node) {
   uint32_t ip = 0;
   uint16_t port = 0;
   ringpop_entry entry;
+  ringpop_address owner;
   expect("take by an empty handle", take(node, 2, 1, "alive"), RINGPOP_NO_NODE);
   expect("own by an empty handle", ringpop_node_own(node, &ip, &port, &entry), RINGPOP_NO_NODE);
   expect("member by an empty handle", ringpop_node_member(node, 1, 1, &entry), RINGPOP_NO_NODE);
@@ -59,6 +60,7 @@ static void refuse_empty(ringpop_node *node) {
   expect("join of an empty handle", ringpop_node_join(node, out, sizeof out, &count), RINGPOP_NO_NODE);
   expect("line for an empty handle", receive(node, "{}"), RINGPOP_NO_NODE);
   expect("owner by an empty handle", ringpop_node_owner(node, out, 1, &ip, &port), RINGPOP_NO_NODE);
+  expect("owners by an empty handle, in a short buffer", ringpop_node_owners(node, out, 1, 2, &owner, 0, &count), RINGPOP_NO_NODE);
 }
 
 static void refuse_new(ringpop_node *node, ringpop_config config) {
@@ -149,6 +151,25 @@ static void refuse_probes(ringpop_node *node) {
   expect("word for no probe", ringpop_node_helper_said(node, 1, 1, 1, 0, 2500), RINGPOP_STALE_PROBE);
 }
 
+/* Owners of a key among four. */
+static void refuse_owners(ringpop_node *node) {
+  ringpop_address owners[4] = {{0, 0}};
+  ringpop_view view = RINGPOP_VIEW_EMPTY;
+  size_t count = 0;
+  expect("owners in a short buffer", ringpop_node_owners(node, out, 1, SIZE_MAX, owners, 3, &count), RINGPOP_SHORT_BUFFER);
+  expect_count("which asks for", count, 4);
+  if (owners[0].port != 0) expect("nothing is written", 1, 0);
+  expect("no owners", ringpop_node_owners(node, out, 1, 0, owners, 0, &count), RINGPOP_DONE);
+  expect_count("owners", count, 0);
+  expect("owners", ringpop_node_owners(node, out, 1, SIZE_MAX, owners, 4, &count), RINGPOP_DONE);
+  expect_count("owners", count, 4);
+  expect("owners by an empty view", ringpop_view_owners(&view, out, 1, 2, owners, 4, &count), RINGPOP_NO_NODE);
+  expect("view", ringpop_view_new(&view, node), RINGPOP_DONE);
+  expect("owners by a view in a short buffer", ringpop_view_owners(&view, out, 1, 2, owners, 1, &count), RINGPOP_SHORT_BUFFER);
+  expect_count("which asks for", count, 2);
+  expect("free of a view", ringpop_view_free(&view), RINGPOP_DONE);
+}
+
 /* A node with three others. */
 static void probe_others(ringpop_config config) {
   ringpop_node node = RINGPOP_NODE_EMPTY;
@@ -157,6 +178,7 @@ static void probe_others(ringpop_config config) {
   uint16_t port = 0, helper_port = 0;
   expect("new", ringpop_node_new(&node, &config, 0x0A000001, 7946, 7, 1, 1), RINGPOP_DONE);
   for (uint32_t last = 2; last < 5; last++) expect("take", take(&node, last, 1, "alive"), RINGPOP_DONE);
+  refuse_owners(&node);
   expect("probe", ringpop_node_probe(&node, &number, &ip, &port), RINGPOP_DONE);
   expect("second probe", ringpop_node_probe(&node, &running, &helper, &helper_port), RINGPOP_BUSY);
   expect("lost at 2^53", ringpop_node_lost(&node, number, (uint64_t)1 << 53), RINGPOP_BAD_NUMBER);

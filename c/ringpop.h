@@ -1,4 +1,4 @@
-/* The proved node of one thread, for C. docs/EMBEDDING.md says which call comes after which.
+/* The proved node of one thread, for C. docs/C.md says which call comes after which.
 
    Proved of the library: each call ends and touches no memory but its handle, its buffers and its own heap; it answers
    for one step of the node in the handle, or says why there was none, as the clause of its export says (crates/ringpop_c).
@@ -9,7 +9,8 @@
    - A handle is RINGPOP_NODE_EMPTY or RINGPOP_VIEW_EMPTY at first. Only the library writes its members; a full one is never copied.
    - One call at a time uses a handle, look-ups too. Another thread may make the next call, where a lock, a start or join of
      a thread, or a sequentially consistent atomic puts it after the last: that a handle may go to it is proved.
-   - No pointer is null, also where its length is 0; each points to as many bytes as are said, of which none overlap in a call.
+   - No pointer is null, also where its length is 0; each points to as many bytes or addresses as are said, of which none overlap
+     in a call.
    - malloc, realloc and free are one allocator's, and align a block to each power of two up to 16 that divides its size.
    - No call from a signal handler, or from the forked child of a process with threads. */
 #ifndef RINGPOP_H
@@ -50,6 +51,12 @@ typedef struct ringpop_entry {
   uint8_t status;       /* one of ringpop_status */
   uint8_t weight;       /* shares of the ring, 1 to 8 */
 } ringpop_entry;
+
+/* Where a node is reached. */
+typedef struct ringpop_address {
+  uint32_t ip;          /* the first part in the highest eight bits */
+  uint16_t port;        /* 1 to 65,535 */
+} ringpop_address;
 
 /* In the order of precedence at one incarnation. A member serves while it is alive or suspect. */
 enum ringpop_status {
@@ -207,6 +214,10 @@ uint32_t ringpop_node_members(ringpop_node *node, uint8_t *out, size_t room, siz
 uint32_t ringpop_node_digest(ringpop_node *node, uint8_t *out, size_t room, size_t *count);
 /* The owner of a key. NOTHING: nobody serves. */
 uint32_t ringpop_node_owner(ringpop_node *node, const uint8_t *key, size_t length, uint32_t *ip, uint16_t *port);
+/* The first owners of a key, all different, the owner first: as many as are wanted, or all that serve where those are fewer,
+   which may be none. room and count are numbers of addresses. */
+uint32_t ringpop_node_owners(ringpop_node *node, const uint8_t *key, size_t length, size_t wanted, ringpop_address *out,
+                             size_t room, size_t *count);
 /* The view of a node into an empty handle. It names owners as the node does now, whatever the node takes afterwards. HAS_NODE:
    the view's handle is full. A view has one call at a time, as a node has; another thread wants a view of its own, which needs
    no lock: views between two changes of the ring share one copy of it. */
@@ -215,4 +226,7 @@ uint32_t ringpop_view_free(ringpop_view *view);
 /* The address of the node whose view it is, and the owner of a key. NOTHING: nobody served. */
 uint32_t ringpop_view_own(ringpop_view *view, uint32_t *ip, uint16_t *port);
 uint32_t ringpop_view_owner(ringpop_view *view, const uint8_t *key, size_t length, uint32_t *ip, uint16_t *port);
+/* The first owners of a key, as of a node. */
+uint32_t ringpop_view_owners(ringpop_view *view, const uint8_t *key, size_t length, size_t wanted, ringpop_address *out,
+                             size_t room, size_t *count);
 #endif

@@ -94,6 +94,31 @@ static uint32_t owner_of(int node, const char *key) {
   return port == PORT ? ip : 0;
 }
 
+/* The first owners of a key by a node: how many there are. */
+static size_t owners_of(int node, const char *key, ringpop_address *owners, size_t wanted) {
+  size_t count = 0;
+  uint32_t code = ringpop_node_owners(&nodes[node], (const uint8_t *)key, strlen(key), wanted, owners, wanted, &count);
+  expect("owners", code, RINGPOP_DONE);
+  return count;
+}
+
+static void expect_same(const char *what, const ringpop_address *these, const ringpop_address *those, size_t count) {
+  for (size_t i = 0; i < count; i++)
+    if (these[i].ip != those[i].ip || these[i].port != those[i].port) expect(what, 1, 0);
+}
+
+/* The nodes name all three as owners of a key, in one order. */
+static void compare_owners(const char *key) {
+  ringpop_address owners[4], others[4];
+  expect("three owners", (uint32_t)owners_of(0, key, owners, 4), 3);
+  expect("the owner first", owners[0].ip, owner_of(0, key));
+  if (owners[0].ip == owners[1].ip || owners[0].ip == owners[2].ip || owners[1].ip == owners[2].ip) expect("different", 1, 0);
+  for (int i = 1; i < 3; i++) {
+    expect("two owners", (uint32_t)owners_of(i, key, others, 2), 2);
+    expect_same("the same owners", owners, others, 2);
+  }
+}
+
 static void count_lookups(void) {
   struct timespec begin, end;
   uint32_t ip = 0, sum = 0;
@@ -128,12 +153,18 @@ static void view_before_a_leave(void) {
   ringpop_view view = RINGPOP_VIEW_EMPTY;
   uint32_t ip = 0, was = owner_of(2, "trip-3");
   uint16_t port = 0;
+  ringpop_address owners[3], left[3];
+  size_t count = 0;
   expect("view", ringpop_view_new(&view, &nodes[2]), RINGPOP_DONE);
   expect("second view", ringpop_view_new(&view, &nodes[2]), RINGPOP_HAS_NODE);
   expect("leave", ringpop_node_leave(&nodes[2]), RINGPOP_DONE);
   if (owner_of(2, "trip-3") == was) expect("the owner left", 1, 0);
   expect("view's owner", ringpop_view_owner(&view, (const uint8_t *)"trip-3", 6, &ip, &port), RINGPOP_DONE);
   if (ip != was || port != PORT) expect("the owner then", 1, 0);
+  expect("view's owners", ringpop_view_owners(&view, (const uint8_t *)"trip-3", 6, 3, owners, 3, &count), RINGPOP_DONE);
+  if (count != 3 || owners[0].ip != was) expect("the owners then", 1, 0);
+  expect("owners that are left", (uint32_t)owners_of(2, "trip-3", left, 3), 2);
+  expect_same("the others in their order", owners + 1, left, 2);
   expect("view's own", ringpop_view_own(&view, &ip, &port), RINGPOP_DONE);
   if (ip != IP(3) || port != PORT) expect("own", 1, 0);
   expect("free of a view", ringpop_view_free(&view), RINGPOP_DONE);
@@ -164,6 +195,7 @@ int main(int words, char **word) {
       printf("the nodes differ\n");
       faults++;
     }
+    compare_owners(key);
   }
   if (words > 1 && strcmp(word[1], "count") == 0) {
     count_lookups();

@@ -68,6 +68,13 @@ func (node *Node) owner(key string) uint32 {
 	return uint32(ip)
 }
 
+func (node *Node) owners(key string, wanted int) []C.ringpop_address {
+	places, room, count := make([]C.ringpop_address, wanted), C.size_t(wanted), C.size_t(0)
+	code := C.ringpop_node_owners(node.handle, bytes([]byte(key)), C.size_t(len(key)), room, &places[0], room, &count)
+	check("owners", code, C.RINGPOP_DONE)
+	return places[:count]
+}
+
 // talk brings a line to a node, and its answer back.
 func talk(one, other *Node, line []byte) {
 	one.receive(other.receive(line, C.RINGPOP_DONE), C.RINGPOP_NOTHING)
@@ -84,6 +91,9 @@ func main() {
 		owner := nodes[0].owner(key)
 		if nodes[1].owner(key) != owner || nodes[2].owner(key) != owner {
 			log.Fatalf("the nodes differ on %s", key)
+		}
+		if owners := nodes[0].owners(key, 4); len(owners) != 3 || uint32(owners[0].ip) != owner {
+			log.Fatalf("other owners of %s", key)
 		}
 		fmt.Printf("%s is on 10.0.0.%d\n", key, owner&255)
 	}

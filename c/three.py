@@ -18,6 +18,10 @@ class Config(c.Structure):
                 ("faulty_ms", c.c_uint64), ("helpers", c.c_size_t), ("per_message", c.c_size_t), ("weight", c.c_uint8)]
 
 
+class Address(c.Structure):
+    _fields_ = [("ip", c.c_uint32), ("port", c.c_uint16)]
+
+
 handle, size = c.POINTER(Handle), c.POINTER(c.c_size_t)
 lib.ringpop_config_standard.argtypes, lib.ringpop_config_standard.restype = [c.POINTER(Config)], None
 for name, types in {
@@ -28,6 +32,7 @@ for name, types in {
     "receive": [handle, c.c_char_p, c.c_size_t, c.c_uint64, c.c_char_p, c.c_size_t, size],
     "take": [handle, c.c_char_p, c.c_size_t, c.c_uint64],
     "owner": [handle, c.c_char_p, c.c_size_t, c.POINTER(c.c_uint32), c.POINTER(c.c_uint16)],
+    "owners": [handle, c.c_char_p, c.c_size_t, c.c_size_t, c.POINTER(Address), c.c_size_t, size],
 }.items():
     function = getattr(lib, f"ringpop_node_{name}")
     function.argtypes, function.restype = types, c.c_uint32
@@ -58,6 +63,11 @@ class Node:
     def owner(self, key, ip=c.c_uint32(), port=c.c_uint16()):
         return ip.value if lib.ringpop_node_owner(self.handle, key, len(key), ip, port) == DONE else None
 
+    def owners(self, key, wanted):
+        places = (Address * wanted)()
+        assert lib.ringpop_node_owners(self.handle, key, len(key), wanted, places, wanted, count) == DONE
+        return [place.ip for place in places[: count.value]]
+
     def free(self):
         assert lib.ringpop_node_free(self.handle) == DONE
 
@@ -74,6 +84,8 @@ talk(nodes[0], nodes[2], nodes[0].ping(nodes[2]))
 for i in range(8):
     owners = {node.owner(b"trip-%d" % i) for node in nodes}
     assert len(owners) == 1, owners
+    assert all(node.owners(b"trip-%d" % i, 4) == nodes[0].owners(b"trip-%d" % i, 3) for node in nodes)
+    assert nodes[0].owners(b"trip-%d" % i, 1) == [*owners]
     print(f"trip-{i} is on 10.0.0.{owners.pop() & 255}")
 
 

@@ -1,3 +1,4 @@
 pub mod AsBox
 pub mod AsViewBox
 pub mod Births
+pub mod Placed

@@ -4,6 +4,7 @@ pub mod Entries
 pub mod Lines
 pub mod Owned
 pub mod OwnedViews
+pub mod Owners
 pub mod Probing
 pub mod Reading
 pub mod Steps

@@ -3,12 +3,14 @@ ghost use Rattle.std.specs.Prelude.{◌≡◌, Option, Some, None, IfOk, IfErr, 
 ghost use Rattle.node_core.specs.Viewing.{view_of};
 ghost use Rattle.ringpop_c.specs.Codes.{code_number};
 ghost use Rattle.ringpop_c.specs.OwnedViews.{HeldView, held_view_coded};
+ghost use Rattle.ringpop_c.specs.Owners.{ViewOwnersBy};
 ghost use Rattle.ringpop_c.specs.Steps.{TellsAddress};
 ghost use Rattle.ringpop_c.specs.Views.{LooksView, Views, view_owner};
 
 use crate::codes::Code;
 use crate::handles::{RingpopNode, lift, put_back};
 use crate::lookups::tell_address;
+use crate::owners::{RingpopAddress, tell_owners};
 use crate::parts::Parts;
 use hash_ring::Sha256Hash;
 use node_core::{NodeState, View};
@@ -222,4 +224,26 @@ pub extern "C" fn ringpop_view_owner(
     let owner = served.view.owner(key);
     put_view(view, served);
     tell_address(owner, ip, port).number()
+}
+
+/// The first `wanted` owners of a key, the owner first, or all servers where there are fewer, none among them.
+/// `ShortBuffer`, with the count that is needed; `Memory`.
+#[unsafe(no_mangle)]
+pub extern "C" fn ringpop_view_owners(
+    alloc: Global,
+    view: &mut RingpopView,
+    key: &[u8],
+    wanted: usize,
+    out: &mut [RingpopAddress],
+    count: &mut usize,
+) -> u32
+    ensures owners { LooksView (ViewOwnersBy key.now wanted (record { before = out.old; after = out.new; count = count.new })) view.old.at.value result }
+    ensures same { view.new.at.value ≡ view.old.at.value }
+{
+    let Some(served) = lift_view(alloc, view) else {
+        return Code::NoNode.number();
+    };
+    let named = served.view.owners(key, wanted);
+    put_view(view, served);
+    tell_owners(named, out, count).number()
 }

@@ -1,6 +1,5 @@
 -- A loop that writes f of each element of a list over the front of another.
 use Rattle.std.proofs.Common.{◌≡◌, ℕ, zero, suc, ◌+◌, ◌<◌, List, [], ◌∷◌, ◌++◌, length, map, take, drop, set, get_or, refl, sym, ap, ◌∙◌, arith, add-one}
-use Rattle.std.proofs.lemmas.List.{take_all}
 
 -- the first i are written
 abbrev pub placed : {X Y : Type 0} → (X → Y) → ℕ → List X → List Y → List Y
@@ -18,9 +17,3 @@ pub placed_more : {X Y : Type 0} (f : X → Y) (xs : List X) (ys now : List Y) (
     → now ≡ placed f i xs ys → y ≡ f (get_or xs i d) → set now i y ≡ placed f (i + 1) xs ys
 placed_more f xs ys now i d y within room is value =
     (λ j. set (is j) i (value j)) ∙ placed_next f xs ys i d within room ∙ ap (λ n. placed f n xs ys) (sym (add-one i))
-
--- all are written
-pub placed_all : {X Y : Type 0} (f : X → Y) (xs : List X) (ys now : List Y) (i : ℕ) → i ≡ length xs → now ≡ placed f i xs ys
-    → now ≡ map f xs ++ drop (length xs) ys
-placed_all f xs ys now i all is =
-    is ∙ ap (λ n. placed f n xs ys) all ∙ ap (λ l. map f l ++ drop (length xs) ys) (take_all (length xs) xs (omega arith))

@@ -69,8 +69,8 @@ pub(crate) fn tell_owners(
     }
 }
 
-/// The first `wanted` owners of a key, the owner first, or all serving members where there are fewer, none among them.
-/// `ShortBuffer`, with the count that is needed; `Memory`.
+/// The first `wanted` owners of a key, the owner first, or all serving members where there are fewer. `ShortBuffer`, with
+/// the count that is needed; `Memory`, never where nobody is to be named.
 #[unsafe(no_mangle)]
 pub extern "C" fn ringpop_node_owners(
     alloc: Global,

@@ -226,8 +226,8 @@ pub extern "C" fn ringpop_view_owner(
     tell_address(owner, ip, port).number()
 }
 
-/// The first `wanted` owners of a key, the owner first, or all servers where there are fewer, none among them.
-/// `ShortBuffer`, with the count that is needed; `Memory`.
+/// The first `wanted` owners of a key, the owner first, or all servers where there are fewer. `ShortBuffer`, with the count
+/// that is needed; `Memory`, never where nobody is to be named.
 #[unsafe(no_mangle)]
 pub extern "C" fn ringpop_view_owners(
     alloc: Global,

@@ -31,13 +31,13 @@ const AT_ONCE: Drip = Drip {
     rest: Duration::ZERO,
 };
 
-/// A minute for each call, so that a busy machine fails none.
+/// An hour for each call, so that a busy machine fails none.
 fn patient() -> Limits {
-    let minute = Duration::from_secs(60);
+    let hour = Duration::from_secs(3_600);
     Limits {
-        ping: minute,
-        helper: minute,
-        other: minute,
+        ping: hour,
+        helper: hour,
+        other: hour,
     }
 }
 

@@ -3,7 +3,9 @@
    Proved of the library: each call ends and touches no memory but its handle, its buffers and its own heap; it answers
    for one step of the node in the handle, or says why there was none, as the clause of its export says (crates/ringpop_c).
    The first of these that is refused gives the code: addresses, words and moments, from left to right; the handle; the room
-   of the buffer; the line; what the node says. Only ringpop_node_new looks at the handle before all else.
+   of the buffer; the line; what the node says. But ringpop_node_new looks at the handle before all else, and of two handles
+   ringpop_view_new at the view's; and members, digest and owners find out how much room is needed first, so that their
+   MEMORY comes before SHORT_BUFFER.
 
    What C owes, which nothing checks:
    - A handle is RINGPOP_NODE_EMPTY or RINGPOP_VIEW_EMPTY at first. Only the library writes its members; a full one is never copied.
@@ -68,7 +70,7 @@ enum ringpop_status {
 };
 
 /* What a call answers. After a code from NO_NODE to BAD_PER_MESSAGE, from ALREADY_LEFT to NOT_ASKED, from LINE_TOO_LONG to
-   NOT_GOSSIP, or BAD_WORD the node is as it was. */
+   NOT_GOSSIP, or BAD_WORD the node is as it was; after MEMORY and EXHAUSTED, too, but where a call says otherwise. */
 enum ringpop_code {
   RINGPOP_DONE = 0,
   RINGPOP_NOTHING = 1,          /* done, and there is nothing to tell */
@@ -158,7 +160,9 @@ static inline const char *ringpop_code_text(uint32_t code) {
 
 void ringpop_config_standard(ringpop_config *config);
 
-/* A node alone in its cluster, at an incarnation over all that its address had before. The seed decides its random choices. */
+/* A node alone in its cluster, at an incarnation over all that its address had before. The seed decides its random choices.
+   What is refused first: the handle, the port, the incarnation, the moment, the weight, replicas, max_members, suspect_ms,
+   faulty_ms, helpers, piggyback, per_message, for want of memory. */
 uint32_t ringpop_node_new(ringpop_node *node, const ringpop_config *config, uint32_t ip, uint16_t port, uint64_t incarnation,
                           uint64_t seed, uint64_t moment);
 /* Frees it: the handle is empty then. */
@@ -175,11 +179,13 @@ uint32_t ringpop_node_ping_req(ringpop_node *node, uint32_t helper_ip, uint16_t 
 uint32_t ringpop_node_ping_req_ack(ringpop_node *node, uint32_t requester_ip, uint16_t requester_port, uint32_t target_ip,
                                    uint16_t target_port, bool reached, uint8_t *out, size_t room, size_t *count);
 /* A line that came. DONE: an answer is written, which goes back. NOTHING: it wants none. EXHAUSTED, FULL, MEMORY: of its
-   changes those before the one that is refused are taken, or the line found no memory and none is. */
+   changes those before the one that is refused are taken, or the line found no memory and none is. UNANSWERED: the changes
+   in the answer may count as sent. */
 uint32_t ringpop_node_receive(ringpop_node *node, const uint8_t *line, size_t length, uint64_t moment, uint8_t *out, size_t room,
                               size_t *count);
 
-/* The line of one change. DONE: it altered an entry, itself or by a refutation. NOTHING: it is old. */
+/* The line of one change. DONE: it altered an entry, itself or by a refutation. NOTHING: it is old. EXHAUSTED, FULL, MEMORY:
+   no entry is altered, though the moment may count as known. */
 uint32_t ringpop_node_take(ringpop_node *node, const uint8_t *line, size_t length, uint64_t moment);
 
 /* The target that a line asks to ping, which ringpop_node_ping_req_ack answers; whether a helper's line says that it was
@@ -198,7 +204,8 @@ uint32_t ringpop_node_probe(ringpop_node *node, uint64_t *number, uint32_t *ip, 
 uint32_t ringpop_node_acked(ringpop_node *node, uint64_t number);
 /* Its target did not answer. DONE: helpers are to be asked. SUSPECTED: nobody could be. */
 uint32_t ringpop_node_lost(ringpop_node *node, uint64_t number, uint64_t moment);
-/* The running probe's number, and a helper of it that is to be asked and has not answered. NOTHING: there is none. */
+/* The running probe's number, and a helper of it that is to be asked and has not answered. NOTHING: there is none; the number
+   is written where a probe runs. */
 uint32_t ringpop_node_waiting(ringpop_node *node, uint64_t *number, uint32_t *ip, uint16_t *port);
 /* What a helper said: 0, it reached the target; 1, it did not; 2, nothing, since it failed. DONE: the target was reached. */
 uint32_t ringpop_node_helper_said(ringpop_node *node, uint64_t number, uint32_t ip, uint16_t port, uint8_t word, uint64_t moment);

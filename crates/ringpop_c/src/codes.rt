@@ -20,7 +20,7 @@ pub enum Code {
     ShortBuffer,
     /// The port is 0.
     BadAddress,
-    /// An incarnation, a moment or a probe number is over 2^53 - 1.
+    /// An incarnation or a moment is over 2^53 - 1.
     BadNumber,
     /// The weight is not one of 1 to 8.
     BadWeight,

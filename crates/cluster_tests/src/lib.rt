@@ -12,8 +12,6 @@ mod messages;
 #[cfg(test)]
 mod nodes;
 #[cfg(test)]
-mod refusals;
-#[cfg(test)]
 mod rounds;
 #[cfg(test)]
 mod serving;

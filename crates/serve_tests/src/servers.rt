@@ -1,7 +1,7 @@
 //! Servers from their words to their last connection.
 use crate::peers::Page;
 use crate::plans::{ALL, Plan, plan_at};
-use crate::shared::{Question, Running, answers, asked, connect, end, start, turn};
+use crate::shared::{Question, Running, answers, asked, connect, end, start, stop, turn};
 use crate::tells::Lines;
 use change_core::Address;
 use serve_core::{
@@ -193,7 +193,8 @@ fn answers_beside<R: Net<Listener = TcpListener, Stream = TcpStream> + Host>(
     }
 }
 
-/// Workers that wait for lines, and between two peers that ask silent ones for all workers but one.
+/// Workers that wait for lines, and between two peers that ask silent ones for all workers but one. There are requests to spare,
+/// since a question that found no memory is asked again.
 fn serves_beside<R: Net<Listener = TcpListener, Stream = TcpStream> + Host>(
     rt: &R,
     alloc: Global,
@@ -202,7 +203,7 @@ fn serves_beside<R: Net<Listener = TcpListener, Stream = TcpStream> + Host>(
     let count = workers.saturating_sub(1);
     let plan = Plan {
         workers,
-        ..plan_at(29_178, u64::from(count) + 2)
+        ..plan_at(29_178, 100)
     };
     let Some(server) = start(rt, alloc, &plan) else {
         return false;
@@ -210,8 +211,8 @@ fn serves_beside<R: Net<Listener = TcpListener, Stream = TcpStream> + Host>(
     let line = "127.0.0.1:29178 hi\n";
     let is_served = answers(rt, alloc, &server, Question::Ask, line)
         && answers_beside(rt, alloc, &server, count, line);
-    match end(rt, server, is_served) {
-        Some(ended) => ended.is(Ok(()), "serving 127.0.0.1:29178\ndone\n"),
+    match stop(rt, server) {
+        Some(ended) => is_served && ended.is(Ok(()), "serving 127.0.0.1:29178\ndone\n"),
         None => false,
     }
 }

@@ -35,6 +35,7 @@ impl AddressText {
     /// The text of the address: four numbers joined by '.', then ':' and the port, at most 21 bytes.
     pub fn of(address: Address) -> Self
         ensures text { result ≡ address_text address }
+        ensures len { length result ≤ 21 }
         ensures valid { IsAddress address }
     {
         let mut text = AddressText::new();
@@ -99,7 +100,8 @@ impl AddressText {
     #[inline(always)]
     fn push_port(&mut self, number: u16)
         requires { length self.old + 5 ≤ 21 }
-        ensures { self.new ≡ self.old ++ decimal number }
+        ensures text { self.new ≡ self.old ++ decimal number }
+        ensures len { length self.new ≤ length self.old + 5 }
     {
         self.push_digit(number / 10_000);
         self.push_digit(number / 1_000);
@@ -126,6 +128,7 @@ impl AddressText {
     fn push_address(&mut self, address: Address)
         requires { length self.old ≡ 0 }
         ensures text { self.new ≡ self.old ++ address_text address }
+        ensures len { length self.new ≤ 21 }
         ensures valid { IsAddress address }
     {
         let ip = address.ip();

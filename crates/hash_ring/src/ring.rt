@@ -74,7 +74,11 @@ impl<H: PointHash> Ring<H> {
         ensures made { IfOk result (λ r. r ≡ ring_of hash (H.hash_of hash) replicas (with_each servers.now []) r.room) }
         ensures refusal { IsReplicas replicas → IsOkUnless result RingError.Memory }
         ensures bad_replicas { (IsReplicas replicas → ⊥) → result ≡ Err RingError.BadReplicas }
+        ensures growth { IsReplicas replicas → OnErr result (0 < length servers.now) }
     {
+        if servers.is_empty() {
+            return Ring::new(alloc, hash, replicas);
+        }
         if replicas < 1 || replicas > MOST_REPLICAS {
             return Err(RingError::BadReplicas);
         }
@@ -207,9 +211,13 @@ impl<H: PointHash> Ring<H> {
     /// A ring of its own that equals this one. `Memory`: a growth was refused.
     pub fn copy(&self) -> Result<Self, RingError>
         ensures same { IfOk result (λ ring. ring ≡ record self.now { room = ring.room }) }
+        ensures growth { OnErr result (0 < length self.now.servers) }
         ensures refusal { IsOkUnless result RingError.Memory }
     {
         let alloc = *self.servers.allocator();
+        if self.servers.is_empty() {
+            return Ring::new(alloc, self.hash, self.replicas);
+        }
         Ok(Ring {
             hash: self.hash,
             replicas: self.replicas,

@@ -13,7 +13,7 @@ pub(crate) struct Starts {
     counts: Vec<u32>,
 }
 
-/// How far an edit of the points is counted: up to which part, and what it changes from there on.
+/// How far an edit of the points is counted: up to which part, and what it changes from there on, modulo 2^32.
 #[derive(Clone, Copy)]
 pub(crate) struct Passed {
     part: usize,
@@ -23,6 +23,22 @@ pub(crate) struct Passed {
 impl Passed {
     pub(crate) fn nothing() -> Passed {
         Passed { part: 0, change: 0 }
+    }
+
+    /// One point more from here on.
+    fn one_more(self) -> Passed {
+        Passed {
+            part: self.part,
+            change: self.change.wrapping_add(1),
+        }
+    }
+
+    /// One point fewer from here on.
+    fn one_fewer(self) -> Passed {
+        Passed {
+            part: self.part,
+            change: self.change.wrapping_sub(1),
+        }
     }
 }
 
@@ -67,15 +83,14 @@ impl Starts {
     {
         let mut passed = Passed::nothing();
         for point in points {
-            passed = self.pass(passed, point.hash, 1);
+            passed = self.reach(passed, point.hash).one_more();
         }
         self.finish(passed);
     }
 
     /// Counts the next of points that ascend and are taken out.
     pub(crate) fn take(&mut self, passed: Passed, hash: u64) -> Passed {
-        // Counts are added modulo 2^32, so this one takes 1 away.
-        self.pass(passed, hash, u32::MAX)
+        self.reach(passed, hash).one_fewer()
     }
 
     /// Ends what was begun: the parts after the last such point.
@@ -86,15 +101,15 @@ impl Starts {
         raise(&mut self.counts, passed, parts);
     }
 
-    /// One more point, up to whose part nothing new has to be counted.
-    fn pass(&mut self, passed: Passed, hash: u64, step: u32) -> Passed
+    /// Counts what was passed up to the part of the next point's hash.
+    fn reach(&mut self, passed: Passed, hash: u64) -> Passed
         ensures { vec_len self.new.counts ≡ vec_len self.old.counts }
     {
-        let next = share(hash, self.counts.len()).saturating_add(1);
-        raise(&mut self.counts, passed, next);
+        let part = share(hash, self.counts.len()).saturating_add(1);
+        raise(&mut self.counts, passed, part);
         Passed {
-            part: next,
-            change: passed.change.wrapping_add(step),
+            part,
+            change: passed.change,
         }
     }
 

@@ -3,8 +3,8 @@ use Rattle.change_core.specs.Printing.{upto}
 use Rattle.change_core.proofs.DecimalTexts.{upto_start, decimal_upto}
 use Rattle.change_core.proofs.fixed_texts.AddressText.push_port.Goals as goal
 
-pub returns : goal.returns
-returns c =
+pub returns-clause-text : goal.returns-clause-text
+returns-clause-text c =
     let n = c.args.number in
     let old = c.args.self.now in
     let first = c.push_digit.ensures.digits old (upto_start old (n / 10000 / 10) (omega arith)) in

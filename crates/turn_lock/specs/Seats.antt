@@ -1,13 +1,15 @@
 -- What a pass's seat is at the steps between, and what the passes come to together. No contract that another crate reads cites these.
-use Rattle.std.specs.Prelude.{◌≡◌, ℕ, List, [], ◌∷◌, ◌++◌, Option, Some, All}
+use Rattle.std.specs.Prelude.{◌≡◌, ℕ, ◌≤◌, List, [], ◌∷◌, ◌++◌, length, Option, Some, All}
 use Rattle.atomic_table.specs.Seated.{TableId}
+use Rattle.atomic_table.specs.declared.shared.Seat.{Seat}
 use Rattle.turn_lock.specs.declared.kept.Turn.{Turn}
 use Rattle.turn_lock.specs.declared.lock.TurnLock.{TurnLock}
 use Rattle.turn_lock.specs.declared.pass.Pass.{Pass}
 use Rattle.turn_lock.specs.declared.table.Known.{Known}
+use Rattle.turn_lock.specs.declared.table.View.{View}
 use Rattle.turn_lock.specs.History.{turn, GoesOn, entries_of}
 use Rattle.turn_lock.specs.Passes.{IsPassOf, opening_of, seen}
-use Rattle.turn_lock.specs.Rule.{known, outside, waiting, inside, ticket_of, times}
+use Rattle.turn_lock.specs.Rule.{known, outside, unused, waiting, inside, ticket_of, times}
 
 module _ {S E : Type 0} where
   -- the pass is this lock's, and holds this ticket
@@ -24,6 +26,14 @@ module _ {S E : Type 0} where
   IsToGive stands_for lock told p = (e : E) × (told ≡ Some e)
       × ((y : S) × (p.seat.me ≡ (inside (opening_of lock) p.number (seen p) p.seat.me.0.used (ticket_of p.seat.me.0.stage), (0, Some y) ∷ []))
       × stands_for (opening_of lock) (seen p ++ turn p.number e ∷ []) y)
+
+  -- a seat of the table that stands for all passes, none of which has seen anything or drawn a ticket
+  abbrev pub IsFirstSeat : TableId → S → ℕ → Seat (Option S) (View S E) → Type 0
+  IsFirstSeat table o passes seat = (seat.table_id ≡ table) × (seat.me ≡ (outside o (unused passes) 0, []))
+
+  -- a seat of the table that is outside, and stands for as many passes as there are
+  abbrev pub IsLastSeat : TableId → S → ℕ → Seat (Option S) (View S E) → Type 0
+  IsLastSeat table o passes seat = (seat.table_id ≡ table) × (seat.me.0 ≡ outside o seat.me.0.parts seat.me.0.used) × (passes ≤ length seat.me.0.parts)
 
   -- a pass of the lock with this name and table, which has seen nothing
   abbrev pub IsDealt : TableId → S → ℕ → ℕ → Pass S E → Type 0

@@ -3,7 +3,7 @@ ghost use Rattle.std.specs.Prelude.{◌≡◌, ◌<◌, ◌≤◌, ◌↔◌, �
 ghost use Rattle.std.specs.List.{range_with_len};
 ghost use Rattle.turn_lock.specs.Rule.{outside, times};
 ghost use Rattle.turn_lock.specs.declared.kept.Turn.{Turn};
-ghost use Rattle.turn_lock.specs.Seats.{IsReady, part_of, HasAll};
+ghost use Rattle.turn_lock.specs.Seats.{IsLastSeat, IsReady, part_of, HasAll};
 
 use crate::errors::{CloseError, CloseRefused};
 use crate::kept::Kept;
@@ -47,7 +47,7 @@ fn gather<S: Kept>(board: &Board<S>, first: Pass<S>, rest: Vec<Pass<S>>) -> Plac
 /// Takes the state out, once the root stands for all passes.
 fn take_out<S: Kept>(board: Board<S>, root: Place<S>) -> S
     requires board { board.shared.table_id.slots ≡ 1 }
-    requires root { (root.table_id ≡ board.shared.table_id) × (root.me.0 ≡ outside board.shared.key.opening.value root.me.0.parts root.me.0.used) × (board.shared.key.passes ≤ length root.me.0.parts) }
+    requires root { IsLastSeat board.shared.table_id board.shared.key.opening.value board.shared.key.passes root }
     ensures all { HasAll S.stands_for board.shared.key.opening.value root.me.0.parts result }
     ensures count { length root.me.0.parts ≡ board.shared.key.passes }
     ensures once { (n : ℕ) → n < board.shared.key.passes → times n root.me.0.parts ≡ 1 }

@@ -1,7 +1,7 @@
 //! The lock: how a pass enters and leaves.
 ghost use Rattle.std.specs.Prelude.{◌≡◌, ◌≢◌, ◌<◌, ◌+◌, ◌++◌, ◌∷◌, [], IfOk, IfErr};
 ghost use Rattle.turn_lock.specs.History.{turn, GoesOn};
-ghost use Rattle.turn_lock.specs.Rule.{told_by};
+ghost use Rattle.turn_lock.specs.Rule.{told_by, IsSized};
 
 use crate::errors::LockError;
 use crate::kept::{Kept, Told};
@@ -34,7 +34,7 @@ pub struct TurnLock<S: Kept> {
     pub(crate) name: u64,
     pub(crate) passes: u64,
     pub(crate) board: Board<S>,
-    ghost sized: { (board.shared.table_id.words ≡ 2) × (board.shared.table_id.slots ≡ 1) × (board.shared.key.passes ≡ passes) × (0 < passes) },
+    ghost sized: { IsSized board.shared.table_id board.shared.key.passes passes },
 }
 
 impl<S: Kept> TurnLock<S> {
@@ -42,7 +42,7 @@ impl<S: Kept> TurnLock<S> {
     ghost use Rattle.turn_lock.specs.Seats.{IsWaiting, IsServed, IsToGive};
 
     pub(crate) fn of(name: u64, passes: u64, board: Board<S>) -> TurnLock<S>
-        requires { (board.shared.table_id.words ≡ 2) × (board.shared.table_id.slots ≡ 1) × (board.shared.key.passes ≡ passes) × (0 < passes) }
+        requires { IsSized board.shared.table_id board.shared.key.passes passes }
         ensures { (result.name ≡ name) × (result.passes ≡ passes) × (result.board ≡ board) }
     {
         TurnLock {

@@ -1,8 +1,7 @@
 //! How a lock is made.
 ghost use Rattle.std.specs.Prelude.{◌≡◌, ◌<◌, ◌≤◌, ◌*◌, ◌^◌, [], map, IfOk, IfErr};
 ghost use Rattle.std.specs.List.{All, range_with_len};
-ghost use Rattle.turn_lock.specs.Rule.{outside, unused};
-ghost use Rattle.turn_lock.specs.Seats.{IsDealt};
+ghost use Rattle.turn_lock.specs.Seats.{IsDealt, IsFirstSeat};
 
 use crate::errors::NewError;
 use crate::kept::Kept;
@@ -26,7 +25,7 @@ fn open<S: Kept + Drop>(
     requires opening { (state ≡ terms.now.opening.value) × S.stands_for state [] state }
     requires few { terms.now.passes * terms.now.turns < 2 ^ 42 }
     ensures table { IfOk result (λ r. (r.0.shared.table_id.words ≡ 2) × (r.0.shared.table_id.slots ≡ 1) × (r.0.shared.key ≡ terms.now)) }
-    ensures seat { IfOk result (λ r. (r.1.table_id ≡ r.0.shared.table_id) × (r.1.me ≡ (outside terms.now.opening.value (unused terms.now.passes) 0, []))) }
+    ensures seat { IfOk result (λ r. IsFirstSeat r.0.shared.table_id terms.now.opening.value terms.now.passes r.1) }
 {
     let mut slots = Vec::with_capacity(alloc, 1)?;
     slots.push_reserved(Some(state));
@@ -46,7 +45,7 @@ fn deal<S: Kept>(
     turns: u32,
 ) -> Result<Vec<Pass<S>>, AllocError>
     requires board { board.now.shared.table_id.words ≡ 2 }
-    requires root { (root.table_id ≡ board.now.shared.table_id) × (root.me ≡ (outside board.now.shared.key.opening.value (unused passes) 0, [])) }
+    requires root { IsFirstSeat board.now.shared.table_id board.now.shared.key.opening.value passes root }
     requires count { 0 < passes }
     ensures dealt { IfOk result (λ r. All (IsDealt board.now.shared.table_id board.now.shared.key.opening.value name turns) r.items) }
     ensures numbers { IfOk result (λ r. map (λ p. p.number) r.items ≡ range_with_len 0 passes) }

@@ -4,20 +4,20 @@
 mod cluster_words;
 mod commands;
 mod faults;
+mod runs;
 #[cfg(test)]
 mod tests;
 mod words;
 
-use cli_core::subcommand_run;
 use faults::Fault;
-use serve_core::{Host, cluster_command_run};
+use runs::words_run;
+use serve_core::Host;
 use std::alloc::{Alloc, Global};
 use std::env::Env;
 use std::io::{BufReader, BufWriter, ErrorKind};
 use std::net::{Net, TcpListener, TcpStream};
 use std::process::ExitCode;
 use std::{env, io};
-use words::Words;
 
 /// The words that the program was given, its name first.
 fn given_words(rt: &(impl Env + Alloc<A = Global>)) -> Result<Vec<String>, Fault> {
@@ -47,13 +47,7 @@ fn run<
     let words = words::read_words(alloc, given.as_slice())?;
     let mut reader = BufReader::new(alloc, rt.reader()).map_err(|_| Fault::NoMemory)?;
     let mut writer = BufWriter::new(alloc, io::writer(rt)).map_err(|_| Fault::NoMemory)?;
-    match &words {
-        Words::Lines(subcommand) => subcommand_run(alloc, subcommand, &mut reader, &mut writer)?,
-        Words::Cluster(command) => {
-            cluster_command_run(rt, alloc, command, &mut reader, &mut writer)?;
-        }
-    }
-    Ok(())
+    words_run(rt, alloc, &words, &mut reader, &mut writer)
 }
 
 fn main(rt: HostRuntime) -> ExitCode {

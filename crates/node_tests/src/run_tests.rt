@@ -1,15 +1,21 @@
 //! Calls of a node as a list of events, with their replies.
 use crate::test_calls::*;
-use change_core::{Change, Entry, Status};
+use change_core::{Change, Digest, Entry, Status};
 use hash_ring::SumHash;
-use node_core::{Event, NodeError, NodeState, Reply, Run, StopCause, Stopped, Taken, run};
+use node_core::{
+    Event, NodeError, NodeState, Received, Reply, Run, StopCause, Stopped, Taken, run,
+};
 use std::alloc::Global;
 use std::process::Abort;
+use wire_json::{Content, Kind, Message, News};
 
 /// What a reply tells, of the calls in these runs.
 #[derive(Clone, Copy, Debug, PartialEq, Eq)]
 enum Told {
     Taken(Result<Taken, Stopped>),
+    /// What was taken of a message, the answer's kind, and how many changes it carries.
+    Answered(Taken, Kind, usize),
+    NoAnswer,
     Own(Result<Change, NodeError>),
     Expired(Result<Option<Change>, NodeError>),
     Member(Option<Entry>),
@@ -21,6 +27,11 @@ enum Told {
 fn read(reply: &Reply) -> Told {
     match reply {
         Reply::Take(answer) => Told::Taken(*answer),
+        Reply::Receive(Received::Answer(taken, answer)) => {
+            Told::Answered(*taken, answer.content.kind(), carried(answer).len())
+        }
+        Reply::Receive(Received::NoAnswer(_)) => Told::NoAnswer,
+        Reply::Receive(Received::Stopped(stopped)) => Told::Taken(Err(*stopped)),
         Reply::Leave(answer) | Reply::Rejoin(answer) => Told::Own(*answer),
         Reply::Own(own) => Told::Own(Ok(*own)),
         Reply::Expire(answer) => Told::Expired(*answer),
@@ -36,6 +47,7 @@ fn is_refused(told: Told) -> bool {
         Told::Taken(answer) => answer.err().map(|stopped| stopped.cause) == Some(StopCause::Memory),
         Told::Own(answer) => answer == Err(NodeError::Memory),
         Told::Expired(answer) => answer == Err(NodeError::Memory),
+        Told::NoAnswer => true,
         _ => false,
     }
 }
@@ -168,6 +180,8 @@ fn a_run_stops_where_it_is_full(rt: HostRuntime) {
         taking(&rt, rt.alloc(), B, 2, Status::Suspect),
         Event::Expire(moment(&rt, 5_000)),
         Event::Len,
+        Event::Leave,
+        Event::Rejoin,
     ];
     let stopped = Stopped {
         taken: 1,
@@ -178,6 +192,43 @@ fn a_run_stops_where_it_is_full(rt: HostRuntime) {
         counted(1, 0),
         Told::Expired(Ok(Some(change(&rt, B, 2, Status::Faulty)))),
         Told::Len(2),
+        Told::Own(Ok(change(&rt, A, 7, Status::Leave))),
+        Told::Own(Ok(change(&rt, A, 8, Status::Alive))),
     ];
     check(&rt, rt.alloc(), 2, &events, &wanted);
+}
+
+/// The Join of 10.0.0.2:1.
+fn join(rt: &impl Abort, alloc: Global) -> Message {
+    let birth = [news(rt, B, 1, Status::Alive)];
+    Message {
+        source: address(rt, B),
+        source_incarnation: incarnation(rt, 1),
+        content: Content::Join(News {
+            checksum: Digest::new([0; 32]),
+            changes: changes(rt, alloc, &birth),
+        }),
+    }
+}
+
+#[test]
+fn a_run_lets_a_node_join_once(rt: HostRuntime) {
+    let joined = |applied| {
+        let taken = Taken {
+            applied,
+            refuted: 0,
+        };
+        Told::Answered(taken, Kind::Joined, 2)
+    };
+    let events = [
+        Event::Receive(join(&rt, rt.alloc()), moment(&rt, 0)),
+        Event::Receive(join(&rt, rt.alloc()), moment(&rt, 1)),
+        Event::Member(address(&rt, B)),
+    ];
+    let wanted = [
+        joined(1),
+        joined(0),
+        Told::Member(Some(change(&rt, B, 1, Status::Alive).entry())),
+    ];
+    check(&rt, rt.alloc(), 4096, &events, &wanted);
 }

@@ -25,7 +25,8 @@ pub fn least_address_is_due()
 {}
 
 /// Two probers that agree answer a pick and a loss alike where no memory is refused, and a helper's word and an ack alike
-/// always, and agree afterwards. Two new ones agree where their seeds, numbers of helpers and last numbers are equal, as `Prober::new` says.
+/// always, and agree afterwards. Two new ones agree where their seeds, numbers of helpers and last numbers are equal, as
+/// `Prober::new` says.
 pub fn a_run_follows_from_its_inputs()
     ensures picks { PicksAreOne }
     ensures losses { LossesAreOne }

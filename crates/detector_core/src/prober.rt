@@ -1,4 +1,4 @@
-ghost use Rattle.std.specs.Prelude.{◌≡◌, ℕ, ◌<◌, ◌≤◌, ◌↔◌, ◌⊎◌, [], None, Some, Ok, Err, IsSome, IfOk, IfSome, IfErr, OnOk, OnErr, IsErr, IsErrOf, IsOkUnless, MatchOption};
+ghost use Rattle.std.specs.Prelude.{◌≡◌, ℕ, ◌<◌, ◌≤◌, ◌↔◌, ◌⊎◌, [], None, Some, Ok, Err, IsSome, IfOk, IfSome, IfErr, OnOk, OnErr, IsOk, IsErr, IsErrOf, IsOkUnless, MatchOption};
 ghost use Rattle.std.specs.List.Sorted.{IsStrictlyIncreasing};
 ghost use Rattle.change_core.specs.Numbers.{greatest_number};
 ghost use Rattle.detector_core.specs.Choices.{seeded};
@@ -100,6 +100,23 @@ impl Prober {
         }
     }
 
+    /// Whether a probe may begin, were there anybody to ping. `Busy`: a probe runs. `Spent`: the last number is 2^53 - 1.
+    pub fn may_begin(&self) -> Result<(), DetectorError>
+        ensures free { IsOk result ↔ ((self.now.running ≡ None) × (self.now.last < greatest_number)) }
+        ensures busy { IsErrOf result DetectorError.Busy ↔ IsSome self.now.running }
+        ensures spent { IsErrOf result DetectorError.Spent
+            ↔ ((self.now.running ≡ None) × (self.now.last ≡ greatest_number)) }
+        ensures refusal { IfErr result (λ e. (e ≡ DetectorError.Busy) ⊎ (e ≡ DetectorError.Spent)) }
+    {
+        if self.running.is_some() {
+            return Err(DetectorError::Busy);
+        }
+        if self.last == GREATEST_NUMBER {
+            return Err(DetectorError::Spent);
+        }
+        Ok(())
+    }
+
     /// Begins a probe of the next member in turn. Members that may not be pinged are passed over, and when the order is
     /// used up a new random one is made of those that may be pinged now (SWIM, section 4.3); one that comes meanwhile waits
     /// for it. The answer is None, which changes nothing, exactly where nobody may be pinged and no refusal applies.
@@ -120,12 +137,7 @@ impl Prober {
             (λ e. (e ≡ DetectorError.Busy) ⊎ ((e ≡ DetectorError.Spent) ⊎ (e ≡ DetectorError.Memory))) }
         ensures memory { IsErrOf result DetectorError.Memory → near pingable.now self.old.rest ≡ [] }
     {
-        if self.running.is_some() {
-            return Err(DetectorError::Busy);
-        }
-        if self.last == GREATEST_NUMBER {
-            return Err(DetectorError::Spent);
-        }
+        self.may_begin()?;
         if pingable.is_empty() {
             return Ok(None);
         }
@@ -159,6 +171,21 @@ impl Prober {
         ensures refusal { IsOkUnless result DetectorError.StaleProbe }
     {
         if self.target_of(number).is_none() {
+            return Err(DetectorError::StaleProbe);
+        }
+        self.running = None;
+        Ok(())
+    }
+
+    /// Ends a probe whose target was lost, with nobody to ask about it. `StaleProbe`: it is not the running probe, or helpers
+    /// were asked already.
+    pub fn give_up(&mut self, number: u64) -> Result<(), DetectorError>
+        ensures ok { OnOk result (self.new ≡ record self.old { running = None }) }
+        ensures stale { IsErr result ↔ (unasked_target self.old number ≡ None) }
+        ensures err { OnErr result (self.new ≡ self.old) }
+        ensures refusal { IsOkUnless result DetectorError.StaleProbe }
+    {
+        if self.unasked_target(number).is_none() {
             return Err(DetectorError::StaleProbe);
         }
         self.running = None;

@@ -56,8 +56,7 @@ impl<H: PointHash> NodeState<H> {
             return self.ask(number, moment);
         }
         let change = self.suspect(target, moment)?;
-        // With nobody to ask the prober ends the probe.
-        self.prober.lost(number, &[])?;
+        self.prober.give_up(number)?;
         Ok(NodeLost::Suspect(change))
     }
 
@@ -98,14 +97,12 @@ impl<H: PointHash> NodeState<H> {
         }
     }
 
-    /// Whether a probe may begin, were there anybody to ping. With nobody to ping the prober takes no memory, and answers
-    /// its other refusals alone.
-    fn may_probe(&mut self) -> Result<(), NodeError>
-        ensures free { OnOk result ((self.old.node.probing.running ≡ None) × (self.old.node.probing.last < greatest_number)) }
-        ensures refusal { IfErr result (λ e. ProbeStep self.old.node (Err e) self.old.node) }
-        ensures same { self.new ≡ self.old }
+    /// Whether a probe may begin, were there anybody to ping.
+    fn may_probe(&self) -> Result<(), NodeError>
+        ensures free { OnOk result ((self.now.node.probing.running ≡ None) × (self.now.node.probing.last < greatest_number)) }
+        ensures refusal { IfErr result (λ e. ProbeStep self.now.node (Err e) self.now.node) }
     {
-        self.prober.next_target(&[])?;
+        self.prober.may_begin()?;
         Ok(())
     }
 

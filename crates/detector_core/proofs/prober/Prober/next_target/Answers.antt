@@ -1,4 +1,5 @@
-use Rattle.std.proofs.Common.{◌≡◌, ◌+◌, arith, refl, sym, ◌∙◌, Some}
+use Rattle.std.proofs.Common.{◌≡◌, ◌+◌, ◌<◌, rules, arith, refl, sym, ◌∙◌, subst, Some}
+use Rattle.change_core.specs.Numbers.{greatest_number}
 use Rattle.detector_core.proofs.OrderLemmas.{nearer, Contains-turn}
 use Rattle.detector_core.proofs.SampleLemmas.{AllDifferent-turn}
 use Rattle.detector_core.proofs.prober.Prober.next_target.Goals as goal
@@ -7,9 +8,10 @@ pub returns-clause-pick : goal.returns-clause-pick
 returns-clause-pick c =
     let pingable = c.args.pingable.now in
     let turn = c.in_ok-target.ensures.turn in
+    let unspent : c.self.inside.last < greatest_number = subst (λ s. s.last < greatest_number) (sym c.self.view_is) (c.may_begin.ensures.free.0 (search rules)).1 in
     rw (← c.self.view_is) record {
       number = refl;
-      within = omega (arith, c.self.invariant.numbered, c.if-self-eq-GREATEST_NUMBER.false);
+      within = omega (arith, unspent);
       target = Contains-turn pingable c.self.inside.order c.pick.new.order c.in_ok-target.target turn;
       turn = turn;
       different = AllDifferent-turn pingable c.self.inside.order c.pick.new.order c.in_ok-target.target c.requires c.self.invariant.different turn;
@@ -18,8 +20,10 @@ returns-clause-pick c =
     }
 
 pub invariant_of-self-2 : goal.invariant_of-self-2
-invariant_of-self-2 c = record {
-  numbered = omega (arith, c.self.invariant.numbered, c.if-self-eq-GREATEST_NUMBER.false);
-  different = AllDifferent-turn c.args.pingable.now c.self.inside.order c.pick.new.order c.in_ok-target.target c.requires c.self.invariant.different c.in_ok-target.ensures.turn;
-  waited = λ p e h. let same : c.new.result.items ≡ p.asked = cc in sym same ∙ c.new.ensures.items;
-}
+invariant_of-self-2 c =
+    let unspent : c.self.inside.last < greatest_number = subst (λ s. s.last < greatest_number) (sym c.self.view_is) (c.may_begin.ensures.free.0 (search rules)).1 in
+    record {
+      numbered = omega (arith, unspent);
+      different = AllDifferent-turn c.args.pingable.now c.self.inside.order c.pick.new.order c.in_ok-target.target c.requires c.self.invariant.different c.in_ok-target.ensures.turn;
+      waited = λ p e h. let same : c.new.result.items ≡ p.asked = cc in sym same ∙ c.new.ensures.items;
+    }

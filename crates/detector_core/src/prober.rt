@@ -41,7 +41,7 @@ pub enum Lost {
 
 /// The target of the running probe, and the helpers that were asked.
 #[derive(Drop)]
-struct Attempt {
+struct OpenProbe {
     target: Address,
     asked: Vec<Asked>,
 }
@@ -55,7 +55,7 @@ pub struct Prober {
     helpers: usize,
     last: u64,
     order: Order,
-    running: Option<Attempt>,
+    running: Option<OpenProbe>,
     alloc: Global,
 }
 
@@ -143,7 +143,7 @@ impl Prober {
         }
         let target = order::pick(self.alloc, &mut self.order, &mut self.rng, pingable)?;
         self.last += 1;
-        self.running = Some(Attempt {
+        self.running = Some(OpenProbe {
             target,
             asked: Vec::new(self.alloc),
         });
@@ -222,7 +222,7 @@ impl Prober {
         let chosen = helpers::choose(self.alloc, &mut rng, pingable, target, self.helpers)?;
         let asked = helpers::unanswered(self.alloc, &chosen)?;
         self.rng = rng;
-        self.running = Some(Attempt { target, asked });
+        self.running = Some(OpenProbe { target, asked });
         Ok(Lost::Ask(Addresses::from_vec(chosen)))
     }
 

@@ -12,12 +12,12 @@ pub struct Held<H: PointHash> {
 }
 
 /// One call of the node, its reply, and the node after it, in contracts alone. No value of it is made.
-pub struct Step<H: PointHash> {
+pub struct NodeCall<H: PointHash> {
     never: Infallible,
     hash: PhantomData<H>,
 }
 
-impl<H: PointHash> Model for Step<H> {
+impl<H: PointHash> Model for NodeCall<H> {
     ghost use Rattle.locked_node.specs.History.{CallEntry};
 
     ghost Value = { CallEntry H };
@@ -28,7 +28,7 @@ impl<H: PointHash> Model for Step<H> {
 impl<H: PointHash> Kept for Held<H> {
     ghost use Rattle.locked_node.specs.History.{StandsFor};
 
-    type Entry = Step<H>;
+    type Entry = NodeCall<H>;
 
     ghost stands_for = { λ opening history now. StandsFor H.hash_of opening.node history now.node };
 }

@@ -13,7 +13,7 @@ mod probes;
 mod turns;
 
 pub use errors::CloseRefused;
-pub use held::{Held, Step};
+pub use held::{Held, NodeCall};
 pub use node::{LockedNode, NodePass};
 
 // What its calls take and answer, so that a user names this crate alone.

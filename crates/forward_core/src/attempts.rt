@@ -42,7 +42,8 @@ enum Stage {
 }
 
 /// A request that is sent until a send is answered or none is left, each time to whoever owns its keys by then. An attempt
-/// hears of failures alone: one that was answered is dropped. It is handed each moment and reads no clock. Contracts see its keys, how often it was sent, and how it stands.
+/// hears of failures alone: one that was answered is dropped. It is handed each moment and reads no clock. Contracts see
+/// its keys, how often it was sent, and how it stands.
 #[derive(Debug, Drop)]
 pub struct Attempt {
     keys: Keys,

@@ -100,8 +100,8 @@ fn sim_run_by<H: PointHash, R: Read, W: Write>(
 /// Reads the commands of a script to the end, one a line, and answers each with a line, at once.
 ///
 /// Errors: the first line at fault, once the lines before it are answered; `CannotWrite` where the writer failed, and then the
-/// answers before the one that it failed at are written, and a front of that one. Lines are counted from 1 to 9007199254740991; one more is `ReadFailed`, or
-/// `OutOfMemory` where a growth is refused in reading it.
+/// answers before the one that it failed at are written, and a front of that one. Lines are counted from 1 to
+/// 9007199254740991; one more is `ReadFailed`, or `OutOfMemory` where a growth is refused in reading it.
 pub fn sim_run<R: Read, W: Write>(
     alloc: Global,
     words: &SimWords,

@@ -7,7 +7,7 @@ ghost use Rattle.cli_core.specs.declared.scripts.lines.Command.{Command};
 ghost use Rattle.cli_core.specs.declared.scripts.lines.Verb.{Verb};
 ghost use Rattle.cli_core.specs.ScriptLines.{Addresses, CountsOwners, HasArguments, IsAddressed, IsBirth, IsChange, IsCommand, IsNumber, verb_of, verb_word};
 
-use crate::scripts::readers::{Words, read_address, read_number, read_text};
+use crate::scripts::readers::{LineRest, read_address, read_number, read_text};
 use change_core::{Address, Change, Incarnation, MOST_MEMBERS, Moment, Weight};
 
 /// What a node is made with.
@@ -96,7 +96,7 @@ pub fn read_command(line: &[u8]) -> Option<Command<'_>>
     ensures read { IfSome result (λ c. IsCommand c line.now) }
     ensures none { result ≡ None → (c : Command) → IsCommand c line.now → ⊥ }
 {
-    let mut words = Words { rest: line };
+    let mut words = LineRest { rest: line };
     let word = words.word()?;
     let text = read_text(word)?;
     let verb = Verb::parse(text)?;
@@ -104,7 +104,7 @@ pub fn read_command(line: &[u8]) -> Option<Command<'_>>
 }
 
 /// What stands behind a first word.
-fn read_arguments(verb: Verb, mut words: Words<'_>) -> Option<Command<'_>>
+fn read_arguments(verb: Verb, mut words: LineRest<'_>) -> Option<Command<'_>>
     ensures read { IfSome result (λ c. (verb_of c ≡ verb) × HasArguments c words.entry.rest.now) }
     ensures none { result ≡ None → (c : Command) → verb_of c ≡ verb → HasArguments c words.entry.rest.now → ⊥ }
 {
@@ -134,7 +134,7 @@ fn read_arguments(verb: Verb, mut words: Words<'_>) -> Option<Command<'_>>
 }
 
 /// An address, an incarnation and a weight.
-fn read_birth(words: &mut Words<'_>) -> Option<Birth>
+fn read_birth(words: &mut LineRest<'_>) -> Option<Birth>
     ensures read { IfSome result (λ b. IsBirth b words.old.rest.now) }
     ensures none { result ≡ None → (b : Birth) → IsBirth b words.old.rest.now → ⊥ }
 {
@@ -156,7 +156,7 @@ fn read_moment(word: &[u8]) -> Option<Moment>
 }
 
 /// A node, and the change that it is to take: its address, incarnation, status and weight.
-fn read_take(words: &mut Words<'_>) -> Option<(Address, Change)>
+fn read_take(words: &mut LineRest<'_>) -> Option<(Address, Change)>
     ensures read { IfSome result (λ p. Addresses p.0 (IsChange p.1) words.old.rest.now) }
     ensures none { result ≡ None → (a : ℕ) (c : Change) → Addresses a (IsChange c) words.old.rest.now → ⊥ }
 {
@@ -165,7 +165,7 @@ fn read_take(words: &mut Words<'_>) -> Option<(Address, Change)>
     Some((node, change))
 }
 
-fn read_change(words: &mut Words<'_>) -> Option<Change>
+fn read_change(words: &mut LineRest<'_>) -> Option<Change>
     ensures read { IfSome result (λ c. IsChange c words.old.rest.now) }
     ensures none { result ≡ None → (c : Change) → IsChange c words.old.rest.now → ⊥ }
 {
@@ -182,7 +182,7 @@ fn read_change(words: &mut Words<'_>) -> Option<Change>
 }
 
 /// A node, and how many owners; the key is all that is left.
-fn read_owners(words: &mut Words<'_>) -> Option<(Address, usize)>
+fn read_owners(words: &mut LineRest<'_>) -> Option<(Address, usize)>
     ensures read { IfSome result (λ p. CountsOwners p.0 p.1 words.new.rest.now words.old.rest.now) }
     ensures none { result ≡ None → (a count : ℕ) (key : List ℕ) → CountsOwners a count key words.old.rest.now → ⊥ }
 {
@@ -195,7 +195,7 @@ fn read_owners(words: &mut Words<'_>) -> Option<(Address, usize)>
 }
 
 /// A node, and whom it pings.
-fn read_send(words: &mut Words<'_>) -> Option<(Address, Address)>
+fn read_send(words: &mut LineRest<'_>) -> Option<(Address, Address)>
     ensures read { IfSome result (λ p. Addresses p.0 (IsAddressed p.1) words.old.rest.now) }
     ensures none { result ≡ None → (a b : ℕ) → Addresses a (IsAddressed b) words.old.rest.now → ⊥ }
 {

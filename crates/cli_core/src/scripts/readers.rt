@@ -67,11 +67,11 @@ fn read_weight(word: Option<&[u8]>) -> Option<Weight>
 
 /// What is left of a line.
 #[derive(Clone, Copy, Debug)]
-pub struct Words<'a> {
+pub struct LineRest<'a> {
     pub rest: &'a [u8],
 }
 
-impl<'a> Words<'a> {
+impl<'a> LineRest<'a> {
     /// Takes a word and the space behind it.
     pub fn word(&mut self) -> Option<&'a [u8]>
         ensures read { IfSome result (λ word. self.old.rest.now ≡ word.now ++ 32 ∷ self.new.rest.now) }

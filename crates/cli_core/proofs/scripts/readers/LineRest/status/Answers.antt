@@ -2,7 +2,7 @@ use Rattle.std.proofs.Common.{sym, subst, ◌∙◌}
 use Rattle.change_core.specs.Status.{status_word}
 use Rattle.cli_core.specs.ScriptLines.{IsVisible, IsWeightWord}
 use Rattle.cli_core.proofs.ScriptWords.{visible_status, none_not_some, same_from_some, some_pair}
-use Rattle.cli_core.proofs.scripts.readers.Words.status.Goals as goal
+use Rattle.cli_core.proofs.scripts.readers.LineRest.status.Goals as goal
 
 pub returns-in_err-weight-clause-exact : goal.returns-in_err-weight-clause-exact
 returns-in_err-weight-clause-exact c = λ s w h.

@@ -2,7 +2,7 @@ use Rattle.std.proofs.Common.{sym, subst, ◌∙◌}
 use Rattle.change_core.specs.Numeral.{number_text}
 use Rattle.cli_core.specs.ScriptLines.{IsWeightWord}
 use Rattle.cli_core.proofs.ScriptWords.{visible_number, none_not_some, same_from_some, some_pair}
-use Rattle.cli_core.proofs.scripts.readers.Words.incarnation.Goals as goal
+use Rattle.cli_core.proofs.scripts.readers.LineRest.incarnation.Goals as goal
 
 pub returns-in_err-weight-clause-exact : goal.returns-in_err-weight-clause-exact
 returns-in_err-weight-clause-exact c = λ i w small h.

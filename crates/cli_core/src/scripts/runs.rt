@@ -10,7 +10,7 @@ use crate::counted::next_line;
 use crate::outputs::write_text;
 use crate::scripts::faults::{ScriptFault, SimFault};
 use crate::scripts::lines::read_command;
-use crate::scripts::worlds::World;
+use crate::scripts::worlds::Simulation;
 use crate::words::SimWords;
 use hash_ring::{PointHash, Sha256Hash, SumHash};
 use std::alloc::Global;
@@ -31,7 +31,7 @@ fn fault_of_read(fault: WireError) -> ScriptFault
 /// Does the command of a line; the text of the answer.
 fn answer_line<H: PointHash>(
     alloc: Global,
-    world: &mut World<H>,
+    world: &mut Simulation<H>,
     line: &[u8],
 ) -> Result<String, ScriptFault>
     requires { length line.now ≤ max_line }
@@ -48,7 +48,7 @@ fn answer_line<H: PointHash>(
 /// Reads the line of this number, does its command and writes the answer; false at the end of the input.
 fn turn<H: PointHash, R: Read, W: Write>(
     alloc: Global,
-    world: &mut World<H>,
+    world: &mut Simulation<H>,
     reader: &mut R,
     writer: &mut W,
     number: u64,
@@ -86,7 +86,7 @@ fn sim_run_by<H: PointHash, R: Read, W: Write>(
     ensures fault { IfErr result (λ e. Stops H.hash_of (beginning hash replicas) e
         (R.remaining reader.old) (W.contents writer.old) (W.contents writer.new)) }
 {
-    let mut world = World::new(alloc, hash, replicas);
+    let mut world = Simulation::new(alloc, hash, replicas);
     let mut number = 1;
     'lines: loop {
         match turn(alloc, &mut world, reader, writer, number) {

@@ -26,7 +26,7 @@ pub const MOST_MESSAGES: usize = 65_536;
 /// The nodes of a script in the order of their making, its messages by their numbers, and its moment. Contracts see the
 /// script.
 #[derive(Drop)]
-pub struct World<H: PointHash> {
+pub struct Simulation<H: PointHash> {
     hash: H,
     replicas: u32,
     moment: Moment,
@@ -35,7 +35,7 @@ pub struct World<H: PointHash> {
     alloc: Global,
 }
 
-impl<H: PointHash> Model for World<H> {
+impl<H: PointHash> Model for Simulation<H> {
     ghost use Rattle.hash_ring.specs.Points.{IsReplicas};
     ghost use Rattle.cli_core.specs.Script.{Script, nodes_in};
 
@@ -52,7 +52,7 @@ impl<H: PointHash> Model for World<H> {
     ghost invariant = { λ a. IsReplicas a.replicas };
 }
 
-impl<H: PointHash> World<H> {
+impl<H: PointHash> Simulation<H> {
     /// No nodes and no messages, at moment 0.
     pub fn new(alloc: Global, hash: H, replicas: u32) -> Self
         requires { IsReplicas replicas }
@@ -61,7 +61,7 @@ impl<H: PointHash> World<H> {
         let Some(moment) = Moment::new(0) else {
             unreachable!()
         };
-        World {
+        Simulation {
             hash,
             replicas,
             moment,

@@ -3,7 +3,7 @@ use Rattle.std.proofs.lemmas.List.{length-map}
 use Rattle.std.proofs.lemmas.Result.{err_from_is_err_and}
 use Rattle.cli_core.specs.Script.{most_nodes, nodes_in}
 use Rattle.cli_core.proofs.ScriptWorlds.{absent_place, exists_place, nodes_push, script_of}
-use Rattle.cli_core.proofs.scripts.worlds.World.make.Goals as goal
+use Rattle.cli_core.proofs.scripts.worlds.Simulation.make.Goals as goal
 
 pub returns-then-is_some-clause-fault : goal.returns-then-is_some-clause-fault
 returns-then-is_some-clause-fault g c =

@@ -10,11 +10,11 @@ use Rattle.serde_json.specs.Written.{has_float}
 use Rattle.std.proofs.lemmas.Grind.{common_steps}
 use Rattle.std.proofs.lemmas.Bool.Decides.{nat_tests}
 use Rattle.wire_json.specs.declared.fields.Field.TheVariants.{Weight}
-use Rattle.wire_json.specs.Forms.{Means, ChangeForm, IsChange, plain_members, written, change_data}
+use Rattle.wire_json.specs.Forms.{Means, ChangeForm, IsChange, plain_fields, written, change_data}
 
 -- what is written for the change with the weight, or without it
 abbrev pub change_object : Bool → Sourced → Data
-change_object heavy c = written (plain_members c ++ (if heavy then (Weight, number (unsigned c.change.weight)) ∷ [] else []))
+change_object heavy c = written (plain_fields c ++ (if heavy then (Weight, number (unsigned c.change.weight)) ∷ [] else []))
 
 -- a word stands for itself where no member `tombstone` is there
 means_itself : (b : Bool) (c : Sourced) (s : Status) → Means (change_object b c) s s

@@ -22,7 +22,7 @@ use Rattle.wire_json.specs.declared.fields.Field.TheVariants as field
 use Rattle.wire_json.specs.declared.kinds.Kind.{Kind}
 use Rattle.wire_json.specs.declared.kinds.Kind.TheVariants as kind
 use Rattle.wire_json.specs.Fields.{name}
-use Rattle.wire_json.specs.Forms.{with_members, written}
+use Rattle.wire_json.specs.Forms.{with_fields, written}
 use Rattle.wire_json.specs.Words.{kind_word}
 
 -- a byte that a string writes as itself, and that is a character
@@ -105,13 +105,13 @@ abbrev pub sizes : List (Field × Data) → ℕ
 sizes [] = 0
 sizes (x ∷ xs) = length (quoted (name x.0)) + length (compact_text x.1) + 2 + sizes xs
 
-with_short : (xs : List (Field × Data)) (ms : Members) → length (members_text true (with_members xs ms)) ≤ sizes xs + length (members_text true ms)
+with_short : (xs : List (Field × Data)) (ms : Members) → length (members_text true (with_fields xs ms)) ≤ sizes xs + length (members_text true ms)
 with_short [] ms = omega arith
 with_short (x ∷ xs) ms = omega (arith, put_short (name x.0) x.1 ms, with_short xs (put (name x.0) x.1 ms))
 
 -- an object is no longer than its members and its brackets
 pub written_short : (xs : List (Field × Data)) → length (compact_text (written xs)) ≤ sizes xs + 2
-written_short xs = omega (arith, members_later (with_members xs no_members), with_short xs no_members)
+written_short xs = omega (arith, members_later (with_fields xs no_members), with_short xs no_members)
 
 -- a member's name is written as it is
 pub quoted_name : (f : Field) → length (quoted (name f)) ≡ length (name f) + 2

@@ -17,7 +17,7 @@ use Rattle.wire_json.specs.declared.messages.Message.{Message}
 use Rattle.wire_json.specs.declared.messages.Content.{Content}
 use Rattle.wire_json.specs.declared.messages.Content.TheVariants.{Join, Joined, Ping, Ack, PingReq, PingReqAck, Forward, Reply, NotOwner, Refused}
 use Rattle.wire_json.specs.Fields.{name}
-use Rattle.wire_json.specs.Forms.{plain_members, weight_members, change_data}
+use Rattle.wire_json.specs.Forms.{plain_fields, weight_fields, change_data}
 use Rattle.wire_json.specs.Messages.{message_data}
 use Rattle.wire_json.specs.Sending.{Sends, SendsAll, content_sent, members_sent}
 use Rattle.wire_json.proofs.Elements.{take_here}
@@ -92,11 +92,11 @@ list_sent f ds n a b c d e count named begins each ends =
 
 -- ---- a change
 
-change_in_order : (b : Bool) (c : Sourced) → object (in_order (plain_members c ++ (if b then (field.Weight, number (unsigned c.change.weight)) ∷ [] else []))) ≡ change_object b c
+change_in_order : (b : Bool) (c : Sourced) → object (in_order (plain_fields c ++ (if b then (field.Weight, number (unsigned c.change.weight)) ∷ [] else []))) ≡ change_object b c
 change_in_order true c = refl
 change_in_order false c = refl
 
-change_count : (b : Bool) (c : Sourced) → (if b then 6 else 5) ≡ length (plain_members c ++ (if b then (field.Weight, number (unsigned c.change.weight)) ∷ [] else []))
+change_count : (b : Bool) (c : Sourced) → (if b then 6 else 5) ≡ length (plain_fields c ++ (if b then (field.Weight, number (unsigned c.change.weight)) ∷ [] else []))
 change_count true c = refl
 change_count false c = refl
 
@@ -106,11 +106,11 @@ pub change_sent : (c : Sourced) (n : ℕ) (l0 l1 l2 l3 l4 l5 l6 l7 l8 : Log) →
     → Sends ((field.Source, string (address_text c.source)) ∷ []) l3 l4
     → Sends ((field.SourceIncarnationNumber, number (unsigned c.source_incarnation)) ∷ []) l4 l5
     → Sends ((field.Status, string (status_word c.change.status)) ∷ []) l5 l6
-    → Sends (weight_members c.change.weight) l6 l7 → Logs l7 l8 event.map_ends → SendsValue (change_data c) l0 l8
+    → Sends (weight_fields c.change.weight) l6 l7 → Logs l7 l8 event.map_ends → SendsValue (change_data c) l0 l8
 change_sent c n l0 l1 l2 l3 l4 l5 l6 l7 l8 count begins p q r s t u ends =
     let heavy = nat_lt 1 c.change.weight in
     let all = joined _ _ _ _ _ p (joined _ _ _ _ _ q (joined _ _ _ _ _ r (joined _ _ _ _ _ s (joined _ _ _ _ _ t u)))) in
-    subst (λ d. SendsValue d l0 l8) (change_in_order heavy c) (object_sent (plain_members c ++ weight_members c.change.weight) n l0 l1 l7 l8 (count ∙ change_count heavy c) begins all ends)
+    subst (λ d. SendsValue d l0 l8) (change_in_order heavy c) (object_sent (plain_fields c ++ weight_fields c.change.weight) n l0 l1 l7 l8 (count ∙ change_count heavy c) begins all ends)
 
 -- ---- a message
 

@@ -22,7 +22,7 @@ use Rattle.wire_json.specs.Fields.{name}
 use Rattle.wire_json.specs.Forms.{IsChange, change_data}
 use Rattle.wire_json.specs.Limits.{most_change_bytes}
 use Rattle.wire_json.specs.Lines.{max_line}
-use Rattle.wire_json.specs.Messages.{kind_of, news_members, content_members, message_data, CarriesNews, IsNewsRecord, IsContent, IsMessage}
+use Rattle.wire_json.specs.Messages.{kind_of, news_fields, content_fields, message_data, CarriesNews, IsNewsRecord, IsContent, IsMessage}
 use Rattle.wire_json.specs.Words.{kind_word}
 use Rattle.wire_json.proofs.Encoding.{change_object}
 use Rattle.wire_json.proofs.Lengths.{length-members_text, items_short, sizes, written_short, quoted-plain, quoted_short, quoted_name, quoted_status, kind_short, address_plain}
@@ -112,7 +112,7 @@ changes_short : (later : Bool) (cs : List Sourced) → AllByRecursion IsChange c
 changes_short later [] h = omega arith
 changes_short later (c ∷ cs) h = omega (arith, items_short later (change_data c) (items_of (map change_data cs)), change_short c h.0, changes_short true cs h.1)
 
-news_short : (g : News) → IsNewsRecord g → sizes (news_members g) ≤ 742000
+news_short : (g : News) → IsNewsRecord g → sizes (news_fields g) ≤ 742000
 news_short g h =
     let few = h.few in
     omega (
@@ -128,7 +128,7 @@ news_short g h =
 target_short : (a : ℕ) → IsAddress a → length (quoted (name field.Target)) + length (quoted (address_text a)) ≤ 31
 target_short a h = omega (arith, quoted_name field.Target, quoted_address a h)
 
-content_short : (x : Content) → IsContent x → CarriesNews x → sizes (content_members x) ≤ 743000
+content_short : (x : Content) → IsContent x → CarriesNews x → sizes (content_fields x) ≤ 743000
 content_short (Join g) h is = omega (arith, news_short g h)
 content_short (Joined g) h is = omega (arith, news_short g h)
 content_short (Ping g) h is = omega (arith, news_short g h)
@@ -147,7 +147,7 @@ membership_short m h is =
     let valid = h.source_incarnation in
     omega (
       arith,
-      written_short ((field.Kind, string (kind_word (kind_of m.content))) ∷ (field.Source, string (address_text m.source)) ∷ (field.SourceIncarnationNumber, number (unsigned m.source_incarnation)) ∷ content_members m.content),
+      written_short ((field.Kind, string (kind_word (kind_of m.content))) ∷ (field.Source, string (address_text m.source)) ∷ (field.SourceIncarnationNumber, number (unsigned m.source_incarnation)) ∷ content_fields m.content),
       quoted_name field.Kind,
       quoted_short (kind_word (kind_of m.content)),
       kind_short (kind_of m.content),

@@ -1,4 +1,4 @@
--- What a JSON value stands for, member by member, and the first fault of a value that stands for nothing.
+-- What a JSON value stands for, field by field, and the first fault of a value that stands for nothing.
 use Rattle.std.specs.Prelude.{◌≡◌, ℕ, ◌≤◌, ◌++◌, nat_lt, ◌⊎◌, if◌then◌else◌, Bool, true, false, List, [], ◌∷◌, Option, Some, None, IsSome}
 use Rattle.serde_json.specs.Data.{Data, boolean, number, string, object, unsigned, Members, no_members, put}
 use Rattle.serde_json.specs.Find.{get}
@@ -18,35 +18,35 @@ use Rattle.wire_json.specs.declared.kinds.Reason.{Reason}
 use Rattle.wire_json.specs.Fields.{name}
 use Rattle.wire_json.specs.Words.{reason_word}
 
--- ---- members
+-- ---- fields
 
--- the member is there, and it is the text t
+-- the field is there, and it is the text t
 abbrev pub HasText : Field → Data → List ℕ → Type 0
 HasText f v t = get (name f) v ≡ Some (string t)
 
--- the member is the one text of the address
+-- the field is the one text of the address
 abbrev pub HasAddress : Field → Data → ℕ → Type 0
 HasAddress f v a = HasText f v (address_text a) × IsAddress a
 
--- the member is a number that reads as a whole one without a sign, at most 2^53 - 1; so 1.0 is none
+-- the field is a number that reads as a whole one without a sign, at most 2^53 - 1; so 1.0 is none
 abbrev pub HasNumber : Field → Data → ℕ → Type 0
 HasNumber f v n = (get (name f) v ≡ Some (number (unsigned n))) × (n ≤ greatest_number)
 
--- the member is the 64 lower-case hexadecimal digits of the digest
+-- the field is the 64 lower-case hexadecimal digits of the digest
 abbrev pub HasDigest : Field → Data → Digest → Type 0
 HasDigest f v d = HasText f v (digest_digits d.bytes) × IsDigest d.bytes
 
--- the member is `true` or `false`
+-- the field is `true` or `false`
 abbrev pub HasTruth : Field → Data → Bool → Type 0
 HasTruth f v b = get (name f) v ≡ Some (boolean b)
 
--- the member `status` is the word of the status
+-- the field `status` is the word of the status
 abbrev pub HasWord : Data → Status → Type 0
 HasWord v s = HasText field.Status v (status_word s)
 
 -- ---- a change
 
--- the member `tombstone`, where the word is `faulty`: `true` makes the status tombstone, `false` and absence leave it faulty, as in ringpop-go's package swim
+-- the field `tombstone`, where the word is `faulty`: `true` makes the status tombstone, `false` and absence leave it faulty, as in ringpop-go's package swim
 abbrev pub Marks : Option Data → Status → Type 0
 Marks None s = s ≡ Faulty
 Marks (Some (boolean true)) s = s ≡ Tombstone
@@ -58,13 +58,13 @@ abbrev pub Means : Data → Status → Status → Type 0
 Means v Faulty s = Marks (get (name field.Tombstone) v) s
 Means v word s = s ≡ word
 
--- the value says the status, by the word and, where it is `faulty`, the member `tombstone`
+-- the value says the status, by the word and, where it is `faulty`, the field `tombstone`
 pub record HasStatus (v : Data) (s : Status) : Type 0 where
   pub word : Status
   pub has_word : HasWord v word
   pub means : Means v word s
 
--- a weight is from 1 to 8, and 1 where the member `weight` is absent
+-- a weight is from 1 to 8, and 1 where the field `weight` is absent
 abbrev pub Weighs : Option Data → ℕ → Type 0
 Weighs None w = w ≡ 1
 Weighs (Some d) w = (d ≡ number (unsigned w)) × IsWeight w
@@ -92,33 +92,33 @@ pub record IsChange (c : Sourced) : Type 0 where
 
 -- ---- what is written for a change
 
--- these members put in one after another; an object keeps its members ascending by name
-abbrev pub with_members : List (Field × Data) → Members → Members
-with_members [] ms = ms
-with_members (x ∷ xs) ms = with_members xs (put (name x.0) x.1 ms)
+-- these fields put in one after another; an object keeps its fields ascending by name
+abbrev pub with_fields : List (Field × Data) → Members → Members
+with_fields [] ms = ms
+with_fields (x ∷ xs) ms = with_fields xs (put (name x.0) x.1 ms)
 
--- the object of these members
+-- the object of these fields
 abbrev pub written : List (Field × Data) → Data
-written xs = object (with_members xs no_members)
+written xs = object (with_fields xs no_members)
 
 -- what is written for each change; a tombstone is written by its own word
-abbrev pub plain_members : Sourced → List (Field × Data)
-plain_members c =
+abbrev pub plain_fields : Sourced → List (Field × Data)
+plain_fields c =
     (field.Address, string (address_text c.change.address)) ∷ (field.IncarnationNumber, number (unsigned c.change.incarnation))
     ∷ (field.Source, string (address_text c.source)) ∷ (field.SourceIncarnationNumber, number (unsigned c.source_incarnation))
     ∷ (field.Status, string (status_word c.change.status)) ∷ []
 
 -- a weight is written where it is over 1
-abbrev pub weight_members : ℕ → List (Field × Data)
-weight_members w = if nat_lt 1 w then (field.Weight, number (unsigned w)) ∷ [] else []
+abbrev pub weight_fields : ℕ → List (Field × Data)
+weight_fields w = if nat_lt 1 w then (field.Weight, number (unsigned w)) ∷ [] else []
 
 -- what is written for the change
 abbrev pub change_data : Sourced → Data
-change_data c = written (plain_members c ++ weight_members c.change.weight)
+change_data c = written (plain_fields c ++ weight_fields c.change.weight)
 
 -- ---- the first fault of a change
 
--- what a member is asked to be
+-- what a field is asked to be
 pub data Form : Type 0 where
   text : Form
   address : Form
@@ -130,7 +130,7 @@ pub data Form : Type 0 where
   mark : Form
   weight : Form
 
--- the member is of that form
+-- the field is of that form
 abbrev pub IsGood : Form → Field → Data → Type 0
 IsGood text f v = (t : List ℕ) × HasText f v t
 IsGood address f v = (a : ℕ) × HasAddress f v a
@@ -142,27 +142,27 @@ IsGood reason f v = (r : Reason) × HasText f v (reason_word r)
 IsGood mark f v = (s : Status) × HasStatus v s
 IsGood weight f v = (w : ℕ) × HasWeight v w
 
--- a required member is absent, or there and of another form; the last two may be absent
+-- a required field is absent, or there and of another form; the last two may be absent
 abbrev pub IsBad : Form → Field → Data → WireError → Type 0
 IsBad mark f v e = (e ≡ BadField f) × ¬ IsGood mark f v
 IsBad weight f v e = (e ≡ BadField f) × ¬ IsGood weight f v
 IsBad form f v e = ((e ≡ MissingField f) × (get (name f) v ≡ None)) ⊎ ((e ≡ BadField f) × IsSome (get (name f) v) × ¬ IsGood form f v)
 
--- the first of the members asked for, in this order, that is not as it should be
+-- the first of the fields asked for, in this order, that is not as it should be
 abbrev pub FirstFault : List (Form × Field) → Data → WireError → Type 0
 FirstFault [] v e = ⊥
 FirstFault (c ∷ cs) v e = IsBad c.0 c.1 v e ⊎ (IsGood c.0 c.1 v × FirstFault cs v e)
 
--- where the status is `faulty`, a member `tombstone` that is there is a truth
-abbrev pub status_members : List (Form × Field)
-status_members = (status, field.Status) ∷ (mark, field.Tombstone) ∷ []
+-- where the status is `faulty`, a field `tombstone` that is there is a truth
+abbrev pub status_fields : List (Form × Field)
+status_fields = (status, field.Status) ∷ (mark, field.Tombstone) ∷ []
 
 -- what a change is asked to have, in the order of checks
-abbrev pub change_members : List (Form × Field)
-change_members =
+abbrev pub change_fields : List (Form × Field)
+change_fields =
     (address, field.Address) ∷ (whole, field.IncarnationNumber) ∷ (address, field.Source) ∷ (whole, field.SourceIncarnationNumber)
-    ∷ (status_members ++ (weight, field.Weight) ∷ [])
+    ∷ (status_fields ++ (weight, field.Weight) ∷ [])
 
 -- the first fault of a value that stands for no change
 abbrev pub ChangeFault : Data → WireError → Type 0
-ChangeFault = FirstFault change_members
+ChangeFault = FirstFault change_fields

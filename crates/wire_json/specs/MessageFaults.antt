@@ -39,18 +39,18 @@ IsText d = (t : List ℕ) × (d ≡ string t)
 abbrev pub KeyFault : Data → WireError → Type 0
 KeyFault d e = (e ≡ BadField field.Keys) × ¬ IsText d
 
--- a member that is to be an array of at most so many elements is absent, no array, or too long; no element is looked at
+-- a field that is to be an array of at most so many elements is absent, no array, or too long; no element is looked at
 abbrev pub ListFault : Field → ℕ → Data → WireError → Type 0
 ListFault f most v e =
     ((e ≡ MissingField f) × (get (name f) v ≡ None))
     ⊎ (((e ≡ BadField f) × (d : Data) × (get (name f) v ≡ Some d) × (as_array d ≡ None))
     ⊎ ((e ≡ TooMany) × (ds : List Data) × (get (name f) v ≡ Some (array (items_of ds))) × (most < length ds)))
 
--- the member is an array of these elements, at most so many
+-- the field is an array of these elements, at most so many
 abbrev pub IsList : Field → ℕ → Data → List Data → Type 0
 IsList f most v ds = (get (name f) v ≡ Some (array (items_of ds))) × (length ds ≤ most)
 
--- what a message is asked to have: a member of a form, `changes`, or `keys`
+-- what a message is asked to have: a field of a form, `changes`, or `keys`
 pub data Part : Type 0 where
   plain : Form → Field → Part
   changes : Part
@@ -98,7 +98,7 @@ parts_of kind.Refused = plain reason field.Reason ∷ []
 abbrev pub message_parts : Kind → List Part
 message_parts k = plain address field.Source ∷ plain whole field.SourceIncarnationNumber ∷ parts_of k
 
--- the member `kind` is absent, no string, or no word of a kind
+-- the field `kind` is absent, no string, or no word of a kind
 abbrev pub KindFault : Data → WireError → Type 0
 KindFault v e = IsBad text field.Kind v e ⊎ ((e ≡ UnknownKind) × (t : List ℕ) × HasText field.Kind v t × ((k : Kind) → t ≢ kind_word k))
 

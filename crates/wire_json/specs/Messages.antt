@@ -24,20 +24,20 @@ use Rattle.wire_json.specs.Limits.{max_keys}
 
 -- ---- the form
 
--- the member `changes` is an array whose elements stand for these changes, one by one
+-- the field `changes` is an array whose elements stand for these changes, one by one
 pub record HasChanges (v : Data) (cs : List Sourced) : Type 0 where
   pub elements : List Data
   pub are : get (name field.Changes) v ≡ Some (array (items_of elements))
   pub few : length elements ≤ most_members
   pub each : AllZip ChangeForm elements cs
 
--- the member `keys` is an array of these texts, from 1 to 256
+-- the field `keys` is an array of these texts, from 1 to 256
 pub record HasKeys (v : Data) (ks : List (List ℕ)) : Type 0 where
   pub are : get (name field.Keys) v ≡ Some (array (items_of (map string ks)))
   pub some : 0 < length ks
   pub few : length ks ≤ max_keys
 
--- the member `reason` is the word of the reason
+-- the field `reason` is the word of the reason
 abbrev pub HasReason : Data → Reason → Type 0
 HasReason v r = HasText field.Reason v (reason_word r)
 
@@ -59,7 +59,7 @@ kind_of (Reply t) = kind.Reply
 kind_of NotOwner = kind.NotOwner
 kind_of (Refused r) = kind.Refused
 
--- the members beside kind and source, for each kind its own
+-- the fields beside kind and source, for each kind its own
 abbrev pub ContentForm : Data → Content → Type 0
 ContentForm v (Join g) = HasNews v g
 ContentForm v (Joined g) = HasNews v g
@@ -81,28 +81,28 @@ pub record MessageForm (v : Data) (m : Message) : Type 0 where
 
 -- ---- what is written
 
--- the members of the news
-abbrev pub news_members : News → List (Field × Data)
-news_members g = (field.Checksum, string (digest_digits g.checksum.bytes)) ∷ (field.Changes, array (items_of (map change_data g.changes))) ∷ []
+-- the fields of the news
+abbrev pub news_fields : News → List (Field × Data)
+news_fields g = (field.Checksum, string (digest_digits g.checksum.bytes)) ∷ (field.Changes, array (items_of (map change_data g.changes))) ∷ []
 
--- the members beside kind and source
-abbrev pub content_members : Content → List (Field × Data)
-content_members (Join g) = news_members g
-content_members (Joined g) = news_members g
-content_members (Ping g) = news_members g
-content_members (Ack g) = news_members g
-content_members (PingReq g a) = news_members g ++ (field.Target, string (address_text a)) ∷ []
-content_members (PingReqAck g a b) = news_members g ++ (field.Target, string (address_text a)) ∷ (field.Reached, boolean b) ∷ []
-content_members (Forward ks t) = (field.Keys, array (items_of (map string ks))) ∷ (field.Body, string t) ∷ []
-content_members (Reply t) = (field.Body, string t) ∷ []
-content_members NotOwner = []
-content_members (Refused r) = (field.Reason, string (reason_word r)) ∷ []
+-- the fields beside kind and source
+abbrev pub content_fields : Content → List (Field × Data)
+content_fields (Join g) = news_fields g
+content_fields (Joined g) = news_fields g
+content_fields (Ping g) = news_fields g
+content_fields (Ack g) = news_fields g
+content_fields (PingReq g a) = news_fields g ++ (field.Target, string (address_text a)) ∷ []
+content_fields (PingReqAck g a b) = news_fields g ++ (field.Target, string (address_text a)) ∷ (field.Reached, boolean b) ∷ []
+content_fields (Forward ks t) = (field.Keys, array (items_of (map string ks))) ∷ (field.Body, string t) ∷ []
+content_fields (Reply t) = (field.Body, string t) ∷ []
+content_fields NotOwner = []
+content_fields (Refused r) = (field.Reason, string (reason_word r)) ∷ []
 
 -- what is written for the message
 abbrev pub message_data : Message → Data
 message_data m =
     written ((field.Kind, string (kind_word (kind_of m.content))) ∷ (field.Source, string (address_text m.source))
-    ∷ (field.SourceIncarnationNumber, number (unsigned m.source_incarnation)) ∷ content_members m.content)
+    ∷ (field.SourceIncarnationNumber, number (unsigned m.source_incarnation)) ∷ content_fields m.content)
 
 -- ---- messages of the code
 

@@ -20,7 +20,7 @@ use Rattle.wire_json.specs.Forms.{change_data}
 use Rattle.wire_json.specs.Messages.{kind_of}
 use Rattle.wire_json.specs.Words.{kind_word, reason_word}
 
--- these members are sent one after another, each as its name and what its value sends
+-- these fields are sent one after another, each as its name and what its value sends
 abbrev pub SendsEach : List (Field × Data) → Log → Log → Type 0
 SendsEach [] old new = old ≡ new
 SendsEach (x ∷ xs) old new = (named mid : Log) × Logs old named (event.field_key (name x.0) AsIs) × SendsValue x.1 named mid × SendsEach xs mid new

@@ -1,4 +1,4 @@
-ghost use Rattle.std.specs.Prelude.{◌≡◌, ℕ, ◌+◌, ◌*◌, ◌≤◌, ◌<◌, ◌++◌, [], length, not, IsOk, vec_len, vec_capacity};
+ghost use Rattle.std.specs.Prelude.{◌≡◌, ℕ, ◌+◌, ◌*◌, ◌/◌, ◌≤◌, ◌<◌, ◌++◌, [], length, not, IsOk, OnOk, vec_len, vec_capacity};
 ghost use Rattle.std.specs.List.{filter, position, position_or_len};
 ghost use Rattle.change_core.specs.Ascending.{ascending, In, IsAscending};
 ghost use Rattle.change_core.specs.Numeral.{number_text};
@@ -121,6 +121,9 @@ pub(crate) fn reserve_points(
     ensures same { points.new.items ≡ points.old.items }
     ensures room { IsOk result → vec_len points.new + count ≤ vec_capacity points.new }
     ensures enough { vec_len points.old + count ≤ vec_capacity points.old → IsOk result }
+    // A growth of the counts that was refused is not passed over.
+    ensures counted { OnOk result (vec_capacity points.old < vec_len points.old + count
+        → (vec_len points.old + count) / 16 ≤ vec_len starts.new.counts) }
     ensures capacity { vec_capacity points.old ≤ vec_capacity points.new }
 {
     let held = points.capacity();

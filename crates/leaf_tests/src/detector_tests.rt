@@ -158,8 +158,8 @@ fn pick_as_members_change(
     assert_picks(rt, prober, &pair(rt), of_pair);
 }
 
-// The numbers were made by a program of its own after the published PCG32 and Rust's `rand`: each order holds each of
-// the members that were pingable when it was made, those who left are passed over, and those who came wait.
+/// The numbers were made by a program of its own after the published PCG32 and Rust's `rand`: each order holds each of
+/// the members that were pingable when it was made, those who left are passed over, and those who came wait.
 #[test]
 fn picks_follow_from_the_seed(rt: HostRuntime) {
     for (seed, of_three, of_four, of_pair) in [
@@ -184,7 +184,7 @@ fn pick_in_orders(rt: &impl Abort, prober: &mut Prober, orders: &[[u8; 3]; 2]) {
     }
 }
 
-// Each row is one order of the three; both are picked whole before another is made.
+/// Each row is one order of the three; both are picked whole before another is made.
 #[test]
 fn two_rounds_hold_each_member(rt: HostRuntime) {
     for (seed, orders) in [(7, [[3, 4, 2], [4, 3, 2]]), (1, [[4, 2, 3], [2, 4, 3]])] {

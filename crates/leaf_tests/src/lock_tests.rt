@@ -19,7 +19,7 @@ use tally::{Entrant, Shared, Tally};
 
 const TRIES: u32 = 10_000;
 
-// Leaves after a turn that added this number, or none.
+/// Leaves after a turn that added this number, or none.
 fn leave(lock: &Shared, pass: &mut Entrant, tally: Tally, added: Option<u64>)
     ghost entry: { Option ℕ }
     requires inside { IsInside lock.now pass.old }
@@ -30,7 +30,7 @@ fn leave(lock: &Shared, pass: &mut Entrant, tally: Tally, added: Option<u64>)
     lock.leave(pass, tally);
 }
 
-// Adds a number.
+/// Adds a number.
 fn add<R: Wait>(rt: &R, lock: &Shared, pass: &mut Entrant, number: u64) -> Result<(), LockError>
     requires { IsOutside lock.now pass.old }
     ensures { IsOutside lock.now pass.new }
@@ -41,7 +41,7 @@ fn add<R: Wait>(rt: &R, lock: &Shared, pass: &mut Entrant, number: u64) -> Resul
     Ok(())
 }
 
-// Whether the number was added.
+/// Whether the number was added.
 fn has<R: Wait>(rt: &R, lock: &Shared, pass: &mut Entrant, number: u64) -> Result<bool, LockError>
     requires { IsOutside lock.now pass.old }
     ensures { IsOutside lock.now pass.new }
@@ -67,7 +67,7 @@ fn add_often<R: Wait>(
     Ok(pass)
 }
 
-// Adds a number, and enters again until it reads the other.
+/// Adds a number, and enters again until it reads the other.
 fn meet<R: Wait + Clock>(
     rt: &R,
     lock: &Shared,
@@ -87,7 +87,7 @@ fn meet<R: Wait + Clock>(
     Ok(false)
 }
 
-// A lock with two passes, and the list that they came in, now empty. There is none where memory was refused.
+/// A lock with two passes, and the list that they came in, now empty. There is none where memory was refused.
 fn try_pair(
     alloc: Global,
     name: u64,
@@ -108,7 +108,7 @@ fn try_pair(
     Ok(Some((lock, first, second, passes)))
 }
 
-// The same. Where memory was refused, it is asked for once more.
+/// The same. Where memory was refused, it is asked for once more.
 fn pair(
     alloc: Global,
     name: u64,
@@ -200,7 +200,7 @@ fn each_of_two_threads_reads_the_others_entry(rt: HostRuntime) -> Result<(), Fai
     Ok(())
 }
 
-// Rests inside, and then adds a number.
+/// Rests inside, and then adds a number.
 fn add_late<R: Clock>(rt: &R, lock: &Shared, mut pass: Entrant, mut tally: Tally, number: u64)
     requires inside { IsInside lock.now pass }
     requires tally { tally.numbers.items ≡ (opening_of lock.now).numbers.items ++ filter_map (λ t. t.entry) (seen pass) }
@@ -253,7 +253,7 @@ fn counts_out_of_range_hand_the_state_back(rt: HostRuntime) -> Result<(), Fail> 
     Ok(())
 }
 
-// A lock with as many passes and turns as there may be. Where memory was refused, it is asked for once more.
+/// A lock with as many passes and turns as there may be. Where memory was refused, it is asked for once more.
 fn greatest(alloc: Global) -> Result<(Shared, Vec<Entrant>), Fail>
     ensures { IfOk result (λ r. All (IsOutside r.0) r.1.items) }
 {

@@ -22,12 +22,12 @@ fn weight(number: u8) -> Result<Weight, Fail> {
     Ok(Weight::new(number).ok_or("a weight")?)
 }
 
-// What is seen of a ring beside its room.
+/// What is seen of a ring beside its room.
 fn seen<H: PointHash>(ring: &Ring<H>, server: Address) -> (usize, Option<Weight>, Option<Address>) {
     (ring.len(), ring.weight(server), ring.owner(b"key"))
 }
 
-// Makes room for a server, at the second try where the first was refused. A refusal leaves the ring as it was.
+/// Makes room for a server, at the second try where the first was refused. A refusal leaves the ring as it was.
 fn reserve<H: PointHash>(
     rt: &impl Abort,
     ring: &mut Ring<H>,
@@ -71,7 +71,7 @@ fn filled<H: PointHash>(
     Ok(ring)
 }
 
-// The owners of a key, at the second try where the first was refused. A refusal leaves the ring as it was.
+/// The owners of a key, at the second try where the first was refused. A refusal leaves the ring as it was.
 fn owners<H: PointHash>(
     rt: &impl Abort,
     ring: &Ring<H>,
@@ -89,7 +89,7 @@ fn owners<H: PointHash>(
     }
 }
 
-// A copy, at the second try where the first was refused. A refusal leaves the ring as it was.
+/// A copy, at the second try where the first was refused. A refusal leaves the ring as it was.
 fn copy<H: PointHash>(rt: &impl Abort, ring: &Ring<H>) -> Result<Ring<H>, Fail> {
     let server = address(A)?;
     let before = seen(ring, server);
@@ -119,7 +119,7 @@ fn check_rows<H: PointHash>(rt: &impl Abort, ring: &Ring<H>, rows: &[Row]) -> Re
     Ok(())
 }
 
-// Owners of the three servers at two points each.
+/// Owners of the three servers at two points each.
 const EVEN: [Row<'static>; 6] = [
     ("zzzz1", 3, &[B, C, A]),
     ("zzzz2", 3, &[C, A, B]),
@@ -129,14 +129,14 @@ const EVEN: [Row<'static>; 6] = [
     ("", 9, &[A, B, C]),
 ];
 
-// The same where the second one has three times as many.
+/// The same where the second one has three times as many.
 const WEIGHTED: [Row<'static>; 3] = [
     ("zzzz1", 3, &[B, C, A]),
     ("zzzz2", 3, &[B, C, A]),
     ("zzzz3", 3, &[B, A, C]),
 ];
 
-// Owners of a ring of three servers, with the second one heavier, and as before.
+/// Owners of a ring of three servers, with the second one heavier, and as before.
 fn check_weights(rt: &impl Abort, ring: &mut Ring<SumHash>) -> Result<(), Fail> {
     check_rows(rt, ring, &EVEN)?;
     let heavier = add(rt, ring, B, 3)?;
@@ -156,7 +156,7 @@ fn owners_by_sum_and_weight(rt: HostRuntime) -> Result<(), Fail> {
     check_weights(&rt, &mut ring)
 }
 
-// Gives a server that is there a weight that is not greater, with no room made before.
+/// Gives a server that is there a weight that is not greater, with no room made before.
 fn lighten<H: PointHash>(ring: &mut Ring<H>, server: Address, light: Weight) -> Result<bool, Fail> {
     let held = ring.weight(server).ok_or("a server")?;
     if held.number() < light.number() {
@@ -261,7 +261,7 @@ fn replicas_are_bounded(rt: HostRuntime) {
     }
 }
 
-// A sum of bytes that counts how often it is asked for.
+/// A sum of bytes that counts how often it is asked for.
 #[derive(Clone, Copy)]
 struct CountingHash<'a> {
     calls: &'a AtomicU64,
@@ -276,7 +276,7 @@ impl<'a> PointHash for CountingHash<'a> {
     }
 }
 
-// A copy hashes nothing, and has the server with this weight alone.
+/// A copy hashes nothing, and has the server with this weight alone.
 fn check_copy<'a>(
     rt: &impl Abort,
     ring: &Ring<CountingHash<'a>>,
@@ -291,7 +291,7 @@ fn check_copy<'a>(
     Ok(())
 }
 
-// Each edit hashes the points that it brings, a look-up the key, and what takes points away nothing.
+/// Each edit hashes the points that it brings, a look-up the key, and what takes points away nothing.
 fn count_edits<'a>(
     rt: &impl Abort,
     ring: &mut Ring<CountingHash<'a>>,
@@ -324,7 +324,7 @@ fn an_edit_hashes_its_own_points_alone(rt: HostRuntime) -> Result<(), Fail> {
     count_edits(&rt, &mut ring, &calls)
 }
 
-// The next number of a linear congruential generator, below a bound.
+/// The next number of a linear congruential generator, below a bound.
 fn draw(state: &mut u64, bound: u64) -> u64
     requires { 1 ≤ bound }
     ensures { result < bound }
@@ -335,19 +335,19 @@ fn draw(state: &mut u64, bound: u64) -> u64
     (*state >> 33) % bound
 }
 
-// The ports of servers whose texts run into one another.
+/// The ports of servers whose texts run into one another.
 const PORTS: [u16; 6] = [1, 11, 2, 12, 110, 21];
 
 // The weights of the servers of these ports, as they should be in a ring: kept beside it, by the edits alone.
 type Weights = [Option<Weight>; 6];
 
-// The weight that the server of an address should have.
+/// The weight that the server of an address should have.
 fn weight_beside(weights: &Weights, server: Address) -> Option<Weight> {
     let place = PORTS.iter().position(|port| *port == server.port())?;
     *weights.get(place)?
 }
 
-// Whether the owners of a key are all servers, by their distance and then by address.
+/// Whether the owners of a key are all servers, by their distance and then by address.
 fn are_nearest<H: PointHash>(weights: &Weights, hash: H, key: &[u8], named: &[Address]) -> bool {
     let mut last = None;
     for server in named {
@@ -363,8 +363,8 @@ fn are_nearest<H: PointHash>(weights: &Weights, hash: H, key: &[u8], named: &[Ad
     named.len() == weights.iter().filter(|weight| weight.is_some()).count()
 }
 
-// Twenty edits of a ring, and ten keys after each. By `SumHash` the points lie from 535 to 690, and the keys from 488 to
-// 743, so before them, among them, at them and past them.
+/// Twenty edits of a ring, and ten keys after each. By `SumHash` the points lie from 535 to 690, and the keys from 488 to
+/// 743, so before them, among them, at them and past them.
 fn check_edits<H: PointHash>(
     rt: &impl Abort,
     alloc: Global,

@@ -69,7 +69,7 @@ Examples:
                                                  a second one, which joins the first and gossips each 200 milliseconds
 
 Exit status: 0 if all went well; 1 if a line is at fault, if no node answers as it was asked, if a node is let in by no host,
-cannot listen or has no thread, or if reading, writing or memory failed; 2 if the words are refused, an address among them,
+cannot listen or has no thread, or if reading, writing or memory failed; 2 if the arguments are invalid, an address among them,
 or ask for help or the version, which go to standard error."#;
 
 /// What stands below the help of `sim`.
@@ -80,7 +80,7 @@ const BELOW_SIM: &str =
   at MS                            set the time, in milliseconds
   take X Y I STATUS [W]            tell X that Y is alive, suspect, faulty, leave or tombstone
   leave X, rejoin X                let X leave, or come back
-  expire X                         let the first timer of X that is due run out
+  expire X                         let a timer of X that is due run out, of those the least address's
   members X, digest X              ask X for its members, or for their digest
   owners X N KEY                   ask X for the first N owners of a key
   send X Y                         keep the ping of X to Y, as the message with the next number
@@ -171,7 +171,7 @@ fn workers_option<'a>(alloc: Global) -> Arg<'a> {
 /// How many milliseconds lie between two rounds of gossip.
 fn period_option<'a>(alloc: Global) -> Arg<'a> {
     option(alloc, PERIOD, "MS", "0", 0, GREATEST_NUMBER).help(
-        "Milliseconds between two rounds of gossip; 0 makes none",
+        "Milliseconds between two rounds of gossip: 0, which makes none, to 9007199254740991",
     )
 }
 
@@ -290,7 +290,7 @@ fn members_command<'a>(alloc: Global) -> Result<Command<'a>, AllocError> {
 fn tell_command<'a>(alloc: Global) -> Result<Command<'a>, AllocError> {
     Command::new(alloc, "tell")
         .about(
-            "Reads change lines; tells them to a running node, and prints how many members it then holds",
+            "Reads at most 4096 change lines; tells them to a running node, and prints how many members it then holds",
         )
         .arg(host_word(alloc))
 }

@@ -600,7 +600,7 @@ const REFUSED_WORDS: [(&[&str], &str); 28] = [
     (&["ringpop", "tell", "x"], "ringpop: bad address\n"),
     (
         &["ringpop", "tell", "--help"],
-        "Reads change lines; tells them to a running node, and prints how many members it then holds\n\nUsage: ringpop tell <HOST>\n",
+        "Reads at most 4096 change lines; tells them to a running node, and prints how many members it then holds\n\nUsage: ringpop tell <HOST>\n",
     ),
 ];
 

@@ -18,7 +18,7 @@ fn moment(number: u64) -> anyhow::Result<Moment> {
 
 /// The incarnation that the nodes begin with. A node that was stopped and starts anew begins with a greater one.
 pub fn first_incarnation() -> anyhow::Result<Incarnation> {
-    Incarnation::new(1).context("an incarnation is 1 to 2^53 - 1")
+    Incarnation::new(1).context("an incarnation is 0 to 2^53 - 1")
 }
 
 /// A node alone. Its random choices follow from the seed 1; the nodes of a service have seeds of their own.

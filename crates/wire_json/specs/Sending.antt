@@ -25,7 +25,7 @@ abbrev pub SendsEach : List (Field × Data) → Log → Log → Type 0
 SendsEach [] old new = old ≡ new
 SendsEach (x ∷ xs) old new = (named mid : Log) × Logs old named (event.field_key (name x.0) AsIs) × SendsValue x.1 named mid × SendsEach xs mid new
 
--- these members are sent
+-- these fields are sent
 pub record Sends (xs : List (Field × Data)) (old new : Log) : Type 0 where
   pub each : SendsEach xs old new
 
@@ -34,7 +34,7 @@ abbrev pub SendsAll : List Data → Log → Log → Type 0
 SendsAll [] old new = old ≡ new
 SendsAll (d ∷ ds) old new = (mid : Log) × SendsValue d old mid × SendsAll ds mid new
 
--- the members that each message has, from the source on
+-- the fields that each message has, from the source on
 abbrev pub source_sent : ℕ → ℕ → List (Field × Data)
 source_sent a i = (field.Source, string (address_text a)) ∷ (field.SourceIncarnationNumber, number (unsigned i)) ∷ []
 
@@ -42,11 +42,11 @@ source_sent a i = (field.Source, string (address_text a)) ∷ (field.SourceIncar
 abbrev pub head_sent : Content → ℕ → ℕ → List (Field × Data)
 head_sent x a i = (field.Kind, string (kind_word (kind_of x))) ∷ source_sent a i
 
--- the members of the news
+-- the fields of the news
 abbrev pub news_sent : News → List (Field × Data)
 news_sent g = (field.Changes, array (items_of (map change_data g.changes))) ∷ (field.Checksum, string (digest_digits g.checksum.bytes)) ∷ []
 
--- the members of a message of that content, source and incarnation, ascending by name
+-- the fields of a message of that content, source and incarnation, ascending by name
 abbrev pub content_sent : Content → ℕ → ℕ → List (Field × Data)
 content_sent (Join g) a i = news_sent g ++ head_sent (Join g) a i
 content_sent (Joined g) a i = news_sent g ++ head_sent (Joined g) a i
@@ -60,7 +60,7 @@ content_sent (Reply t) a i = (field.Body, string t) ∷ head_sent (Reply t) a i
 content_sent NotOwner a i = head_sent NotOwner a i
 content_sent (Refused r) a i = (field.Kind, string (kind_word (kind_of (Refused r)))) ∷ (field.Reason, string (reason_word r)) ∷ source_sent a i
 
--- the members of a message, ascending by name
+-- the fields of a message, ascending by name
 abbrev pub members_sent : Message → List (Field × Data)
 members_sent m = content_sent m.content m.source m.source_incarnation
 

@@ -14,7 +14,7 @@ use change_core::{Address, AddressText, Incarnation};
 use serde::{Serialize, Serializer};
 use std::alloc::Global;
 
-/// Sends a member that is a text.
+/// Sends a field that is a text.
 #[inline(always)]
 #[tactic(auto, using(crate::proofs::Sent::text_sent))]
 pub(crate) fn send_text<S: Serializer>(
@@ -38,7 +38,7 @@ pub(crate) fn send_element<S: Serializer>(out: &mut S, text: &str) -> Result<(),
     out.str(text)
 }
 
-/// Sends a member that is the text of an address.
+/// Sends a field that is the text of an address.
 #[inline(always)]
 pub(crate) fn send_address<S: Serializer>(
     out: &mut S,
@@ -53,7 +53,7 @@ pub(crate) fn send_address<S: Serializer>(
     send_text(out, field, text.as_str())
 }
 
-/// Sends a member that is a whole number.
+/// Sends a field that is a whole number.
 #[inline(always)]
 #[tactic(auto, using(crate::proofs::Sent::number_sent))]
 pub(crate) fn send_number<S: Serializer>(
@@ -67,7 +67,7 @@ pub(crate) fn send_number<S: Serializer>(
     Ok(out.u64(count)?)
 }
 
-/// Sends a member that is an incarnation.
+/// Sends a field that is an incarnation.
 #[inline(always)]
 pub(crate) fn send_incarnation<S: Serializer>(
     out: &mut S,
@@ -81,7 +81,7 @@ pub(crate) fn send_incarnation<S: Serializer>(
     send_number(out, field, incarnation.number())
 }
 
-/// Sends a member that is `true` or `false`.
+/// Sends a field that is `true` or `false`.
 #[inline(always)]
 #[tactic(auto, using(crate::proofs::Sent::truth_sent))]
 pub(crate) fn send_truth<S: Serializer>(

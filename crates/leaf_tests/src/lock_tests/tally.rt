@@ -2,7 +2,7 @@
 use std::alloc::{AllocError, Global};
 use turn_lock::{Kept, Pass, TurnLock};
 
-// The numbers that were added, in their order. A turn adds a number, or none.
+/// The numbers that were added, in their order. A turn adds a number, or none.
 #[derive(Drop)]
 pub(super) struct Tally {
     pub(super) numbers: Vec<u64>,

@@ -29,7 +29,7 @@ use Rattle.cluster_core.specs.declared.forwarding.Tried.{Tried}
 use Rattle.cluster_core.specs.declared.forwarding.Tried.TheVariants.{Answered, Again}
 use Rattle.cluster_core.specs.Acts.{Act, OfActs, did, looked}
 use Rattle.cluster_core.specs.Errors.{error_of_forward}
-use Rattle.cluster_core.specs.Forwarding.{CarriesOut, IsFailure, IsHandled, IsJudged, LooksUp, MayTell, TriesOnce, way_of_try}
+use Rattle.cluster_core.specs.Forwarding.{CarriesOut, IsFailure, IsHandled, IsJudged, LooksUp, Times, TriesOnce, way_of_try}
 use Rattle.cluster_core.specs.Handling.{MayHandle}
 use Rattle.cluster_core.specs.Links.{MayAnswer}
 use Rattle.cluster_core.specs.Parts.{IsOfLock, onward, ended, Until}
@@ -162,13 +162,13 @@ module _ {H : Type 0} (hash_of : H → List ℕ → ℕ) (Came : MayAnswer) (Han
   handled_as_asked ks b r k e h =
       subst (λ (x : List ℕ). IsHandled Handled keys x r) e (subst (λ (x : List (List ℕ)). IsHandled Handled x b r) k h)
 
-module _ {H : Type 0} (hash_of : H → List ℕ → ℕ) (Came : MayAnswer) (Handled : MayHandle) (Told : MayTell) (keys : List (List ℕ)) (body : List ℕ) where
+module _ {H : Type 0} (hash_of : H → List ℕ → ℕ) (Came : MayAnswer) (Handled : MayHandle) (Time : Times) (keys : List (List ℕ)) (body : List ℕ) where
   abbrev Tried_so : Result Tried ClusterError → OfActs H
   Tried_so = TrySo hash_of Came Handled keys body
 
   here_so : (request : Request) (view : Viewed H) (r : Result Tried ClusterError) (acts xs ys : List (Act H)) → acts ≡ xs ++ ys
       → Owns hash_of Came Handled keys body view view.own acts → request.attempt.keys ≡ keys → request.body ≡ body
-      → CarriesOut Came Handled Told request Here r ys → Tried_so r acts
+      → CarriesOut Came Handled Time request Here r ys → Tried_so r acts
   here_so request view (Ok t) acts xs ys e o k b (inl h) = absurd h
   here_so request view (Err x) acts xs ys e o k b (inl h) =
       handler_refusal hash_of Came Handled keys body x view acts o (handled_as_asked hash_of Came Handled keys body request.attempt.keys request.body (Err x) k b h.1)
@@ -184,7 +184,7 @@ module _ {H : Type 0} (hash_of : H → List ℕ → ℕ) (Came : MayAnswer) (Han
 
   send_so : (request : Request) (view : Viewed H) (owner : Address) (r : Result Tried ClusterError) (acts xs ys : List (Act H)) → acts ≡ xs ++ ys
       → Owns hash_of Came Handled keys body view owner acts → owner ≢ view.own → request.attempt.keys ≡ keys → request.body ≡ body → request.attempt.stage ≡ stage.InFlight
-      → CarriesOut Came Handled Told request (Send owner) r ys → Tried_so r acts
+      → CarriesOut Came Handled Time request (Send owner) r ys → Tried_so r acts
   send_so request view owner (Ok t) acts xs ys e o ne k b flies (inl h) = absurd h
   send_so request view owner (Err x) acts xs ys e o ne k b flies (inl h) =
       of_lock hash_of Came Handled keys body x acts (says_refused (content.Forward request.attempt.keys request.body) x ys h)
@@ -206,9 +206,9 @@ module _ {H : Type 0} (hash_of : H → List ℕ → ℕ) (Came : MayAnswer) (Han
 
   carried : (now : ℕ) (old : AttemptState) (request : Request) (view : Viewed H) (step : Step) (r : Result Tried ClusterError) (acts xs ys : List (Act H)) → acts ≡ xs ++ ys
       → Contains acts (looked (Ok view)) → old.keys ≡ keys → IsOpen old.stage → request.body ≡ body → ReadyStep hash_of view now old (Ok step) request.attempt
-      → CarriesOut Came Handled Told request step r ys → Tried_so r acts
+      → CarriesOut Came Handled Time request step r ys → Tried_so r acts
   carried now old request view (Wait until) r acts xs ys e c k o b h p =
-      subst (λ (x : Result Tried ClusterError). Tried_so x acts) (sym p.1)
+      subst (λ (x : Result Tried ClusterError). Tried_so x acts) (sym p.1.1)
       (ap (λ (a : AttemptState). a.keys) h.3 ∙ k, b, subst (λ (a : AttemptState). IsOpen a.stage) (sym h.3) o)
   carried now old request view Here r acts xs ys e c k o b h p =
       here_so request view r acts xs ys e (c, subst (λ (ks : List (List ℕ)). AllOwnedBy hash_of view ks (Some view.own)) k h.1)
@@ -218,7 +218,7 @@ module _ {H : Type 0} (hash_of : H → List ℕ → ℕ) (Came : MayAnswer) (Han
       (ap (λ (a : AttemptState). a.keys) h.3 ∙ k) b (ap (λ (a : AttemptState). a.stage) h.3) p
 
   try_so : (request : Request) (r : Result Tried ClusterError) (acts : List (Act H)) → request.attempt.keys ≡ keys → request.body ≡ body → IsOpen request.attempt.stage
-      → TriesOnce hash_of Came Handled Told request r acts → Tried_so r acts
+      → TriesOnce hash_of Came Handled Time request r acts → Tried_so r acts
   try_so request (Ok t) acts k b o (now, told, (attempt, inl h)) = absurd h
   try_so request (Err e) acts k b o (now, told, (attempt, inl h)) = look_refused hash_of Came Handled keys body now request.attempt attempt e acts k o h
   try_so request r acts k b o (now, told, (attempt, inr (step, (first, next, eq, l, p)))) =
@@ -247,7 +247,7 @@ module _ {H : Type 0} (hash_of : H → List ℕ → ℕ) (Came : MayAnswer) (Han
   came_later (Ok text) xs ys w = answered_later hash_of Came Handled keys body text xs ys w
   came_later (Err e) xs ys w = unanswered_later hash_of Came Handled keys body e xs ys w
 
-  tries_so : (u : Request) (r : Result (List ℕ) ClusterError) (acts : List (Act H)) → Until (TriesOnce hash_of Came Handled Told) way_of_try u r acts
+  tries_so : (u : Request) (r : Result (List ℕ) ClusterError) (acts : List (Act H)) → Until (TriesOnce hash_of Came Handled Time) way_of_try u r acts
       → u.attempt.keys ≡ keys → u.body ≡ body → IsOpen u.attempt.stage → CameTo r acts
   tries_so u r acts (Until.ends {acts = xs} x text p e) k b o = ended_so x text xs e (try_so u (Ok x) xs k b o p)
   tries_so u r acts (Until.stops {acts = xs} e p) k b o = try_so u (Err e) xs k b o p
@@ -255,6 +255,6 @@ module _ {H : Type 0} (hash_of : H → List ℕ → ℕ) (Came : MayAnswer) (Han
       let next : (t.attempt.keys ≡ keys) × (t.body ≡ body) × IsOpen t.attempt.stage = goes_so x t xs e (try_so u (Ok x) xs k b o p) in
       came_later q xs ys (tries_so t q ys more next.0 next.1 next.2)
 
-pub requests_rest : {H : Type 0} (hash_of : H → List ℕ → ℕ) (Came : MayAnswer) (Handled : MayHandle) (Told : MayTell) → RequestsRest hash_of Came Handled Told
-requests_rest hash_of Came Handled Told keys body (Ok text) acts p = (tries_so hash_of Came Handled Told keys body _ (Ok text) acts p refl refl tt, tt)
-requests_rest hash_of Came Handled Told keys body (Err e) acts p = (tt, tries_so hash_of Came Handled Told keys body _ (Err e) acts p refl refl tt)
+pub requests_rest : {H : Type 0} (hash_of : H → List ℕ → ℕ) (Came : MayAnswer) (Handled : MayHandle) (Time : Times) → RequestsRest hash_of Came Handled Time
+requests_rest hash_of Came Handled Time keys body (Ok text) acts p = (tries_so hash_of Came Handled Time keys body _ (Ok text) acts p refl refl tt, tt)
+requests_rest hash_of Came Handled Time keys body (Err e) acts p = (tt, tries_so hash_of Came Handled Time keys body _ (Err e) acts p refl refl tt)

@@ -18,7 +18,7 @@ use Rattle.cluster_core.specs.declared.errors.LinkError.{LinkError}
 use Rattle.cluster_core.specs.declared.errors.LinkError.TheVariants as link
 use Rattle.cluster_core.specs.Acts.{Act, OfActs, did, looked}
 use Rattle.cluster_core.specs.Errors.{error_of_lock}
-use Rattle.cluster_core.specs.Forwarding.{IsFailure, IsRequest, MayTell}
+use Rattle.cluster_core.specs.Forwarding.{IsFailure, IsRequest, Times}
 use Rattle.cluster_core.specs.Handling.{MayHandle}
 use Rattle.cluster_core.specs.Links.{MayAnswer}
 use Rattle.cluster_core.specs.Serving.{message_by}
@@ -60,7 +60,7 @@ module _ {H : Type 0} (hash_of : H → List ℕ → ℕ) (Came : MayAnswer) (Han
     no_view : {acts : List (Act H)} → Contains acts (looked (Err node.Memory)) → IsUnanswered error.Memory acts
 
 -- a request is answered by the handler or by the owner of its keys, and one that is refused says why
-abbrev pub RequestsRest : {H : Type 0} → (H → List ℕ → ℕ) → MayAnswer → MayHandle → MayTell → Type 0
-RequestsRest {H} hash_of Came Handled Told =
-    (keys : List (List ℕ)) (body : List ℕ) (r : Result (List ℕ) ClusterError) (acts : List (Act H)) → IsRequest hash_of Came Handled Told keys body r acts
+abbrev pub RequestsRest : {H : Type 0} → (H → List ℕ → ℕ) → MayAnswer → MayHandle → Times → Type 0
+RequestsRest {H} hash_of Came Handled Time =
+    (keys : List (List ℕ)) (body : List ℕ) (r : Result (List ℕ) ClusterError) (acts : List (Act H)) → IsRequest hash_of Came Handled Time keys body r acts
     → IfOk r (λ text. IsAnswered hash_of Came Handled keys body text acts) × IfErr r (λ e. IsUnanswered hash_of Came Handled keys body e acts)

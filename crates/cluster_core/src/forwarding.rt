@@ -116,7 +116,7 @@ fn send<R: Wait, H: PointHash, L: Link, C: Clock>(
 ) -> Result<Tried, ClusterError>
     requires fits { Fits node.now pass.old }
     requires in_flight { request.attempt.stage ≡ InFlight }
-    ensures did { Does node.now (Sends L.may_answer C.is_now owner request) result pass.old pass.new }
+    ensures did { Does node.now (Sends L.may_answer C.time owner request) result pass.old pass.new }
     ensures fits { Fits node.now pass.new }
     ensures open { IfOk result StaysOpen }
     ensures named { IfErr result IsRequestRefusal }
@@ -146,7 +146,7 @@ fn try_once<R: Wait, H: PointHash, L: Link, A: Handler, C: Clock>(
 ) -> Result<Tried, ClusterError>
     requires fits { Fits node.now pass.old }
     requires open { IsOpen request.attempt.stage }
-    ensures did { Does node.now (TriesOnce H.hash_of L.may_answer A.may_handle C.is_now request) result pass.old pass.new }
+    ensures did { Does node.now (TriesOnce H.hash_of L.may_answer A.may_handle C.time request) result pass.old pass.new }
     ensures fits { Fits node.now pass.new }
     ensures open { IfOk result StaysOpen }
     ensures named { IfErr result IsRequestRefusal }
@@ -191,7 +191,7 @@ pub fn handle_or_forward<R: Wait, H: PointHash, L: Link, A: Handler, C: Clock>(
     body: Text,
 ) -> Result<Text, ClusterError>
     requires { Fits node.now pass.old }
-    ensures request { Does node.now (IsRequest H.hash_of L.may_answer A.may_handle C.is_now keys body) result pass.old pass.new }
+    ensures request { Does node.now (IsRequest H.hash_of L.may_answer A.may_handle C.time keys body) result pass.old pass.new }
     ensures fits { Fits node.now pass.new }
     ensures named { IfErr result IsRequestRefusal }
 {

@@ -41,5 +41,5 @@ pub fn servings<H: PointHash, L: Link, A: Handler>()
 /// answer that is a failure came from the owner; the handler failed; or there was no memory for a view, for the handler or for
 /// the link.
 pub fn requests<H: PointHash, L: Link, A: Handler, C: Clock>()
-    ensures { RequestsRest H.hash_of L.may_answer A.may_handle C.is_now }
+    ensures { RequestsRest H.hash_of L.may_answer A.may_handle C.time }
 {}

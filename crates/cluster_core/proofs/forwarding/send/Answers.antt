@@ -8,7 +8,7 @@ use Rattle.cluster_core.proofs.forwarding.send.Goals as goal
 
 pub returns-in_err-message-clause-did : goal.returns-in_err-message-clause-did
 returns-in_err-message-clause-did g c =
-    sends_lent _ _ g.L.Link.may_answer g.C.Clock.is_now c.args.owner c.args.request _ _ c.lend-keys.ensures
+    sends_lent _ _ g.L.Link.may_answer g.C.Clock.time c.args.owner c.args.request _ _ c.lend-keys.ensures
     (does_stop_at _ _ (error_of_lock c.in_err-message.field-0.0) c.from_residual.result c.from_residual.ensures.1 c.in_err-message.ensures.did)
 
 pub returns-in_err-message-clause-named : goal.returns-in_err-message-clause-named
@@ -17,8 +17,8 @@ returns-in_err-message-clause-named g c =
 
 pub returns-clause-did : goal.returns-clause-did
 returns-clause-did g c =
-    sends_lent _ _ g.L.Link.may_answer g.C.Clock.is_now c.args.owner c.args.request _ _ c.lend-keys.ensures
+    sends_lent _ _ g.L.Link.may_answer g.C.Clock.time c.args.owner c.args.request _ _ c.lend-keys.ensures
     (does_next _ _ _ _ c.in_ok-message.ensures.did
-    (hears_so _ _ g.L.Link.may_answer g.C.Clock.is_now c.args.owner c.args.request _ c.call-answer.result c.now.result c.judge.result c.call-answer.ensures.came c.now.ensures
+    (hears_so _ _ g.L.Link.may_answer g.C.Clock.time c.args.owner c.args.request _ c.call-answer.result c.now.result c.judge.result c.call-answer.ensures.came c.now.ensures
     (judged_as c.now.result _ c.args.request c.call-answer.result c.judge.result
     (same_request c.args.request _ _ _ _ _ c.lend-keys.ensures (sym c.in_ok-message.ensures.content ∙ c.in-Forward.is) c.take_back-attempt.ensures) c.judge.ensures.judged)))

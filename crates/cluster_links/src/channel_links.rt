@@ -100,6 +100,14 @@ impl ChannelLink {
         ChannelLink { posts, failures: 0 }
     }
 
+    /// The same link, as one that has failed so often: it goes on with the count of a link whose place it takes.
+    pub fn after_failures(self, failures: u64) -> Self
+        ensures { result ≡ record self { failures = failures } }
+    {
+        let ChannelLink { posts, failures: _ } = self;
+        ChannelLink { posts, failures }
+    }
+
     /// Asks the node of an address. A link that is spent is not to ask.
     fn ask<R: Wait>(
         &self,

@@ -172,6 +172,22 @@ impl<N> TcpLink<N> {
             failures: 0,
         }
     }
+
+    /// The same link, as one that has failed so often: it goes on with the count of a link whose place it takes.
+    pub fn after_failures(self, failures: u64) -> Self
+        ensures { result ≡ record self { failures = failures } }
+    {
+        let TcpLink {
+            net,
+            limits,
+            failures: _,
+        } = self;
+        TcpLink {
+            net,
+            limits,
+            failures,
+        }
+    }
 }
 
 impl<N: Net + Clock> TcpLink<N> {

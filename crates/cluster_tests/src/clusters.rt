@@ -417,6 +417,34 @@ fn a_worker_asks_the_other_nodes(rt: HostRuntime) {
     assert!(&rt; worker_asks(&rt, alloc) || worker_asks(&rt, alloc));
 }
 
+/// A link that is spent tells a node nothing.
+fn tells_nothing<R: Threads + Wait + Abort + Copy + Send + 'static>(
+    rt: &R,
+    alloc: Global,
+) -> bool {
+    let Some(cluster) = start(rt, alloc, &[1], 1, WILLING) else {
+        return false;
+    };
+    let Ok(link) = cluster.link() else {
+        return false;
+    };
+    let mut link = link.after_failures(u64::MAX);
+    let answer = link.call(rt, alloc, member(rt, 1), &ping(rt, alloc, 9, Status::Alive));
+    assert!(rt; matches!(&answer, Err(LinkError::Spent)) && link.failures() == u64::MAX);
+    let Ok(nodes) = cluster.stop(rt, alloc) else {
+        return false;
+    };
+    check_nodes(rt, nodes.as_slice(), &[1]);
+    assert!(rt; !has_heard(nodes.first(), member(rt, 9)));
+    true
+}
+
+#[test]
+fn a_spent_link_asks_nobody(rt: HostRuntime) {
+    let alloc: Global = rt.alloc();
+    assert!(&rt; tells_nothing(&rt, alloc) || tells_nothing(&rt, alloc));
+}
+
 /// A cluster of nobody.
 fn starts_empty<R: Threads + Wait + Abort + Copy + Send + 'static>(rt: &R, alloc: Global) -> bool {
     let Some(cluster) = start(rt, alloc, &[], 1, WILLING) else {

@@ -326,6 +326,31 @@ fn nobody_listens(rt: HostRuntime) {
     check_failing(&rt, rt.alloc(), nobody_at(&rt));
 }
 
+/// Whether the first that connects where a spent link was to send is one that knocks.
+fn sends_nothing<R: Net<Listener = TcpListener, Stream = TcpStream> + Wait + Clock + Abort>(
+    rt: &R,
+    alloc: Global,
+) -> Option<bool> {
+    let listener = TcpListener::bind(rt, "127.0.0.1:0").ok()?;
+    let port = listener.local_addr().ok()?.port();
+    let to = Address::new(0x7f00_0001, port)?;
+    let mut link = TcpLink::new(rt).after_failures(u64::MAX);
+    let answer = link.call(rt, alloc, to, &ping(rt, alloc));
+    assert!(rt; matches!(&answer, Err(LinkError::Spent)) && link.failures() == u64::MAX);
+    let wait = Duration::from_secs(10);
+    let mut knocks = TcpStream::connect_timeout(rt, &socket_address(to), wait).ok()?;
+    knocks.write_all(b"knock\n").ok()?;
+    let (first, _) = listener.accept().ok()?;
+    Some(heard(alloc, first)?.as_slice() == b"knock".as_slice())
+}
+
+#[test]
+fn a_spent_link_sends_nothing(rt: HostRuntime) {
+    let alloc: Global = rt.alloc();
+    let is_first = sends_nothing(&rt, alloc).or_else(|| sends_nothing(&rt, alloc));
+    assert!(&rt; is_first == Some(true));
+}
+
 #[test]
 fn a_message_too_long_is_not_sent(rt: HostRuntime) {
     let alloc: Global = rt.alloc();

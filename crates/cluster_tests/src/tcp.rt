@@ -41,10 +41,10 @@ fn patient() -> Limits {
     }
 }
 
-/// The same, but a fifth of a second for a ping.
+/// The same, but two seconds for a ping, in which also a busy machine gives a peer its line.
 fn short_pings() -> Limits {
     Limits {
-        ping: Duration::from_millis(200),
+        ping: Duration::from_secs(2),
         ..patient()
     }
 }
@@ -224,11 +224,11 @@ fn an_answer_may_be_cut_anywhere(rt: HostRuntime) {
     }
 }
 
-/// Some white space, over eight tenths of a second in all.
+/// Some white space, over three seconds in all.
 fn slowly() -> Drip {
     Drip {
-        bytes: 40,
-        rest: Duration::from_millis(20),
+        bytes: 30,
+        rest: Duration::from_millis(100),
     }
 }
 

@@ -418,10 +418,7 @@ fn a_worker_asks_the_other_nodes(rt: HostRuntime) {
 }
 
 /// A link that is spent tells a node nothing.
-fn tells_nothing<R: Threads + Wait + Abort + Copy + Send + 'static>(
-    rt: &R,
-    alloc: Global,
-) -> bool {
+fn tells_nothing<R: Threads + Wait + Abort + Copy + Send + 'static>(rt: &R, alloc: Global) -> bool {
     let Some(cluster) = start(rt, alloc, &[1], 1, WILLING) else {
         return false;
     };

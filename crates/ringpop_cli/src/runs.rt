@@ -11,11 +11,7 @@ use std::io::{Read, Write};
 use std::net::{Net, TcpListener, TcpStream};
 
 /// Runs what the words ask for over sockets, the reader and the writer, as `subcommand_run` or `cluster_command_run` does.
-pub fn words_run<
-    R: Net<Listener = TcpListener, Stream = TcpStream> + Host,
-    I: Read,
-    W: Write,
->(
+pub fn words_run<R: Net<Listener = TcpListener, Stream = TcpStream> + Host, I: Read, W: Write>(
     rt: &R,
     alloc: Global,
     words: &Words<'_>,

@@ -6,6 +6,8 @@
    of the buffer; the line; what the node says. But ringpop_node_new looks at the handle before all else, and of two handles
    ringpop_view_new at the view's; and members, digest and owners find out how much room is needed first, so that their
    MEMORY comes before SHORT_BUFFER.
+   What stands behind a pointer that is written to stays as it was where the code is not DONE, but for a count at SHORT_BUFFER
+   and the number of ringpop_node_waiting.
 
    What C owes, which nothing checks:
    - A handle is RINGPOP_NODE_EMPTY or RINGPOP_VIEW_EMPTY at first. Only the library writes its members; a full one is never copied.

@@ -1,4 +1,6 @@
 pub mod AsBox
 pub mod AsViewBox
 pub mod Births
+pub mod Exports
 pub mod Placed
+pub mod Sent

@@ -5,7 +5,7 @@ use Rattle.detector_core.specs.Choices.{seeded}
 use Rattle.hash_ring.specs.declared.hash.Sha256Hash.{Sha256Hash}
 use Rattle.node_core.specs.declared.configs.Config.{Config}
 use Rattle.node_core.specs.declared.configs.ConfigField.{ConfigField}
-use Rattle.node_core.specs.Configs.{bad_field}
+use Rattle.node_core.specs.Configs.{IsConfig, bad_field}
 use Rattle.node_core.specs.Parts.{seen_of}
 use Rattle.node_core.specs.World.{newborn}
 use Rattle.ringpop_c.specs.declared.codes.Code.{Code}
@@ -51,8 +51,17 @@ IsBirthFault config port incarnation moment fault =
     ⊎ (((fault ≡ code.BadWeight) × (0 < port) × (incarnation ≤ greatest_number) × (moment ≤ greatest_number) × (IsWeight config.weight → ⊥))
     ⊎ ((0 < port) × (incarnation ≤ greatest_number) × (moment ≤ greatest_number) × IsWeight config.weight × IsConfigFault (config_of config) fault)))
 
--- a full handle answers that it is full, and stays as it is; an empty one holds the node that is born, or stays empty and says why
+-- what a node is made of: a port, numbers, a weight and a configuration, each in its range
+pub record CanBegin (config : RingpopConfig) (port incarnation moment : ℕ) : Type 0 where
+  pub port_is : 0 < port
+  pub incarnation_is : incarnation ≤ greatest_number
+  pub moment_is : moment ≤ greatest_number
+  pub weight_is : IsWeight config.weight
+  pub config_is : IsConfig (config_of config)
+
+-- a full handle answers that it is full, and stays as it is; an empty one holds the node that is born, each argument in its range, or stays empty and says why
 abbrev pub Begins : RingpopConfig → ℕ → ℕ → ℕ → ℕ → ℕ → Option Held → ℕ → Option Held → Type 0
 Begins config own port incarnation seed moment (Some held) number new = (number ≡ code_number code.HasNode) × (new ≡ Some held)
-Begins config own port incarnation seed moment None number (Some held) = (number ≡ code_number code.Done) × (held ≡ born config own incarnation seed moment)
+Begins config own port incarnation seed moment None number (Some held) =
+    (number ≡ code_number code.Done) × (held ≡ born config own incarnation seed moment) × CanBegin config port incarnation moment
 Begins config own port incarnation seed moment None number None = (fault : Code) × (number ≡ code_number fault) × IsBirthFault config port incarnation moment fault

@@ -1,6 +1,7 @@
 pub mod Births
 pub mod Codes
 pub mod Entries
+pub mod Exports
 pub mod Lines
 pub mod Owned
 pub mod OwnedViews

@@ -1,5 +1,5 @@
 -- The lines that an export writes and reads.
-use Rattle.std.specs.Prelude.{◌≡◌, ◌≢◌, ◌<◌, ◌≤◌, ◌⊎◌, ◌++◌, ℕ, List, length, drop}
+use Rattle.std.specs.Prelude.{◌≡◌, ◌≢◌, ◌<◌, ◌≤◌, ◌⊎◌, ◌++◌, ℕ, List, length, drop, All}
 use Rattle.serde_json.specs.Written.{compact_text}
 use Rattle.hash_ring.specs.declared.hash.Sha256Hash.{Sha256Hash}
 use Rattle.wire_json.specs.declared.errors.WireError.{WireError}
@@ -42,9 +42,16 @@ pub record IsShort (buffer : Buffer) : Type 0 where
 abbrev pub HasRoom : Buffer → Type 0
 HasRoom buffer = max_line ≤ length buffer.before
 
+-- the line of a message is written: it is read as that message, is no longer than a line may be, and has no newline
+pub record Sends (message : Message) (buffer : Buffer) : Type 0 where
+  pub fills : Fills (line_of message) buffer
+  pub is_read : IsLine (λ v. MessageForm v message) (line_of message)
+  pub within : length (line_of message) ≤ max_line
+  pub one_line : All (λ x. x ≢ 10) (line_of message)
+
 -- a line is written for a message, or there was no memory for it
 abbrev pub WritesLine : Message → Buffer → Code → Type 0
-WritesLine message buffer answer = ((answer ≡ code.Done) × Fills (line_of message) buffer) ⊎ (answer ≡ code.Memory)
+WritesLine message buffer answer = ((answer ≡ code.Done) × Sends message buffer) ⊎ (answer ≡ code.Memory)
 
 -- where the buffer has room the node makes a message and goes on, and its line is written, or there was no memory: then it stays, or goes on without; in too short a buffer nothing is written, and it stays
 abbrev pub SaysBy : (Node Sha256Hash → Message) → (Node Sha256Hash → Node Sha256Hash) → Buffer → Node Sha256Hash → Code → Node Sha256Hash → Type 0
@@ -55,7 +62,7 @@ SaysBy message after buffer old answer new =
 -- what a message came to: its answer's line is written, or there was no memory for it
 abbrev pub TellsReceived : Received → Buffer → Code → Type 0
 TellsReceived (received.Done taken) buffer answer = answer ≡ code.Nothing
-TellsReceived (received.Answer taken message) buffer answer = ((answer ≡ code.Done) × Fills (line_of message) buffer) ⊎ (answer ≡ code.Unanswered)
+TellsReceived (received.Answer taken message) buffer answer = ((answer ≡ code.Done) × Sends message buffer) ⊎ (answer ≡ code.Unanswered)
 TellsReceived (received.NoAnswer taken) buffer answer = answer ≡ code.Unanswered
 TellsReceived (received.Stopped stopped) buffer answer = answer ≡ code_of_stop stopped.cause
 TellsReceived received.NotGossip buffer answer = answer ≡ code.NotGossip

@@ -5,6 +5,7 @@ use Rattle.detector_core.specs.declared.asked.Said.{Said}
 use Rattle.detector_core.specs.declared.asked.Said.TheVariants as said
 use Rattle.detector_core.specs.declared.prober.Probe.{Probe}
 use Rattle.detector_core.specs.declared.prober.Running.{Running}
+use Rattle.detector_core.specs.Picks.{running_of}
 use Rattle.hash_ring.specs.declared.hash.Sha256Hash.{Sha256Hash}
 use Rattle.node_core.specs.declared.errors.NodeError.{NodeError}
 use Rattle.node_core.specs.declared.events.NodeLost.{NodeLost}
@@ -16,6 +17,7 @@ use Rattle.node_core.specs.Probes.{AckedStep, HelperStep, LostDraw, LostStep, Pr
 use Rattle.ringpop_c.specs.declared.codes.Code.{Code}
 use Rattle.ringpop_c.specs.declared.codes.Code.TheVariants as code
 use Rattle.ringpop_c.specs.Codes.{code_of_error}
+use Rattle.ringpop_c.specs.Owned.{Held}
 
 -- a probe that began, and whom it is to ping; that there is nobody to ping; or why none began
 abbrev pub TellsProbe : Result (Option Probe) NodeError → ℕ → ℕ → ℕ → Code → Type 0
@@ -74,3 +76,8 @@ TellsWaiting (Some running) number ip port answer = (number ≡ running.number) 
 -- what a helper said, by its number: that it reached the target, that it did not, or that it failed
 abbrev pub said_of : ℕ → Option Said
 said_of n = cond (n == 0) (Some said.Reached) (cond (n == 1) (Some said.NotReached) (cond (n == 2) (Some said.Failed) None))
+
+-- the probe that runs in the node of a handle, if one does
+abbrev pub running_in : Option Held → Option Running
+running_in None = None
+running_in (Some held) = running_of held.node.node.probing

@@ -1,5 +1,5 @@
 //! What a node holds of itself, and of any address. The node stays as it is.
-ghost use Rattle.std.specs.Prelude.{◌≡◌, ◌<◌, option_map};
+ghost use Rattle.std.specs.Prelude.{◌≡◌, ◌≢◌, ◌<◌, option_map};
 ghost use Rattle.change_core.specs.Address.{address_of};
 ghost use Rattle.change_core.specs.Change.{entry_of};
 ghost use Rattle.change_core.specs.Members.{greatest};
@@ -28,6 +28,7 @@ pub struct RingpopEntry {
 /// Tells an entry, if there is one.
 fn tell_entry(held: Option<Entry>, entry: &mut RingpopEntry) -> Code
     ensures told { TellsEntry held entry.new result }
+    ensures untouched { result ≢ Code.Done → entry.new ≡ entry.old }
 {
     let Some(held) = held else {
         return Code::Nothing;
@@ -52,6 +53,7 @@ pub extern "C" fn ringpop_node_member(
     ensures address { port ≡ 0 → result ≡ code_number Code.BadAddress }
     ensures entry { 0 < port → Looks (λ n answer. TellsEntry (option_map entry_of (greatest n.members (address_of ip port))) entry.new answer) node.old.at.value result }
     ensures same { node.new.at.value ≡ node.old.at.value }
+    ensures untouched { result ≢ code_number Code.Done → entry.new ≡ entry.old }
 {
     let Some(address) = Address::new(ip, port) else {
         return Code::BadAddress.number();
@@ -84,6 +86,7 @@ pub extern "C" fn ringpop_node_own(
 ) -> u32
     ensures own { Looks (λ n answer. TellsChange (own_change n) ip.new port.new entry.new answer) node.old.at.value result }
     ensures same { node.new.at.value ≡ node.old.at.value }
+    ensures untouched { result ≢ code_number Code.Done → (ip.new ≡ ip.old) × (port.new ≡ port.old) × (entry.new ≡ entry.old) }
 {
     let Some(served) = lift(alloc, node) else {
         return Code::NoNode.number();

@@ -8,6 +8,7 @@ mod codes;
 mod configs;
 mod entries;
 mod handles;
+pub mod laws;
 mod lookups;
 mod makers;
 mod messages;

@@ -1,7 +1,8 @@
 //! What is looked up in a node, which stays as it is.
-ghost use Rattle.std.specs.Prelude.{◌≡◌, length};
+ghost use Rattle.std.specs.Prelude.{◌≡◌, ◌≢◌, length};
 ghost use Rattle.change_core.specs.Members.{digest_text};
 ghost use Rattle.node_core.specs.Messages.{digest_of};
+ghost use Rattle.ringpop_c.specs.Codes.{code_number};
 ghost use Rattle.ringpop_c.specs.Lines.{TellsText};
 ghost use Rattle.ringpop_c.specs.Steps.{Looks, TellsAddress, TellsCount, owner_by};
 
@@ -16,6 +17,7 @@ use std::alloc::Global;
 /// Tells an address, if there is one.
 pub(crate) fn tell_address(address: Option<Address>, ip: &mut u32, port: &mut u16) -> Code
     ensures told { TellsAddress address ip.new port.new result }
+    ensures untouched { result ≢ Code.Done → (ip.new ≡ ip.old) × (port.new ≡ port.old) }
 {
     match address {
         Some(address) => {
@@ -38,6 +40,7 @@ pub extern "C" fn ringpop_node_owner(
 ) -> u32
     ensures owner { Looks (λ n answer. TellsAddress (owner_by n key.now) ip.new port.new answer) node.old.at.value result }
     ensures same { node.new.at.value ≡ node.old.at.value }
+    ensures untouched { result ≢ code_number Code.Done → (ip.new ≡ ip.old) × (port.new ≡ port.old) }
 {
     let Some(served) = lift(alloc, node) else {
         return Code::NoNode.number();
@@ -50,6 +53,7 @@ pub extern "C" fn ringpop_node_owner(
 /// The members as a text.
 fn tell_members(node: &NodeState<Sha256Hash>, out: &mut [u8], count: &mut usize) -> Code
     ensures told { TellsText (digest_text node.now.node.members) (record { before = out.old; after = out.new; count = count.new }) result }
+    ensures untouched { result ≢ Code.Done → result ≢ Code.ShortBuffer → (out.new ≡ out.old) × (count.new ≡ count.old) }
 {
     let Ok(text) = node.digest_text() else {
         return Code::Memory;
@@ -68,6 +72,8 @@ pub extern "C" fn ringpop_node_members(
 ) -> u32
     ensures told { Looks (λ n answer. TellsText (digest_text n.members) (record { before = out.old; after = out.new; count = count.new }) answer) node.old.at.value result }
     ensures same { node.new.at.value ≡ node.old.at.value }
+    ensures untouched { result ≢ code_number Code.Done → result ≢ code_number Code.ShortBuffer
+        → (out.new ≡ out.old) × (count.new ≡ count.old) }
 {
     let Some(served) = lift(alloc, node) else {
         return Code::NoNode.number();
@@ -80,6 +86,7 @@ pub extern "C" fn ringpop_node_members(
 /// The digest of the members.
 fn tell_digest(node: &NodeState<Sha256Hash>, out: &mut [u8], count: &mut usize) -> Code
     ensures told { TellsText (digest_of node.now.node.members).bytes (record { before = out.old; after = out.new; count = count.new }) result }
+    ensures untouched { result ≢ Code.Done → result ≢ Code.ShortBuffer → (out.new ≡ out.old) × (count.new ≡ count.old) }
 {
     let Ok(digest) = node.digest() else {
         return Code::Memory;
@@ -99,6 +106,8 @@ pub extern "C" fn ringpop_node_digest(
 ) -> u32
     ensures told { Looks (λ n answer. TellsText (digest_of n.members).bytes (record { before = out.old; after = out.new; count = count.new }) answer) node.old.at.value result }
     ensures same { node.new.at.value ≡ node.old.at.value }
+    ensures untouched { result ≢ code_number Code.Done → result ≢ code_number Code.ShortBuffer
+        → (out.new ≡ out.old) × (count.new ≡ count.old) }
 {
     let Some(served) = lift(alloc, node) else {
         return Code::NoNode.number();
@@ -113,6 +122,7 @@ pub extern "C" fn ringpop_node_digest(
 pub extern "C" fn ringpop_node_len(alloc: Global, node: &mut RingpopNode, count: &mut usize) -> u32
     ensures told { Looks (λ n answer. TellsCount (length n.members) count.new answer) node.old.at.value result }
     ensures same { node.new.at.value ≡ node.old.at.value }
+    ensures untouched { result ≢ code_number Code.Done → count.new ≡ count.old }
 {
     let Some(served) = lift(alloc, node) else {
         return Code::NoNode.number();

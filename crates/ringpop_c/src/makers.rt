@@ -1,7 +1,8 @@
 //! A node begins, and is freed.
 ghost use Rattle.std.specs.Prelude.{◌≡◌, None, IfOk, IfErr, cond, is_some};
 ghost use Rattle.change_core.specs.Address.{address_of};
-ghost use Rattle.ringpop_c.specs.Births.{Begins, IsBirthFault, IsConfigFault, alone, born};
+ghost use Rattle.node_core.specs.Configs.{IsConfig};
+ghost use Rattle.ringpop_c.specs.Births.{Begins, CanBegin, IsBirthFault, IsConfigFault, alone, born};
 ghost use Rattle.ringpop_c.specs.Codes.{code_number};
 
 use crate::codes::Code;
@@ -22,6 +23,7 @@ fn make(
     moment: Moment,
 ) -> Result<Box<Served>, Code>
     ensures born { IfOk result (λ b. b.value ≡ alone config own incarnation seed moment) }
+    ensures good { IfOk result (λ b. IsConfig config) }
     ensures refusal { IfErr result (λ fault. IsConfigFault config fault) }
 {
     match NodeState::new(alloc, config, Sha256Hash, own, incarnation, seed, moment) {
@@ -44,6 +46,7 @@ fn begin(
     moment: u64,
 ) -> Result<Box<Served>, Code>
     ensures born { IfOk result (λ b. b.value ≡ born config.now (address_of ip port) incarnation seed moment) }
+    ensures good { IfOk result (λ b. CanBegin config.now port incarnation moment) }
     ensures refusal { IfErr result (λ fault. IsBirthFault config.now port incarnation moment fault) }
 {
     let Some(own) = Address::new(ip, port) else {

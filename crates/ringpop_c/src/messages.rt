@@ -1,5 +1,5 @@
 //! The messages that a node makes, as lines.
-ghost use Rattle.std.specs.Prelude.{◌≡◌, ◌≤◌, ◌<◌, length};
+ghost use Rattle.std.specs.Prelude.{◌≡◌, ◌≢◌, ◌≤◌, ◌<◌, length};
 ghost use Rattle.change_core.specs.Address.{address_of};
 ghost use Rattle.node_core.specs.Messages.{join_by, ping_by, told};
 ghost use Rattle.ringpop_c.specs.Codes.{code_number};
@@ -18,6 +18,7 @@ use std::alloc::Global;
 /// The line of a join.
 fn join(alloc: Global, node: &NodeState<Sha256Hash>, out: &mut [u8], count: &mut usize) -> Code
     ensures step { SaysBy (λ n. join_by n) (λ n. n) (record { before = out.old; after = out.new; count = count.new }) node.now.node result node.now.node }
+    ensures untouched { result ≢ Code.Done → result ≢ Code.ShortBuffer → (out.new ≡ out.old) × (count.new ≡ count.old) }
 {
     if is_short(out, count) {
         return Code::ShortBuffer;
@@ -37,6 +38,8 @@ pub extern "C" fn ringpop_node_join(
     count: &mut usize,
 ) -> u32
     ensures step { Does (SaysBy (λ n. join_by n) (λ n. n) (record { before = out.old; after = out.new; count = count.new })) node.old.at.value result node.new.at.value }
+    ensures untouched { result ≢ code_number Code.Done → result ≢ code_number Code.ShortBuffer
+        → (out.new ≡ out.old) × (count.new ≡ count.old) }
 {
     let Some(served) = lift(alloc, node) else {
         return Code::NoNode.number();
@@ -55,6 +58,7 @@ fn ping(
     count: &mut usize,
 ) -> Code
     ensures step { SaysBy (λ n. ping_by n target) (λ n. told n target) (record { before = out.old; after = out.new; count = count.new }) node.old.node result node.new.node }
+    ensures untouched { result ≢ Code.Done → result ≢ Code.ShortBuffer → (out.new ≡ out.old) × (count.new ≡ count.old) }
 {
     if is_short(out, count) {
         return Code::ShortBuffer;
@@ -78,6 +82,8 @@ pub extern "C" fn ringpop_node_ping(
     ensures address { port ≡ 0 → result ≡ code_number Code.BadAddress }
     ensures refused { port ≡ 0 → node.new.at.value ≡ node.old.at.value }
     ensures step { 0 < port → Does (SaysBy (λ n. ping_by n (address_of ip port)) (λ n. told n (address_of ip port)) (record { before = out.old; after = out.new; count = count.new })) node.old.at.value result node.new.at.value }
+    ensures untouched { result ≢ code_number Code.Done → result ≢ code_number Code.ShortBuffer
+        → (out.new ≡ out.old) × (count.new ≡ count.old) }
 {
     let Some(target) = Address::new(ip, port) else {
         return Code::BadAddress.number();

@@ -1,5 +1,6 @@
 //! The first owners of a key, in the caller's place for addresses.
-ghost use Rattle.std.specs.Prelude.{◌≡◌, ◌≤◌, length};
+ghost use Rattle.std.specs.Prelude.{◌≡◌, ◌≢◌, ◌≤◌, length};
+ghost use Rattle.ringpop_c.specs.Codes.{code_number};
 ghost use Rattle.ringpop_c.specs.Owners.{Lists, OwnersBy, TellsAddresses, TellsOwners, address_told};
 ghost use Rattle.ringpop_c.specs.Steps.{Looks};
 
@@ -46,6 +47,7 @@ fn put(out: &mut [RingpopAddress], count: &mut usize, addresses: &[Address])
 /// Lists addresses, where there is room for them, and else tells how many there are. `ShortBuffer`.
 fn list(out: &mut [RingpopAddress], count: &mut usize, addresses: &[Address]) -> Code
     ensures told { TellsAddresses addresses.now (record { before = out.old; after = out.new; count = count.new }) result }
+    ensures untouched { result ≢ Code.Done → result ≢ Code.ShortBuffer → (out.new ≡ out.old) × (count.new ≡ count.old) }
 {
     if out.len() < addresses.len() {
         *count = addresses.len();
@@ -62,6 +64,7 @@ pub(crate) fn tell_owners(
     count: &mut usize,
 ) -> Code
     ensures told { TellsOwners named (record { before = out.old; after = out.new; count = count.new }) result }
+    ensures untouched { result ≢ Code.Done → result ≢ Code.ShortBuffer → (out.new ≡ out.old) × (count.new ≡ count.old) }
 {
     match named {
         Ok(owners) => list(out, count, owners.as_slice()),
@@ -82,6 +85,8 @@ pub extern "C" fn ringpop_node_owners(
 ) -> u32
     ensures owners { Looks (OwnersBy key.now wanted (record { before = out.old; after = out.new; count = count.new })) node.old.at.value result }
     ensures same { node.new.at.value ≡ node.old.at.value }
+    ensures untouched { result ≢ code_number Code.Done → result ≢ code_number Code.ShortBuffer
+        → (out.new ≡ out.old) × (count.new ≡ count.old) }
 {
     let Some(served) = lift(alloc, node) else {
         return Code::NoNode.number();

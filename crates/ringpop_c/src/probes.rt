@@ -1,9 +1,9 @@
 //! A node's probes.
-ghost use Rattle.std.specs.Prelude.{◌≡◌, ◌≤◌, ◌<◌, Some, None};
+ghost use Rattle.std.specs.Prelude.{◌≡◌, ◌≢◌, ◌≤◌, ◌<◌, Some, None};
 ghost use Rattle.change_core.specs.Address.{address_of};
 ghost use Rattle.change_core.specs.Numbers.{greatest_number};
 ghost use Rattle.ringpop_c.specs.Codes.{code_number};
-ghost use Rattle.ringpop_c.specs.Probing.{AcksBy, HearsHelper, LosesBy, ProbesBy, TellsHelper, TellsWaiting, said_of};
+ghost use Rattle.ringpop_c.specs.Probing.{AcksBy, HearsHelper, LosesBy, ProbesBy, TellsHelper, TellsWaiting, running_in, said_of};
 ghost use Rattle.detector_core.specs.declared.asked.Said.{Said};
 ghost use Rattle.detector_core.specs.Picks.{running_of};
 ghost use Rattle.ringpop_c.specs.Steps.{Does, Looks};
@@ -19,6 +19,7 @@ use std::alloc::Global;
 /// A probe begins.
 fn probe(node: &mut NodeState<Sha256Hash>, number: &mut u64, ip: &mut u32, port: &mut u16) -> Code
     ensures step { ProbesBy number.new ip.new port.new node.old.node result node.new.node }
+    ensures untouched { result ≢ Code.Done → (number.new ≡ number.old) × (ip.new ≡ ip.old) × (port.new ≡ port.old) }
 {
     match node.probe() {
         Ok(Some(pick)) => {
@@ -43,6 +44,8 @@ pub extern "C" fn ringpop_node_probe(
     port: &mut u16,
 ) -> u32
     ensures step { Does (ProbesBy number.new ip.new port.new) node.old.at.value result node.new.at.value }
+    ensures untouched { result ≢ code_number Code.Done
+        → (number.new ≡ number.old) × (ip.new ≡ ip.old) × (port.new ≡ port.old) }
 {
     let Some(mut served) = lift(alloc, node) else {
         return Code::NoNode.number();
@@ -114,6 +117,8 @@ pub extern "C" fn ringpop_node_lost(
 /// Tells of a probe that runs whom it waits for.
 fn tell_waiting(running: Option<Running>, number: &mut u64, ip: &mut u32, port: &mut u16) -> Code
     ensures told { TellsWaiting running number.new ip.new port.new result }
+    ensures untouched { result ≢ Code.Done → (ip.new ≡ ip.old) × (port.new ≡ port.old) }
+    ensures no_probe { running ≡ None → number.new ≡ number.old }
 {
     let Some(running) = running else {
         return Code::Nothing;
@@ -141,6 +146,8 @@ pub extern "C" fn ringpop_node_waiting(
 ) -> u32
     ensures told { Looks (λ n answer. TellsWaiting (running_of n.probing) number.new ip.new port.new answer) node.old.at.value result }
     ensures same { node.new.at.value ≡ node.old.at.value }
+    ensures untouched { result ≢ code_number Code.Done → (ip.new ≡ ip.old) × (port.new ≡ port.old) }
+    ensures no_probe { running_in node.old.at.value ≡ None → number.new ≡ number.old }
 {
     let Some(served) = lift(alloc, node) else {
         return Code::NoNode.number();

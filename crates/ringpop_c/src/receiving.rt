@@ -1,5 +1,5 @@
 //! Lines that come to a node.
-ghost use Rattle.std.specs.Prelude.{◌≡◌, ◌≤◌, ◌<◌, length};
+ghost use Rattle.std.specs.Prelude.{◌≡◌, ◌≢◌, ◌≤◌, ◌<◌, length};
 ghost use Rattle.change_core.specs.Numbers.{greatest_number};
 ghost use Rattle.ringpop_c.specs.Codes.{code_number};
 ghost use Rattle.ringpop_c.specs.Lines.{HearsBy, ReceivesBy, TellsReceived};
@@ -19,6 +19,7 @@ use wire_json::{Message, decode};
 fn tell(alloc: Global, received: &Received, out: &mut [u8], count: &mut usize) -> Code
     requires room { max_line ≤ length out.old }
     ensures told { TellsReceived received.now (record { before = out.old; after = out.new; count = count.new }) result }
+    ensures untouched { result ≢ Code.Done → result ≢ Code.ShortBuffer → (out.new ≡ out.old) × (count.new ≡ count.old) }
 {
     match received {
         Received::Done(_) => Code::Nothing,
@@ -43,6 +44,7 @@ fn receive(
 ) -> Code
     requires room { max_line ≤ length out.old }
     ensures step { ReceivesBy message.now moment (record { before = out.old; after = out.new; count = count.new }) node.old.node result node.new.node }
+    ensures untouched { result ≢ Code.Done → result ≢ Code.ShortBuffer → (out.new ≡ out.old) × (count.new ≡ count.old) }
 {
     let received = node.receive(message, moment);
     tell(alloc, &received, out, count)
@@ -58,6 +60,7 @@ fn hear(
     count: &mut usize,
 ) -> Code
     ensures step { HearsBy line.now moment (record { before = out.old; after = out.new; count = count.new }) node.old.node result node.new.node }
+    ensures untouched { result ≢ Code.Done → result ≢ Code.ShortBuffer → (out.new ≡ out.old) × (count.new ≡ count.old) }
 {
     if is_short(out, count) {
         return Code::ShortBuffer;
@@ -83,6 +86,8 @@ pub extern "C" fn ringpop_node_receive(
     ensures number { greatest_number < moment → result ≡ code_number Code.BadNumber }
     ensures refused { greatest_number < moment → node.new.at.value ≡ node.old.at.value }
     ensures step { moment ≤ greatest_number → Does (HearsBy line.now moment (record { before = out.old; after = out.new; count = count.new })) node.old.at.value result node.new.at.value }
+    ensures untouched { result ≢ code_number Code.Done → result ≢ code_number Code.ShortBuffer
+        → (out.new ≡ out.old) × (count.new ≡ count.old) }
 {
     let Some(moment) = Moment::new(moment) else {
         return Code::BadNumber.number();

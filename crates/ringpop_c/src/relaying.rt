@@ -1,5 +1,5 @@
 //! The messages of a probe that goes by a helper, as lines.
-ghost use Rattle.std.specs.Prelude.{◌≡◌, ◌<◌};
+ghost use Rattle.std.specs.Prelude.{◌≡◌, ◌≢◌, ◌<◌};
 ghost use Rattle.change_core.specs.Address.{address_of};
 ghost use Rattle.node_core.specs.Messages.{ping_req_ack_by, ping_req_by, told};
 ghost use Rattle.ringpop_c.specs.Codes.{code_number};
@@ -24,6 +24,7 @@ fn ping_req(
     count: &mut usize,
 ) -> Code
     ensures step { SaysBy (λ n. ping_req_by n helper target) (λ n. told n helper) (record { before = out.old; after = out.new; count = count.new }) node.old.node result node.new.node }
+    ensures untouched { result ≢ Code.Done → result ≢ Code.ShortBuffer → (out.new ≡ out.old) × (count.new ≡ count.old) }
 {
     if is_short(out, count) {
         return Code::ShortBuffer;
@@ -52,6 +53,8 @@ pub extern "C" fn ringpop_node_ping_req(
     ensures target_stays { target_port ≡ 0 → node.new.at.value ≡ node.old.at.value }
     ensures step { 0 < helper_port → 0 < target_port
         → Does (SaysBy (λ n. ping_req_by n (address_of helper_ip helper_port) (address_of target_ip target_port)) (λ n. told n (address_of helper_ip helper_port)) (record { before = out.old; after = out.new; count = count.new })) node.old.at.value result node.new.at.value }
+    ensures untouched { result ≢ code_number Code.Done → result ≢ code_number Code.ShortBuffer
+        → (out.new ≡ out.old) × (count.new ≡ count.old) }
 {
     let Some(helper) = Address::new(helper_ip, helper_port) else {
         return Code::BadAddress.number();
@@ -78,6 +81,7 @@ fn ping_req_ack(
     count: &mut usize,
 ) -> Code
     ensures step { SaysBy (λ n. ping_req_ack_by n requester target reached) (λ n. told n requester) (record { before = out.old; after = out.new; count = count.new }) node.old.node result node.new.node }
+    ensures untouched { result ≢ Code.Done → result ≢ Code.ShortBuffer → (out.new ≡ out.old) × (count.new ≡ count.old) }
 {
     if is_short(out, count) {
         return Code::ShortBuffer;
@@ -107,6 +111,8 @@ pub extern "C" fn ringpop_node_ping_req_ack(
     ensures target_stays { target_port ≡ 0 → node.new.at.value ≡ node.old.at.value }
     ensures step { 0 < requester_port → 0 < target_port
         → Does (SaysBy (λ n. ping_req_ack_by n (address_of requester_ip requester_port) (address_of target_ip target_port) reached) (λ n. told n (address_of requester_ip requester_port)) (record { before = out.old; after = out.new; count = count.new })) node.old.at.value result node.new.at.value }
+    ensures untouched { result ≢ code_number Code.Done → result ≢ code_number Code.ShortBuffer
+        → (out.new ≡ out.old) × (count.new ≡ count.old) }
 {
     let Some(requester) = Address::new(requester_ip, requester_port) else {
         return Code::BadAddress.number();

@@ -1,5 +1,5 @@
 //! A view of a node behind the one pointer that C holds, in which another thread looks keys up.
-ghost use Rattle.std.specs.Prelude.{◌≡◌, Option, Some, None, IfOk, IfErr, IfSome, IsSome, is_some, IsNone, cond, false};
+ghost use Rattle.std.specs.Prelude.{◌≡◌, ◌≢◌, Option, Some, None, IfOk, IfErr, IfSome, IsSome, is_some, IsNone, cond, false};
 ghost use Rattle.node_core.specs.Viewing.{view_of};
 ghost use Rattle.ringpop_c.specs.Codes.{code_number};
 ghost use Rattle.ringpop_c.specs.OwnedViews.{HeldView, held_view_coded};
@@ -197,6 +197,7 @@ pub extern "C" fn ringpop_view_own(
 ) -> u32
     ensures own { LooksView (λ v answer. TellsAddress (Some v.own) ip.new port.new answer) view.old.at.value result }
     ensures same { view.new.at.value ≡ view.old.at.value }
+    ensures untouched { result ≢ code_number Code.Done → (ip.new ≡ ip.old) × (port.new ≡ port.old) }
 {
     let Some(served) = lift_view(alloc, view) else {
         return Code::NoNode.number();
@@ -217,6 +218,7 @@ pub extern "C" fn ringpop_view_owner(
 ) -> u32
     ensures owner { LooksView (λ v answer. TellsAddress (view_owner v key.now) ip.new port.new answer) view.old.at.value result }
     ensures same { view.new.at.value ≡ view.old.at.value }
+    ensures untouched { result ≢ code_number Code.Done → (ip.new ≡ ip.old) × (port.new ≡ port.old) }
 {
     let Some(served) = lift_view(alloc, view) else {
         return Code::NoNode.number();
@@ -239,6 +241,8 @@ pub extern "C" fn ringpop_view_owners(
 ) -> u32
     ensures owners { LooksView (ViewOwnersBy key.now wanted (record { before = out.old; after = out.new; count = count.new })) view.old.at.value result }
     ensures same { view.new.at.value ≡ view.old.at.value }
+    ensures untouched { result ≢ code_number Code.Done → result ≢ code_number Code.ShortBuffer
+        → (out.new ≡ out.old) × (count.new ≡ count.old) }
 {
     let Some(served) = lift_view(alloc, view) else {
         return Code::NoNode.number();

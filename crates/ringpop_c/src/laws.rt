@@ -1,0 +1,14 @@
+//! Laws over the definitions, each the contract of a function that does nothing.
+ghost use Rattle.ringpop_c.specs.Exports.{ExportRunsAreRuns, ExportRunsKeepIt, ExportsAreCalls};
+
+/// What an export does with the node in its handle, a look-up too, is one call of the node, or leaves it as it is.
+pub fn export_call()
+    ensures { ExportsAreCalls }
+{}
+
+/// So what exports do, one after another, is a run of calls of the node, and keeps what holds of one, its address, its hash and
+/// its configuration.
+pub fn export_run()
+    ensures runs { ExportRunsAreRuns }
+    ensures keeps { ExportRunsKeepIt }
+{}

@@ -7,6 +7,6 @@ pub returns-in-Ok-clause-line : goal.returns-in-Ok-clause-line
 returns-in-Ok-clause-line c =
     inl (
       refl,
-      sent c.args.message.now c.in-Ok.line.items c.as_slice.result _ c.in-Ok.ensures.text c.in-Ok.ensures.line
+      sent c.args.message.now c.in-Ok.line.items c.as_slice.result.now _ c.in-Ok.ensures.text c.in-Ok.ensures.line
           c.in-Ok.ensures.one_line c.as_slice.ensures.value c.put.ensures,
     )

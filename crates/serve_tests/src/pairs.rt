@@ -80,45 +80,14 @@ const LOST_SECOND: [&str; 2] = [
     "127.0.0.1:29175alive1;127.0.0.1:29176faulty",
 ];
 
-/// The beginning of what is told where both are alive.
-const ALIVE: &str = "127.0.0.1:29175alive1;127.0.0.1:29176alive";
-
 /// How many requests a server has that the rounds of the other one are to end.
-const FEW: u64 = 100;
+const FEW: u64 = 20;
 
 /// How many a server has that is to stay.
-const MANY: u64 = 200;
-
-/// How often the two meet where the one that stays was not seen to hold the other one before that had ended, as on a busy machine.
-const MEETINGS: u32 = 20;
+const MANY: u64 = 100;
 
 /// How often the server that stays is asked whether it has lost the other one, a tenth of a second apart.
 const LOOKS: u32 = 50;
-
-/// Whether the server that stays comes to tell both as alive; none where the other one has ended before.
-fn sees<R: Net<Listener = TcpListener, Stream = TcpStream> + Host>(
-    rt: &R,
-    alloc: Global,
-    ending: &Running,
-    staying: &Running,
-) -> Option<bool> {
-    for _ in 0..TRIES {
-        let asked = asked(rt, alloc, staying.address, Question::Members);
-        if let Ok(text) = asked {
-            if text.as_slice().starts_with(ALIVE.as_bytes()) {
-                return Some(true);
-            }
-        }
-        if ending.has_ended() {
-            return None;
-        }
-        if staying.has_ended() {
-            return Some(false);
-        }
-        thread::sleep(rt, Duration::from_millis(10));
-    }
-    Some(false)
-}
 
 /// Waits until a server has ended by itself, and whether it has; not once the other one has ended.
 fn is_ended_by<R: Host>(rt: &R, ending: &Running, staying: &Running) -> bool {
@@ -157,37 +126,33 @@ fn tells<R: Net<Listener = TcpListener, Stream = TcpStream> + Host>(
     false
 }
 
-/// Whether the server that stays holds the other one as alive, its rounds use up that one's requests, and it then tells that it has
-/// lost it; none where it was not asked in time. Both are stopped.
+/// Whether the rounds of the server that stays use up the requests of the other one, and it then tells that it has lost it. Both are
+/// stopped.
 fn loses<R: Net<Listener = TcpListener, Stream = TcpStream> + Host>(
     rt: &R,
     alloc: Global,
     ending: (Running, &str),
     staying: (Running, &str),
     fronts: [&str; 2],
-) -> Option<bool> {
-    let seen = sees(rt, alloc, &ending.0, &staying.0);
-    let is_used_up = seen == Some(true) && is_ended_by(rt, &ending.0, &staying.0);
+) -> bool {
+    let is_used_up = is_ended_by(rt, &ending.0, &staying.0);
     let has_served = match stop(rt, ending.0) {
         Some(ended) => is_used_up && ended.is(Ok(()), ending.1),
         None => false,
     };
     let is_lost = has_served && tells(rt, alloc, &staying.0, fronts);
-    let has_stayed = match stop(rt, staying.0) {
-        Some(ended) => ended.is(Ok(()), staying.1),
+    match stop(rt, staying.0) {
+        Some(ended) => is_lost && ended.is(Ok(()), staying.1),
         None => false,
-    };
-    seen?;
-    Some(is_lost && has_stayed)
+    }
 }
 
-/// Two servers, of which the first or the second has few requests and seldom makes a round, and the other one often; none where
-/// that one was not asked in time.
-fn meet_once<R: Net<Listener = TcpListener, Stream = TcpStream> + Host>(
+/// Two servers, of which the first or the second has few requests and seldom makes a round, and the other one often.
+fn meet<R: Net<Listener = TcpListener, Stream = TcpStream> + Host>(
     rt: &R,
     alloc: Global,
     ends_first: bool,
-) -> Option<bool> {
+) -> bool {
     let (ending, staying) = ((FEW, 100), (MANY, 5));
     let (one, other) = if ends_first {
         (ending, staying)
@@ -199,7 +164,7 @@ fn meet_once<R: Net<Listener = TcpListener, Stream = TcpStream> + Host>(
         ..plan_at(29_175, one.0)
     };
     let Some(first) = start(rt, alloc, &plan) else {
-        return Some(false);
+        return false;
     };
     let plan = Plan {
         period: other.1,
@@ -208,7 +173,7 @@ fn meet_once<R: Net<Listener = TcpListener, Stream = TcpStream> + Host>(
     };
     let Some(second) = start_second(rt, alloc, &first, &plan) else {
         let _stopped = stop(rt, first);
-        return Some(false);
+        return false;
     };
     let (first, second) = ((first, FIRST_WRITTEN), (second, SECOND_WRITTEN));
     if ends_first {
@@ -216,20 +181,6 @@ fn meet_once<R: Net<Listener = TcpListener, Stream = TcpStream> + Host>(
     } else {
         loses(rt, alloc, second, first, LOST_SECOND)
     }
-}
-
-/// The same, until it was asked in time.
-fn meet<R: Net<Listener = TcpListener, Stream = TcpStream> + Host>(
-    rt: &R,
-    alloc: Global,
-    ends_first: bool,
-) -> bool {
-    for _ in 0..MEETINGS {
-        if let Some(is_met) = meet_once(rt, alloc, ends_first) {
-            return is_met;
-        }
-    }
-    false
 }
 
 #[test]

@@ -35,7 +35,7 @@ impl Clock for Still {
 
 /// One sending: when, to whom, and from whom.
 #[derive(Clone, Copy, Debug, PartialEq, Eq)]
-pub(crate) struct Sending {
+struct Sending {
     moment: u64,
     to: Address,
     from: Address,
@@ -106,14 +106,14 @@ impl<'a> Link for Noted<'a> {
 
 /// What is asked, and of whom.
 #[derive(Clone, Copy)]
-pub(crate) struct Asked {
+struct Asked {
     keys: (&'static str, &'static str),
     /// How the link answers so many sendings.
-    pub(crate) link: Mood,
+    link: Mood,
     wrong: usize,
     /// How many milliseconds each answer takes.
     takes: u64,
-    pub(crate) handler: Mood,
+    handler: Mood,
     /// Whether the node has left before.
     has_left: bool,
 }
@@ -121,7 +121,7 @@ pub(crate) struct Asked {
 const ONE: (&str, &str) = ("zzzz1", "zzzz1");
 
 /// A request for one key that the handler would answer.
-pub(crate) fn plain(link: Mood, wrong: usize) -> Asked {
+fn plain(link: Mood, wrong: usize) -> Asked {
     Asked {
         keys: ONE,
         link,
@@ -134,10 +134,10 @@ pub(crate) fn plain(link: Mood, wrong: usize) -> Asked {
 
 /// What a request came to, what was sent for it, and how often the handler was asked.
 #[derive(Drop)]
-pub(crate) struct Came {
-    pub(crate) answer: Result<Text, ClusterError>,
-    pub(crate) sendings: Vec<Sending>,
-    pub(crate) handled: u64,
+struct Came {
+    answer: Result<Text, ClusterError>,
+    sendings: Vec<Sending>,
+    handled: u64,
 }
 
 impl Came {
@@ -148,7 +148,7 @@ impl Came {
     }
 
     /// Whether it was refused memory by other than a link or a handler that never has any.
-    pub(crate) fn lacks_memory(&self, asked: &Asked) -> bool {
+    fn lacks_memory(&self, asked: &Asked) -> bool {
         let of_link = asked.link == Mood::Starved && !self.sendings.is_empty();
         let of_handler = asked.handler == Mood::Starved && self.handled != 0;
         let refused = matches!(&self.answer, Err(ClusterError::Memory));
@@ -157,7 +157,7 @@ impl Came {
 }
 
 /// What a request with the body `body` comes to.
-pub(crate) fn try_request<R: Wait + Abort>(
+fn try_request<R: Wait + Abort>(
     rt: &R,
     alloc: Global,
     shared: &Shared,
@@ -165,7 +165,6 @@ pub(crate) fn try_request<R: Wait + Abort>(
     asked: &Asked,
 ) -> Came
     requires { Fits shared.now pass.old }
-    ensures { Fits shared.now pass.new }
 {
     let clock = Still {
         now: AtomicU64::new(0),

@@ -2,31 +2,21 @@
 #![tactic(auto)]
 
 #[cfg(test)]
-mod between;
-#[cfg(test)]
 mod clusters;
 #[cfg(test)]
 mod fakes;
 #[cfg(test)]
 mod forwarding;
 #[cfg(test)]
-mod ledger;
-#[cfg(test)]
 mod messages;
 #[cfg(test)]
 mod nodes;
 #[cfg(test)]
-mod refusals;
-#[cfg(test)]
 mod rounds;
-#[cfg(test)]
-mod seen;
 #[cfg(test)]
 mod serving;
 #[cfg(test)]
 mod shared;
-#[cfg(test)]
-mod spare;
 #[cfg(test)]
 mod tcp;
 #[cfg(test)]

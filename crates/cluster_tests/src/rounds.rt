@@ -22,7 +22,7 @@ use wire_json::Message;
 
 /// How a round ended, without whom it was about.
 #[derive(Clone, Copy, Debug, PartialEq, Eq)]
-pub(crate) enum End {
+enum End {
     Idle,
     Reached,
     Suspected,
@@ -40,10 +40,10 @@ fn end_of(round: Round) -> End {
 
 /// How a round ended, how often its link was asked, and how often that failed.
 #[derive(Clone, Copy, Debug, PartialEq, Eq)]
-pub(crate) struct Ended {
-    pub(crate) end: Result<End, ClusterError>,
-    pub(crate) calls: u64,
-    pub(crate) failures: u64,
+struct Ended {
+    end: Result<End, ClusterError>,
+    calls: u64,
+    failures: u64,
 }
 
 /// A round by way of this link.
@@ -62,7 +62,7 @@ fn round_by<R: Wait + Abort>(
 }
 
 /// A round whose peers are first in one mood, and then in another.
-pub(crate) fn round_in<R: Wait + Abort>(
+fn round_in<R: Wait + Abort>(
     rt: &R,
     alloc: Global,
     shared: &Shared,

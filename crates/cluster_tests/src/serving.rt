@@ -21,15 +21,15 @@ const WILLING: Moods = (Mood::Willing, Mood::Willing);
 
 /// What is answered to a message, and how often the link and the handler were asked.
 #[derive(Drop)]
-pub(crate) struct Answer {
+struct Answer {
     content: Content,
-    pub(crate) sent: u64,
-    pub(crate) handled: u64,
+    sent: u64,
+    handled: u64,
 }
 
 impl Answer {
     /// Why the message was refused, if it was.
-    pub(crate) fn reason(&self) -> Option<Reason> {
+    fn reason(&self) -> Option<Reason> {
         match &self.content {
             Content::Refused(reason) => Some(*reason),
             _ => None,
@@ -42,7 +42,7 @@ impl Answer {
     }
 
     /// Whether it lacks memory, other than that of a link or a handler that never has any.
-    pub(crate) fn lacks_memory(&self, moods: Moods) -> bool {
+    fn lacks_memory(&self, moods: Moods) -> bool {
         let of_link = moods.0 == Mood::Starved && self.sent != 0;
         let of_handler = moods.1 == Mood::Starved && self.handled != 0;
         self.reason() == Some(Reason::Memory) && !of_link && !of_handler
@@ -50,7 +50,7 @@ impl Answer {
 }
 
 /// What is answered to a message.
-pub(crate) fn serve<R: Wait + Abort>(
+fn serve<R: Wait + Abort>(
     rt: &R,
     alloc: Global,
     shared: &Shared,

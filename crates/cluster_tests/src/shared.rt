@@ -59,7 +59,7 @@ fn alone(rt: &impl Abort, alloc: Global, start: &Start) -> (Shared, Caller)
 }
 
 /// Takes one change, which is not refused.
-pub(crate) fn hear<R: Wait + Abort>(rt: &R, shared: &Shared, pass: &mut Caller, given: &Sourced)
+fn hear<R: Wait + Abort>(rt: &R, shared: &Shared, pass: &mut Caller, given: &Sourced)
     requires { Fits shared.now pass.old }
     ensures { Fits shared.now pass.new }
 {

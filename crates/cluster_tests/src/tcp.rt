@@ -1,5 +1,5 @@
 //! A link over sockets, and a peer of the test's own.
-use crate::messages::{content, member, message, news, request, text};
+use crate::messages::{content, member, message, news, request};
 use change_core::{Address, Status};
 use cluster_core::{Link, LinkError};
 use cluster_links::{Limits, TcpLink, send_line, socket_address};
@@ -11,7 +11,7 @@ use std::sync::Wait;
 use std::thread::Threads;
 use std::time::{Clock, Duration};
 use std::{io, thread};
-use wire_json::{Content, Field, Message, Reason, WireError, encode, read_line};
+use wire_json::{Content, Field, Message, WireError, encode, read_line};
 
 fn ping(rt: &impl Abort, alloc: Global) -> Message {
     let told = content(rt, alloc, &[news(rt, 9, 1, Status::Alive)]);
@@ -256,52 +256,6 @@ fn a_helper_has_longer_than_a_pinged_node(rt: HostRuntime) {
         line.as_slice(),
     );
     assert!(&rt; called.answer.is_ok() && called.failures == 0);
-}
-
-/// Limits of which no two are the same.
-fn apart() -> Limits {
-    Limits {
-        ping: Duration::from_millis(1),
-        helper: Duration::from_millis(2),
-        other: Duration::from_millis(3),
-    }
-}
-
-/// Checks how long a call with this content may take: by limits that are all apart, and by the standard ones.
-fn check_limit(rt: &impl Abort, content: Content, wanted: (u64, u64)) {
-    let found = apart().limit_for(&content);
-    assert!(rt; found == Duration::from_millis(wanted.0));
-    let standard = Limits::standard().limit_for(&content);
-    assert!(rt; standard == Duration::from_millis(wanted.1));
-}
-
-/// Checks the limits of what is sent to ask.
-fn check_asking(rt: &impl Abort, alloc: Global) {
-    let target = member(rt, 3);
-    check_limit(rt, Content::Ping(content(rt, alloc, &[])), (1, 500));
-    let asked = Content::PingReq(content(rt, alloc, &[]), target);
-    check_limit(rt, asked, (2, 1_250));
-    check_limit(rt, Content::Join(content(rt, alloc, &[])), (3, 5_000));
-    let forward = request(rt, alloc, ("a", "b"), "body").content;
-    check_limit(rt, forward, (3, 5_000));
-}
-
-/// Checks the limits of what is an answer.
-fn check_answering(rt: &impl Abort, alloc: Global) {
-    let other = (3, 5_000);
-    check_limit(rt, Content::Ack(content(rt, alloc, &[])), other);
-    check_limit(rt, Content::Joined(content(rt, alloc, &[])), other);
-    let word = Content::PingReqAck(content(rt, alloc, &[]), member(rt, 3), true);
-    check_limit(rt, word, other);
-    check_limit(rt, Content::Reply(text(rt, alloc, "x")), other);
-    check_limit(rt, Content::NotOwner, other);
-    check_limit(rt, Content::Refused(Reason::Failed), other);
-}
-
-#[test]
-fn each_kind_of_message_has_its_limit(rt: HostRuntime) {
-    check_asking(&rt, rt.alloc());
-    check_answering(&rt, rt.alloc());
 }
 
 /// So many letters.

@@ -4,7 +4,6 @@
 mod builds;
 mod errors;
 mod hash;
-mod late;
 pub mod laws;
 mod points;
 mod ring;

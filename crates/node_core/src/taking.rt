@@ -59,9 +59,7 @@ impl<H: PointHash> NodeState<H> {
         ensures step { TakeStep self.old.node changes.now moment result self.new.node }
     {
         self.advance(moment);
-        let taken = self.take_all(changes);
-        self.settle();
-        taken
+        self.take_all(changes)
     }
 
     /// Reads the node at a moment, never earlier than the last one.

@@ -4,7 +4,7 @@ use Rattle.std.specs.List.{flat_map}
 use Rattle.std.proofs.lemmas.Grind.{flat_map-append}
 use Rattle.std.proofs.lemmas.List.{take_more}
 use Rattle.change_core.specs.Ascending.{In}
-use Rattle.change_core.proofs.Order.{in_put}
+use Rattle.change_core.proofs.Order.{in_append, in_put}
 use Rattle.hash_ring.proofs.PointOrder.{server_exact}
 use Rattle.hash_ring.proofs.Weights.{in_without}
 use Rattle.hash_ring.specs.declared.points.Point.{Point}
@@ -39,4 +39,14 @@ fits_put replicas count s held new space more n le grown e fits t h =
     elim (in_put server_exact s t (without s.address held) (subst (In t) e h)) [
       | inl q ↦ subst (λ (u : Server). replicas * u.weight ≤ more) (sym q) (omega (arith, n, le))
       | inr k ↦ let old = fits t (in_without s.address t held k).0 in omega (arith, old, grown)
+    ]
+
+-- the most points of one, with one more
+pub most_more : (replicas count : ℕ) (ss : List Server) (i : ℕ) (s : Server) (most more : ℕ) → i < length ss → s ≡ get_or ss i s → count ≡ replicas * s.weight → most ≤ more → count ≤ more
+    → ((t : Server) → In t (take i ss) → replicas * t.weight ≤ most) → (t : Server) → In t (take (i + 1) ss) → replicas * t.weight ≤ more
+most_more replicas count ss i s most more l e n le grown old t h =
+    elim (in_append t (take i ss) (s ∷ []) (subst (In t) (up_to ss i s l e) h)) [
+      | inl k ↦ let held = old t k in omega (arith, held, le)
+      | inr (inl q) ↦ subst (λ (u : Server). replicas * u.weight ≤ more) (sym q) (omega (arith, n, grown))
+      | inr (inr k) ↦ absurd k
     ]

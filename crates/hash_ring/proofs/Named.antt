@@ -90,7 +90,7 @@ length-put R x (y ∷ ys) =
     let rest = length-put R x ys in
     test_cases _ (is_lt (R x y)) (λ l. rw l (omega arith)) (λ l. test_cases _ (is_eq (R x y)) (λ e. rw (l, e) (omega arith)) (λ e. rw (l, e) (omega (arith, rest))))
 
-length-ascending : {K : Type 0} (R : K → K → Ordering) (xs : List K) → length (ascending R xs) ≤ length xs
+pub length-ascending : {K : Type 0} (R : K → K → Ordering) (xs : List K) → length (ascending R xs) ≤ length xs
 length-ascending R [] = omega arith
 length-ascending R (x ∷ xs) = omega (arith, length-ascending R xs, length-put R x (ascending R xs))
 

@@ -7,7 +7,7 @@ use Rattle.change_core.specs.Ascending.{put, ascending, In, IsAscending}
 use Rattle.change_core.proofs.Order.{ascending_ascends, in_ascending, in_append, in_put}
 use Rattle.hash_ring.specs.declared.points.Point.{Point}
 use Rattle.hash_ring.specs.declared.servers.Server.{Server}
-use Rattle.hash_ring.specs.Points.{point_cmp, points_of, points_by, points, AreSmall}
+use Rattle.hash_ring.specs.Points.{point_cmp, points_by, points, AreSmall}
 use Rattle.hash_ring.specs.Servers.{is_same, addresses_of, address_of_server, server_cmp, without, AreServers}
 use Rattle.hash_ring.specs.RingModel.{ring_of, ring_model, IsRing}
 use Rattle.hash_ring.proofs.Lists.{map_in}
@@ -16,13 +16,9 @@ use Rattle.hash_ring.proofs.Walk.{in_points, in_points_of}
 use Rattle.hash_ring.proofs.Weights.{in_without, AreServers-put, AreServers-without}
 use Rattle.hash_ring.proofs.Edits.{points_merge, points-without, filter_small}
 
-pub ring_is : {H : Type 0} (hash : H) (hash_of : List ℕ → ℕ) (replicas : ℕ) (servers : Vec Server) (ps fresh : Vec Point) (all : List Server) → servers.items ≡ all → ps.items ≡ points hash_of replicas all → ring_model hash replicas servers ps fresh ≡ ring_of hash hash_of replicas all (ring_model hash replicas servers ps fresh).room
-ring_is hash hash_of replicas servers ps fresh all e f =
-    λ i. record { hash = hash; replicas = replicas; servers = e i; points = f i; room = (ring_model hash replicas servers ps fresh).room }
-
--- the points of a server that is added
-pub fresh_is : (hash : List ℕ → ℕ) (n replicas : ℕ) (s : Server) (slice made : List Point) → slice ≡ made → made ≡ ascending point_cmp (points_of hash n s.address) → n ≡ replicas * s.weight → slice ≡ ascending point_cmp (points_by hash replicas s)
-fresh_is hash n replicas s slice made e f h = e ∙ f ∙ ap (λ k. ascending point_cmp (points_of hash k s.address)) h
+pub ring_is : {H : Type 0} (hash : H) (hash_of : List ℕ → ℕ) (replicas : ℕ) (servers : Vec Server) (ps late : Vec Point) (all : List Server) → servers.items ≡ all → ascending point_cmp (ps.items ++ late.items) ≡ points hash_of replicas all → ring_model hash replicas servers ps late ≡ ring_of hash hash_of replicas all (ring_model hash replicas servers ps late).room
+ring_is hash hash_of replicas servers ps late all e f =
+    λ i. record { hash = hash; replicas = replicas; servers = e i; points = f i; room = (ring_model hash replicas servers ps late).room }
 
 module _ (hash : List ℕ → ℕ) (replicas : ℕ) (servers : List Server) (ps : List Point) {spare : ℕ} (ring : IsRing hash replicas servers ps spare) where
   pub ring_ascends : IsAscending point_cmp ps
@@ -72,15 +68,15 @@ module _ (hash : List ℕ → ℕ) (replicas : ℕ) (servers : List Server) (ps 
     fits = λ x p. ring.fits x (in_without a x servers (subst (In x) e p)).0;
   }
 
--- more is spare
-pub ring_spare : (hash : List ℕ → ℕ) (replicas : ℕ) (servers : List Server) (ps : List Point) (spare more : ℕ) → IsRing hash replicas servers ps spare → spare ≤ more → IsRing hash replicas servers ps more
-ring_spare hash replicas servers ps spare more ring le = record {
+-- other room is spare
+pub ring_fits : (hash : List ℕ → ℕ) (replicas : ℕ) (servers : List Server) (ps : List Point) (spare more : ℕ) → IsRing hash replicas servers ps spare → ((s : Server) → In s servers → replicas * s.weight ≤ more) → IsRing hash replicas servers ps more
+ring_fits hash replicas servers ps spare more ring fits = record {
   replicas_fit = ring.replicas_fit;
   servers_fit = ring.servers_fit;
   points_are = ring.points_are;
   small = ring.small;
-  fits = λ s h. omega (arith, ring.fits s h, le);
+  fits = fits;
 }
 
-pub ring_moved : (hash : List ℕ → ℕ) (replicas : ℕ) (servers all : List Server) (ps new : List Point) (spare : ℕ) → IsRing hash replicas servers ps spare → all ≡ servers → new ≡ ps → IsRing hash replicas all new spare
-ring_moved hash replicas servers all ps new spare ring e f = subst (λ qs. IsRing hash replicas all qs spare) (sym f) (subst (λ ss. IsRing hash replicas ss ps spare) (sym e) ring)
+pub ring_spare : (hash : List ℕ → ℕ) (replicas : ℕ) (servers : List Server) (ps : List Point) (spare more : ℕ) → IsRing hash replicas servers ps spare → spare ≤ more → IsRing hash replicas servers ps more
+ring_spare hash replicas servers ps spare more ring le = ring_fits hash replicas servers ps spare more ring (λ s h. let old = ring.fits s h in omega (arith, old, le))

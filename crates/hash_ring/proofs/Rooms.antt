@@ -1,9 +1,8 @@
 -- Room for a server whose points are made anew.
-use Rattle.std.proofs.Common.{◌≡◌, ℕ, zero, suc, ◌+◌, ◌*◌, ◌-◌, ◌<◌, ◌≤◌, Bool, true, false, cond, not, min, ltb, nat_lt, vec_len, vec_capacity, List, [], ◌∷◌, length, refl, ap, sym, ◌∙◌, subst, inl, inr, arith}
+use Rattle.std.proofs.Common.{◌≡◌, ℕ, zero, suc, ◌+◌, ◌*◌, ◌<◌, ◌≤◌, Bool, true, false, not, List, [], ◌∷◌, length, refl, ap, sym, ◌∙◌, subst, inl, inr, arith}
 use Rattle.std.specs.List.{filter}
 use Rattle.std.specs.declared.cmp.Ordering.{Ordering}
 use Rattle.std.specs.declared.cmp.Ordering.TheVariants.{Less}
-use Rattle.std.proofs.lemmas.Bool.{ltb-true, lt-ltb}
 use Rattle.change_core.specs.declared.addresses.Address.{Address}
 use Rattle.change_core.specs.Ascending.{ascending, In, IsAscending, IsExact}
 use Rattle.change_core.proofs.Order.{not_below_itself, not_both, ascending_ascends, in_ascending, filter_in, filter_ascends}
@@ -11,9 +10,7 @@ use Rattle.hash_ring.specs.declared.points.Point.{Point}
 use Rattle.hash_ring.specs.declared.servers.Server.{Server}
 use Rattle.hash_ring.specs.Points.{point, point_cmp, points_by, points}
 use Rattle.hash_ring.specs.Servers.{is_same, without, shares}
-use Rattle.hash_ring.specs.RingModel.{IsRing, HasRoom, ring_model}
-use Rattle.std.specs.Global.{Vec}
-use Rattle.hash_ring.proofs.Weights.{positive_factor}
+use Rattle.hash_ring.specs.RingModel.{IsRing}
 use Rattle.hash_ring.proofs.PointOrder.{point_exact}
 use Rattle.hash_ring.proofs.Firsts.{same_is, is_same_itself, test_cases}
 use Rattle.hash_ring.proofs.Walk.{in_points_of, points_in}
@@ -112,41 +109,7 @@ module _ (hash : List ℕ → ℕ) (replicas : ℕ) (servers : List Server) (ps 
       mul_fits : (r v w n : ℕ) → v ≤ w → r * w ≤ n → r * v ≤ n
       mul_fits r v w n le fits = let rest = mul_le r v w le in omega (arith, rest, fits)
 
--- what the condition of an addition gives
-abbrev pub Rooms : (List ℕ → ℕ) → ℕ → Vec Server → Vec Point → Vec Point → Server → Type 0
-Rooms hash replicas servers ps fresh s =
-    (length (without s.address servers.items) < vec_capacity servers)
-    × ((made : List Point) → made ≡ ascending point_cmp (points_by hash replicas s) → length made ≤ replicas * s.weight → length (filter (λ (p : Point). not (is_same p.server s.address)) ps.items) + length made ≤ vec_capacity ps)
-    × (replicas * s.weight ≤ vec_capacity fresh)
-
-pub rooms : {H : Type 0} (key : H) (hash : List ℕ → ℕ) (replicas : ℕ) (servers : Vec Server) (ps fresh : Vec Point) (s : Server) → IsRing hash replicas servers.items ps.items (vec_capacity fresh) → 0 < replicas * s.weight → HasRoom (ring_model key replicas servers ps fresh) s → Rooms hash replicas servers ps fresh s
-rooms key hash replicas servers ps fresh s ring some (inl le) =
-    let k = room_there hash replicas servers.items ps.items ring s (vec_capacity servers) (vec_capacity ps) (positive_factor replicas s.weight some) (omega (arith, servers.ok.0, servers.ok.1)) (omega (arith, ps.ok.0, ps.ok.1)) le in
-    (k.0, (λ made e l. subst (λ (ns : List Point). length (filter (λ (p : Point). not (is_same p.server s.address)) ps.items) + length ns ≤ vec_capacity ps) (sym e) k.1), k.2)
-rooms key hash replicas servers ps fresh s ring some (inr room) = by_test (nat_lt (vec_len servers) (vec_capacity servers)) refl room
-  where
-    by_test : (b : Bool) → ltb (vec_len servers) (vec_capacity servers) ≡ b → replicas * s.weight ≤ cond b (min (vec_capacity ps - vec_len ps) (vec_capacity fresh)) 0 → Rooms hash replicas servers ps fresh s
-    by_test false e h = absurd (omega (arith, h, some))
-    by_test true e h =
-        let low = ltb-true (vec_len servers) (vec_capacity servers) e in
-        let fewer = length-filter_le (λ (x : Server). not (is_same x.address s.address)) servers.items in
-        let kept = length-filter_le (λ (p : Point). not (is_same p.server s.address)) ps.items in
-        (omega (arith, low, fewer, servers.ok.0), (λ made f l. omega (arith, l, kept, h, ps.ok.0, ps.ok.1)), omega (arith, h))
-
--- ---- fewer servers and points leave no less room
-
-room_le : (fewer servers room space less points rest place spare : ℕ) → fewer ≤ servers → room ≡ space → less ≤ points → rest ≡ place → cond (ltb servers space) (min (place - points) spare) 0 ≤ cond (ltb fewer room) (min (rest - less) spare) 0
-room_le fewer servers room space less points rest place spare f e l d =
-    test_cases _ (ltb servers space)
-    (λ t. let low : fewer < room = omega (arith, ltb-true servers space t) in rw (t, lt-ltb fewer room low) (omega arith))
-    (λ t. rw t (omega arith))
-
-pub room_kept : {H : Type 0} (key : H) (replicas : ℕ) (servers others : Vec Server) (ps rest fresh : Vec Point) → length others.items ≤ length servers.items → vec_capacity others ≡ vec_capacity servers → length rest.items ≤ length ps.items → vec_capacity rest ≡ vec_capacity ps → (ring_model key replicas servers ps fresh).room ≤ (ring_model key replicas others rest fresh).room
-room_kept key replicas servers others ps rest fresh f e l d =
-    room_le (vec_len others) (vec_len servers) (vec_capacity others) (vec_capacity servers) (vec_len rest) (vec_len ps) (vec_capacity rest) (vec_capacity ps) (vec_capacity fresh) (omega (arith, f, others.ok.0, servers.ok.0)) e (omega (arith, l, rest.ok.0, ps.ok.0)) d
+-- ---- fewer servers
 
 pub fewer_servers : (a : Address) (servers others : List Server) → others ≡ without a servers → length others ≤ length servers
 fewer_servers a servers others e = omega (arith, ap length e, length-filter_le (λ (s : Server). not (is_same s.address a)) servers)
-
-pub fewer_points : (a : Address) (ps rest : List Point) → rest ≡ filter (λ (p : Point). not (is_same p.server a)) ps → length rest ≤ length ps
-fewer_points a ps rest e = omega (arith, ap length e, length-filter_le (λ (p : Point). not (is_same p.server a)) ps)

@@ -4,7 +4,7 @@ use Rattle.std.specs.List.{flat_map, range_with_len}
 use Rattle.std.specs.declared.cmp.Ordering.TheVariants.{Less}
 use Rattle.std.proofs.lemmas.List.{map-append}
 use Rattle.change_core.specs.declared.addresses.Address.{Address}
-use Rattle.hash_ring.specs.Steps.{firsts, has}
+use Rattle.hash_ring.specs.Steps.{firsts, has, turn}
 use Rattle.hash_ring.specs.declared.points.Point.{Point}
 use Rattle.hash_ring.specs.declared.servers.Server.{Server}
 use Rattle.hash_ring.specs.Servers.{address_of_server, addresses_of, shares, EachOnce}
@@ -44,10 +44,6 @@ module _ (hash : List ℕ → ℕ) where
       (flat_map_in (points_by hash replicas) s (point_at s.address i) servers h (points_of_in (replicas * s.weight) s.address i k))
 
 -- ---- points as they are met from a place on
-
--- a point by how far it stands above a place
-abbrev pub turn : ℕ → Point → Point
-turn from p = record { hash = clockwise from p.hash; server = p.server }
 
 pub clockwise-high : (from to : ℕ) → from ≤ to → to < 2 ^ 64 → clockwise from to + from ≡ to
 clockwise-high from to h small = omega arith
@@ -123,7 +119,7 @@ module _ (hash : List ℕ → ℕ) (count : Address → ℕ) (servers : List Add
   abbrev pub nearest_distance : Address → ℕ
   nearest_distance a = least (λ i. clockwise (hash key) (point hash a i)) (count a)
 
-  nearest_point : (a : Address) → In a servers → (i : ℕ) × (i < count a) × (nearest_distance a ≡ clockwise (hash key) (point hash a i))
+  pub nearest_point : (a : Address) → In a servers → (i : ℕ) × (i < count a) × (nearest_distance a ≡ clockwise (hash key) (point hash a i))
   nearest_point a h = least_is_one (λ i. clockwise (hash key) (point hash a i)) (count a) (λ i. clockwise-lt (hash key) (point hash a i)) (are.some a h)
 
   -- a list of the servers' points, seen from the key

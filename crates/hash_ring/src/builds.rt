@@ -10,24 +10,25 @@ use crate::points::{Point, point_count, push_points};
 use crate::servers::{Server, put_server};
 use std::alloc::AllocError;
 
-/// Puts servers into a list that is empty, in the place of any other of their address, and makes room in `fresh` for the points of
+/// Puts servers into a list that is empty, in the place of any other of their address, and makes room in `late` for the points of
 /// each.
 pub(crate) fn list_servers(
     list: &mut Vec<Server>,
-    fresh: &mut Vec<Point>,
+    late: &mut Vec<Point>,
     replicas: u32,
     servers: &[Server],
 ) -> Result<(), AllocError>
     requires replicas { IsReplicas replicas }
     requires none { list.old.items ≡ [] }
-    requires nothing_fresh { fresh.old.items ≡ [] }
+    requires nothing_late { late.old.items ≡ [] }
     ensures listed { OnOk result (list.new.items ≡ with_each servers.now []) }
     ensures servers { OnOk result (AreServers list.new.items) }
-    ensures fits { OnOk result ((s : Server) → In s list.new.items → replicas * s.weight ≤ vec_capacity fresh.new) }
+    ensures none_late { OnOk result (late.new.items ≡ []) }
+    ensures fits { OnOk result ((s : Server) → In s list.new.items → replicas * s.weight ≤ vec_capacity late.new) }
 {
     for server in servers {
         let count = point_count(replicas, server.weight);
-        fresh.reserve(count as usize)?;
+        late.reserve(count as usize)?;
         put_server(list, server)?;
     }
     Ok(())
@@ -53,4 +54,16 @@ pub(crate) fn fill_all<H: PointHash>(
     list.sort_unstable();
     list.dedup();
     Ok(())
+}
+
+/// At least as many points as any one of the servers has.
+pub(crate) fn most_points(replicas: u32, servers: &[Server]) -> usize
+    requires { IsReplicas replicas }
+    ensures { (s : Server) → In s servers.now → replicas * s.weight ≤ result }
+{
+    let mut most = 0;
+    for server in servers {
+        most = point_count(replicas, server.weight).max(most);
+    }
+    most as usize
 }

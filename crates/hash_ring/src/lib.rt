@@ -4,6 +4,7 @@
 mod builds;
 mod errors;
 mod hash;
+mod late;
 pub mod laws;
 mod points;
 mod ring;

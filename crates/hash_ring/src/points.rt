@@ -67,26 +67,6 @@ pub fn distance<H: PointHash>(
     least
 }
 
-/// Makes the list that of a server's first points, ascending. With room this takes no memory.
-pub(crate) fn fill_points<H: PointHash>(
-    points: &mut Vec<Point>,
-    hash: H,
-    server: Address,
-    count: u32,
-)
-    requires few { count ≤ 8000 }
-    requires room { count ≤ vec_capacity points.old }
-    ensures made { points.new.items ≡ ascending point_cmp (points_of (H.hash_of hash) count server) }
-    ensures small { AreSmall points.new.items }
-    ensures len { vec_len points.new ≤ count }
-    ensures capacity { vec_capacity points.old ≤ vec_capacity points.new }
-{
-    points.clear();
-    push_points(points, hash, server, count);
-    points.sort_unstable();
-    points.dedup();
-}
-
 /// Adds a server's first points. The text of its address is written once.
 pub(crate) fn push_points<H: PointHash>(
     points: &mut Vec<Point>,
@@ -142,7 +122,8 @@ pub(crate) fn merge_points(points: &mut Vec<Point>, starts: &mut Starts, fresh: 
     requires fresh_ascends { IsAscending point_cmp fresh.now }
     requires apart { (p : Point) → In p points.old.items → In p fresh.now → ⊥ }
     requires room { vec_len points.old + length fresh.now ≤ vec_capacity points.old }
-    ensures { points.new.items ≡ ascending point_cmp (points.old.items ++ fresh.now) }
+    ensures merged { points.new.items ≡ ascending point_cmp (points.old.items ++ fresh.now) }
+    ensures capacity { vec_capacity points.old ≤ vec_capacity points.new }
 {
     let count = points.len();
     let Ok(()) = points.extend_from_slice(fresh) else {

@@ -4,11 +4,12 @@ ghost use Rattle.hash_ring.specs.Points.{IsReplicas, IsNearest, owner, owners};
 ghost use Rattle.hash_ring.specs.Servers.{has_weight, weight_of, with_each, with_server, without};
 ghost use Rattle.hash_ring.specs.declared.servers.Server.{Server};
 
-use crate::builds::{fill_all, list_servers};
+use crate::builds::{fill_all, list_servers, most_points};
 use crate::errors::RingError;
 use crate::hash::PointHash;
-use crate::points::{MOST_REPLICAS, Point, fill_points, merge_points, point_count, reserve_points};
-use crate::search::{first_at, first_server, name_around};
+use crate::late::{merge_late, merged};
+use crate::points::{MOST_REPLICAS, Point, point_count, push_points, reserve_points};
+use crate::search::{met, next_server};
 use crate::servers::{Server, take_out, weighs, weight_among};
 use crate::sorted::place;
 use crate::starts::Starts;
@@ -19,6 +20,8 @@ use std::marker::Model;
 /// A ring of servers: `replicas` points for each unit of a server's weight, and of a key the server whose point
 /// comes first at or after the key's hash, as in ringpop-go's package hashring. Contracts see the hash, the
 /// replicas, the servers with their weights, the points, and the room that is made.
+///
+/// The points of servers that are added stand apart until `settle` merges them. Look-ups answer the same before, and take longer.
 #[derive(Drop)]
 pub struct Ring<H: PointHash> {
     hash: H,
@@ -26,19 +29,19 @@ pub struct Ring<H: PointHash> {
     servers: Vec<Server>,
     points: Vec<Point>,
     starts: Starts,
-    /// The points of the server that is being added.
-    fresh: Vec<Point>,
+    /// Points of servers that were added since the others were merged, as they came.
+    late: Vec<Point>,
 }
 
 impl<H: PointHash> Model for Ring<H> {
     ghost use Rattle.std.specs.Prelude.{vec_capacity};
-    ghost use Rattle.hash_ring.specs.RingModel.{RingModel, ring_model, IsRing};
+    ghost use Rattle.hash_ring.specs.RingModel.{RingModel, ring_model, IsKept};
 
     ghost Value = { RingModel H };
 
-    ghost view = { λ r. ring_model r.hash r.replicas r.servers r.points r.fresh };
+    ghost view = { λ r. ring_model r.hash r.replicas r.servers r.points r.late };
 
-    ghost invariant = { λ r. IsRing (H.hash_of r.hash) r.replicas r.servers.items r.points.items (vec_capacity r.fresh) };
+    ghost invariant = { λ r. IsKept (H.hash_of r.hash) r.replicas r.servers.items r.points.items r.late.items (vec_capacity r.late) (vec_capacity r.points) };
 }
 
 impl<H: PointHash> Ring<H> {
@@ -59,7 +62,7 @@ impl<H: PointHash> Ring<H> {
             servers: Vec::new(alloc),
             points: Vec::new(alloc),
             starts: Starts::new(alloc),
-            fresh: Vec::new(alloc),
+            late: Vec::new(alloc),
         })
     }
 
@@ -83,8 +86,8 @@ impl<H: PointHash> Ring<H> {
             return Err(RingError::BadReplicas);
         }
         let mut list = Vec::new(alloc);
-        let mut fresh = Vec::new(alloc);
-        list_servers(&mut list, &mut fresh, replicas, servers)?;
+        let mut late = Vec::new(alloc);
+        list_servers(&mut list, &mut late, replicas, servers)?;
         let mut points = Vec::new(alloc);
         fill_all(&mut points, hash, replicas, &list)?;
         let starts = Starts::of(alloc, &points)?;
@@ -94,7 +97,7 @@ impl<H: PointHash> Ring<H> {
             servers: list,
             points,
             starts,
-            fresh,
+            late,
         })
     }
 
@@ -135,15 +138,15 @@ impl<H: PointHash> Ring<H> {
         }
         let count = point_count(self.replicas, weight) as usize;
         self.servers.reserve(1)?;
-        self.fresh.clear();
-        self.fresh.reserve(count)?;
-        reserve_points(&mut self.points, &mut self.starts, count)?;
+        self.late.reserve(count)?;
+        let more = self.late.len() + count;
+        reserve_points(&mut self.points, &mut self.starts, more)?;
         Ok(())
     }
 
     /// Adds a server and its points, in the place of those that it had with another weight, and answers whether
     /// anything changed: not where the server is there with this very weight. It wants room to have been made, or
-    /// the server there with at least this weight, and takes no memory.
+    /// the server there with at least this weight, and takes no memory. After the last of several, call `settle`.
     pub fn add(&mut self, address: Address, weight: Weight) -> bool
         requires { HasRoom self.old (record { address = address; weight = weight }) }
         ensures ring { self.new ≡ ring_of self.old.hash (H.hash_of self.old.hash) self.old.replicas (with_server (record { address = address; weight = weight }) self.old.servers) self.new.room }
@@ -158,14 +161,23 @@ impl<H: PointHash> Ring<H> {
             &mut self.servers,
             &mut self.points,
             &mut self.starts,
+            &mut self.late,
             address,
         );
         let Ok(_) = place(&mut self.servers, Server { address, weight }) else {
             unreachable!()
         };
-        fill_points(&mut self.fresh, self.hash, address, count);
-        merge_points(&mut self.points, &mut self.starts, &self.fresh);
+        push_points(&mut self.late, self.hash, address, count);
         true
+    }
+
+    /// Sorts and merges the points of the servers that were added, all in one pass, so that look-ups are fast again. What is seen
+    /// of the ring stays, and the room does not shrink. It takes no memory, and no time where nothing was added.
+    pub fn settle(&mut self)
+        ensures same { self.new ≡ record self.old { room = self.new.room } }
+        ensures room { self.old.room ≤ self.new.room }
+    {
+        merge_late(&mut self.points, &mut self.starts, &mut self.late);
     }
 
     /// Removes a server and its points, and answers whether it was there. The room does not shrink, and no memory
@@ -179,6 +191,7 @@ impl<H: PointHash> Ring<H> {
             &mut self.servers,
             &mut self.points,
             &mut self.starts,
+            &mut self.late,
             address,
         )
     }
@@ -190,22 +203,27 @@ impl<H: PointHash> Ring<H> {
         ensures nearest { IfSome result (IsNearest (H.hash_of self.now.hash) self.now.replicas self.now.servers key.now) }
         ensures nobody { IfNone result (self.now.servers ≡ []) }
     {
-        let start = first_at(&self.points, &self.starts, self.hash.hash(key));
-        first_server(&self.points, start)
+        next_server(&self.points, &self.starts, &self.late, self.hash.hash(key))
     }
 
     /// The first `count` owners of a key, the owner first, or all servers where there are fewer. `Memory`: the
-    /// list was refused, or the one in which many that are named are looked for.
+    /// list was refused, the one in which many that are named are looked for, or before `settle` that of all points.
     pub fn owners(&self, key: &[u8], count: usize) -> Result<Vec<Address>, RingError>
         ensures named { IfOk result (λ named. named.items ≡ take count (owners (H.hash_of self.now.hash) self.now.replicas self.now.servers key.now)) }
         ensures growth { OnErr result ((0 < count) × (0 < length self.now.servers)) }
         ensures refusal { IsOkUnless result RingError.Memory }
     {
-        let start = first_at(&self.points, &self.starts, self.hash.hash(key));
+        let alloc = *self.servers.allocator();
+        let hash = self.hash.hash(key);
         let count = count.min(self.servers.len());
-        let mut named = Vec::with_capacity(*self.servers.allocator(), count)?;
-        name_around(&self.points, start, count, &mut named)?;
-        Ok(named)
+        if count == 0 {
+            return Ok(Vec::new(alloc));
+        }
+        if self.late.is_empty() {
+            return Ok(met(alloc, &self.points, &self.starts, hash, count)?);
+        }
+        let points = merged(alloc, &self.points, &self.late)?;
+        Ok(met(alloc, &points, &Starts::new(alloc), hash, count)?)
     }
 
     /// A ring of its own that equals this one. `Memory`: a growth was refused.
@@ -218,13 +236,19 @@ impl<H: PointHash> Ring<H> {
         if self.servers.is_empty() {
             return Ring::new(alloc, self.hash, self.replicas);
         }
+        let points = merged(alloc, &self.points, &self.late)?;
+        let starts = if self.late.is_empty() {
+            self.starts.copy()?
+        } else {
+            Starts::of(alloc, &points)?
+        };
         Ok(Ring {
             hash: self.hash,
             replicas: self.replicas,
             servers: Vec::from_slice(alloc, &self.servers)?,
-            points: Vec::from_slice(alloc, &self.points)?,
-            starts: self.starts.copy()?,
-            fresh: Vec::with_capacity(alloc, self.fresh.capacity())?,
+            points,
+            starts,
+            late: Vec::with_capacity(alloc, most_points(self.replicas, &self.servers))?,
         })
     }
 }

@@ -1,16 +1,16 @@
 //! Searching the points for a hash, and walking on from there.
-ghost use Rattle.std.specs.Prelude.{◌≡◌, ℕ, ◌+◌, ◌-◌, ◌<◌, ◌≤◌, [], ◌++◌, length, take, drop, not, ltb, slice_get, IfSome, OnOk, OnErr, vec_capacity};
+ghost use Rattle.std.specs.Prelude.{◌≡◌, ℕ, ◌+◌, ◌-◌, ◌<◌, ◌≤◌, [], ◌++◌, length, take, drop, not, ltb, slice_get, IfSome, IfNone, IfOk, OnOk, OnErr, vec_capacity};
 ghost use Rattle.std.specs.List.{position};
 ghost use Rattle.change_core.specs.Ascending.{In, IsAscending};
-ghost use Rattle.hash_ring.specs.Points.{point_cmp};
-ghost use Rattle.hash_ring.specs.Steps.{IsBelow, IsFrom, IsSorted, firsts};
+ghost use Rattle.hash_ring.specs.Points.{point_cmp, AreSmall};
+ghost use Rattle.hash_ring.specs.Steps.{IsBelow, IsFrom, IsNext, IsSorted, AreMet, firsts, turn};
 ghost use Rattle.hash_ring.specs.declared.points.Point.{Point};
 
 use crate::points::Point;
 use crate::sorted::place;
 use crate::starts::Starts;
 use change_core::Address;
-use std::alloc::AllocError;
+use std::alloc::{AllocError, Global};
 
 /// How many points a search looks at one by one before it halves all of them.
 const REACH: usize = 48;
@@ -19,7 +19,7 @@ const REACH: usize = 48;
 const FEW: usize = 32;
 
 /// The place of the first point at or after a hash.
-pub(crate) fn first_at(points: &[Point], starts: &Starts, hash: u64) -> usize
+fn first_at(points: &[Point], starts: &Starts, hash: u64) -> usize
     requires { IsAscending point_cmp points.now }
     ensures bound { result ≤ length points.now }
     ensures low { IsBelow hash (take result points.now) }
@@ -55,18 +55,66 @@ fn steps_up(points: &[Point], hash: u64) -> Option<usize>
     points.iter().position(|point| point.hash >= hash)
 }
 
-/// The server of the point at a place, going round.
-pub(crate) fn first_server(points: &[Point], start: usize) -> Option<Address>
-    requires { start ≤ length points.now }
-    ensures { result ≡ slice_get (firsts [] (drop start points.now ++ take start points.now)) 0 }
+/// The server of the nearest point above a hash, going round: the first around of those that ascend, or a late one.
+pub(crate) fn next_server(
+    points: &[Point],
+    starts: &Starts,
+    late: &[Point],
+    hash: u64,
+) -> Option<Address>
+    requires ascends { IsAscending point_cmp points.now }
+    requires small { AreSmall points.now }
+    ensures next { IfSome result (IsNext hash (points.now ++ late.now)) }
+    ensures nobody { IfNone result (points.now ++ late.now ≡ []) }
 {
-    let point = points.get(start).or(points.first())?;
-    Some(point.server)
+    let start = first_at(points, starts, hash);
+    let first = first_around(points, start).or(late.first().copied())?;
+    let mut nearest = turned(&first, hash);
+    for point in late {
+        nearest = nearest.min(turned(point, hash));
+    }
+    Some(nearest.server)
+}
+
+/// The point at a place, going round.
+fn first_around(points: &[Point], start: usize) -> Option<Point>
+    requires { start ≤ length points.now }
+    ensures { result ≡ slice_get (drop start points.now ++ take start points.now) 0 }
+{
+    points.get(start).or(points.first()).copied()
+}
+
+/// A point by how far it stands above a hash, going round.
+fn turned(point: &Point, hash: u64) -> Point
+    ensures { result ≡ turn hash point.now }
+{
+    Point {
+        hash: point.hash.wrapping_sub(hash),
+        server: point.server,
+    }
+}
+
+/// The servers of points that ascend, from a hash on, going round, each where it comes first, up to a count.
+pub(crate) fn met(
+    alloc: Global,
+    points: &[Point],
+    starts: &Starts,
+    hash: u64,
+    count: usize,
+) -> Result<Vec<Address>, AllocError>
+    requires ascends { IsAscending point_cmp points.now }
+    ensures met { IfOk result (λ named. AreMet hash points.now count named.items) }
+    ensures growth { OnErr result (0 < count) }
+{
+    let start = first_at(points, starts, hash);
+    let mut named = Vec::with_capacity(alloc, count)?;
+    name_around(points, start, count, &mut named)?;
+    Ok(named)
 }
 
 /// Names the points' servers from a place on, going round, each where it comes first, up to a count. Many are looked for in
 /// a sorted list of their own, so that none of them is compared with all that are named.
-pub(crate) fn name_around(
+fn name_around(
     points: &[Point],
     start: usize,
     count: usize,
@@ -91,7 +139,7 @@ pub(crate) fn name_around(
 }
 
 /// Adds the points' servers that are not named yet, up to a count. With room this takes no memory.
-pub(crate) fn name_servers(points: &[Point], count: usize, named: &mut Vec<Address>)
+fn name_servers(points: &[Point], count: usize, named: &mut Vec<Address>)
     requires few { length named.old.items ≤ count }
     requires room { count ≤ vec_capacity named.old }
     ensures named { named.new.items ≡ take count (named.old.items ++ firsts named.old.items points.now) }

@@ -423,3 +423,56 @@ fn many_owners(rt: HostRuntime) -> Result<(), Fail> {
     }
     Ok(())
 }
+
+// Both rings answer alike, and so does a copy of the first.
+fn check_alike(rt: &impl Abort, late: &Ring<SumHash>, settled: &Ring<SumHash>) -> Result<(), Fail> {
+    let copied = copy(rt, late)?;
+    for place in 0..16u8 {
+        let key = [b'z', b'z', b'z', b'z', place * 16];
+        let named = owners(rt, settled, &key, 40)?;
+        assert!(rt;
+            named == owners(rt, late, &key, 40)? && named == owners(rt, &copied, &key, 40)?
+        );
+        assert!(rt;
+            late.owner(&key) == named.first().copied() && copied.owner(&key) == late.owner(&key)
+        );
+    }
+    Ok(())
+}
+
+// Adds a server to both rings, or removes it from both.
+fn edit_both(
+    rt: &impl Abort,
+    late: &mut Ring<SumHash>,
+    settled: &mut Ring<SumHash>,
+    state: &mut u64,
+) -> Result<(), Fail> {
+    let server = Address::new(0x0a00_0001, 1 + draw(state, 40) as u16).ok_or("a port")?;
+    let weight = weight(1 + draw(state, 8) as u8)?;
+    if draw(state, 5) == 0 {
+        assert!(rt; late.remove(server) == settled.remove(server));
+    } else {
+        reserve(rt, late, server, weight)?;
+        reserve(rt, settled, server, weight)?;
+        assert!(rt; late.add(server, weight) == settled.add(server, weight));
+    }
+    settled.settle();
+    Ok(())
+}
+
+// One ring is settled at the end alone, and the other after each edit: servers are added, leave, and come back with other weights.
+#[test]
+fn a_ring_settles_late(rt: HostRuntime) -> Result<(), Fail> {
+    let mut late = Ring::new(rt.alloc(), SumHash, 3)?;
+    let mut settled = Ring::new(rt.alloc(), SumHash, 3)?;
+    let mut state = 7;
+    for turn in 0..60 {
+        edit_both(&rt, &mut late, &mut settled, &mut state)?;
+        if turn % 20 == 15 {
+            check_alike(&rt, &late, &settled)?;
+        }
+    }
+    late.settle();
+    late.settle();
+    check_alike(&rt, &late, &settled)
+}

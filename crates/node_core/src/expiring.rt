@@ -103,7 +103,9 @@ impl<H: PointHash> NodeState<H> {
         // The proof knows the type's invariant where a field is read.
         let _ = &self.moment;
         let news = asserted(change);
-        self.alter(Edit::Own(*change), &news)
+        let altered = self.alter(Edit::Own(*change), &news);
+        self.settle();
+        altered
     }
 
     /// What the entry of the least address that is due at a moment becomes.

@@ -91,6 +91,7 @@ impl<H: PointHash> NodeState<H> {
         let mut ring = Ring::new(alloc, hash, config.replicas)?;
         ring.reserve_for(own, config.weight)?;
         ring.add(own, config.weight);
+        ring.settle();
         let mut gossip = Gossip::new(alloc, config.piggyback)?;
         let birth = members.own();
         gossip.put(asserted(&birth))?;
@@ -151,6 +152,14 @@ impl<H: PointHash> NodeState<H> {
             edit,
             news,
         )
+    }
+
+    /// Merges the points of the members that were added to the ring: at the end of each call that may have added some, so that
+    /// look-ups find them all merged.
+    pub(crate) fn settle(&mut self)
+        ensures { self.new ≡ self.old }
+    {
+        self.ring.settle();
     }
 }
 

@@ -70,6 +70,14 @@ impl<H: PointHash> SharedRing<H> {
         }
     }
 
+    /// Merges what was added, as the ring does. The copy that was handed out last stays the same.
+    pub(crate) fn settle(&mut self)
+        ensures same { self.new ≡ record self.old { room = self.new.room } }
+        ensures room { self.old.room ≤ self.new.room }
+    {
+        self.ring.settle();
+    }
+
     /// Removes a server, as the ring does.
     pub(crate) fn remove(&mut self, address: Address)
         ensures ring { self.new ≡ ring_of self.old.hash (H.hash_of self.old.hash) self.old.replicas (without address self.old.servers) self.new.room }

@@ -59,7 +59,9 @@ impl<H: PointHash> NodeState<H> {
         ensures step { TakeStep self.old.node changes.now moment result self.new.node }
     {
         self.advance(moment);
-        self.take_all(changes)
+        let taken = self.take_all(changes);
+        self.settle();
+        taken
     }
 
     /// Reads the node at a moment, never earlier than the last one.

@@ -9,6 +9,6 @@ abbrev pub invariant-loop-server : goal.invariant-loop-server
 invariant-loop-server l = record {
   listed : l.list.items ≡ with_each (take l.server-index l.servers) [];
   servers : AreServers l.list.items;
-  nothing : l.fresh.items ≡ [];
-  fits : (s : Server) → In s l.list.items → l.replicas * s.weight ≤ vec_capacity l.fresh;
+  nothing : l.late.items ≡ [];
+  fits : (s : Server) → In s l.list.items → l.replicas * s.weight ≤ vec_capacity l.late;
 }

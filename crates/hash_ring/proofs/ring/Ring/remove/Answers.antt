@@ -1,23 +1,26 @@
+use Rattle.std.proofs.Common.{arith}
 use Rattle.hash_ring.specs.Servers.{without}
-use Rattle.hash_ring.proofs.Rings.{ring_removed, ring_theirs, points_removed, ring_is}
-use Rattle.hash_ring.proofs.Rooms.{room_kept, fewer_servers, fewer_points}
+use Rattle.hash_ring.proofs.Kept.{kept_is, kept_taken, room_kept, taken_fewer}
+use Rattle.hash_ring.proofs.Rooms.{fewer_servers}
 use Rattle.hash_ring.proofs.ring.Ring.remove.Goals as goal
 
-pub take_out-requires-clause-theirs : goal.take_out-requires-clause-theirs
-take_out-requires-clause-theirs g c = ring_theirs _ _ _ _ c.self.invariant
-
 pub invariant_of-self : goal.invariant_of-self
-invariant_of-self g c = ring_removed _ _ _ _ c.self.invariant c.args.address _ _ c.take_out.ensures.servers c.take_out.ensures.points
+invariant_of-self g c =
+    let e = c.take_out.ensures in
+    kept_taken _ _ _ _ _ c.self.invariant c.args.address c.take_out.result _ _ _ _ _ e.servers e.there e.points e.late_capacity e.points_capacity
 
 pub returns-clause-ring : goal.returns-clause-ring
 returns-clause-ring g c =
+    let n = c.take_out.new in
     rw (← c.self.view_is)
-    (ring_is c.self.inside.hash (g.H.PointHash.hash_of c.self.inside.hash) c.self.inside.replicas c.take_out.new.servers c.take_out.new.points c.self.inside.fresh (without c.args.address c.self.inside.servers.items) c.take_out.ensures.servers
-    (points_removed _ _ _ _ c.self.invariant c.args.address _ c.take_out.ensures.points))
+    (kept_is c.self.inside.hash (g.H.PointHash.hash_of c.self.inside.hash) c.self.inside.replicas n.servers n.points n.late (without c.args.address c.self.inside.servers.items) (invariant_of-self g c) c.take_out.ensures.servers)
 
 pub returns-clause-room : goal.returns-clause-room
 returns-clause-room g c =
+    let i = c.self.inside in
+    let n = c.take_out.new in
+    let e = c.take_out.ensures in
+    let fewer = taken_fewer _ _ _ _ _ c.self.invariant c.args.address c.take_out.result _ _ e.points in
     rw (← c.self.view_is)
-    (room_kept c.self.inside.hash c.self.inside.replicas c.self.inside.servers c.take_out.new.servers c.self.inside.points c.take_out.new.points c.self.inside.fresh
-    (fewer_servers c.args.address c.self.inside.servers.items c.take_out.new.servers.items c.take_out.ensures.servers) c.take_out.ensures.servers_capacity
-    (fewer_points c.args.address c.self.inside.points.items c.take_out.new.points.items c.take_out.ensures.points) c.take_out.ensures.points_capacity)
+    (room_kept i.hash i.replicas i.servers n.servers i.points n.points i.late n.late
+    (fewer_servers c.args.address i.servers.items n.servers.items e.servers) (omega (arith, e.servers_capacity)) fewer.0 e.points_capacity fewer.1 e.late_capacity)

@@ -3,6 +3,7 @@ use Rattle.change_core.specs.declared.changes.Change.{Change}
 use Rattle.change_core.specs.declared.changes.Sourced.{Sourced}
 use Rattle.detector_core.specs.Choices.{seeded}
 use Rattle.gossip_core.specs.Dissemination.{with_news}
+use Rattle.hash_ring.specs.RingModel.{RingModel}
 use Rattle.node_core.specs.Node.{asserted_by}
 use Rattle.node_core.proofs.Beginning.{parts_begun}
 use Rattle.node_core.proofs.node.NodeState.new.Goals as goal
@@ -18,7 +19,7 @@ invariant_of-result g c =
       membership = c.in_ok-members.ensures.valid;
       made_is = c.in_ok-ring.ensures.empty;
       reserved_is = c.reserve_for.ensures.same;
-      ring_is = rw c.of.ensures c.add.ensures.ring;
+      ring_is = rw c.of.ensures (c.settle.ensures.same ∙ ap (λ (r : RingModel g.row.H.Denot). record r { room = c.settle.new.self.room }) c.add.ensures.ring);
       empty_is = c.in_ok-gossip.ensures.made;
       gossip_is = c.in_ok-put.ensures.ok ∙ ap (λ (s : Sourced). with_news c.in_ok-gossip.gossip s) (c.asserted.ensures ∙ ap (λ (d : Change). asserted_by d.address d) c.own-birth.ensures.own);
       timers_are = c.new-4.ensures;

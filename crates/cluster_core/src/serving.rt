@@ -136,7 +136,7 @@ fn find_out<R: Wait, H: PointHash, L: Link>(
     seek(rt, node, pass, now, heard)
 }
 
-/// TellsRequester a requester what was found out about a target.
+/// Tells a requester what was found out about a target.
 fn tell<R: Wait, H: PointHash>(
     rt: &R,
     node: &LockedNode<H>,

@@ -1,3 +1,4 @@
+//! What a ring refuses.
 ghost use Rattle.std.specs.Prelude.{◌≡◌};
 ghost use Rattle.hash_ring.specs.declared.errors.RingError.TheVariants.{Memory};
 

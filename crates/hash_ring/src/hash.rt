@@ -1,3 +1,4 @@
+//! Hashes of keys and points.
 ghost use Rattle.std.specs.Prelude.{◌≡◌, ℕ, List, ◌%◌, ◌^◌, take, sum};
 ghost use Rattle.std.specs.Int.{w64, from_be_bytes};
 ghost use Rattle.sha2.specs.Sha256.{sha256};

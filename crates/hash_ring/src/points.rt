@@ -1,3 +1,4 @@
+//! Points of servers, ascending, and how far a key is from them.
 ghost use Rattle.std.specs.Prelude.{◌≡◌, ℕ, ◌+◌, ◌*◌, ◌/◌, ◌≤◌, ◌<◌, ◌++◌, [], length, not, IsOk, OnOk, vec_len, vec_capacity};
 ghost use Rattle.std.specs.List.{filter, position, position_or_len};
 ghost use Rattle.change_core.specs.Ascending.{ascending, In, IsAscending};

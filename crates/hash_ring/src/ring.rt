@@ -185,6 +185,7 @@ impl<H: PointHash> Ring<H> {
     pub fn remove(&mut self, address: Address) -> bool
         ensures ring { self.new ≡ ring_of self.old.hash (H.hash_of self.old.hash) self.old.replicas (without address self.old.servers) self.new.room }
         ensures removed { result ≡ is_some (weight_of address self.old.servers) }
+        ensures unchanged { result ≡ false → self.new ≡ record self.old { room = self.new.room } }
         ensures room { self.old.room ≤ self.new.room }
     {
         take_out(

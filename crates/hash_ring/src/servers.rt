@@ -1,3 +1,4 @@
+//! Servers with their weights, ascending by address.
 ghost use Rattle.std.specs.Prelude.{◌≡◌, ℕ, ◌+◌, ◌<◌, ◌≤◌, ◌↔◌, length, IsTrue, OnOk, is_some, vec_capacity};
 ghost use Rattle.change_core.specs.Ascending.{ascending, In, IsAscending};
 ghost use Rattle.hash_ring.specs.Points.{point_cmp};

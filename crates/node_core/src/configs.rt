@@ -1,3 +1,4 @@
+//! What a node is configured with.
 ghost use Rattle.std.specs.Prelude.{◌≡◌, IsTrue, ◌↔◌};
 ghost use Rattle.node_core.specs.Configs.{bad_field, field_name, standard};
 

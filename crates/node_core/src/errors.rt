@@ -1,3 +1,4 @@
+//! What a node's calls refuse.
 ghost use Rattle.std.specs.Prelude.{◌≡◌};
 ghost use Rattle.node_core.specs.declared.errors.NodeError.TheVariants.{Memory as want_of_memory};
 ghost use Rattle.node_core.specs.Errors.{error_of_members, error_of_ring, error_of_gossip, error_of_detector};

@@ -1,3 +1,4 @@
+//! The calls of a node as values, and what they answer.
 use crate::errors::NodeError;
 use crate::lists::{ChangeList, KeyBytes};
 use change_core::{Address, Change, Digest, Entry, Moment};
@@ -26,7 +27,7 @@ pub enum StopCause {
     Memory,
 }
 
-/// A batch that stopped: its first `taken` changes were taken, and no other.
+/// A batch that stopped: its first `taken` changes were taken, old ones counted too, and no other.
 #[derive(Clone, Copy, Debug, PartialEq, Eq, Error)]
 #[error("stopped after {taken} changes: {cause}")]
 pub struct Stopped {

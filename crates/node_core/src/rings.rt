@@ -70,7 +70,7 @@ impl<H: PointHash> SharedRing<H> {
         }
     }
 
-    /// Merges what was added, as the ring does. The copy that was handed out last stays the same.
+    /// Merges what was added, as the ring does.
     pub(crate) fn settle(&mut self)
         ensures same { self.new ≡ record self.old { room = self.new.room } }
         ensures room { self.old.room ≤ self.new.room }
@@ -82,8 +82,9 @@ impl<H: PointHash> SharedRing<H> {
     pub(crate) fn remove(&mut self, address: Address)
         ensures ring { self.new ≡ ring_of self.old.hash (H.hash_of self.old.hash) self.old.replicas (without address self.old.servers) self.new.room }
     {
-        self.shown = None;
-        self.ring.remove(address);
+        if self.ring.remove(address) {
+            self.shown = None;
+        }
     }
 
     /// The owner of a key.

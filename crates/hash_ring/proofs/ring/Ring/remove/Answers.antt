@@ -1,6 +1,10 @@
-use Rattle.std.proofs.Common.{arith}
-use Rattle.hash_ring.specs.Servers.{without}
-use Rattle.hash_ring.proofs.Kept.{kept_is, kept_taken, room_kept, taken_fewer}
+use Rattle.std.proofs.Common.{◌++◌, sym, ◌∙◌, subst, arith}
+use Rattle.change_core.specs.Ascending.{ascending}
+use Rattle.hash_ring.specs.Points.{point_cmp}
+use Rattle.hash_ring.specs.Servers.{weight_of, without}
+use Rattle.hash_ring.specs.Steps.{IsTaken}
+use Rattle.hash_ring.proofs.Kept.{kept_is, kept_same, kept_taken, room_kept, taken_fewer}
+use Rattle.hash_ring.proofs.Weights.{none_if_not_some, without_none}
 use Rattle.hash_ring.proofs.Rooms.{fewer_servers}
 use Rattle.hash_ring.proofs.ring.Ring.remove.Goals as goal
 
@@ -24,3 +28,14 @@ returns-clause-room g c =
     rw (← c.self.view_is)
     (room_kept i.hash i.replicas i.servers n.servers i.points n.points i.late n.late
     (fewer_servers c.args.address i.servers.items n.servers.items e.servers) (omega (arith, e.servers_capacity)) fewer.0 e.points_capacity fewer.1 e.late_capacity)
+
+pub returns-clause-unchanged : goal.returns-clause-unchanged
+returns-clause-unchanged g c absent =
+    let i = c.self.inside in
+    let n = c.take_out.new in
+    let e = c.take_out.ensures in
+    let a = c.args.address in
+    let same = e.servers ∙ without_none a i.servers.items (none_if_not_some (weight_of a i.servers.items) (sym e.there ∙ absent)) in
+    let taken = subst (λ b. IsTaken a i.points.items i.late.items b n.points.items n.late.items) absent e.points in
+    rw (← c.self.view_is)
+    (kept_same i.hash i.replicas i.servers n.servers i.points n.points i.late n.late same (λ j. ascending point_cmp (taken.0 j ++ taken.1 j)))

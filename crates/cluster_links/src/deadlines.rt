@@ -1,6 +1,9 @@
 //! Streams that are read and written until a moment at the latest.
-ghost use Rattle.std.specs.Prelude.{◌≡◌, ◌≤◌, ◌<◌, IfOk};
+ghost use Rattle.std.specs.Prelude.{◌≡◌, ◌≢◌, ◌≤◌, ◌<◌, None, IfOk, IfErr};
 ghost use Rattle.std.specs.Duration.{as_nanos};
+ghost use Rattle.std.specs.Io.{ReadsAtMost, WritesAtMost};
+ghost use Rattle.std.specs.Io.KnownBytes.{Keeps, ReadConsumes, WriteAppends};
+ghost use Rattle.std.specs.IoError.{error_kind};
 
 use std::io;
 use std::io::{ErrorKind, Read, Write};
@@ -72,22 +75,77 @@ impl<'a, S, C> Timed<'a, S, C> {
     }
 }
 
-impl<'a, S: Read + OpenStream, C: Clock> Read for Timed<'a, S, C> {
-    fn read(&mut self, buf: &mut [u8]) -> io::Result<usize> {
+impl<'a, S: Read + OpenStream, C: Clock> Timed<'a, S, C> {
+    /// One read, which takes no longer than what is left.
+    fn read_once(&mut self, buf: &mut [u8]) -> io::Result<usize>
+        ensures { ReadsAtMost result buf.new }
+    {
         let left = self.deadline.left()?;
         self.stream.set_read_timeout(Some(left))?;
         self.stream.read(buf)
     }
 }
 
-impl<'a, S: Write + OpenStream, C: Clock> Write for Timed<'a, S, C> {
-    fn write(&mut self, buf: &[u8]) -> io::Result<usize> {
+impl<'a, S: Write + OpenStream, C: Clock> Timed<'a, S, C> {
+    /// One write, which takes no longer than what is left.
+    fn write_once(&mut self, buf: &[u8]) -> io::Result<usize>
+        ensures { WritesAtMost result buf.now }
+    {
         let left = self.deadline.left()?;
         self.stream.set_write_timeout(Some(left))?;
         self.stream.write(buf)
     }
+}
 
-    fn flush(&mut self) -> io::Result<()> {
-        self.stream.flush()
+/// A read that a signal interrupts is tried again until the deadline.
+impl<'a, S: Read + OpenStream, C: Clock> Read for Timed<'a, S, C> {
+    fn read(&mut self, buf: &mut [u8]) -> io::Result<usize>
+        ensures bound { ReadsAtMost result buf.new }
+        ensures bytes { ReadConsumes None None result buf.new }
+        ensures retried { IfErr result (λ e. error_kind e ≢ ErrorKind.Interrupted) }
+    {
+        for _ in 0..u64::MAX {
+            match self.read_once(buf) {
+                Ok(count) => return Ok(count),
+                Err(fault) if fault.kind() == ErrorKind::Interrupted => {}
+                Err(fault) => return Err(fault),
+            }
+        }
+        Err(io::Error::from(ErrorKind::TimedOut))
+    }
+}
+
+/// A write or a flush that a signal interrupts is tried again until the deadline.
+impl<'a, S: Write + OpenStream, C: Clock> Write for Timed<'a, S, C> {
+    fn write(&mut self, buf: &[u8]) -> io::Result<usize>
+        ensures bound { WritesAtMost result buf.now }
+        ensures bytes { WriteAppends None None result buf.now }
+        ensures retried { IfErr result (λ e. error_kind e ≢ ErrorKind.Interrupted) }
+    {
+        for _ in 0..u64::MAX {
+            match self.write_once(buf) {
+                Ok(count) => return Ok(count),
+                Err(fault) if fault.kind() == ErrorKind::Interrupted => {}
+                Err(fault) => return Err(fault),
+            }
+        }
+        Err(io::Error::from(ErrorKind::TimedOut))
+    }
+
+    fn flush(&mut self) -> io::Result<()>
+        ensures bytes { Keeps None None }
+        ensures retried { IfErr result (λ e. error_kind e ≢ ErrorKind.Interrupted) }
+    {
+        for _ in 0..u64::MAX {
+            match self.stream.flush() {
+                Ok(()) => return Ok(()),
+                Err(fault) if fault.kind() == ErrorKind::Interrupted => {}
+                Err(fault) => return Err(fault),
+            }
+            if self.deadline.left().is_err() {
+                break;
+            }
+        }
+        Err(io::Error::from(ErrorKind::TimedOut))
     }
 }

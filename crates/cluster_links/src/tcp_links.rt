@@ -2,7 +2,7 @@
 ghost use Rattle.std.specs.Prelude.{◌≡◌, ◌≢◌, ◌⊎◌, ◌<◌, ◌-◌, ◌^◌, ◌++◌, ◌∷◌, [], Err, IfErr, IfOk};
 ghost use Rattle.std.specs.Io.KnownBytes.{Appends};
 ghost use Rattle.cluster_links.specs.Limits.{IsStandard, limit_for};
-ghost use Rattle.cluster_links.specs.Sockets.{IsSocketOf, IsTooLong, failures_over};
+ghost use Rattle.cluster_links.specs.Sockets.{IsSocketOf, IsTooLong, failures_over, limits_of};
 ghost use Rattle.cluster_core.specs.Links.{IsNamed, fault_named};
 
 use crate::deadlines::{Deadline, Timed};
@@ -114,35 +114,6 @@ fn get<S: Read + Drop>(alloc: Global, stream: S) -> Result<Message, LinkError>
     }
 }
 
-/// Sends a line over a new connection, and gives the message that comes back within the limit.
-fn exchange<N: Net + Clock>(
-    net: &N,
-    alloc: Global,
-    limit: Duration,
-    to: Address,
-    line: &[u8],
-) -> Result<Message, LinkError>
-    ensures named { IfErr result IsNamed }
-    ensures unspent { IfErr result (λ e. e ≢ LinkError.Spent) }
-{
-    let Ok(stream) = connect(net, limit, to) else {
-        return Err(LinkError::Io);
-    };
-    let stream = send_line(alloc, stream, line)?;
-    get(alloc, stream)
-}
-
-/// A connection whose limit runs from before it was made.
-fn connect<N: Net + Clock>(
-    net: &N,
-    limit: Duration,
-    to: Address,
-) -> io::Result<Timed<'_, N::Stream, N>> {
-    let deadline = Deadline::after(net, limit)?;
-    let stream = TcpStream::connect_timeout(net, &socket_address(to), deadline.left()?)?;
-    Ok(Timed::new(stream, deadline))
-}
-
 /// A link over sockets. Each call opens a connection to the address, writes the message as a line, and reads the answer as a
 /// line. What is not done within the limit for its message counts as a failure.
 #[derive(Debug, Drop)]
@@ -191,6 +162,15 @@ impl<N> TcpLink<N> {
 }
 
 impl<N: Net + Clock> TcpLink<N> {
+    /// A connection for a message with this content. Its limit runs from before it was made.
+    fn connect(&self, to: Address, content: &Content) -> io::Result<Timed<'_, N::Stream, N>>
+        ensures limit { IfOk result (λ t. t.deadline.limit ≡ limit_for (limits_of self.now) content.now) }
+    {
+        let deadline = Deadline::after(&self.net, self.limits.limit_for(content))?;
+        let stream = TcpStream::connect_timeout(&self.net, &socket_address(to), deadline.left()?)?;
+        Ok(Timed::new(stream, deadline))
+    }
+
     /// Sends a message over a new connection, and gives the one that comes back within its limit. A link that is spent is not to
     /// send.
     fn ask(&self, alloc: Global, to: Address, message: &Message) -> Result<Message, LinkError>
@@ -199,13 +179,15 @@ impl<N: Net + Clock> TcpLink<N> {
         ensures unspent { IfErr result (λ e. e ≢ LinkError.Spent) }
         ensures long { IsTooLong message.now → (result ≡ Err (LinkError.Wire WireError.LineTooLong)) ⊎ (result ≡ Err LinkError.Memory) }
     {
-        match encode(alloc, message) {
-            Ok(line) => {
-                let limit = self.limits.limit_for(&message.content);
-                exchange(&self.net, alloc, limit, to, &line)
-            }
-            Err(fault) => Err(fault_of(fault)),
-        }
+        let line = match encode(alloc, message) {
+            Ok(line) => line,
+            Err(fault) => return Err(fault_of(fault)),
+        };
+        let Ok(stream) = self.connect(to, &message.content) else {
+            return Err(LinkError::Io);
+        };
+        let stream = send_line(alloc, stream, &line)?;
+        get(alloc, stream)
     }
 }
 
@@ -213,7 +195,7 @@ impl<N: Net + Clock> Link for TcpLink<N> {
     ghost use Rattle.std.specs.Prelude.{◌+◌, ◌↔◌};
     ghost use Rattle.cluster_core.specs.Links.{failures_in};
     ghost use Rattle.cluster_links.specs.Channels.{any_answer};
-    ghost use Rattle.cluster_links.specs.Sockets.{limits_of, net_of};
+    ghost use Rattle.cluster_links.specs.Sockets.{net_of};
 
     ghost may_answer = { λ _ _ _. Unit {0} };
 

@@ -8,6 +8,8 @@ mod fakes;
 #[cfg(test)]
 mod forwarding;
 #[cfg(test)]
+mod interrupted;
+#[cfg(test)]
 mod messages;
 #[cfg(test)]
 mod nodes;

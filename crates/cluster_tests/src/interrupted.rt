@@ -1,0 +1,108 @@
+//! Streams with a deadline, whose calls a signal interrupts.
+use cluster_links::{Deadline, Timed};
+use std::io;
+use std::io::{ErrorKind, Read, Write};
+use std::net::OpenStream;
+use std::process::Abort;
+use std::time::{Clock, Duration, Instant};
+
+/// A stream of which so many calls are interrupted before it gives and takes all that it is asked for.
+#[derive(Drop)]
+struct Interrupted {
+    left: u64,
+}
+
+impl Interrupted {
+    /// Counts one call.
+    ///
+    /// Errors: `Interrupted` where it is one of them.
+    fn count(&mut self) -> io::Result<()> {
+        if self.left == 0 {
+            return Ok(());
+        }
+        self.left -= 1;
+        Err(io::Error::from(ErrorKind::Interrupted))
+    }
+}
+
+impl Read for Interrupted {
+    fn read(&mut self, buf: &mut [u8]) -> io::Result<usize> {
+        self.count()?;
+        Ok(buf.len())
+    }
+}
+
+impl Write for Interrupted {
+    fn write(&mut self, buf: &[u8]) -> io::Result<usize> {
+        self.count()?;
+        Ok(buf.len())
+    }
+
+    fn flush(&mut self) -> io::Result<()> {
+        self.count()
+    }
+}
+
+impl OpenStream for Interrupted {
+    fn set_read_timeout(&self, _limit: Option<Duration>) -> io::Result<()> {
+        Ok(())
+    }
+
+    fn set_write_timeout(&self, _limit: Option<Duration>) -> io::Result<()> {
+        Ok(())
+    }
+}
+
+/// What is read, written and flushed.
+#[derive(Clone, Copy)]
+enum Call {
+    Read,
+    Write,
+    Flush,
+}
+
+/// What a call of four bytes comes to; by a flush, of none.
+fn answer<S: Read + Write>(stream: &mut S, call: Call) -> io::Result<usize> {
+    match call {
+        Call::Read => stream.read(&mut [0u8; 4]),
+        Call::Write => stream.write(b"aaaa"),
+        Call::Flush => {
+            stream.flush()?;
+            Ok(0)
+        }
+    }
+}
+
+/// What a call comes to on a stream with this limit, of which so many calls are interrupted.
+fn answer_within<R: Clock + Abort>(
+    rt: &R,
+    limit: Duration,
+    left: u64,
+    call: Call,
+) -> io::Result<usize> {
+    let deadline = Deadline::after(rt, limit).ok().expect(rt, "a clock");
+    answer(&mut Timed::new(Interrupted { left }, deadline), call)
+}
+
+#[test]
+fn what_is_interrupted_is_tried_again(rt: HostRuntime) {
+    let hour = Duration::from_secs(3_600);
+    for left in [0, 1, 2, 1_000] {
+        for (call, wanted) in [(Call::Read, 4), (Call::Write, 4), (Call::Flush, 0)] {
+            let answer = answer_within(&rt, hour, left, call);
+            assert!(&rt; answer.ok() == Some(wanted));
+        }
+    }
+}
+
+#[test]
+fn what_is_always_interrupted_ends_at_its_deadline(rt: HostRuntime) {
+    let limit = Duration::from_millis(20);
+    for call in [Call::Read, Call::Write, Call::Flush] {
+        let start = Instant::now(&rt).ok().expect(&rt, "a clock");
+        let fault = answer_within(&rt, limit, u64::MAX, call).err();
+        let fault = fault.expect(&rt, "a fault");
+        let spent = start.elapsed(&rt).ok().expect(&rt, "a clock");
+        assert!(&rt; fault.kind() == ErrorKind::TimedOut && spent >= limit);
+    }
+}

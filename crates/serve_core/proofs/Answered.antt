@@ -1,6 +1,6 @@
 -- What is answered to a line, and what is sent for an answer.
 use Rattle.std.proofs.Common.{◌≡◌, ◌≢◌, ℕ, inl, inr, subst, sym, List, Option, Some, None, Result, Ok, Err, Vec}
-use Rattle.std.specs.Prelude.{IfOk, IfSome}
+use Rattle.std.specs.Prelude.{IfOk, IfNone, IfSome}
 use Rattle.std.specs.Global.{Global}
 use Rattle.std.specs.Result.{result_ok}
 use Rattle.turn_lock.specs.declared.errors.LockError.{LockError}
@@ -14,13 +14,20 @@ use Rattle.wire_json.specs.declared.messages.Message.{Message}
 use Rattle.locked_node.specs.declared.node.LockedNode.{LockedNode}
 use Rattle.locked_node.specs.Passes.{NodePass}
 use Rattle.cluster_core.specs.Acts.{Makes}
+use Rattle.cluster_core.specs.Errors.{error_of_lock}
 use Rattle.cluster_core.specs.Links.{MayAnswer}
-use Rattle.cluster_core.specs.Parts.{Part, Does, let_in}
+use Rattle.cluster_core.specs.Parts.{Part, Does, Gives, let_in}
 use Rattle.cluster_core.specs.Serving.{Refuses}
 use Rattle.cluster_core.proofs.Acts.{makes_as, makes_none, makes_then}
-use Rattle.cluster_core.proofs.Parts.{does_part}
-use Rattle.serve_core.specs.Answering.{AnswersInput, AnswersLine, AnswersMessage, IsRefusalLine, IsSentAs, IsUnread, IsUnsent, Responds, line_text, unread_as}
+use Rattle.cluster_core.proofs.Parts.{does_give, does_next, does_part, does_stop}
+use Rattle.serve_core.specs.Answering.{AnswersInput, AnswersLine, AnswersMessage, IsNotAnswered, IsRefusalLine, IsSentAs, IsSilent, IsTried, IsUnread, IsUnsent, Responds, SendsNothing, line_text, unread_as}
 use Rattle.serve_core.specs.declared.inputs.Input.{Input}
+use Rattle.serve_core.specs.declared.inputs.Input.TheVariants as input
+
+-- what holds without an answer
+pub if_none : {A : Type 0} (P : Type 0) (o : Option A) → P → IfNone o P
+if_none P (Some a) h = tt
+if_none P None h = h
 
 unread_other : (line : List ℕ) (e : WireError) → e ≢ Memory → (e ≢ Memory → Faults MessageFault line e) → (f : WireError) × (f ≢ Memory) × Faults MessageFault line f
 unread_other line e other h = (e, other, h other)
@@ -65,6 +72,25 @@ module _ {H : Type 0} where
   sent_refusal locked answer why (Some v) p q unsent m = makes_as (IsSentAs answer v.items) (λ acts h. inr (why, unsent, h)) m
   sent_refusal locked answer why None p q unsent m = tt
 
+  -- or neither is
+  sends_nothing : (locked : LockedNode H) (answer : Message) (why : Reason) (r : Result Message LockError) (p q : NodePass H)
+      → IsUnsent answer why → Does locked (Refuses why) (let_in r) p q → IsTried (SendsNothing answer) locked p q
+  sends_nothing locked answer why (Ok refusal) p q unsent d = (
+    Ok tt,
+    does_part (SendsNothing answer) (λ acts h. (why, unsent, h))
+        (does_next (Refuses why) (λ (m : Message). Gives tt) refusal (Ok tt) d (does_give locked q tt)),
+  )
+  sends_nothing locked answer why (Err l) p q unsent d = (
+    Err l,
+    does_part (SendsNothing answer) (λ acts h. (why, unsent, h))
+        (does_stop (Refuses why) (λ (m : Message). Gives tt) (error_of_lock l) d),
+  )
+
+  pub unsent_refusal : (locked : LockedNode H) (answer : Message) (why : Reason) (o : Option (Vec ℕ Global)) (p q : NodePass H)
+      → IsUnsent answer why → IfNone o (IsTried (Refuses why) locked p q) → IfNone o (IsTried (SendsNothing answer) locked p q)
+  unsent_refusal locked answer why (Some v) p q unsent t = tt
+  unsent_refusal locked answer why None p q unsent t = sends_nothing locked answer why t.0 p q unsent t.1
+
 module _ {H : Type 0} (hash_of : H → List ℕ → ℕ) (Came : MayAnswer) (now : ℕ) (locked : LockedNode H) (p q : NodePass H) where
   -- a message was answered, or a line refused
   pub served_so : (line : List ℕ) (message : Message) (r : Result Message LockError) → IsLine (λ v. MessageForm v message) line
@@ -81,3 +107,19 @@ module _ {H : Type 0} (hash_of : H → List ℕ → ℕ) (Came : MayAnswer) (now
       → IfSome o (λ v. Makes locked (Responds hash_of Came now heard v.items) p s)
   responded heard answer (Some v) s a m = makes_as (Responds hash_of Came now heard v.items) (λ acts t. (answer, t)) (makes_then a m)
   responded heard answer None s a m = tt
+
+  -- no answer, and so no line
+  pub silent_unanswered : (heard : Input) → IsNotAnswered hash_of Came now heard locked p q → IsSilent hash_of Came now heard locked p q
+  silent_unanswered (input.Line line) h = (Err h.0, does_stop (AnswersLine hash_of Came now line.items) SendsNothing (error_of_lock h.0) h.1)
+  silent_unanswered (input.Refused why) h = (Err h.0, does_stop (Refuses why) SendsNothing (error_of_lock h.0) h.1)
+  silent_unanswered input.Nothing h = h
+
+  -- an answer, and no line of it
+  pub silent_unsent : (heard : Input) (answer : Message) (o : Option (Vec ℕ Global)) (s : NodePass H)
+      → Makes locked (AnswersInput hash_of Came now heard (Ok answer)) p q → IfNone o (IsTried (SendsNothing answer) locked q s)
+      → IfNone o (IsSilent hash_of Came now heard locked p s)
+  silent_unsent heard answer (Some v) s a t = tt
+  silent_unsent (input.Line line) answer None s a t =
+      (t.0, does_next (AnswersLine hash_of Came now line.items) SendsNothing answer (let_in t.0) (record { makes = a; barred = tt }) t.1)
+  silent_unsent (input.Refused why) answer None s a t = (t.0, does_next (Refuses why) SendsNothing answer (let_in t.0) (record { makes = a; barred = tt }) t.1)
+  silent_unsent input.Nothing answer None s a t = absurd a.so

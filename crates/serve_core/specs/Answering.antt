@@ -11,9 +11,13 @@ use Rattle.wire_json.specs.declared.errors.WireError.TheVariants as wire
 use Rattle.wire_json.specs.declared.kinds.Reason.{Reason}
 use Rattle.wire_json.specs.declared.kinds.Reason.TheVariants as reason
 use Rattle.wire_json.specs.declared.messages.Message.{Message}
+use Rattle.turn_lock.specs.declared.errors.LockError.{LockError}
+use Rattle.locked_node.specs.declared.node.LockedNode.{LockedNode}
+use Rattle.locked_node.specs.Passes.{NodePass}
 use Rattle.cluster_core.specs.Acts.{OfActs, Nothing, Then}
+use Rattle.cluster_core.specs.Errors.{error_of_lock}
 use Rattle.cluster_core.specs.Links.{MayAnswer}
-use Rattle.cluster_core.specs.Parts.{Part}
+use Rattle.cluster_core.specs.Parts.{Part, Does, Gives, Next, let_in}
 use Rattle.cluster_core.specs.Serving.{Never, Refuses, Serves}
 use Rattle.serve_core.specs.Echoes.{MayEcho}
 use Rattle.serve_core.specs.declared.inputs.Input.{Input}
@@ -64,6 +68,14 @@ module _ {H : Type 0} where
   IsSentAs answer line acts =
       (Nothing acts × (line ≡ line_text answer)) ⊎ ((why : Reason) × IsUnsent answer why × IsRefusalLine why line acts)
 
+  -- by this pass a part was done up to its end, or up to the call that the lock refused
+  abbrev pub IsTried : {A : Type 0} → Part H A → LockedNode H → NodePass H → NodePass H → Type 0
+  IsTried {A} Tried locked old new = (r : Result A LockError) × Does locked Tried (let_in r) old new
+
+  -- nothing is sent for an answer: it has no line, and neither has the refusal that stands for it, which the node was asked for once
+  abbrev pub SendsNothing : Message → Part H (Unit {0})
+  SendsNothing answer r acts = (why : Reason) × IsUnsent answer why × Next (Refuses why) (λ refusal. Gives tt) r acts
+
 module _ {H : Type 0} (hash_of : H → List ℕ → ℕ) (Came : MayAnswer) (now : ℕ) where
   -- what is answered to a message at this moment: what a node answers, requests by the echo
   abbrev pub AnswersMessage : Message → Part H Message
@@ -84,3 +96,17 @@ module _ {H : Type 0} (hash_of : H → List ℕ → ℕ) (Came : MayAnswer) (now
   -- the line that goes back for what came
   abbrev pub Responds : Input → List ℕ → OfActs H
   Responds heard line acts = (answer : Message) × Then (AnswersInput heard (Ok answer)) (IsSentAs answer line) acts
+
+  -- no line goes back: the lock refuses a call of the answer, or no line is sent for it
+  abbrev pub StaysSilent : Input → Part H (Unit {0})
+  StaysSilent heard = Next (AnswersInput heard) SendsNothing
+
+  -- no answer is made to what came: no call is made, or the lock refuses one of the answer's
+  abbrev pub IsNotAnswered : Input → LockedNode H → NodePass H → NodePass H → Type 0
+  IsNotAnswered input.Nothing locked old new = new ≡ old
+  IsNotAnswered heard locked old new = (l : LockError) × Does locked (AnswersInput heard) (Err (error_of_lock l)) old new
+
+  -- what was done where no line goes back: no call where nothing that is answered came; else those of the silence
+  abbrev pub IsSilent : Input → LockedNode H → NodePass H → NodePass H → Type 0
+  IsSilent input.Nothing locked old new = new ≡ old
+  IsSilent heard locked old new = IsTried (StaysSilent heard) locked old new

@@ -1,11 +1,12 @@
 //! What a server answers to what came.
-ghost use Rattle.std.specs.Prelude.{◌≡◌, Ok, IfOk, IfErr, IfSome};
+ghost use Rattle.std.specs.Prelude.{◌≡◌, Ok, IfOk, IfErr, IfNone, IfSome};
 ghost use Rattle.wire_json.specs.Lines.{IsLine};
 ghost use Rattle.wire_json.specs.Messages.{MessageForm};
 ghost use Rattle.locked_node.specs.Passes.{Fits};
 ghost use Rattle.cluster_core.specs.Acts.{Makes};
 ghost use Rattle.cluster_core.specs.Parts.{Does, let_in};
-ghost use Rattle.serve_core.specs.Answering.{AnswersInput, AnswersLine, AnswersMessage, IsRefusalLine, IsSentAs, IsUnread, IsUnsent, Responds, line_text, unread_as};
+ghost use Rattle.cluster_core.specs.Serving.{Refuses};
+ghost use Rattle.serve_core.specs.Answering.{AnswersInput, AnswersLine, AnswersMessage, IsNotAnswered, IsRefusalLine, IsSentAs, IsSilent, IsTried, IsUnread, IsUnsent, Responds, SendsNothing, line_text, unread_as};
 
 use crate::echoes::Echo;
 use crate::inputs::Input;
@@ -91,6 +92,7 @@ fn answer<R: Wait, H: PointHash, L: Link>(
 ) -> Option<Message>
     requires { Fits node.now pass.old }
     ensures answered { IfSome result (λ m. Makes node.now (AnswersInput H.hash_of L.may_answer now input.now (Ok m)) pass.old pass.new) }
+    ensures unanswered { IfNone result (IsNotAnswered H.hash_of L.may_answer now input.now node.now pass.old pass.new) }
     ensures fits { Fits node.now pass.new }
 {
     match input {
@@ -124,6 +126,7 @@ fn refusal_line<R: Wait, H: PointHash>(
 ) -> Option<Vec<u8>>
     requires { Fits node.now pass.old }
     ensures refusal { IfSome result (λ v. Makes node.now (IsRefusalLine reason v.items) pass.old pass.new) }
+    ensures silent { IfNone result (IsTried (Refuses reason) node.now pass.old pass.new) }
     ensures fits { Fits node.now pass.new }
 {
     let Ok(refusal) = refuse(rt, node, pass, reason) else {
@@ -145,6 +148,7 @@ fn line_of<R: Wait, H: PointHash>(
 ) -> Option<Vec<u8>>
     requires { Fits node.now pass.old }
     ensures sent { IfSome result (λ v. Makes node.now (IsSentAs answer.now v.items) pass.old pass.new) }
+    ensures silent { IfNone result (IsTried (SendsNothing answer.now) node.now pass.old pass.new) }
     ensures fits { Fits node.now pass.new }
 {
     match own_line(alloc, answer) {
@@ -167,6 +171,7 @@ pub fn respond<R: Wait, H: PointHash, L: Link>(
 ) -> Option<Vec<u8>>
     requires { Fits node.now pass.old }
     ensures sent { IfSome result (λ v. Makes node.now (Responds H.hash_of L.may_answer now input.now v.items) pass.old pass.new) }
+    ensures silent { IfNone result (IsSilent H.hash_of L.may_answer now input.now node.now pass.old pass.new) }
     ensures fits { Fits node.now pass.new }
 {
     let answer = answer(rt, alloc, node, pass, link, echo, now, input)?;

@@ -1,7 +1,18 @@
 //! The time of a server.
+ghost use Rattle.std.specs.Prelude.{◌≡◌, ◌≤◌, ◌/◌, ◌^◌, min};
+ghost use Rattle.std.specs.Duration.{as_nanos};
+ghost use Rattle.change_core.specs.Numbers.{greatest_number};
 
 use change_core::{GREATEST_NUMBER, Moment};
-use std::time::{Clock, Instant};
+use std::time::{Clock, Duration, Instant};
+
+/// The whole milliseconds of a time, as many as a moment counts at most.
+fn millis_of(spent: Duration) -> u64
+    ensures millis { result ≡ min (as_nanos spent / 10 ^ 6) greatest_number }
+    ensures few { result ≤ greatest_number }
+{
+    spent.as_millis().min(GREATEST_NUMBER as u128) as u64
+}
 
 /// The beginning of a server's time. Where the clock fails it stands.
 #[derive(Clone, Copy, Debug)]
@@ -18,20 +29,21 @@ impl Watch {
     }
 
     /// The milliseconds since the beginning, as many as a moment counts at most.
-    fn millis<C: Clock>(&self, clock: &C) -> u64 {
+    fn millis<C: Clock>(&self, clock: &C) -> u64
+        ensures { result ≤ greatest_number }
+    {
         let Some(start) = self.start else {
             return 0;
         };
         match start.elapsed(clock) {
-            Ok(spent) => u64::try_from(spent.as_millis()).unwrap_or(GREATEST_NUMBER),
+            Ok(spent) => millis_of(spent),
             Err(_) => 0,
         }
     }
 
     /// The moment that it is now.
     pub fn moment<C: Clock>(&self, clock: &C) -> Moment {
-        let millis = self.millis(clock).min(GREATEST_NUMBER);
-        let Some(moment) = Moment::new(millis) else {
+        let Some(moment) = Moment::new(self.millis(clock)) else {
             unreachable!()
         };
         moment

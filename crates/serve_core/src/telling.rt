@@ -121,8 +121,7 @@ pub fn tell_over<R: Wait, L: Link, I: Read, W: Write>(
     Ok(tell_changes(rt, alloc, link, host, changes, writer)?)
 }
 
-/// `tell_over` over sockets, with the standard limits. Changes whose line would have more than 1,048,576 bytes are not sent:
-/// `Asked` with `NoAnswer`.
+/// `tell_over` over sockets, with the standard limits.
 pub fn tell_run<R: Net + Clock + Wait, I: Read, W: Write>(
     rt: &R,
     alloc: Global,

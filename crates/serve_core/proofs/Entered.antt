@@ -40,8 +40,8 @@ cannot_end (Err e) fault = subst MayFollow (sym fault) tt
 
 module _ {H : Type 0} (hash_of : H → List ℕ → ℕ) (Came : MayAnswer) (hash : H) (words : ServeWords) (node : LockedNode H) (passes : List (NodePass H)) (timer new : NodePass H)
     (hosts : List Address) (now : ℕ) (born : IsBorn hash_of hash words (opening_of node)) (fresh : AreFresh node (passes ++ timer ∷ [])) (same : hosts ≡ words.hosts.items) where
-  -- what its join came to
-  entered_by : (fault : Option ServeFault) → IsJoinedTo Came node hosts now fault timer new → HasEntered hash_of Came hash words fault
+  -- what its join came to, if it had hosts to ask
+  entered_by : (fault : Option ServeFault) → (hosts ≢ [] → IsJoinedTo Came node hosts now fault timer new) → HasEntered hash_of Came hash words fault
   entered_by fault joined = record {
     node = node;
     now = now;
@@ -49,29 +49,29 @@ module _ {H : Type 0} (hash_of : H → List ℕ → ℕ) (Came : MayAnswer) (has
     new = new;
     born = born;
     fresh = (All-pop (IsNew node (2 ^ 32 - 1)) (passes ++ timer ∷ []) passes (Some timer) refl fresh).1;
-    joined = subst (λ (xs : List Address). IsJoinedTo Came node xs now fault timer new) same joined;
+    joined = λ named. subst (λ (xs : List Address). IsJoinedTo Came node xs now fault timer new) same (joined (λ none. named (sym same ∙ none)));
   }
 
-  -- it was let in, and ended after that
+  -- it entered, and ended after that
   pub let_in_by : (r : Result (Unit {0}) ServeFault) → IfErr r MayFollow → (hosts ≢ [] → IsJoinedTo Came node hosts now None timer new)
-      → words.hosts.items ≢ [] → TellsEntry (HasEntered hash_of Came hash words) r
-  let_in_by (Ok u) after joined named = entered_by None (joined (λ none. named (sym same ∙ none)))
-  let_in_by (Err serve.NoneJoined) after joined named = absurd after
-  let_in_by (Err serve.CannotListen) after joined named = entered_by None (joined (λ none. named (sym same ∙ none)))
-  let_in_by (Err serve.NoThread) after joined named = entered_by None (joined (λ none. named (sym same ∙ none)))
-  let_in_by (Err serve.CannotWrite) after joined named = entered_by None (joined (λ none. named (sym same ∙ none)))
-  let_in_by (Err serve.NoMemory) after joined named = tt
+      → TellsEntry (HasEntered hash_of Came hash words) r
+  let_in_by (Ok u) after joined = entered_by None joined
+  let_in_by (Err serve.NoneJoined) after joined = absurd after
+  let_in_by (Err serve.CannotListen) after joined = entered_by None joined
+  let_in_by (Err serve.NoThread) after joined = entered_by None joined
+  let_in_by (Err serve.CannotWrite) after joined = entered_by None joined
+  let_in_by (Err serve.NoMemory) after joined = tt
 
-  -- it was not
+  -- it did not
   pub kept_out_by : (e : ServeFault) (out : Result (Unit {0}) ServeFault) → (e ≡ serve.NoneJoined) ⊎ (e ≡ serve.NoMemory)
       → (hosts ≢ [] → IsJoinedTo Came node hosts now (Some e) timer new) → IsErrAnd out (λ x. x ≡ e)
-      → words.hosts.items ≢ [] → TellsEntry (HasEntered hash_of Came hash words) out
-  kept_out_by e (Ok u) which joined so named = absurd so
-  kept_out_by e (Err x) (inl none) joined so named =
-      let refused : IsJoinedTo Came node hosts now (Some serve.NoneJoined) timer new =
-      subst (λ (f : ServeFault). IsJoinedTo Came node hosts now (Some f) timer new) none (joined (λ n. named (sym same ∙ n))) in
+      → TellsEntry (HasEntered hash_of Came hash words) out
+  kept_out_by e (Ok u) which joined so = absurd so
+  kept_out_by e (Err x) (inl none) joined so =
+      let refused : hosts ≢ [] → IsJoinedTo Came node hosts now (Some serve.NoneJoined) timer new =
+      λ named. subst (λ (f : ServeFault). IsJoinedTo Came node hosts now (Some f) timer new) none (joined named) in
       subst (λ (f : ServeFault). TellsEntry (HasEntered hash_of Came hash words) (Err f)) (sym (so ∙ none)) (entered_by (Some serve.NoneJoined) refused)
-  kept_out_by e (Err x) (inr memory) joined so named =
+  kept_out_by e (Err x) (inr memory) joined so =
       subst (λ (f : ServeFault). TellsEntry (HasEntered hash_of Came hash words) (Err f)) (sym (so ∙ memory)) tt
 
   -- who does not enter had hosts to ask

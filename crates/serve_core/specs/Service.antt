@@ -81,7 +81,8 @@ pub record IsJoinedTo {H : Type 0} (Came : MayAnswer) (node : LockedNode H) (hos
   pub does : Does node (IsJoin Came now hosts) joined old new
   pub is : fault ≡ join_fault joined
 
--- The node was born as the words say and asked their hosts to let it in, by a new pass and over a link that answered anything; this came of it.
+-- The node was born as the words say; where they name hosts, it asked them to let it in, by a new pass and over a link that answered so, and
+-- this came of it.
 pub record HasEntered {H : Type 0} (hash_of : H → List ℕ → ℕ) (Came : MayAnswer) (hash : H) (words : ServeWords) (fault : Option ServeFault) : Type 0 where
   pub node : LockedNode H
   pub now : ℕ
@@ -89,26 +90,26 @@ pub record HasEntered {H : Type 0} (hash_of : H → List ℕ → ℕ) (Came : Ma
   pub new : NodePass H
   pub born : IsBorn hash_of hash words (opening_of node)
   pub fresh : IsNew node (2 ^ 32 - 1) old
-  pub joined : IsJoinedTo Came node words.hosts.items now fault old new
+  pub joined : words.hosts.items ≢ [] → IsJoinedTo Came node words.hosts.items now fault old new
 
 -- the same over a link of which nothing is known, under the sum of the bytes or under SHA-256's first eight
 abbrev pub EntersBy : Bool → ServeWords → Option ServeFault → Type 0
 EntersBy true words = let hash : SumHash = record {} in HasEntered (λ (h : SumHash). hash_by true) any_answer hash words
 EntersBy false words = let hash : Sha256Hash = record {} in HasEntered (λ (h : Sha256Hash). hash_by false) any_answer hash words
 
--- how a server ends tells what its entering came to: nobody let it in; or, but at a want of memory, it was let in before
+-- how a server ends tells what its entering came to: nobody let it in; or, but at a want of memory, it entered before
 abbrev pub TellsEntry : (Option ServeFault → Type 0) → Result (Unit {0}) ServeFault → Type 0
 TellsEntry Entered (Ok u) = Entered None
 TellsEntry Entered (Err serve.NoneJoined) = Entered (Some serve.NoneJoined)
 TellsEntry Entered (Err serve.NoMemory) = Unit {0}
 TellsEntry Entered (Err other) = Entered None
 
--- the server of these words served its last connection: all is written, and where hosts are named one let the node in before
+-- the server of these words served its last connection: all is written, and the node was born so, and let in where hosts are named, before
 abbrev pub Served : ServeWords → Option (List ℕ) → Option (List ℕ) → Type 0
-Served words old new = Appends old new (service_text words.address) × (words.hosts.items ≢ [] → EntersBy words.sum words None)
+Served words old new = Appends old new (service_text words.address) × EntersBy words.sum words None
 
--- why it did not, and what is written then: nobody let it in only where hosts are named, and there the fault tells what came of asking them
+-- why it did not, and what is written then: nobody let it in only where hosts are named, and the fault tells what came of entering
 pub record IsUnserved (words : ServeWords) (e : ServeFault) (old new : Option (List ℕ)) : Type 0 where
   pub left : LeavesService words.address e old new
   pub named : e ≡ serve.NoneJoined → words.hosts.items ≢ []
-  pub entered : words.hosts.items ≢ [] → TellsEntry (EntersBy words.sum words) (Err e)
+  pub entered : TellsEntry (EntersBy words.sum words) (Err e)

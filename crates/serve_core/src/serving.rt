@@ -63,7 +63,7 @@ fn serve_by<
     ensures served { OnOk result (Appends (W.contents writer.old) (W.contents writer.new) (service_text words.now.address)) }
     ensures left { IfErr result (λ e. LeavesService words.now.address e (W.contents writer.old) (W.contents writer.new)) }
     ensures named { result ≡ Err ServeFault.NoneJoined → words.now.hosts.items ≢ [] }
-    ensures entered { words.now.hosts.items ≢ [] → TellsEntry (HasEntered H.hash_of any_answer hash words.now) result }
+    ensures entered { TellsEntry (HasEntered H.hash_of any_answer hash words.now) result }
 {
     let watch = Watch::start(rt);
     let (node, mut timer, passes) = shared_node(alloc, hash, words)?;
@@ -99,7 +99,7 @@ pub fn serve_within<R: Net<Listener = TcpListener, Stream = TcpStream> + Host, W
     ensures served { OnOk result (Appends (W.contents writer.old) (W.contents writer.new) (service_text words.now.address)) }
     ensures left { IfErr result (λ e. LeavesService words.now.address e (W.contents writer.old) (W.contents writer.new)) }
     ensures named { result ≡ Err ServeFault.NoneJoined → words.now.hosts.items ≢ [] }
-    ensures entered { words.now.hosts.items ≢ [] → TellsEntry (EntersBy words.now.sum words.now) result }
+    ensures entered { TellsEntry (EntersBy words.now.sum words.now) result }
 {
     if words.sum {
         serve_by(rt, alloc, SumHash, waits, words, writer)
@@ -118,7 +118,7 @@ pub fn serve_run<R: Net<Listener = TcpListener, Stream = TcpStream> + Host, W: W
     ensures served { OnOk result (Appends (W.contents writer.old) (W.contents writer.new) (service_text words.now.address)) }
     ensures left { IfErr result (λ e. LeavesService words.now.address e (W.contents writer.old) (W.contents writer.new)) }
     ensures named { result ≡ Err ServeFault.NoneJoined → words.now.hosts.items ≢ [] }
-    ensures entered { words.now.hosts.items ≢ [] → TellsEntry (EntersBy words.now.sum words.now) result }
+    ensures entered { TellsEntry (EntersBy words.now.sum words.now) result }
 {
     serve_within(rt, alloc, Waits::standard(), words, writer)
 }

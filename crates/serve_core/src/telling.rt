@@ -21,6 +21,9 @@ use std::sync::Wait;
 use std::time::Clock;
 use wire_json::{Changes, decode_change, read_line};
 
+/// How many changes a message has at most: as many as a cluster has members.
+const MOST_CHANGES: usize = MOST_MEMBERS;
+
 /// Reads one change line; none at the end of the input.
 fn read_change<R: Read>(alloc: Global, reader: &mut R) -> Result<Option<Sourced>, LineFault>
     ensures heard { IfSome (R.remaining reader.old) (λ xs. HearsChange xs result (R.remaining reader.new)) }
@@ -51,7 +54,7 @@ fn hear<R: Read>(
         Ok(None) => return Ok(false),
         Err(fault) => return Err(TellFault::AtLine(number, fault)),
     };
-    if changes.len() == MOST_MEMBERS {
+    if changes.len() == MOST_CHANGES {
         return Err(TellFault::TooManyChanges);
     }
     match changes.push(change) {

@@ -23,11 +23,14 @@ mod words;
 
 pub use asking::{ask_over, ask_run};
 pub use commands::{ClusterCommand, ClusterFault, cluster_command_run};
+pub use connections::serve_connection;
 pub use faults::{AskFault, ServeFault, TellFault};
 pub use hosts::Host;
 pub use looks::{members_over, members_run};
 pub use owners::{ask_any_over, ask_any_run};
+pub use servers::Server;
 pub use serving::{serve_run, serve_within};
 pub use telling::{tell_over, tell_run};
 pub use waits::Waits;
+pub use watches::Watch;
 pub use words::{AskAnyWords, AskWords, MOST_REQUESTS, MembersWords, ServeWords};

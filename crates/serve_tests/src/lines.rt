@@ -1,10 +1,11 @@
 //! What a server makes of peers that do not ask as they should.
 use crate::plans::{Plan, plan_at};
-use crate::shared::{Question, Running, answers, connect, end, start, stop, turn};
+use crate::shared::{Counting, Question, Running, answers, connect, end, spend, start, turn};
 use serve_core::Host;
 use std::alloc::Global;
 use std::io::{ErrorKind, Read, Write};
 use std::net::{Net, Shutdown, TcpListener, TcpStream};
+use std::sync::Wait;
 use std::time::{Clock, Duration, Instant};
 use std::{io, thread};
 
@@ -77,7 +78,7 @@ fn rest_of<S: Read>(alloc: Global, stream: &mut S) -> Option<Vec<u8>> {
 }
 
 /// What a peer hears that talks so, until the server hangs up; nothing where it hangs up itself.
-fn hears<R: Net<Listener = TcpListener, Stream = TcpStream> + Host>(
+fn hears<R: Net<Listener = TcpListener, Stream = TcpStream> + Wait + Clock>(
     rt: &R,
     alloc: Global,
     server: &Running,
@@ -94,7 +95,7 @@ fn hears<R: Net<Listener = TcpListener, Stream = TcpStream> + Host>(
 }
 
 /// Whether a server makes this of a talk.
-fn makes<R: Net<Listener = TcpListener, Stream = TcpStream> + Host>(
+fn makes<R: Net<Listener = TcpListener, Stream = TcpStream> + Wait + Clock>(
     rt: &R,
     alloc: Global,
     server: &Running,
@@ -114,7 +115,7 @@ const ECHO: &str = "127.0.0.1:29177 hi\n";
 const WRITTEN: &str = "serving 127.0.0.1:29177\ndone\n";
 
 /// Whether a server makes this of each talk, one after the other, and serves before and behind them.
-fn makes_all<R: Net<Listener = TcpListener, Stream = TcpStream> + Host>(
+fn makes_all<R: Net<Listener = TcpListener, Stream = TcpStream> + Wait + Clock>(
     rt: &R,
     alloc: Global,
     server: &Running,
@@ -152,7 +153,7 @@ fn counts_all<R: Net<Listener = TcpListener, Stream = TcpStream> + Host>(
 }
 
 /// What is answered to what is no message.
-const MALFORMED: &str =
+pub(crate) const MALFORMED: &str =
     "{\"kind\":\"refused\",\"reason\":\"malformed\",\"source\":\"127.0.0.1:29177\",\"sourceIncarnationNumber\":1}\n";
 
 #[test]
@@ -185,14 +186,14 @@ fn what_is_no_message_is_refused(rt: HostRuntime) {
 /// For how many milliseconds a server waits for a line whose limit is tested.
 const LIMIT: u64 = 1_000;
 
-/// How many requests it has: a question may miss the limit, too.
+/// How many requests it has: a question may miss the limit, too. Those that are left are used up by knocks.
 const SPARE: u64 = 40;
 
 /// After how many of them it is not to have hung up yet: most of the limit, and more than the standard one.
 const EARLY: u64 = 900;
 
 /// Whether a server makes nothing of a talk, and hangs up no earlier than it is to.
-fn leaves<R: Net<Listener = TcpListener, Stream = TcpStream> + Host>(
+fn leaves<R: Net<Listener = TcpListener, Stream = TcpStream> + Wait + Clock>(
     rt: &R,
     alloc: Global,
     server: &Running,
@@ -211,7 +212,7 @@ fn leaves<R: Net<Listener = TcpListener, Stream = TcpStream> + Host>(
 }
 
 /// Whether a server leaves each talk, one after the other, and serves before and behind them.
-fn leaves_all<R: Net<Listener = TcpListener, Stream = TcpStream> + Host>(
+fn leaves_all<R: Net<Listener = TcpListener, Stream = TcpStream> + Wait + Clock>(
     rt: &R,
     alloc: Global,
     server: &Running,
@@ -228,7 +229,7 @@ fn leaves_all<R: Net<Listener = TcpListener, Stream = TcpStream> + Host>(
     answers(rt, alloc, server, Question::Ask, ECHO)
 }
 
-/// Whether a server with a limit for a line leaves each talk.
+/// Whether a server with a limit for a line leaves each talk, and each connection is one of its requests.
 fn cuts_all<R: Net<Listener = TcpListener, Stream = TcpStream> + Host>(
     rt: &R,
     alloc: Global,
@@ -242,9 +243,10 @@ fn cuts_all<R: Net<Listener = TcpListener, Stream = TcpStream> + Host>(
     let Some(server) = start(rt, alloc, &plan) else {
         return false;
     };
-    let are_cut = leaves_all(rt, alloc, &server, talks);
-    match stop(rt, server) {
-        Some(ended) => are_cut && ended.is(Ok(()), WRITTEN),
+    let net = Counting::new(rt);
+    let are_cut = leaves_all(&net, alloc, &server, talks) && spend(&net, &server, SPARE);
+    match end(rt, server, are_cut) {
+        Some(ended) => ended.is(Ok(()), WRITTEN),
         None => false,
     }
 }
@@ -267,18 +269,18 @@ fn a_slow_peer_is_left_at_the_limit(rt: HostRuntime) {
 }
 
 /// Asks for a ping of 127.0.0.1:29170, which says nothing.
-const PING_REQ: &str =
+pub(crate) const PING_REQ: &str =
     "{\"changes\":[],\"checksum\":\"e3b0c44298fc1c149afbf4c8996fb92427ae41e4649b934ca495991b7852b855\",\"kind\":\"ping-req\",\"source\":\"127.0.0.1:1\",\"sourceIncarnationNumber\":1,\"target\":\"127.0.0.1:29170\"}\n";
 
 /// What is answered once that was waited for.
-const NOT_REACHED: &str =
+pub(crate) const NOT_REACHED: &str =
     "{\"changes\":[{\"address\":\"127.0.0.1:29177\",\"incarnationNumber\":1,\"source\":\"127.0.0.1:29177\",\"sourceIncarnationNumber\":1,\"status\":\"alive\"}],\"checksum\":\"22662f650744ac3c189b2bd07ecd19225637eb14a4c9e73dd2e46356ac7660b9\",\"kind\":\"ping-req-ack\",\"reached\":false,\"source\":\"127.0.0.1:29177\",\"sourceIncarnationNumber\":1,\"target\":\"127.0.0.1:29170\"}\n";
 
 /// How often a peer asks whose line may miss the limit.
 const LOOKS: u32 = 20;
 
 /// Whether a server answers a ping-req after more than the limit of a line.
-fn answers_late<R: Net<Listener = TcpListener, Stream = TcpStream> + Host>(
+fn answers_late<R: Net<Listener = TcpListener, Stream = TcpStream> + Wait + Clock>(
     rt: &R,
     alloc: Global,
     server: &Running,
@@ -302,7 +304,7 @@ fn answers_late<R: Net<Listener = TcpListener, Stream = TcpStream> + Host>(
     false
 }
 
-/// Whether a server that waits longer for a ping than for a line answers after both.
+/// Whether a server that waits longer for a ping than for a line answers after both, and each connection is one of its requests.
 fn serves_late<R: Net<Listener = TcpListener, Stream = TcpStream> + Host>(
     rt: &R,
     alloc: Global,
@@ -316,10 +318,12 @@ fn serves_late<R: Net<Listener = TcpListener, Stream = TcpStream> + Host>(
     let Some(server) = start(rt, alloc, &plan) else {
         return false;
     };
-    let is_answered = answers(rt, alloc, &server, Question::Ask, ECHO)
-        && answers_late(rt, alloc, &server);
-    match stop(rt, server) {
-        Some(ended) => is_answered && ended.is(Ok(()), WRITTEN),
+    let net = Counting::new(rt);
+    let is_answered = answers(&net, alloc, &server, Question::Ask, ECHO)
+        && answers_late(&net, alloc, &server)
+        && spend(&net, &server, SPARE);
+    match end(rt, server, is_answered) {
+        Some(ended) => ended.is(Ok(()), WRITTEN),
         None => false,
     }
 }

@@ -1,7 +1,9 @@
 //! Servers from their words to their last connection.
 use crate::peers::Page;
 use crate::plans::{ALL, Plan, plan_at};
-use crate::shared::{Question, Running, answers, asked, connect, end, start, stop, turn};
+use crate::shared::{
+    Counting, Ended, Question, Running, answers, asked, connect, end, spend, start, stop, turn,
+};
 use crate::tells::Lines;
 use change_core::Address;
 use serve_core::{
@@ -9,6 +11,8 @@ use serve_core::{
 };
 use std::alloc::Global;
 use std::net::{Net, TcpListener, TcpStream};
+use std::sync::Wait;
+use std::time::Clock;
 
 /// Two requests under the standard waits, at a port that the system may have given to a connection, so that both sides try again.
 fn echoes_twice<R: Net<Listener = TcpListener, Stream = TcpStream> + Host>(
@@ -168,8 +172,54 @@ fn all_threads_end_with_the_last_request(rt: HostRuntime) {
     drop(turn);
 }
 
+/// How a server of one request, three workers and rounds ends that is asked, or that ends before; none where it was not started.
+fn ending_of<R: Net<Listener = TcpListener, Stream = TcpStream> + Host>(
+    rt: &R,
+    alloc: Global,
+) -> Option<Ended> {
+    let plan = Plan {
+        workers: 3,
+        period: 3_600_000,
+        ..plan_at(29_173, 1)
+    };
+    let server = start(rt, alloc, &plan)?;
+    let _served = answers(rt, alloc, &server, Question::Ask, "127.0.0.1:29173 hi\n");
+    stop(rt, server)
+}
+
+/// What a server writes that serves to its end.
+const SERVED: &str = "serving 127.0.0.1:29173\ndone\n";
+
+/// Whether a server tells by its end what was refused to it: a growth, a thread, or one to its writer.
+fn is_told(ended: &Ended) -> bool {
+    let serving = "serving 127.0.0.1:29173\n";
+    ended.is(Err(ServeFault::NoThread), serving)
+        || ended.is(Err(ServeFault::NoMemory), serving)
+        || ended.is(Err(ServeFault::NoMemory), "")
+        || ended.is_unwritten(SERVED)
+}
+
+#[test]
+fn what_is_refused_to_a_server_is_its_fault(rt: HostRuntime) {
+    let alloc: Global = rt.alloc();
+    let turn = turn(&rt).expect(&rt, "a turn");
+    let is_served = match ending_of(&rt, alloc) {
+        Some(ended) => {
+            let is_served = ended.is(Ok(()), SERVED);
+            assert!(&rt; is_served || is_told(&ended));
+            is_served
+        }
+        None => false,
+    };
+    if !is_served {
+        let again = ending_of(&rt, alloc).expect(&rt, "a server");
+        assert!(&rt; again.is(Ok(()), SERVED));
+    }
+    drop(turn);
+}
+
 /// Whether a server answers another peer while so many are silent, whose lines it waits for; they hang up then.
-fn answers_beside<R: Net<Listener = TcpListener, Stream = TcpStream> + Host>(
+fn answers_beside<R: Net<Listener = TcpListener, Stream = TcpStream> + Wait + Clock>(
     rt: &R,
     alloc: Global,
     server: &Running,
@@ -194,7 +244,7 @@ fn answers_beside<R: Net<Listener = TcpListener, Stream = TcpStream> + Host>(
 }
 
 /// Workers that wait for lines, and between two peers that ask silent ones for all workers but one. There are requests to spare,
-/// since a question that found no memory is asked again.
+/// since a question that found no memory is asked again; knocks use up the rest, and each connection is one.
 fn serves_beside<R: Net<Listener = TcpListener, Stream = TcpStream> + Host>(
     rt: &R,
     alloc: Global,
@@ -208,11 +258,12 @@ fn serves_beside<R: Net<Listener = TcpListener, Stream = TcpStream> + Host>(
     let Some(server) = start(rt, alloc, &plan) else {
         return false;
     };
-    let line = "127.0.0.1:29178 hi\n";
-    let is_served = answers(rt, alloc, &server, Question::Ask, line)
-        && answers_beside(rt, alloc, &server, count, line);
-    match stop(rt, server) {
-        Some(ended) => is_served && ended.is(Ok(()), "serving 127.0.0.1:29178\ndone\n"),
+    let (net, line) = (Counting::new(rt), "127.0.0.1:29178 hi\n");
+    let is_served = answers(&net, alloc, &server, Question::Ask, line)
+        && answers_beside(&net, alloc, &server, count, line)
+        && spend(&net, &server, plan.requests);
+    match end(rt, server, is_served) {
+        Some(ended) => ended.is(Ok(()), "serving 127.0.0.1:29178\ndone\n"),
         None => false,
     }
 }

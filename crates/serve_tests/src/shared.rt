@@ -7,13 +7,14 @@ use serve_core::{
     AskFault, Host, ServeFault, ServeWords, Waits, ask_over, members_over, serve_run, serve_within,
 };
 use std::alloc::Global;
+use std::cell::Cell;
 use std::io::Read;
-use std::net::{Net, Shutdown, TcpListener, TcpStream};
-use std::sync::Arc;
+use std::net::{Net, Shutdown, SocketAddr, TcpListener, TcpStream};
 use std::sync::atomic::{AtomicBool, Ordering};
-use std::thread;
+use std::sync::{Arc, Wait};
 use std::thread::JoinHandle;
 use std::time::{Clock, Duration};
+use std::{io, thread};
 
 /// How often is tried again what may come to be, a millisecond apart.
 pub(crate) const TRIES: u32 = 1_000_000;
@@ -39,6 +40,12 @@ impl Ended {
     /// Whether it ended so, with this text written.
     pub(crate) fn is(&self, outcome: Result<(), ServeFault>, text: &str) -> bool {
         self.outcome == outcome && self.text.as_slice() == text.as_bytes()
+    }
+
+    /// Whether the writer failed, with a front of this text written.
+    pub(crate) fn is_unwritten(&self, text: &str) -> bool {
+        let is_front = text.as_bytes().starts_with(self.text.as_slice());
+        self.outcome == Err(ServeFault::CannotWrite) && is_front
     }
 }
 
@@ -148,14 +155,15 @@ pub(crate) fn connect<R: Net<Listener = TcpListener, Stream = TcpStream>>(
     Some(stream)
 }
 
-/// Connects, says nothing, and waits until the other side hangs up; false where nobody listens.
-fn knock<R: Net<Listener = TcpListener, Stream = TcpStream>>(rt: &R, to: Address) -> bool {
-    let Some(mut stream) = connect(rt, to) else {
-        return false;
-    };
+/// Connects, says nothing, and waits until the other side hangs up; whether it did so by itself, as a server does and the system
+/// for one that has ended does not; none where nobody listens.
+fn knock<R: Net<Listener = TcpListener, Stream = TcpStream>>(rt: &R, to: Address) -> Option<bool> {
+    let mut stream = connect(rt, to)?;
     let _said = stream.shutdown(Shutdown::Write);
-    let _heard = stream.read(&mut [0]);
-    true
+    match stream.read(&mut [0]) {
+        Ok(count) => Some(count == 0),
+        Err(_) => Some(false),
+    }
 }
 
 /// Knocks until a server has ended; whether it has.
@@ -167,7 +175,7 @@ fn drain<R: Net<Listener = TcpListener, Stream = TcpStream> + Host>(
         if server.has_ended() {
             return true;
         }
-        if !knock(rt, server.address) {
+        if knock(rt, server.address).is_none() {
             thread::sleep(rt, Duration::from_millis(1));
         }
     }
@@ -196,6 +204,77 @@ pub(crate) fn end<R: Net<Listener = TcpListener, Stream = TcpStream> + Host>(
     if has_ended { ended } else { None }
 }
 
+/// The network, which counts the connections that were made over it.
+#[derive(Drop)]
+pub(crate) struct Counting<'a, R> {
+    rt: &'a R,
+    made: Cell<u64>,
+}
+
+impl<'a, R> Counting<'a, R> {
+    /// None were made yet.
+    pub(crate) fn new(rt: &'a R) -> Counting<'a, R> {
+        Counting {
+            rt,
+            made: Cell::new(0),
+        }
+    }
+}
+
+impl<'a, R: Net<Listener = TcpListener, Stream = TcpStream>> Net for Counting<'a, R> {
+    type Stream = TcpStream;
+
+    type Listener = TcpListener;
+
+    fn bind(&self, addr: SocketAddr) -> io::Result<TcpListener> {
+        self.rt.bind(addr)
+    }
+
+    fn connect(&self, addr: SocketAddr) -> io::Result<TcpStream> {
+        let stream = self.rt.connect(addr)?;
+        self.made.set(self.made.get().wrapping_add(1));
+        Ok(stream)
+    }
+
+    fn connect_timeout(&self, addr: SocketAddr, timeout: Duration) -> io::Result<TcpStream> {
+        let stream = self.rt.connect_timeout(addr, timeout)?;
+        self.made.set(self.made.get().wrapping_add(1));
+        Ok(stream)
+    }
+}
+
+impl<'a, R: Clock> Clock for Counting<'a, R> {
+    fn monotonic(&self) -> io::Result<Duration> {
+        self.rt.monotonic()
+    }
+
+    fn since_1970(&self) -> io::Result<Duration> {
+        self.rt.since_1970()
+    }
+
+    fn sleep(&self, duration: Duration) {
+        self.rt.sleep(duration)
+    }
+}
+
+impl<'a, R: Wait> Wait for Counting<'a, R> {}
+
+/// Knocks at a server that has so many requests, to which all connections were made over this network, until all of them are used
+/// up; whether each knock was served, so that no connection before used up more than one.
+pub(crate) fn spend<R: Net<Listener = TcpListener, Stream = TcpStream>>(
+    net: &Counting<'_, R>,
+    server: &Running,
+    requests: u64,
+) -> bool {
+    let left = requests.saturating_sub(net.made.get());
+    for _ in 0..left {
+        if knock(net, server.address) != Some(true) {
+            return false;
+        }
+    }
+    net.made.get() == requests
+}
+
 /// What a server is asked.
 #[derive(Clone, Copy)]
 pub(crate) enum Question {
@@ -205,7 +284,7 @@ pub(crate) enum Question {
 }
 
 /// What a server answers once, as it is written.
-pub(crate) fn asked<R: Net<Listener = TcpListener, Stream = TcpStream> + Host>(
+pub(crate) fn asked<R: Net<Listener = TcpListener, Stream = TcpStream> + Wait + Clock>(
     rt: &R,
     alloc: Global,
     to: Address,
@@ -221,7 +300,7 @@ pub(crate) fn asked<R: Net<Listener = TcpListener, Stream = TcpStream> + Host>(
 }
 
 /// What a server answers that begins so; none where it refuses, ends before, or never answers so.
-pub(crate) fn answer<R: Net<Listener = TcpListener, Stream = TcpStream> + Host>(
+pub(crate) fn answer<R: Net<Listener = TcpListener, Stream = TcpStream> + Wait + Clock>(
     rt: &R,
     alloc: Global,
     server: &Running,
@@ -243,7 +322,7 @@ pub(crate) fn answer<R: Net<Listener = TcpListener, Stream = TcpStream> + Host>(
 }
 
 /// Whether a server answers with this text at last.
-pub(crate) fn answers<R: Net<Listener = TcpListener, Stream = TcpStream> + Host>(
+pub(crate) fn answers<R: Net<Listener = TcpListener, Stream = TcpStream> + Wait + Clock>(
     rt: &R,
     alloc: Global,
     server: &Running,

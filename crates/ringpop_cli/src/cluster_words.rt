@@ -1,9 +1,9 @@
 //! The words of the commands that speak to nodes.
-ghost use Rattle.std.specs.Prelude.{◌≡◌, ◌≢◌, ℕ, Some, map, codes, IfErr, IfOk, IfSome};
-ghost use Rattle.clap.specs.Matches.{first_value, found_of};
+ghost use Rattle.std.specs.Prelude.{◌≡◌, ◌≢◌, ℕ, map, codes, IfErr, IfOk, IfSome};
+ghost use Rattle.clap.specs.Matches.{found_of};
 ghost use Rattle.change_core.specs.Address.{IsAddress, address_text};
 ghost use Rattle.ringpop_cli.specs.Faults.{IsWordsFault};
-ghost use Rattle.ringpop_cli.specs.Words.{AreAddressesAt, IsAskedAt, IsFlagAt, IsNumberAt, IsServedAt};
+ghost use Rattle.ringpop_cli.specs.Words.{AreAddressesAt, AreMembersAt, AreNumbersAt, IsAddressAt, IsAnyAskedAt, IsAskedAt, IsCommandOf, IsServedAt};
 
 use crate::commands::{
     ADDRESS, ANY, BODY, HOST, INCARNATION, KEY, LINES, PERIOD, REQUESTS, SUM, WEIGHT, WORKERS,
@@ -26,7 +26,7 @@ fn address_of(text: &str) -> Result<Address, Fault>
 
 /// The address that a word is.
 fn address_at(alloc: Global, matches: &ArgMatches<'_>, id: &str) -> Result<Address, Fault>
-    ensures ok { IfOk result (λ a. first_value (found_of matches.now) id.now ≡ Some (address_text a)) }
+    ensures ok { IfOk result (IsAddressAt (found_of matches.now) id.now) }
     ensures fault { IfErr result IsWordsFault }
 {
     match matches.get_str(id) {
@@ -67,7 +67,7 @@ fn serve_words_at(
 ) -> Option<ServeWords>
     ensures address { IfSome result (λ words. words.address ≡ address) }
     ensures hosts { IfSome result (λ words. words.hosts ≡ hosts) }
-    ensures numbers { IfSome result (IsServedAt (found_of matches.now)) }
+    ensures numbers { IfSome result (AreNumbersAt (found_of matches.now)) }
 {
     let incarnation = Incarnation::new(number(matches, INCARNATION, 0, GREATEST_NUMBER)?)?;
     let requests = number(matches, REQUESTS, 1, MOST_REQUESTS)?;
@@ -94,9 +94,7 @@ fn serve_words_at(
 
 /// The words of `serve`.
 fn serve_words(alloc: Global, matches: &ArgMatches<'_>) -> Result<ServeWords, Fault>
-    ensures address { IfOk result (λ words. first_value (found_of matches.now) (codes "address") ≡ Some (address_text words.address)) }
-    ensures hosts { IfOk result (λ words. AreAddressesAt (found_of matches.now) (codes "host") words.hosts.items) }
-    ensures numbers { IfOk result (IsServedAt (found_of matches.now)) }
+    ensures served { IfOk result (IsServedAt (found_of matches.now)) }
     ensures fault { IfErr result IsWordsFault }
 {
     let address = address_at(alloc, matches, ADDRESS)?;
@@ -121,9 +119,7 @@ fn ask_words<'a>(alloc: Global, matches: &ArgMatches<'a>) -> Result<AskWords<'a>
 
 /// The words of `ask --any`.
 fn ask_any_words<'a>(alloc: Global, matches: &ArgMatches<'a>) -> Result<AskAnyWords<'a>, Fault>
-    ensures asked { IfOk result (λ words. IsAskedAt (found_of matches.now) words.host words.key.now words.body.now) }
-    ensures replicas { IfOk result (λ words. IsNumberAt (found_of matches.now) (codes "replicas") words.replicas) }
-    ensures sum { IfOk result (λ words. IsFlagAt (found_of matches.now) (codes "sum") words.sum) }
+    ensures asked { IfOk result (IsAnyAskedAt (found_of matches.now)) }
     ensures fault { IfErr result IsWordsFault }
 {
     let AskWords { address, key, body } = ask_words(alloc, matches)?;
@@ -139,24 +135,33 @@ fn ask_any_words<'a>(alloc: Global, matches: &ArgMatches<'a>) -> Result<AskAnyWo
     })
 }
 
-/// What the words that `clap` took ask for, if that is a command that speaks to nodes.
+/// The words of `members`.
+fn members_words(alloc: Global, matches: &ArgMatches<'_>) -> Result<MembersWords, Fault>
+    ensures members { IfOk result (AreMembersAt (found_of matches.now)) }
+    ensures fault { IfErr result IsWordsFault }
+{
+    let host = address_at(alloc, matches, HOST)?;
+    Ok(MembersWords {
+        host,
+        lines: flag(matches, LINES),
+    })
+}
+
+/// What the subcommand of this name is to do with nodes, if it is one that speaks to nodes.
 pub fn cluster_command_of<'a>(
     alloc: Global,
+    name: &str,
     matches: &ArgMatches<'a>,
 ) -> Result<Option<ClusterCommand<'a>>, Fault>
-    ensures { IfErr result IsWordsFault }
+    ensures command { IfOk result (λ found. IfSome found (IsCommandOf name.now (found_of matches.now))) }
+    ensures fault { IfErr result IsWordsFault }
 {
-    let command = match matches.subcommand() {
-        Some(("serve", inner)) => ClusterCommand::Serve(serve_words(alloc, inner)?),
-        Some(("ask", inner)) if inner.get_flag(ANY) => {
-            ClusterCommand::AskAny(ask_any_words(alloc, inner)?)
-        }
-        Some(("ask", inner)) => ClusterCommand::Ask(ask_words(alloc, inner)?),
-        Some(("members", inner)) => ClusterCommand::Members(MembersWords {
-            host: address_at(alloc, inner, HOST)?,
-            lines: inner.get_flag(LINES),
-        }),
-        Some(("tell", inner)) => ClusterCommand::Tell(address_at(alloc, inner, HOST)?),
+    let command = match name {
+        "serve" => ClusterCommand::Serve(serve_words(alloc, matches)?),
+        "ask" if flag(matches, ANY) => ClusterCommand::AskAny(ask_any_words(alloc, matches)?),
+        "ask" => ClusterCommand::Ask(ask_words(alloc, matches)?),
+        "members" => ClusterCommand::Members(members_words(alloc, matches)?),
+        "tell" => ClusterCommand::Tell(address_at(alloc, matches, HOST)?),
         _ => return Ok(None),
     };
     Ok(Some(command))

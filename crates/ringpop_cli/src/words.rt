@@ -1,10 +1,10 @@
 //! The words of the command line.
-ghost use Rattle.std.specs.Prelude.{◌≡◌, ◌≤◌, length, codes, Ok, IfOk, IfErr, IfSome};
-ghost use Rattle.clap.specs.Matches.{found_of};
+ghost use Rattle.std.specs.Prelude.{◌≡◌, ◌≢◌, ◌≤◌, length, codes, Ok, None, IfOk, IfErr, IfSome};
+ghost use Rattle.clap.specs.Matches.{found_of, subcommand_name_of};
 ghost use Rattle.clap.specs.Values.{kind_of};
 ghost use Rattle.hash_ring.specs.Points.{IsReplicas};
 ghost use Rattle.ringpop_cli.specs.Faults.{IsWordsFault};
-ghost use Rattle.ringpop_cli.specs.Words.{IsFlagAt, IsNumberAt};
+ghost use Rattle.ringpop_cli.specs.Words.{AreLinesOf, AreWordsOf, IsFlagAt, IsNumberAt, IsOwnedAt, IsScriptAt, Names};
 
 use crate::cluster_words::cluster_command_of;
 use crate::commands::{COUNT, KEY, REPLICAS, SUM, TEXT, ringpop_command};
@@ -53,7 +53,9 @@ pub fn replicas(matches: &ArgMatches<'_>) -> Option<u32>
 }
 
 /// The words of `owner`, if the key is there and each number is in its range.
-fn owner_words<'a>(matches: &ArgMatches<'a>) -> Option<OwnerWords<'a>> {
+fn owner_words<'a>(matches: &ArgMatches<'a>) -> Option<OwnerWords<'a>>
+    ensures { IfSome result (IsOwnedAt (found_of matches.now)) }
+{
     let count = number(matches, COUNT, 0, MOST_MEMBERS as u64)?;
     let replicas = replicas(matches)?;
     let key = matches.get_str(KEY)?;
@@ -66,7 +68,9 @@ fn owner_words<'a>(matches: &ArgMatches<'a>) -> Option<OwnerWords<'a>> {
 }
 
 /// The words of `sim`, if the number is in its range.
-fn sim_words(matches: &ArgMatches<'_>) -> Option<SimWords> {
+fn sim_words(matches: &ArgMatches<'_>) -> Option<SimWords>
+    ensures { IfSome result (IsScriptAt (found_of matches.now)) }
+{
     let replicas = replicas(matches)?;
     Some(SimWords {
         replicas,
@@ -74,36 +78,51 @@ fn sim_words(matches: &ArgMatches<'_>) -> Option<SimWords> {
     })
 }
 
-/// What the words that `clap` took ask for, if each is there and in its range, and they ask for lines.
-fn subcommand_of<'a>(matches: &ArgMatches<'a>) -> Option<Subcommand<'a>> {
-    match matches.subcommand() {
-        None | Some(("fold", _)) => Some(Subcommand::Fold),
-        Some(("hash", inner)) => {
-            let text = inner.get_str(TEXT)?;
+/// The lines that the subcommand of this name is to read and write, if each word is there and in its range, and it is one of lines.
+fn lines_of<'a>(name: &str, matches: &ArgMatches<'a>) -> Option<Subcommand<'a>>
+    ensures { IfSome result (AreLinesOf name.now (found_of matches.now)) }
+{
+    match name {
+        "fold" => Some(Subcommand::Fold),
+        "hash" => {
+            let text = matches.get_str(TEXT)?;
             Some(Subcommand::Hash(text))
         }
-        Some(("owner", inner)) => {
-            let words = owner_words(inner)?;
+        "owner" => {
+            let words = owner_words(matches)?;
             Some(Subcommand::Owner(words))
         }
-        Some(("sim", inner)) => {
-            let words = sim_words(inner)?;
+        "sim" => {
+            let words = sim_words(matches)?;
             Some(Subcommand::Sim(words))
         }
-        Some(_) => None,
+        _ => None,
+    }
+}
+
+/// What the subcommand of this name is to do.
+fn words_at<'a>(alloc: Global, name: &str, matches: &ArgMatches<'a>) -> Result<Words<'a>, Fault>
+    ensures words { IfOk result (AreWordsOf name.now (found_of matches.now)) }
+    ensures fault { IfErr result IsWordsFault }
+{
+    if let Some(command) = cluster_command_of(alloc, name, matches)? {
+        return Ok(Words::Cluster(command));
+    }
+    match lines_of(name, matches) {
+        Some(subcommand) => Ok(Words::Lines(subcommand)),
+        None => Err(absent(alloc)),
     }
 }
 
 /// What the words that `clap` took ask for.
 fn words_of<'a>(alloc: Global, matches: &ArgMatches<'a>) -> Result<Words<'a>, Fault>
-    ensures { IfErr result IsWordsFault }
+    ensures alone { subcommand_name_of matches.now ≡ None → result ≡ Ok (Words.Lines Subcommand.Fold) }
+    ensures named { subcommand_name_of matches.now ≢ None → IfOk result (Names matches.now) }
+    ensures fault { IfErr result IsWordsFault }
 {
-    if let Some(command) = cluster_command_of(alloc, matches)? {
-        return Ok(Words::Cluster(command));
-    }
-    match subcommand_of(matches) {
-        Some(subcommand) => Ok(Words::Lines(subcommand)),
-        None => Err(absent(alloc)),
+    match matches.subcommand() {
+        Some((name, inner)) => words_at(alloc, name, inner),
+        None => Ok(Words::Lines(Subcommand::Fold)),
     }
 }
 

@@ -35,7 +35,7 @@ impl Clock for Still {
 
 /// One sending: when, to whom, and from whom.
 #[derive(Clone, Copy, Debug, PartialEq, Eq)]
-struct Sending {
+pub(crate) struct Sending {
     moment: u64,
     to: Address,
     from: Address,
@@ -106,7 +106,7 @@ impl<'a> Link for Noted<'a> {
 
 /// What is asked, and of whom.
 #[derive(Clone, Copy)]
-struct Asked {
+pub(crate) struct Asked {
     keys: (&'static str, &'static str),
     /// How the link answers so many sendings.
     link: Mood,
@@ -121,7 +121,7 @@ struct Asked {
 const ONE: (&str, &str) = ("zzzz1", "zzzz1");
 
 /// A request for one key that the handler would answer.
-fn plain(link: Mood, wrong: usize) -> Asked {
+pub(crate) fn plain(link: Mood, wrong: usize) -> Asked {
     Asked {
         keys: ONE,
         link,
@@ -134,10 +134,10 @@ fn plain(link: Mood, wrong: usize) -> Asked {
 
 /// What a request came to, what was sent for it, and how often the handler was asked.
 #[derive(Drop)]
-struct Came {
-    answer: Result<Text, ClusterError>,
-    sendings: Vec<Sending>,
-    handled: u64,
+pub(crate) struct Came {
+    pub(crate) answer: Result<Text, ClusterError>,
+    pub(crate) sendings: Vec<Sending>,
+    pub(crate) handled: u64,
 }
 
 impl Came {
@@ -157,7 +157,7 @@ impl Came {
 }
 
 /// What a request with the body `body` comes to.
-fn try_request<R: Wait + Abort>(
+pub(crate) fn try_request<R: Wait + Abort>(
     rt: &R,
     alloc: Global,
     shared: &Shared,
@@ -165,6 +165,7 @@ fn try_request<R: Wait + Abort>(
     asked: &Asked,
 ) -> Came
     requires { Fits shared.now pass.old }
+    ensures { Fits shared.now pass.new }
 {
     let clock = Still {
         now: AtomicU64::new(0),

@@ -14,6 +14,8 @@ mod messages;
 #[cfg(test)]
 mod nodes;
 #[cfg(test)]
+mod refusals;
+#[cfg(test)]
 mod rounds;
 #[cfg(test)]
 mod serving;

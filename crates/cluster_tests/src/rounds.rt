@@ -22,7 +22,7 @@ use wire_json::Message;
 
 /// How a round ended, without whom it was about.
 #[derive(Clone, Copy, Debug, PartialEq, Eq)]
-enum End {
+pub(crate) enum End {
     Idle,
     Reached,
     Suspected,
@@ -40,9 +40,9 @@ fn end_of(round: Round) -> End {
 
 /// How a round ended, how often its link was asked, and how often that failed.
 #[derive(Clone, Copy, Debug, PartialEq, Eq)]
-struct Ended {
-    end: Result<End, ClusterError>,
-    calls: u64,
+pub(crate) struct Ended {
+    pub(crate) end: Result<End, ClusterError>,
+    pub(crate) calls: u64,
     failures: u64,
 }
 
@@ -62,7 +62,7 @@ fn round_by<R: Wait + Abort>(
 }
 
 /// A round whose peers are first in one mood, and then in another.
-fn round_in<R: Wait + Abort>(
+pub(crate) fn round_in<R: Wait + Abort>(
     rt: &R,
     alloc: Global,
     shared: &Shared,
@@ -468,16 +468,16 @@ impl Link for Direct {
 
 /// How many hosts are asked, their mood, and what the join is to come to.
 #[derive(Clone, Copy)]
-struct Joining {
-    hosts: usize,
-    mood: Mood,
-    wanted: Result<u32, ClusterError>,
+pub(crate) struct Joining {
+    pub(crate) hosts: usize,
+    pub(crate) mood: Mood,
+    pub(crate) wanted: Result<u32, ClusterError>,
     /// How often the link is asked.
-    calls: u64,
+    pub(crate) calls: u64,
 }
 
 /// What a join comes to, and how often the link was asked.
-fn join_hosts<R: Wait + Abort>(
+pub(crate) fn join_hosts<R: Wait + Abort>(
     rt: &R,
     alloc: Global,
     shared: &Shared,
@@ -485,6 +485,7 @@ fn join_hosts<R: Wait + Abort>(
     row: &Joining,
 ) -> (Result<u32, ClusterError>, u64)
     requires { Fits shared.now pass.old }
+    ensures { Fits shared.now pass.new }
 {
     let all = [member(rt, 2), member(rt, 3)];
     let hosts = if row.hosts == 2 { &all[..] } else { &all[..0] };

@@ -21,15 +21,15 @@ const WILLING: Moods = (Mood::Willing, Mood::Willing);
 
 /// What is answered to a message, and how often the link and the handler were asked.
 #[derive(Drop)]
-struct Answer {
+pub(crate) struct Answer {
     content: Content,
-    sent: u64,
-    handled: u64,
+    pub(crate) sent: u64,
+    pub(crate) handled: u64,
 }
 
 impl Answer {
     /// Why the message was refused, if it was.
-    fn reason(&self) -> Option<Reason> {
+    pub(crate) fn reason(&self) -> Option<Reason> {
         match &self.content {
             Content::Refused(reason) => Some(*reason),
             _ => None,
@@ -50,7 +50,7 @@ impl Answer {
 }
 
 /// What is answered to a message.
-fn serve<R: Wait + Abort>(
+pub(crate) fn serve<R: Wait + Abort>(
     rt: &R,
     alloc: Global,
     shared: &Shared,

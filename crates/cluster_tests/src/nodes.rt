@@ -7,33 +7,33 @@ use std::alloc::Global;
 use std::process::Abort;
 
 /// The standard configuration, with two points for each unit of weight and this many members.
-fn config(max: usize) -> Config {
+pub(crate) fn config(max: usize) -> Config {
     let mut config = Config::standard();
     config.replicas = 2;
     config.max_members = max;
     config
 }
 
-/// The node 10.0.0.`number`:1 that begins at this incarnation and moment, with this many members at most.
+/// The node 10.0.0.`number`:1 of this configuration that begins at this incarnation and moment.
 pub(crate) fn born(
     rt: &impl Abort,
     alloc: Global,
     number: u8,
-    max: usize,
+    config: &Config,
     first: Incarnation,
     seed: u64,
     now: Moment,
 ) -> NodeState<SumHash> {
     let own = member(rt, number);
-    if let Ok(node) = NodeState::new(alloc, config(max), SumHash, own, first, seed, now) {
+    if let Ok(node) = NodeState::new(alloc, *config, SumHash, own, first, seed, now) {
         return node;
     }
-    let again = NodeState::new(alloc, config(max), SumHash, own, first, seed, now);
+    let again = NodeState::new(alloc, *config, SumHash, own, first, seed, now);
     again.ok().expect(rt, "a node")
 }
 
 /// The node 10.0.0.`number`:1 at 7 with this many members at most.
 pub(crate) fn state(rt: &impl Abort, alloc: Global, number: u8, max: usize) -> NodeState<SumHash> {
     let first = Incarnation::new(7).expect(rt, "an incarnation");
-    born(rt, alloc, number, max, first, 1, moment(rt, 0))
+    born(rt, alloc, number, &config(max), first, 1, moment(rt, 0))
 }

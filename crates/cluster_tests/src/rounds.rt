@@ -13,7 +13,7 @@ use cluster_core::{ClusterError, Link, LinkError, Round, gossip_round, join};
 use detector_core::Running;
 use hash_ring::SumHash;
 use locked_node::LockedNode;
-use node_core::{NodeError, NodeState, Received};
+use node_core::{NodeError, NodeState, Received, StopCause};
 use std::alloc::Global;
 use std::process::Abort;
 use std::sync::Wait;
@@ -457,11 +457,18 @@ impl Link for Direct {
             return Err(LinkError::Spent);
         }
         let Some(now) = Moment::new(0) else {
-            return Err(LinkError::Memory);
+            unreachable!()
         };
         match self.node.receive(message, now) {
             Received::Answer(_, answer) => Ok(answer),
-            _ => Err(LinkError::Memory),
+            Received::NoAnswer(_) => Err(LinkError::Memory),
+            Received::Stopped(stopped) if stopped.cause == StopCause::Memory => {
+                Err(LinkError::Memory)
+            }
+            _ => {
+                self.failures += 1;
+                Err(LinkError::Closed)
+            }
         }
     }
 }

@@ -1,19 +1,19 @@
 //! Three nodes over a link that loses, repeats and holds back messages, as a seed says, some of which start anew. Nobody holds of
-//! another what that one has not said of itself, and once all is told to all they hold the same. A helper answers none or false
-//! where a growth was refused; the test then goes on with another world, once.
+//! another what that one has not said of itself, and once all is told to all they hold the same. Each thing that may happen happens in
+//! each world. A helper answers none or false where a growth was refused; the world is then played again, once.
 ghost use Rattle.std.specs.Prelude.{◌≡◌, [], IfSome};
 ghost use Rattle.std.specs.List.{All};
 ghost use Rattle.locked_node.specs.Passes.{Fits, IsNew};
 
 use crate::fakes::{Echo, Fake, Mood};
 use crate::messages::{member, moment};
-use crate::nodes::born;
+use crate::nodes::{born, config};
 use crate::shared::{Caller, Shared};
 use change_core::{Address, Change, Incarnation, Moment, Status};
-use cluster_core::{Link, LinkError, gossip_round, join, serve_one};
+use cluster_core::{ClusterError, Link, LinkError, Round, gossip_round, join, serve_one};
 use hash_ring::SumHash;
 use locked_node::LockedNode;
-use node_core::{NodeState, Received};
+use node_core::{Config, NodeState, Received};
 use rand_core::{Rng, SeedableRng};
 use rand_pcg::Pcg32;
 use std::alloc::Global;
@@ -32,13 +32,71 @@ struct Held {
     line: Vec<u8>,
 }
 
-/// The nodes that make no call just now, what is on its way between them, and what each has said of itself.
+/// What happened in a world so far.
+#[derive(Clone, Copy, PartialEq, Eq)]
+struct Happened {
+    /// A message was lost.
+    lost: bool,
+    /// One that had been held back was answered.
+    late: bool,
+    /// A message was answered, and the answer was lost.
+    unheard: bool,
+    /// A message was answered twice.
+    repeated: bool,
+    /// A message between a helper and a target was lost.
+    lost_by_helper: bool,
+    /// A node started anew, and another let it join.
+    restarted: bool,
+    left: bool,
+    returned: bool,
+    reached: bool,
+    suspected: bool,
+    inconclusive: bool,
+    /// A node was told what is wrong about itself, and said so.
+    refuted: bool,
+    /// A node holds another as a tombstone.
+    buried: bool,
+}
+
+const NOTHING: Happened = Happened {
+    lost: false,
+    late: false,
+    unheard: false,
+    repeated: false,
+    lost_by_helper: false,
+    restarted: false,
+    left: false,
+    returned: false,
+    reached: false,
+    suspected: false,
+    inconclusive: false,
+    refuted: false,
+    buried: false,
+};
+
+const EVERYTHING: Happened = Happened {
+    lost: true,
+    late: true,
+    unheard: true,
+    repeated: true,
+    lost_by_helper: true,
+    restarted: true,
+    left: true,
+    returned: true,
+    reached: true,
+    suspected: true,
+    inconclusive: true,
+    refuted: true,
+    buried: true,
+};
+
+/// The nodes that make no call just now, what is on its way between them, what each has said of itself, and what happened.
 #[derive(Drop)]
 struct World {
     nodes: Vec<NodeState<SumHash>>,
     held: Vec<Held>,
     said: Vec<Change>,
-    sources: Vec<(Address, Incarnation)>,
+    happened: Happened,
     dice: Pcg32,
     now: Moment,
 }
@@ -56,21 +114,35 @@ impl World {
 
     /// Puts a node back, and notes what it says of itself.
     fn come_back(&mut self, node: NodeState<SumHash>) -> bool {
-        let own = node.own();
-        let is_noted = self.said.contains(&own) || self.said.push(own).is_ok();
-        is_noted && self.nodes.push(node).is_ok()
+        self.say(node.own()) && self.nodes.push(node).is_ok()
     }
 
-    /// Notes of whom a message is.
+    /// Notes what a member says of itself.
+    fn say(&mut self, change: Change) -> bool {
+        self.said.contains(&change) || self.said.push(change).is_ok()
+    }
+
+    /// What a member said of itself last for the first time.
+    fn last(&self, address: Address) -> Option<Change> {
+        let mut last = None;
+        for change in &self.said {
+            if change.address == address {
+                last = Some(*change);
+            }
+        }
+        last
+    }
+
+    /// Notes what a member says of itself in a message that it has made: what it said last, at the incarnation that the message names.
     fn note(&mut self, message: &Message) -> bool {
-        let source = (message.source, message.source_incarnation);
-        self.sources.contains(&source) || self.sources.push(source).is_ok()
-    }
-
-    /// Whether a member has said this of itself.
-    fn was_said(&self, change: &Change) -> bool {
-        let source = (change.address, change.incarnation);
-        self.said.contains(change) || self.sources.contains(&source)
+        let incarnation = message.source_incarnation;
+        match self.last(message.source) {
+            Some(last) => self.say(Change {
+                incarnation,
+                ..last
+            }),
+            None => false,
+        }
     }
 
     /// Holds a message back.
@@ -140,7 +212,7 @@ fn answer_near<R: Wait>(
     let now = world.now;
     let mut nobody = Fake::new(Mood::Broken);
     let (node, answer) = serve_by(rt, alloc, node, &mut nobody, now, message)?;
-    if world.come_back(node) && world.note(message) {
+    if world.come_back(node) {
         Some(answer)
     } else {
         None
@@ -173,11 +245,13 @@ impl<'a> Link for Near<'a> {
         if self.failures == u64::MAX {
             return Err(LinkError::Spent);
         }
-        let is_lost = self.world.dice.next_u32() % 4 == 0;
-        if !is_lost {
-            if let Some(answer) = answer_near(rt, alloc, self.world, to, message) {
-                return Ok(answer);
-            }
+        if !self.world.note(message) {
+            return Err(LinkError::Memory);
+        }
+        if self.world.dice.next_u32() % 4 == 0 {
+            self.world.happened.lost_by_helper = true;
+        } else if let Some(answer) = answer_near(rt, alloc, self.world, to, message) {
+            return Ok(answer);
         }
         self.failures += 1;
         Err(LinkError::Io)
@@ -193,13 +267,17 @@ fn answer_far<R: Wait>(
     message: &Message,
 ) -> Option<Message> {
     let node = world.call_away(to)?;
+    let before = node.own();
     let now = world.now;
     let mut near = Near {
         world: &mut *world,
         failures: 0,
     };
     let (node, answer) = serve_by(rt, alloc, node, &mut near, now, message)?;
-    if world.come_back(node) && world.note(message) {
+    if node.own() != before {
+        world.happened.refuted = true;
+    }
+    if world.come_back(node) {
         Some(answer)
     } else {
         None
@@ -215,17 +293,22 @@ fn deliver<R: Wait>(
     message: &Message,
 ) -> Option<Message> {
     match world.dice.next_u32() % 8 {
-        0 => None,
+        0 => {
+            world.happened.lost = true;
+            None
+        }
         1 => {
             let _held = world.hold(alloc, to, message);
             None
         }
         2 => {
             let _unheard = answer_far(rt, alloc, world, to, message);
+            world.happened.unheard = true;
             None
         }
         3 => {
             let _first = answer_far(rt, alloc, world, to, message);
+            world.happened.repeated = true;
             answer_far(rt, alloc, world, to, message)
         }
         _ => answer_far(rt, alloc, world, to, message),
@@ -258,12 +341,27 @@ impl<'a> Link for Far<'a> {
         if self.failures == u64::MAX {
             return Err(LinkError::Spent);
         }
+        if !self.world.note(message) {
+            return Err(LinkError::Memory);
+        }
         if let Some(answer) = deliver(rt, alloc, self.world, to, message) {
             return Ok(answer);
         }
         self.failures += 1;
         Err(LinkError::Io)
     }
+}
+
+/// Notes how a round ended. Whether it was not refused.
+fn note_round(world: &mut World, round: Result<Round, ClusterError>) -> bool {
+    match round {
+        Ok(Round::Idle) => {}
+        Ok(Round::Reached(_)) => world.happened.reached = true,
+        Ok(Round::Suspected(_)) => world.happened.suspected = true,
+        Ok(Round::Inconclusive(_)) => world.happened.inconclusive = true,
+        Err(_) => return false,
+    }
+    true
 }
 
 /// A round of a node, and the node after it.
@@ -275,12 +373,17 @@ fn round_by<R: Wait>(
 ) -> Option<NodeState<SumHash>> {
     let now = world.now;
     let (shared, mut pass, passes) = lock(alloc, node)?;
-    let mut link = Far { world, failures: 0 };
-    let _round = gossip_round(rt, alloc, &shared, &mut pass, &mut link, now);
-    unlock(shared, pass, passes)
+    let mut link = Far {
+        world: &mut *world,
+        failures: 0,
+    };
+    let round = gossip_round(rt, alloc, &shared, &mut pass, &mut link, now);
+    let is_ended = note_round(world, round);
+    let node = unlock(shared, pass, passes)?;
+    if is_ended { Some(node) } else { None }
 }
 
-/// A join of a node with two hosts, and the node after it.
+/// A join of a node with all three addresses, its own among them, and the node after it.
 fn join_by<R: Wait>(
     rt: &R,
     alloc: Global,
@@ -290,8 +393,11 @@ fn join_by<R: Wait>(
 ) -> Option<NodeState<SumHash>> {
     let now = world.now;
     let (shared, mut pass, passes) = lock(alloc, node)?;
-    let mut link = Far { world, failures: 0 };
-    let _joined = join(
+    let mut link = Far {
+        world: &mut *world,
+        failures: 0,
+    };
+    let joined = join(
         rt,
         alloc,
         &shared,
@@ -300,6 +406,9 @@ fn join_by<R: Wait>(
         hosts.as_slice(),
         now,
     );
+    if joined.is_ok() {
+        world.happened.restarted = true;
+    }
     unlock(shared, pass, passes)
 }
 
@@ -318,7 +427,16 @@ fn release<R: Wait>(rt: &R, alloc: Global, world: &mut World) {
     };
     if let Ok(message) = decode(alloc, held.line.as_slice()) {
         let _answer = answer_far(rt, alloc, world, held.to, &message);
+        world.happened.late = true;
     }
+}
+
+/// A configuration by which a suspect is faulty after a second, and a tombstone after two more.
+fn hasty() -> Config {
+    let mut hasty = config(4096);
+    hasty.suspect_ms = 1_000;
+    hasty.faulty_ms = 2_000;
+    hasty
 }
 
 /// The node as it starts anew, at the incarnation after its last.
@@ -331,16 +449,30 @@ fn restarted(
 ) -> NodeState<SumHash> {
     let next = old.own().incarnation.next().expect(rt, "an incarnation");
     let seed = world.dice.next_u64();
-    born(rt, alloc, number, 4096, next, seed, world.now)
+    born(rt, alloc, number, &hasty(), next, seed, world.now)
 }
 
-/// Leaves, or comes back.
-fn turn_round(node: &mut NodeState<SumHash>) {
+/// Leaves, or comes back. Whether that was not refused.
+fn turn_round(world: &mut World, node: &mut NodeState<SumHash>) -> bool {
     if node.own().status == Status::Leave {
-        let _back = node.rejoin();
+        world.happened.returned = true;
+        node.rejoin().is_ok()
     } else {
-        let _left = node.leave();
+        world.happened.left = true;
+        node.leave().is_ok()
     }
+}
+
+/// Whether a node holds one of the others as a tombstone.
+fn has_buried(world: &World, node: &NodeState<SumHash>) -> bool {
+    for other in &world.nodes {
+        if let Some(entry) = node.member(other.own().address) {
+            if entry.status == Status::Tombstone {
+                return true;
+            }
+        }
+    }
+    false
 }
 
 /// One step of a node: it starts anew and joins, leaves or comes back, or makes a round.
@@ -354,35 +486,48 @@ fn step<R: Wait + Abort>(rt: &R, alloc: Global, world: &mut World, number: u8) -
     let after = match world.dice.next_u32() % 64 {
         0 => {
             let node = restarted(rt, alloc, number, &node, world);
+            if !world.say(node.own()) {
+                return false;
+            }
             join_by(rt, alloc, node, world, &all(rt))
         }
         1 => {
             let mut node = node;
-            turn_round(&mut node);
-            Some(node)
+            if turn_round(world, &mut node) {
+                Some(node)
+            } else {
+                None
+            }
         }
         _ => round_by(rt, alloc, node, world),
     };
     match after {
-        Some(node) => world.come_back(node) && world.nodes.len() == 3,
+        Some(node) => {
+            world.happened.buried = world.happened.buried || has_buried(world, &node);
+            world.come_back(node) && world.nodes.len() == 3
+        }
         None => false,
     }
 }
 
-/// Whether what one node holds of another is no newer than that other, and was said by it where it is alive or has left.
+/// Whether what one node holds of another is no newer than that other, and was said by it: as it stands where it is alive or has left,
+/// and else as alive.
 fn is_founded(world: &World, one: &NodeState<SumHash>, other: &NodeState<SumHash>) -> bool {
     let own = other.own();
     let Some(entry) = one.member(own.address) else {
         return true;
     };
+    let status = match entry.status {
+        Status::Leave => Status::Leave,
+        _ => Status::Alive,
+    };
     let change = Change {
         address: own.address,
         incarnation: entry.incarnation,
-        status: entry.status,
+        status,
         weight: entry.weight,
     };
-    let wants_word = entry.status == Status::Alive || entry.status == Status::Leave;
-    entry.incarnation <= own.incarnation && (!wants_word || world.was_said(&change))
+    entry.incarnation <= own.incarnation && world.said.contains(&change)
 }
 
 /// Whether that holds of each two nodes.
@@ -440,13 +585,13 @@ fn begin(rt: &impl Abort, alloc: Global, seed: u64) -> Option<World> {
         nodes: Vec::new(alloc),
         held: Vec::new(alloc),
         said: Vec::new(alloc),
-        sources: Vec::new(alloc),
+        happened: NOTHING,
         dice: Pcg32::seed_from_u64(seed),
         now: moment(rt, 0),
     };
     let first = Incarnation::new(7).expect(rt, "an incarnation");
     for number in 1..4 {
-        let node = born(rt, alloc, number, 4096, first, seed, world.now);
+        let node = born(rt, alloc, number, &hasty(), first, seed, world.now);
         if !world.come_back(node) {
             return None;
         }
@@ -465,6 +610,9 @@ fn run<R: Wait + Abort>(rt: &R, alloc: Global, seed: u64, steps: u32) -> Option<
         if !are_founded(&world) {
             panic!(rt; "seed {seed}, step {at}: an entry that nobody said");
         }
+    }
+    if world.happened != EVERYTHING {
+        panic!(rt; "seed {seed}: too little happened");
     }
     for _ in 0..9 {
         if !mingle(&mut world)? {

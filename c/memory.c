@@ -5,7 +5,7 @@
 
 #include "ringpop.h"
 
-#define IP(last) (0x0A000000u + (last))
+#define IP(last) (0x0A000000u + (uint32_t)(last))
 #define PORT 7946
 
 static ringpop_node nodes[3] = {RINGPOP_NODE_EMPTY, RINGPOP_NODE_EMPTY, RINGPOP_NODE_EMPTY};

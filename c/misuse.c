@@ -176,6 +176,7 @@ static void probe_others(ringpop_config config) {
   uint64_t number = 0, running = 0;
   uint32_t ip = 0, helper = 0;
   uint16_t port = 0, helper_port = 0;
+  ringpop_entry entry;
   expect("new", ringpop_node_new(&node, &config, 0x0A000001, 7946, 7, 1, 1), RINGPOP_DONE);
   for (uint32_t last = 2; last < 5; last++) expect("take", take(&node, last, 1, "alive"), RINGPOP_DONE);
   refuse_owners(&node);
@@ -195,6 +196,11 @@ static void probe_others(ringpop_config config) {
   expect("not reached", ringpop_node_helper_said(&node, running, helper, helper_port, 1, 2000), RINGPOP_WAITING);
   expect("waiting", ringpop_node_waiting(&node, &running, &helper, &helper_port), RINGPOP_DONE);
   expect("and the other failed", ringpop_node_helper_said(&node, running, helper, helper_port, 2, 2000), RINGPOP_SUSPECTED);
+  expect("expire before the deadline", ringpop_node_expire(&node, 6999), RINGPOP_NOTHING);
+  expect("expire at the deadline", ringpop_node_expire(&node, 7000), RINGPOP_DONE);
+  expect("expire again", ringpop_node_expire(&node, 7000), RINGPOP_NOTHING);
+  expect("member", ringpop_node_member(&node, ip, port, &entry), RINGPOP_DONE);
+  if (entry.status != RINGPOP_FAULTY) expect("faulty", entry.status, RINGPOP_FAULTY);
   expect("free", ringpop_node_free(&node), RINGPOP_DONE);
 }
 

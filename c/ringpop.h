@@ -1,27 +1,41 @@
-/* The proved node of one thread, for C. docs/C.md says which call comes after which.
+/* The proved node of one thread, for C and C++. docs/C.md says which call comes after which.
 
-   Proved of the library: each call ends and touches no memory but its handle, its buffers and its own heap; it answers
-   for one step of the node in the handle, or says why there was none, as the clause of its export says (crates/ringpop_c).
-   The first of these that is refused gives the code: addresses, words and moments, from left to right; the handle; the room
-   of the buffer; the line; what the node says. But ringpop_node_new looks at the handle before all else, and of two handles
-   ringpop_view_new at the view's; and members, digest and owners find out how much room is needed first, so that their
-   MEMORY comes before SHORT_BUFFER.
-   What stands behind a pointer that is written to stays as it was where the code is not DONE, but for a count at SHORT_BUFFER
-   and the number of ringpop_node_waiting.
+   Proved of the library, as the clause of each export says it (crates/ringpop_c):
+   - A call ends, and touches no memory but its handle, its buffers and its own heap.
+   - It makes one step of the node in the handle and answers for that, or it makes none and says why. Each call below names what it
+     answers beside DONE; refusals are named in the order in which they are looked for, so that the first that holds is answered.
+   - What stands behind a pointer that is written to stays as it was where the code is not DONE, but for two: a count at
+     SHORT_BUFFER, and the number of ringpop_node_waiting.
+   - Behind a buffer's first count bytes, or a place's first count addresses, nothing is written.
+   - A written line is read as the very message that the step made, has RINGPOP_MAX_LINE bytes at most, and no newline.
+   - Calls of one handle, one after another, are a run of the node's own calls (docs/PROMISES.md says what holds of those).
+   Not proved: that MEMORY comes only where an allocation failed, that free gives all memory back, and this header itself.
 
    What C owes, which nothing checks:
-   - A handle is RINGPOP_NODE_EMPTY or RINGPOP_VIEW_EMPTY at first. Only the library writes its members; a full one is never copied.
+   - A handle is RINGPOP_NODE_EMPTY or RINGPOP_VIEW_EMPTY at first. Only the library writes its members; a full one is never
+     copied, though it may be moved, and is freed before it is let go.
    - One call at a time uses a handle, look-ups too. Another thread may make the next call, where a lock, a start or join of
      a thread, or a sequentially consistent atomic puts it after the last: that a handle may go to it is proved.
-   - No pointer is null, also where its length is 0; each points to as many bytes or addresses as are said, of which none overlap
-     in a call.
+   - No pointer is null, also where its length is 0. Each is aligned as its type is, and points to as many values as are said, of
+     which none overlap in a call. A bool, also one behind a pointer, is true or false.
    - malloc, realloc and free are one allocator's, and align a block to each power of two up to 16 that divides its size.
-   - No call from a signal handler, or from the forked child of a process with threads. */
+   - No call from a signal handler, or from the forked child of a process with threads.
+
+   Units and bounds. A moment is in milliseconds since whatever the caller counts from, the same for all calls of a node; one
+   before the last that the node was told is read as the last. Moments and incarnations are 0 to 2^53 - 1. An address is an IPv4
+   number, the first part in the highest eight bits, and a port of 1 to 65,535: 10.0.0.1 is 0x0A000001. A line is one JSON object,
+   of at most RINGPOP_MAX_LINE bytes, with no newline. A key is any bytes, also none. */
 #ifndef RINGPOP_H
 #define RINGPOP_H
 #include <stdbool.h>
 #include <stddef.h>
 #include <stdint.h>
+#if SIZE_MAX != UINT64_MAX
+#error "the library is built for 64 bits"
+#endif
+#ifdef __cplusplus
+extern "C" {
+#endif
 
 /* A node's handle: empty, or full with a node. */
 typedef struct ringpop_node {
@@ -71,17 +85,17 @@ enum ringpop_status {
   RINGPOP_TOMBSTONE = 4
 };
 
-/* What a call answers. After a code from NO_NODE to BAD_PER_MESSAGE, from ALREADY_LEFT to NOT_ASKED, from LINE_TOO_LONG to
-   NOT_GOSSIP, or BAD_WORD the node is as it was; after MEMORY and EXHAUSTED, too, but where a call says otherwise. */
+/* What a call answers. After DONE, NOTHING, UNANSWERED, SUSPECTED, WAITING and INCONCLUSIVE its step was made. After each other code
+   the node is as it was, but for EXHAUSTED, FULL and MEMORY where a call says otherwise. */
 enum ringpop_code {
   RINGPOP_DONE = 0,
   RINGPOP_NOTHING = 1,          /* done, and there is nothing to tell */
   RINGPOP_NO_NODE = 2,          /* the handle is empty */
   RINGPOP_HAS_NODE = 3,         /* the handle is full */
-  RINGPOP_SHORT_BUFFER = 4,     /* nothing is written but the count that is needed */
+  RINGPOP_SHORT_BUFFER = 4,     /* the room is too small; nothing is written but the count that is needed */
   RINGPOP_BAD_ADDRESS = 5,      /* port 0 */
   RINGPOP_BAD_NUMBER = 6,       /* an incarnation or a moment over 2^53 - 1 */
-  RINGPOP_BAD_WEIGHT = 7,
+  RINGPOP_BAD_WEIGHT = 7,       /* this and the next seven: a value of the configuration that is out of its range */
   RINGPOP_BAD_REPLICAS = 8,
   RINGPOP_BAD_MAX_MEMBERS = 9,
   RINGPOP_BAD_SUSPECT_MS = 10,
@@ -91,19 +105,19 @@ enum ringpop_code {
   RINGPOP_BAD_PER_MESSAGE = 14,
   RINGPOP_EXHAUSTED = 15,       /* no incarnation is left */
   RINGPOP_FULL = 16,            /* as many members as may be */
-  RINGPOP_ALREADY_LEFT = 17,
-  RINGPOP_NOT_LEFT = 18,
+  RINGPOP_ALREADY_LEFT = 17,    /* the node has left */
+  RINGPOP_NOT_LEFT = 18,        /* the node has not left */
   RINGPOP_BUSY = 19,            /* a probe is running */
   RINGPOP_SPENT = 20,           /* no probe number is left */
   RINGPOP_STALE_PROBE = 21,     /* the probe is not the running one */
   RINGPOP_NOT_ASKED = 22,       /* the helper was not asked, or has answered */
-  RINGPOP_MEMORY = 23,          /* an allocation failed */
+  RINGPOP_MEMORY = 23,          /* an allocation failed: call again */
   RINGPOP_LINE_TOO_LONG = 24,   /* a line over 1,048,576 bytes */
-  RINGPOP_BAD_JSON = 25,
-  RINGPOP_NOT_OBJECT = 26,
-  RINGPOP_UNKNOWN_KIND = 27,
-  RINGPOP_MISSING_FIELD = 28,
-  RINGPOP_BAD_FIELD = 29,
+  RINGPOP_BAD_JSON = 25,        /* a line that is not one JSON value in UTF-8 */
+  RINGPOP_NOT_OBJECT = 26,      /* a JSON value that is no object */
+  RINGPOP_UNKNOWN_KIND = 27,    /* a message of a kind that there is none of */
+  RINGPOP_MISSING_FIELD = 28,   /* a field that has to be there is absent */
+  RINGPOP_BAD_FIELD = 29,       /* a field of another form than it has to be */
   RINGPOP_TOO_MANY = 30,        /* more than 4,096 changes, or more than 256 keys */
   RINGPOP_NOT_GOSSIP = 31,      /* a message that is none of the membership */
   RINGPOP_UNANSWERED = 32,      /* the message's changes are taken, and its answer found no memory */
@@ -157,85 +171,109 @@ static inline const char *ringpop_code_text(uint32_t code) {
   }
 }
 
-/* The bytes that a call which writes a message asks for; it writes a line of so many at most, without a newline. */
+/* The room that a call which writes a message asks for, in bytes, before the node is touched: a shorter buffer is refused, so that no
+   message is made and lost. */
 #define RINGPOP_MAX_LINE 1048576
 
+/* What serves most clusters: 100 points, 15 times, 4,096 members, 5 seconds, a day, 3 helpers, 64 changes, weight 1. */
 void ringpop_config_standard(ringpop_config *config);
 
-/* A node alone in its cluster, at an incarnation over all that its address had before. The seed decides its random choices.
-   What is refused first: the handle, the port, the incarnation, the moment, the weight, replicas, max_members, suspect_ms,
-   faulty_ms, helpers, piggyback, per_message, for want of memory. */
+/* Makes a node, alone in its cluster, into an empty handle. Its incarnation has to be above all that its address had before, the
+   node's refutations counted; the seed, any number, decides its random choices; the moment is the first that it is told.
+   HAS_NODE, BAD_ADDRESS, BAD_NUMBER, BAD_WEIGHT, BAD_REPLICAS, BAD_MAX_MEMBERS, BAD_SUSPECT_MS, BAD_FAULTY_MS, BAD_HELPERS,
+   BAD_PIGGYBACK, BAD_PER_MESSAGE, MEMORY: the handle is as it was. */
 uint32_t ringpop_node_new(ringpop_node *node, const ringpop_config *config, uint32_t ip, uint16_t port, uint64_t incarnation,
                           uint64_t seed, uint64_t moment);
-/* Frees it: the handle is empty then. */
+/* Frees the node: the handle is empty then, and may be used again. NO_NODE. */
 uint32_t ringpop_node_free(ringpop_node *node);
 
-/* The line that joins a cluster at any of its members, and the line that pings a member. MEMORY: the changes
-   in a ping may count as sent. */
+/* Writes the line that joins a cluster at any of its members. NO_NODE, SHORT_BUFFER, MEMORY. */
 uint32_t ringpop_node_join(ringpop_node *node, uint8_t *out, size_t room, size_t *count);
+/* Writes the line that pings a member, with the changes that are to be passed on to it. BAD_ADDRESS, NO_NODE, SHORT_BUFFER,
+   MEMORY: then these changes may count as sent. */
 uint32_t ringpop_node_ping(ringpop_node *node, uint32_t ip, uint16_t port, uint8_t *out, size_t room, size_t *count);
-/* The line that asks a helper to ping a target, and the line that tells a requester whether its target was reached. MEMORY:
-   as of a ping, the changes in the line may count as sent to the helper or the requester. */
+/* Writes the line that asks a helper to ping a target. BAD_ADDRESS of either, NO_NODE, SHORT_BUFFER, MEMORY: the changes in it may
+   count as sent to the helper. */
 uint32_t ringpop_node_ping_req(ringpop_node *node, uint32_t helper_ip, uint16_t helper_port, uint32_t target_ip,
                                uint16_t target_port, uint8_t *out, size_t room, size_t *count);
+/* Writes the line by which a helper tells a requester whether its target was reached. BAD_ADDRESS of either, NO_NODE,
+   SHORT_BUFFER, MEMORY: the changes in it may count as sent to the requester. */
 uint32_t ringpop_node_ping_req_ack(ringpop_node *node, uint32_t requester_ip, uint16_t requester_port, uint32_t target_ip,
                                    uint16_t target_port, bool reached, uint8_t *out, size_t room, size_t *count);
-/* A line that came. DONE: an answer is written, which goes back. NOTHING: it wants none. EXHAUSTED, FULL, MEMORY: of its
-   changes those before the one that is refused are taken, or the line found no memory and none is. UNANSWERED: the changes
-   in the answer may count as sent. */
+/* Receives a line that came at this moment. DONE: an answer is written, which goes back to the sender. NOTHING: it wants none.
+   BAD_NUMBER, NO_NODE, SHORT_BUFFER; of the line LINE_TOO_LONG, BAD_JSON, NOT_OBJECT, UNKNOWN_KIND, MISSING_FIELD, BAD_FIELD,
+   TOO_MANY, and MEMORY, where it could not be read; NOT_GOSSIP; of its changes, taken one after another, EXHAUSTED, FULL, MEMORY:
+   those before the one that is refused are taken, and the moment is told. UNANSWERED: all are taken, and the answer found no
+   memory; the changes in it may count as sent. */
 uint32_t ringpop_node_receive(ringpop_node *node, const uint8_t *line, size_t length, uint64_t moment, uint8_t *out, size_t room,
                               size_t *count);
 
-/* The line of one change. DONE: it altered an entry, itself or by a refutation. NOTHING: it is old. EXHAUSTED, FULL, MEMORY:
-   no entry is altered, though the moment may count as known. */
+/* Takes the line of one change at this moment. DONE: it altered an entry, itself or by the node's refutation. NOTHING: it is old.
+   BAD_NUMBER, NO_NODE; of the line LINE_TOO_LONG, BAD_JSON, NOT_OBJECT, MISSING_FIELD, BAD_FIELD, and MEMORY, where it could not be
+   read; of the change EXHAUSTED, FULL, MEMORY: no entry is altered, but the moment is told. */
 uint32_t ringpop_node_take(ringpop_node *node, const uint8_t *line, size_t length, uint64_t moment);
 
-/* The target that a line asks to ping, which ringpop_node_ping_req_ack answers; whether a helper's line says that it was
-   reached. Both only read: the line goes to ringpop_node_receive as well. NOTHING: the line is no such one. */
+/* The target that a line asks to ping, which ringpop_node_ping_req_ack answers; and whether a helper's line says that its target
+   was reached. Both only read: the line goes to ringpop_node_receive as well. NOTHING: it is another message. LINE_TOO_LONG,
+   BAD_JSON, NOT_OBJECT, UNKNOWN_KIND, MISSING_FIELD, BAD_FIELD, TOO_MANY, MEMORY. */
 uint32_t ringpop_line_target(const uint8_t *line, size_t length, uint32_t *ip, uint16_t *port);
 uint32_t ringpop_line_reached(const uint8_t *line, size_t length, bool *reached);
 
-/* The first entry at its deadline becomes what it does then. DONE: call again. NOTHING: none is due. */
+/* The first entry at its deadline becomes what it does then. DONE: call again. NOTHING: none is due. BAD_NUMBER, NO_NODE, MEMORY. */
 uint32_t ringpop_node_expire(ringpop_node *node, uint64_t moment);
+/* The node leaves: it tells so in its messages, and owns no key. NO_NODE, ALREADY_LEFT, MEMORY. */
 uint32_t ringpop_node_leave(ringpop_node *node);
+/* The node is back, at its next incarnation. NO_NODE, NOT_LEFT, EXHAUSTED, MEMORY: the node is as it was. */
 uint32_t ringpop_node_rejoin(ringpop_node *node);
 
-/* Begins a probe: its number, and the address to ping. NOTHING: there is nobody to ping. */
+/* Begins a probe: its number, and the address to ping. NOTHING: there is nobody to ping. NO_NODE, BUSY, SPENT, MEMORY. */
 uint32_t ringpop_node_probe(ringpop_node *node, uint64_t *number, uint32_t *ip, uint16_t *port);
-/* Its target answered. */
+/* The target of the probe of this number answered, and the probe ends. NO_NODE, STALE_PROBE. */
 uint32_t ringpop_node_acked(ringpop_node *node, uint64_t number);
-/* Its target did not answer. DONE: helpers are to be asked. SUSPECTED: nobody could be. */
+/* The target did not answer by this moment. DONE: helpers are to be asked. SUSPECTED: nobody could be, and the probe ends.
+   BAD_NUMBER, NO_NODE, STALE_PROBE, also where it was called for this probe before, MEMORY. */
 uint32_t ringpop_node_lost(ringpop_node *node, uint64_t number, uint64_t moment);
-/* The running probe's number, and a helper of it that is to be asked and has not answered. NOTHING: there is none; the number
-   is written where a probe runs. */
+/* The running probe's number, and the helper of least address that is to be asked and has not answered. NOTHING: there is none; the
+   number is written where a probe runs. NO_NODE. */
 uint32_t ringpop_node_waiting(ringpop_node *node, uint64_t *number, uint32_t *ip, uint16_t *port);
-/* What a helper said: 0, it reached the target; 1, it did not; 2, nothing, since it failed. DONE: the target was reached. */
+/* What a helper said by this moment. Its word: 0, it reached the target; 1, it did not; 2, nothing, since it failed. DONE: the
+   target was reached. SUSPECTED: all have answered, and one did not reach it. INCONCLUSIVE: all failed. At these three the probe
+   ends. WAITING: another helper has not answered. BAD_ADDRESS, BAD_WORD, BAD_NUMBER, NO_NODE, STALE_PROBE, NOT_ASKED, MEMORY. */
 uint32_t ringpop_node_helper_said(ringpop_node *node, uint64_t number, uint32_t ip, uint16_t port, uint8_t word, uint64_t moment);
 
-/* The node's own address, and what it holds of itself; what it holds of an address. NOTHING: no member has it. */
+/* The node's own address, and what it holds of itself. NO_NODE. */
 uint32_t ringpop_node_own(ringpop_node *node, uint32_t *ip, uint16_t *port, ringpop_entry *entry);
+/* What the node holds of an address. NOTHING: no member has it. BAD_ADDRESS, NO_NODE. */
 uint32_t ringpop_node_member(ringpop_node *node, uint32_t ip, uint16_t port, ringpop_entry *entry);
-/* How many members there are, the node among them. */
+/* How many members there are, the node among them. NO_NODE. */
 uint32_t ringpop_node_len(ringpop_node *node, size_t *count);
-/* The members as one line of text, which no other member list has: the same where the nodes agree. */
+/* Writes the members as one line of text, which no other member list has: the same where the nodes agree. A member takes 49 bytes at
+   most. NO_NODE, MEMORY, SHORT_BUFFER. */
 uint32_t ringpop_node_members(ringpop_node *node, uint8_t *out, size_t room, size_t *count);
-/* The 32 bytes of the line's SHA-256. */
+/* Writes the 32 bytes of that text's SHA-256. NO_NODE, MEMORY, SHORT_BUFFER. */
 uint32_t ringpop_node_digest(ringpop_node *node, uint8_t *out, size_t room, size_t *count);
-/* The owner of a key. NOTHING: nobody serves. */
+/* The owner of a key. NOTHING: nobody serves. NO_NODE. */
 uint32_t ringpop_node_owner(ringpop_node *node, const uint8_t *key, size_t length, uint32_t *ip, uint16_t *port);
 /* The first owners of a key, all different, the owner first: as many as are wanted, or all that serve where those are fewer,
-   which may be none. room and count are numbers of addresses. */
+   which may be none. room and count are numbers of addresses. NO_NODE, MEMORY, SHORT_BUFFER. */
 uint32_t ringpop_node_owners(ringpop_node *node, const uint8_t *key, size_t length, size_t wanted, ringpop_address *out,
                              size_t room, size_t *count);
-/* The view of a node into an empty handle. It names owners as the node does now, whatever the node takes afterwards. HAS_NODE:
-   the view's handle is full. A view has one call at a time, as a node has; another thread wants a view of its own, which needs
-   no lock: views between two changes of the ring share one copy of it. */
+
+/* Makes the view of a node into an empty handle. It names owners as the node does now, whatever the node takes afterwards, and
+   also once the node is freed. A view has one call at a time, as a node has; another thread wants a view of its own, which needs no
+   lock: views between two changes of the ring share one copy of it. HAS_NODE, where the view's handle is full, NO_NODE, where the
+   node's is empty, MEMORY: the view's handle is as it was. */
 uint32_t ringpop_view_new(ringpop_view *view, ringpop_node *node);
+/* Frees the view: the handle is empty then. NO_NODE. */
 uint32_t ringpop_view_free(ringpop_view *view);
-/* The address of the node whose view it is, and the owner of a key. NOTHING: nobody served. */
+/* The address of the node whose view it is. NO_NODE. */
 uint32_t ringpop_view_own(ringpop_view *view, uint32_t *ip, uint16_t *port);
+/* The owner of a key. NOTHING: nobody served. NO_NODE. */
 uint32_t ringpop_view_owner(ringpop_view *view, const uint8_t *key, size_t length, uint32_t *ip, uint16_t *port);
-/* The first owners of a key, as of a node. */
+/* The first owners of a key, as of a node. NO_NODE, MEMORY, SHORT_BUFFER. */
 uint32_t ringpop_view_owners(ringpop_view *view, const uint8_t *key, size_t length, size_t wanted, ringpop_address *out,
                              size_t room, size_t *count);
+#ifdef __cplusplus
+}
+#endif
 #endif

@@ -1,5 +1,6 @@
 """Three nodes in one process, by ctypes: usage: three.py LIBRINGPOP.SO [count]"""
 import ctypes as c
+import hashlib
 import json
 import sys
 import time
@@ -31,6 +32,8 @@ for name, types in {
     "ping": [handle, c.c_uint32, c.c_uint16, c.c_char_p, c.c_size_t, size],
     "receive": [handle, c.c_char_p, c.c_size_t, c.c_uint64, c.c_char_p, c.c_size_t, size],
     "take": [handle, c.c_char_p, c.c_size_t, c.c_uint64],
+    "members": [handle, c.c_char_p, c.c_size_t, size],
+    "digest": [handle, c.c_char_p, c.c_size_t, size],
     "owner": [handle, c.c_char_p, c.c_size_t, c.POINTER(c.c_uint32), c.POINTER(c.c_uint16)],
     "owners": [handle, c.c_char_p, c.c_size_t, c.c_size_t, c.POINTER(Address), c.c_size_t, size],
 }.items():
@@ -60,6 +63,14 @@ class Node:
         assert code in (DONE, NOTHING), code
         return c.string_at(out, count.value) if code == DONE else None
 
+    def members(self):
+        assert lib.ringpop_node_members(self.handle, out, MAX_LINE, count) == DONE
+        return c.string_at(out, count.value)
+
+    def digest(self):
+        assert lib.ringpop_node_digest(self.handle, out, MAX_LINE, count) == DONE
+        return c.string_at(out, count.value)
+
     def owner(self, key, ip=c.c_uint32(), port=c.c_uint16()):
         return ip.value if lib.ringpop_node_owner(self.handle, key, len(key), ip, port) == DONE else None
 
@@ -81,6 +92,9 @@ talk(nodes[1], nodes[0], nodes[1].join())
 talk(nodes[2], nodes[0], nodes[2].join())
 talk(nodes[0], nodes[1], nodes[0].ping(nodes[1]))
 talk(nodes[0], nodes[2], nodes[0].ping(nodes[2]))
+for node in nodes:
+    assert node.members() == b"10.0.0.1:7946alive7;10.0.0.2:7946alive7*2;10.0.0.3:7946alive7"
+    assert node.digest() == hashlib.sha256(node.members()).digest()
 for i in range(8):
     owners = {node.owner(b"trip-%d" % i) for node in nodes}
     assert len(owners) == 1, owners

@@ -4,3 +4,4 @@ pub mod Births
 pub mod Exports
 pub mod Placed
 pub mod Sent
+pub mod Sights

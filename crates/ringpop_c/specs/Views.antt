@@ -2,13 +2,15 @@
 use Rattle.std.specs.Prelude.{◌≡◌, ℕ, List, Option, Some, None}
 use Rattle.hash_ring.specs.declared.hash.Sha256Hash.{Sha256Hash}
 use Rattle.hash_ring.specs.Points.{owner}
+use Rattle.node_core.specs.Node.{Node}
 use Rattle.node_core.specs.Viewing.{Viewed, view_of}
 use Rattle.ringpop_c.specs.declared.codes.Code.{Code}
 use Rattle.ringpop_c.specs.declared.codes.Code.TheVariants as code
 use Rattle.ringpop_c.specs.Codes.{code_number}
 use Rattle.ringpop_c.specs.Owned.{Held}
 use Rattle.ringpop_c.specs.OwnedViews.{HeldView}
-use Rattle.ringpop_c.specs.Steps.{sha_hash}
+use Rattle.ringpop_c.specs.Owners.{OwnersBy, Place, ViewOwnersBy}
+use Rattle.ringpop_c.specs.Steps.{owner_by, sha_hash}
 
 -- a full handle answers that it is full, and stays as it is; an empty one answers that the node's is empty, or holds the view of the node, or there was no memory for it
 abbrev pub Views : Option Held → Option HeldView → ℕ → Option HeldView → Type 0
@@ -25,3 +27,10 @@ LooksView look (Some held) number = (answer : Code) × (number ≡ code_number a
 -- the owner of a key among the servers of a view, by the first eight bytes of SHA-256
 abbrev pub view_owner : Viewed Sha256Hash → List ℕ → Option ℕ
 view_owner view key = owner (sha_hash view.hash) view.replicas view.servers key
+
+-- the view of a node names the owner of each key that the node names, and lists first owners as the node does
+abbrev pub ViewsNameOwners : Type 0
+ViewsNameOwners =
+    (node : Node Sha256Hash) (key : List ℕ)
+    → (view_owner (view_of node) key ≡ owner_by node key)
+    × ((n : ℕ) (place : Place) (answer : Code) → ViewOwnersBy key n place (view_of node) answer → OwnersBy key n place node answer)

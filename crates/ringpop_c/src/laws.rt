@@ -1,5 +1,6 @@
 //! Laws over the definitions, each the contract of a function that does nothing.
 ghost use Rattle.ringpop_c.specs.Exports.{ExportRunsAreRuns, ExportRunsKeepIt, ExportsAreCalls};
+ghost use Rattle.ringpop_c.specs.Views.{ViewsNameOwners};
 
 /// What an export does with the node in its handle, a look-up too, is one call of the node, or leaves it as it is.
 pub fn export_call()
@@ -11,4 +12,9 @@ pub fn export_call()
 pub fn export_run()
     ensures runs { ExportRunsAreRuns }
     ensures keeps { ExportRunsKeepIt }
+{}
+
+/// A view names owners as its node did when it was made.
+pub fn view_owners()
+    ensures { ViewsNameOwners }
 {}

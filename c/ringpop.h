@@ -121,7 +121,7 @@ enum ringpop_code {
   RINGPOP_TOO_MANY = 30,        /* more than 4,096 changes, or more than 256 keys */
   RINGPOP_NOT_GOSSIP = 31,      /* a message that is none of the membership */
   RINGPOP_UNANSWERED = 32,      /* the message's changes are taken, and its answer found no memory */
-  RINGPOP_SUSPECTED = 33,       /* the target is suspect: nobody could be asked, or a helper did not reach it and no other did */
+  RINGPOP_SUSPECTED = 33,       /* the probe has ended against its target, which is suspect if it was held as alive */
   RINGPOP_WAITING = 34,         /* another helper has not answered */
   RINGPOP_INCONCLUSIVE = 35,    /* every helper failed */
   RINGPOP_BAD_WORD = 36         /* a helper's word that is not 0 to 2 */
@@ -163,7 +163,7 @@ static inline const char *ringpop_code_text(uint32_t code) {
     case RINGPOP_TOO_MANY: return "too many changes or keys";
     case RINGPOP_NOT_GOSSIP: return "no message of the membership";
     case RINGPOP_UNANSWERED: return "taken, and the answer found no memory";
-    case RINGPOP_SUSPECTED: return "the target is suspect";
+    case RINGPOP_SUSPECTED: return "the probe has ended against its target";
     case RINGPOP_WAITING: return "another helper has not answered";
     case RINGPOP_INCONCLUSIVE: return "every helper failed";
     case RINGPOP_BAD_WORD: return "a helper's word is not 0 to 2";
@@ -230,7 +230,8 @@ uint32_t ringpop_node_rejoin(ringpop_node *node);
 uint32_t ringpop_node_probe(ringpop_node *node, uint64_t *number, uint32_t *ip, uint16_t *port);
 /* The target of the probe of this number answered, and the probe ends. NO_NODE, STALE_PROBE. */
 uint32_t ringpop_node_acked(ringpop_node *node, uint64_t number);
-/* The target did not answer by this moment. DONE: helpers are to be asked. SUSPECTED: nobody could be, and the probe ends.
+/* The target did not answer by this moment. DONE: helpers are to be asked. SUSPECTED: nobody could be, and the probe ends: the
+   target is suspect from now on if it was held as alive, as below.
    BAD_NUMBER, NO_NODE, STALE_PROBE, also where it was called for this probe before, MEMORY. */
 uint32_t ringpop_node_lost(ringpop_node *node, uint64_t number, uint64_t moment);
 /* The running probe's number, and the helper of least address that is to be asked and has not answered. NOTHING: there is none; the

@@ -55,6 +55,7 @@ static void refuse_empty(ringpop_node *node) {
   expect("expire by an empty handle", ringpop_node_expire(node, 1), RINGPOP_NO_NODE);
   expect("rejoin by an empty handle", ringpop_node_rejoin(node), RINGPOP_NO_NODE);
   expect("probe by an empty handle", ringpop_node_probe(node, &number, &ip, &port), RINGPOP_NO_NODE);
+  expect("running by an empty handle", ringpop_node_running(node, &number, &ip, &port), RINGPOP_NO_NODE);
   expect("free of an empty handle", ringpop_node_free(node), RINGPOP_NO_NODE);
   expect("leave of an empty handle", ringpop_node_leave(node), RINGPOP_NO_NODE);
   expect("join of an empty handle", ringpop_node_join(node, out, sizeof out, &count), RINGPOP_NO_NODE);
@@ -99,6 +100,37 @@ static void refuse_lines(ringpop_node *node) {
   memset(longest, ' ', sizeof longest);
   expect("long line", ringpop_node_receive(node, longest, sizeof longest, 2000, out, sizeof out, &count), RINGPOP_LINE_TOO_LONG);
   expect("long change", ringpop_node_take(node, longest, sizeof longest, 2000), RINGPOP_LINE_TOO_LONG);
+}
+
+static uint32_t kind_of(const char *line, uint8_t *kind) {
+  uint32_t ip = 0;
+  uint16_t port = 0;
+  uint32_t code = ringpop_line_source((const uint8_t *)line, strlen(line), kind, &ip, &port);
+  if (code == RINGPOP_DONE && (ip != 0x0A000002 || port != 7946)) expect("source", 1, 0);
+  return code;
+}
+
+#define FROM "\"source\":\"10.0.0.2:7946\",\"sourceIncarnationNumber\":1"
+
+/* Lines that are read beside a node. */
+static void read_lines(void) {
+  static const char *requests[4] = {"{\"kind\":\"forward\"," FROM ",\"keys\":[\"a\"],\"body\":\"\"}",
+                                    "{\"kind\":\"reply\"," FROM ",\"body\":\"\"}", "{\"kind\":\"not-owner\"," FROM "}",
+                                    "{\"kind\":\"refused\"," FROM ",\"reason\":\"full\"}"};
+  uint8_t kind = 77;
+  uint32_t ip = 0;
+  uint16_t port = 0;
+  bool reached = false;
+  expect("source of no JSON", kind_of("ping", &kind), RINGPOP_BAD_JSON);
+  expect_count("and no kind", kind, 77);
+  for (uint8_t i = 0; i < 4; i++) {
+    expect("source of a request", kind_of(requests[i], &kind), RINGPOP_DONE);
+    expect_count("its kind", kind, (size_t)(RINGPOP_FORWARD + i));
+  }
+  const uint8_t *reply = (const uint8_t *)requests[1];
+  expect("target of a reply", ringpop_line_target(reply, strlen(requests[1]), &ip, &port), RINGPOP_NOTHING);
+  expect("word of a reply", ringpop_line_reached(reply, strlen(requests[1]), &ip, &port, &reached), RINGPOP_NOTHING);
+  expect("word of no object", ringpop_line_reached((const uint8_t *)"[]", 2, &ip, &port, &reached), RINGPOP_NOT_OBJECT);
 }
 
 static void refuse_many(ringpop_node *node) {
@@ -182,6 +214,8 @@ static void probe_others(ringpop_config config) {
   refuse_owners(&node);
   expect("probe", ringpop_node_probe(&node, &number, &ip, &port), RINGPOP_DONE);
   expect("second probe", ringpop_node_probe(&node, &running, &helper, &helper_port), RINGPOP_BUSY);
+  expect("running", ringpop_node_running(&node, &running, &helper, &helper_port), RINGPOP_DONE);
+  if (running != number || helper != ip || helper_port != port) expect("the running probe", 1, 0);
   expect("lost at 2^53", ringpop_node_lost(&node, number, (uint64_t)1 << 53), RINGPOP_BAD_NUMBER);
   expect("lost", ringpop_node_lost(&node, number, 2000), RINGPOP_DONE);
   expect("word of the target", ringpop_node_helper_said(&node, number, ip, port, 2, 2000), RINGPOP_NOT_ASKED);
@@ -210,6 +244,7 @@ int main(void) {
   size_t count = 0;
   ringpop_config_standard(&config);
   probe_others(config);
+  read_lines();
   config.max_members = 2;
   refuse_empty(&node);
   refuse_new(&node, config);

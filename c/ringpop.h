@@ -85,6 +85,20 @@ enum ringpop_status {
   RINGPOP_TOMBSTONE = 4
 };
 
+/* The kinds of messages. */
+enum ringpop_kind {
+  RINGPOP_JOIN = 0,
+  RINGPOP_JOINED = 1,       /* the answer to a join */
+  RINGPOP_PING = 2,
+  RINGPOP_ACK = 3,          /* the answer to a ping */
+  RINGPOP_PING_REQ = 4,     /* asks a helper to ping a target */
+  RINGPOP_PING_REQ_ACK = 5, /* a helper's word on a target */
+  RINGPOP_FORWARD = 6,      /* this and the rest are of requests, not of the membership */
+  RINGPOP_REPLY = 7,
+  RINGPOP_NOT_OWNER = 8,
+  RINGPOP_REFUSED = 9
+};
+
 /* What a call answers. After DONE, NOTHING, UNANSWERED, SUSPECTED, WAITING and INCONCLUSIVE its step was made. After each other code
    the node is as it was, but for EXHAUSTED, FULL and MEMORY where a call says otherwise. */
 enum ringpop_code {
@@ -213,11 +227,16 @@ uint32_t ringpop_node_receive(ringpop_node *node, const uint8_t *line, size_t le
    read; of the change EXHAUSTED, FULL, MEMORY: no entry is altered, but the moment is told. */
 uint32_t ringpop_node_take(ringpop_node *node, const uint8_t *line, size_t length, uint64_t moment);
 
-/* The target that a line asks to ping, which ringpop_node_ping_req_ack answers; and whether a helper's line says that its target
-   was reached. Both only read: the line goes to ringpop_node_receive as well. NOTHING: it is another message. LINE_TOO_LONG,
-   BAD_JSON, NOT_OBJECT, UNKNOWN_KIND, MISSING_FIELD, BAD_FIELD, TOO_MANY, MEMORY. */
+/* What a line says, without a node. All only read: the line goes to ringpop_node_receive as well. LINE_TOO_LONG, BAD_JSON,
+   NOT_OBJECT, UNKNOWN_KIND, MISSING_FIELD, BAD_FIELD, TOO_MANY, MEMORY.
+   Its kind, one of ringpop_kind, and the address that it says it is from. */
+uint32_t ringpop_line_source(const uint8_t *line, size_t length, uint8_t *kind, uint32_t *ip, uint16_t *port);
+/* Of a PING_REQ the target that it asks to ping: the answer, which ringpop_node_ping_req_ack makes, goes to the line's source.
+   NOTHING: it is another kind. */
 uint32_t ringpop_line_target(const uint8_t *line, size_t length, uint32_t *ip, uint16_t *port);
-uint32_t ringpop_line_reached(const uint8_t *line, size_t length, bool *reached);
+/* Of a PING_REQ_ACK the target, and whether it was reached: of another target than the probe's it is no word on the probe.
+   NOTHING: it is another kind. */
+uint32_t ringpop_line_reached(const uint8_t *line, size_t length, uint32_t *ip, uint16_t *port, bool *reached);
 
 /* The first entry at its deadline becomes what it does then. DONE: call again. NOTHING: none is due. BAD_NUMBER, NO_NODE, MEMORY. */
 uint32_t ringpop_node_expire(ringpop_node *node, uint64_t moment);
@@ -228,7 +247,9 @@ uint32_t ringpop_node_rejoin(ringpop_node *node);
 
 /* Begins a probe: its number, and the address to ping. NOTHING: there is nobody to ping. NO_NODE, BUSY, SPENT, MEMORY. */
 uint32_t ringpop_node_probe(ringpop_node *node, uint64_t *number, uint32_t *ip, uint16_t *port);
-/* The target of the probe of this number answered, and the probe ends. NO_NODE, STALE_PROBE. */
+/* The running probe: its number, and its target. NOTHING: none runs. NO_NODE. */
+uint32_t ringpop_node_running(ringpop_node *node, uint64_t *number, uint32_t *ip, uint16_t *port);
+/* The target of the probe of this number answered, by an ACK whose source it is, and the probe ends. NO_NODE, STALE_PROBE. */
 uint32_t ringpop_node_acked(ringpop_node *node, uint64_t number);
 /* The target did not answer by this moment. DONE: helpers are to be asked. SUSPECTED: nobody could be, and the probe ends: the
    target is suspect from now on if it was held as alive, as below.

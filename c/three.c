@@ -21,6 +21,17 @@ static void expect(const char *what, uint32_t code, uint32_t wanted) {
   }
 }
 
+/* A line is of this kind, and from this node. */
+static void expect_source(const uint8_t *said, size_t length, uint8_t wanted, int from) {
+  uint8_t kind = 0;
+  uint32_t ip = 0;
+  uint16_t port = 0;
+  expect("source", ringpop_line_source(said, length, &kind, &ip, &port), RINGPOP_DONE);
+  expect("kind", kind, wanted);
+  expect("from", ip, IP(from + 1));
+  expect("its port", port, PORT);
+}
+
 /* One node says something to another, which answers it. */
 static void talk(int from, int to, bool join) {
   size_t length = 0, answered = 0;
@@ -28,6 +39,8 @@ static void talk(int from, int to, bool join) {
                        : ringpop_node_ping(&nodes[from], IP(to + 1), PORT, line, sizeof line, &length);
   expect("say", code, RINGPOP_DONE);
   expect("receive", ringpop_node_receive(&nodes[to], line, length, ++moment, answer, sizeof answer, &answered), RINGPOP_DONE);
+  expect_source(line, length, join ? RINGPOP_JOIN : RINGPOP_PING, from);
+  expect_source(answer, answered, join ? RINGPOP_JOINED : RINGPOP_ACK, to);
   expect("answer", ringpop_node_receive(&nodes[from], answer, answered, ++moment, line, sizeof line, &length), RINGPOP_NOTHING);
 }
 
@@ -38,31 +51,42 @@ static void tell(uint32_t written, int to, size_t length) {
   expect("hear", ringpop_node_receive(&nodes[to], line, length, ++moment, answer, sizeof answer, &answered), RINGPOP_NOTHING);
 }
 
+/* A helper does as the line asks that was just written: it pings the target, and tells the requester, whom the line names. */
+static size_t help(int helper, size_t length) {
+  uint8_t kind = 0;
+  uint32_t requester_ip = 0, target_ip = 0;
+  uint16_t requester_port = 0, target_port = 0;
+  expect("requester", ringpop_line_source(line, length, &kind, &requester_ip, &requester_port), RINGPOP_DONE);
+  expect("kind", kind, RINGPOP_PING_REQ);
+  expect("target", ringpop_line_target(line, length, &target_ip, &target_port), RINGPOP_DONE);
+  talk(helper, (int)(target_ip - IP(1)), false);
+  expect("answer to a requester",
+         ringpop_node_ping_req_ack(&nodes[helper], requester_ip, requester_port, target_ip, target_port, true, line, sizeof line, &length),
+         RINGPOP_DONE);
+  expect_source(line, length, RINGPOP_PING_REQ_ACK, helper);
+  return length;
+}
+
 /* A probe whose target answers no ping, until a helper reaches it. */
 static void probe_by_helper(int prober) {
   uint64_t number = 0, running = 0;
-  uint32_t target_ip = 0, helper_ip = 0;
-  uint16_t target_port = 0, helper_port = 0;
+  uint32_t target_ip = 0, helper_ip = 0, said_ip = 0;
+  uint16_t target_port = 0, helper_port = 0, said_port = 0;
   size_t length = 0;
+  bool reached = false;
   expect("probe", ringpop_node_probe(&nodes[prober], &number, &target_ip, &target_port), RINGPOP_DONE);
   expect("lost", ringpop_node_lost(&nodes[prober], number, ++moment), RINGPOP_DONE);
   expect("waiting", ringpop_node_waiting(&nodes[prober], &running, &helper_ip, &helper_port), RINGPOP_DONE);
-  int target = (int)(target_ip - IP(1)), helper = (int)(helper_ip - IP(1));
-  uint32_t asked_ip = 0;
-  uint16_t asked_port = 0;
-  bool reached = false;
+  int helper = (int)(helper_ip - IP(1));
   uint32_t code =
       ringpop_node_ping_req(&nodes[prober], helper_ip, helper_port, target_ip, target_port, line, sizeof line, &length);
   tell(code, helper, length);
-  expect("target", ringpop_line_target(line, length, &asked_ip, &asked_port), RINGPOP_DONE);
-  if (asked_ip != target_ip || asked_port != target_port) expect("asked", 1, 0);
-  talk(helper, target, false);
-  code = ringpop_node_ping_req_ack(&nodes[helper], IP(prober + 1), PORT, target_ip, target_port, true, line, sizeof line, &length);
-  tell(code, prober, length);
-  expect("reached", ringpop_line_reached(line, length, &reached), RINGPOP_DONE);
-  if (!reached) expect("was reached", 0, 1);
+  length = help(helper, length);
+  tell(RINGPOP_DONE, prober, length);
+  expect("reached", ringpop_line_reached(line, length, &said_ip, &said_port, &reached), RINGPOP_DONE);
+  if (!reached || said_ip != target_ip || said_port != target_port) expect("the target was reached", 0, 1);
   expect("helper said", ringpop_node_helper_said(&nodes[prober], running, helper_ip, helper_port, 0, ++moment), RINGPOP_DONE);
-  expect("no probe runs", ringpop_node_waiting(&nodes[prober], &running, &helper_ip, &helper_port), RINGPOP_NOTHING);
+  expect("no probe runs", ringpop_node_running(&nodes[prober], &running, &helper_ip, &helper_port), RINGPOP_NOTHING);
 }
 
 /* A probe whose target answers. */

@@ -75,17 +75,30 @@ func (node *Node) owners(key string, wanted int) []C.ringpop_address {
 	return places[:count]
 }
 
-// talk brings a line to a node, and its answer back.
-func talk(one, other *Node, line []byte) {
-	one.receive(other.receive(line, C.RINGPOP_DONE), C.RINGPOP_NOTHING)
+// expectSource fails where a line is of another kind, or from another node.
+func expectSource(line []byte, wanted C.uint8_t, from *Node) {
+	var kind C.uint8_t
+	var ip C.uint32_t
+	var at C.uint16_t
+	check("source", C.ringpop_line_source(bytes(line), C.size_t(len(line)), &kind, &ip, &at), C.RINGPOP_DONE)
+	if kind != wanted || ip != from.ip || at != port {
+		log.Fatalf("a line of kind %d from %d:%d", kind, ip, at)
+	}
+}
+
+// talk brings a line to a node, and its answer, of this kind, back.
+func talk(one, other *Node, line []byte, kind C.uint8_t) {
+	answer := other.receive(line, C.RINGPOP_DONE)
+	expectSource(answer, kind, other)
+	one.receive(answer, C.RINGPOP_NOTHING)
 }
 
 func main() {
 	nodes := []*Node{newNode(1, 1), newNode(2, 2), newNode(3, 1)}
-	talk(nodes[1], nodes[0], nodes[1].join())
-	talk(nodes[2], nodes[0], nodes[2].join())
-	talk(nodes[0], nodes[1], nodes[0].ping(nodes[1]))
-	talk(nodes[0], nodes[2], nodes[0].ping(nodes[2]))
+	talk(nodes[1], nodes[0], nodes[1].join(), C.RINGPOP_JOINED)
+	talk(nodes[2], nodes[0], nodes[2].join(), C.RINGPOP_JOINED)
+	talk(nodes[0], nodes[1], nodes[0].ping(nodes[1]), C.RINGPOP_ACK)
+	talk(nodes[0], nodes[2], nodes[0].ping(nodes[2]), C.RINGPOP_ACK)
 	for i := 0; i < 8; i++ {
 		key := fmt.Sprintf("trip-%d", i)
 		owner := nodes[0].owner(key)

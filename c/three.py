@@ -7,6 +7,7 @@ import time
 
 MAX_LINE, PORT, LOOKUPS = 1 << 20, 7946, 300_000
 DONE, NOTHING = 0, 1
+JOINED, ACK = 1, 3
 lib = c.CDLL(sys.argv[1])
 
 
@@ -24,6 +25,8 @@ class Address(c.Structure):
 
 
 handle, size = c.POINTER(Handle), c.POINTER(c.c_size_t)
+lib.ringpop_line_source.argtypes = [c.c_char_p, c.c_size_t, c.POINTER(c.c_uint8), c.POINTER(c.c_uint32), c.POINTER(c.c_uint16)]
+lib.ringpop_line_source.restype = c.c_uint32
 lib.ringpop_config_standard.argtypes, lib.ringpop_config_standard.restype = [c.POINTER(Config)], None
 for name, types in {
     "new": [handle, c.POINTER(Config), c.c_uint32, c.c_uint16, c.c_uint64, c.c_uint64, c.c_uint64],
@@ -83,13 +86,20 @@ class Node:
         assert lib.ringpop_node_free(self.handle) == DONE
 
 
-def talk(one, other, line):
-    one.receive(other.receive(line, 1001), 1002)
+def source(line, kind=c.c_uint8(), ip=c.c_uint32(), port=c.c_uint16()):
+    assert lib.ringpop_line_source(line, len(line), kind, ip, port) == DONE
+    return kind.value, ip.value, port.value
+
+
+def talk(one, other, line, kind=ACK):
+    answer = other.receive(line, 1001)
+    assert source(answer) == (kind, other.ip, PORT)
+    one.receive(answer, 1002)
 
 
 nodes = [Node(1), Node(2, 2), Node(3)]
-talk(nodes[1], nodes[0], nodes[1].join())
-talk(nodes[2], nodes[0], nodes[2].join())
+talk(nodes[1], nodes[0], nodes[1].join(), JOINED)
+talk(nodes[2], nodes[0], nodes[2].join(), JOINED)
 talk(nodes[0], nodes[1], nodes[0].ping(nodes[1]))
 talk(nodes[0], nodes[2], nodes[0].ping(nodes[2]))
 for node in nodes:

@@ -17,7 +17,7 @@ use Rattle.node_core.proofs.Invariant.{calls_keep_it}
 use Rattle.node_core.proofs.Itself.{run_itself}
 use Rattle.ringpop_c.specs.declared.codes.Code.{Code}
 use Rattle.ringpop_c.specs.Exports.{Export, Leave, Rejoin, Expire, Probe, Acked, Lost, HelperSaid, Take, Receive, Join, Ping, PingReq, PingReqAck}
-use Rattle.ringpop_c.specs.Exports.{Waiting, Own, Member, Len, Members, Digest, Owner, Owners}
+use Rattle.ringpop_c.specs.Exports.{Running, Waiting, Own, Member, Len, Members, Digest, Owner, Owners}
 use Rattle.ringpop_c.specs.Exports.{ExportsAreCalls, ExportRunsAreRuns, ExportRunsKeepIt, GoesByCalls, IsExportRun, StaysOrCalls}
 use Rattle.ringpop_c.specs.Steps.{owner_by, sha_hash}
 
@@ -53,6 +53,7 @@ exports_are_calls (PingReqAck requester target reached buffer) old new answer (i
     inr (call.PingReqAckTo requester target reached, reply.PingReqAckTo (Ok (ping_req_ack_by old requester target reached)), refl, (refl, is), tt)
 exports_are_calls (PingReqAck requester target reached buffer) old new answer (inr (inl (room, same, memory))) = inl same
 exports_are_calls (PingReqAck requester target reached buffer) old new answer (inr (inr (same, code, short))) = inl same
+exports_are_calls (Running number ip port) old new answer (tells, same) = inr (call.Running, reply.Running (running_of old.probing), refl, (refl, same), tt)
 exports_are_calls (Waiting number ip port) old new answer (tells, same) = inr (call.Running, reply.Running (running_of old.probing), refl, (refl, same), tt)
 exports_are_calls (Own ip port entry) old new answer (tells, same) = inr (call.Own, reply.Own (own_change old), refl, (refl, same), tt)
 exports_are_calls (Member a entry) old new answer (tells, same) =

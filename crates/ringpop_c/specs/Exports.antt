@@ -24,7 +24,7 @@ use Rattle.ringpop_c.specs.declared.entries.RingpopEntry.{RingpopEntry}
 use Rattle.ringpop_c.specs.Entries.{TellsChange, TellsEntry}
 use Rattle.ringpop_c.specs.Lines.{Buffer, HearsBy, SaysBy, TellsText}
 use Rattle.ringpop_c.specs.Owners.{OwnersBy, Place}
-use Rattle.ringpop_c.specs.Probing.{AcksBy, HearsHelper, LosesBy, ProbesBy, TellsWaiting}
+use Rattle.ringpop_c.specs.Probing.{AcksBy, HearsHelper, LosesBy, ProbesBy, TellsRunning, TellsWaiting}
 use Rattle.ringpop_c.specs.Steps.{ExpiresBy, LeavesBy, RejoinsBy, TellsAddress, TellsCount, owner_by, sha_hash}
 use Rattle.ringpop_c.specs.Taking.{HearsChange}
 
@@ -43,6 +43,7 @@ pub data Export : Type 0 where
   Ping : ℕ → Buffer → Export
   PingReq : ℕ → ℕ → Buffer → Export
   PingReqAck : ℕ → ℕ → Bool → Buffer → Export
+  Running : ℕ → ℕ → ℕ → Export
   Waiting : ℕ → ℕ → ℕ → Export
   Own : ℕ → ℕ → RingpopEntry → Export
   Member : ℕ → RingpopEntry → Export
@@ -68,6 +69,7 @@ ExportStep (Ping target buffer) old answer new = SaysBy (λ n. ping_by n target)
 ExportStep (PingReq helper target buffer) old answer new = SaysBy (λ n. ping_req_by n helper target) (λ n. told n helper) buffer old answer new
 ExportStep (PingReqAck requester target reached buffer) old answer new =
     SaysBy (λ n. ping_req_ack_by n requester target reached) (λ n. told n requester) buffer old answer new
+ExportStep (Running number ip port) old answer new = TellsRunning (running_of old.probing) number ip port answer × (new ≡ old)
 ExportStep (Waiting number ip port) old answer new = TellsWaiting (running_of old.probing) number ip port answer × (new ≡ old)
 ExportStep (Own ip port entry) old answer new = TellsChange (own_change old) ip port entry answer × (new ≡ old)
 ExportStep (Member a entry) old answer new = TellsEntry (option_map entry_of (greatest old.members a)) entry answer × (new ≡ old)
@@ -92,6 +94,7 @@ IsCallOf (Join buffer) event = event ≡ call.JoinMessage
 IsCallOf (Ping target buffer) event = event ≡ call.PingTo target
 IsCallOf (PingReq helper target buffer) event = event ≡ call.PingReqTo helper target
 IsCallOf (PingReqAck requester target reached buffer) event = event ≡ call.PingReqAckTo requester target reached
+IsCallOf (Running number ip port) event = event ≡ call.Running
 IsCallOf (Waiting number ip port) event = event ≡ call.Running
 IsCallOf (Own ip port entry) event = event ≡ call.Own
 IsCallOf (Member a entry) event = event ≡ call.Member a

@@ -73,6 +73,12 @@ abbrev pub TellsWaiting : Option Running → ℕ → ℕ → ℕ → Code → Ty
 TellsWaiting None number ip port answer = answer ≡ code.Nothing
 TellsWaiting (Some running) number ip port answer = (number ≡ running.number) × TellsHelper running.waiting ip port answer
 
+-- the running probe is told, its number and its target; that none runs
+abbrev pub TellsRunning : Option Running → ℕ → ℕ → ℕ → Code → Type 0
+TellsRunning None number ip port answer = answer ≡ code.Nothing
+TellsRunning (Some running) number ip port answer =
+    (answer ≡ code.Done) × (number ≡ running.number) × (ip ≡ ip_of running.target) × (port ≡ port_of running.target)
+
 -- what a helper said, by its number: that it reached the target, that it did not, or that it failed
 abbrev pub said_of : ℕ → Option Said
 said_of n = cond (n == 0) (Some said.Reached) (cond (n == 1) (Some said.NotReached) (cond (n == 2) (Some said.Failed) None))

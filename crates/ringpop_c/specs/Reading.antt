@@ -1,4 +1,4 @@
--- What a line says that asks a node to ping, or answers that.
+-- What a line says of itself: its kind, whom it is from, and whom it asks to ping or says was reached.
 use Rattle.std.specs.Prelude.{◌≡◌, ◌⊎◌, ℕ, Bool, List}
 use Rattle.change_core.specs.Address.{ip_of, port_of}
 use Rattle.wire_json.specs.declared.messages.Content.{Content}
@@ -16,6 +16,23 @@ pub record Told (address ip port : ℕ) : Type 0 where
   pub ip_is : ip ≡ ip_of address
   pub port_is : port ≡ port_of address
 
+-- the number of a message's kind, as the header has it
+abbrev pub kind_number : Content → ℕ
+kind_number (Join news) = 0
+kind_number (Joined news) = 1
+kind_number (Ping news) = 2
+kind_number (Ack news) = 3
+kind_number (PingReq news target) = 4
+kind_number (PingReqAck news target reached) = 5
+kind_number (Forward keys body) = 6
+kind_number (Reply body) = 7
+kind_number NotOwner = 8
+kind_number (Refused reason) = 9
+
+-- of which kind a message is, and whom it is from, is told
+abbrev pub TellsSource : Message → ℕ → ℕ → ℕ → Code → Type 0
+TellsSource message kind ip port answer = (answer ≡ code.Done) × (kind ≡ kind_number message.content) × Told message.source ip port
+
 -- the target that a message asks to ping is told; that it asks nobody to
 abbrev pub TellsTarget : Content → ℕ → ℕ → Code → Type 0
 TellsTarget (Join news) ip port answer = answer ≡ code.Nothing
@@ -29,18 +46,18 @@ TellsTarget (Reply body) ip port answer = answer ≡ code.Nothing
 TellsTarget NotOwner ip port answer = answer ≡ code.Nothing
 TellsTarget (Refused reason) ip port answer = answer ≡ code.Nothing
 
--- whether a message says that a target was reached is told; that it says nothing of that
-abbrev pub TellsReached : Content → Bool → Code → Type 0
-TellsReached (Join news) told answer = answer ≡ code.Nothing
-TellsReached (Joined news) told answer = answer ≡ code.Nothing
-TellsReached (Ping news) told answer = answer ≡ code.Nothing
-TellsReached (Ack news) told answer = answer ≡ code.Nothing
-TellsReached (PingReq news target) told answer = answer ≡ code.Nothing
-TellsReached (PingReqAck news target reached) told answer = (answer ≡ code.Done) × (told ≡ reached)
-TellsReached (Forward keys body) told answer = answer ≡ code.Nothing
-TellsReached (Reply body) told answer = answer ≡ code.Nothing
-TellsReached NotOwner told answer = answer ≡ code.Nothing
-TellsReached (Refused reason) told answer = answer ≡ code.Nothing
+-- of which target a message says whether it was reached, and what it says; that it says nothing of that
+abbrev pub TellsReached : Content → ℕ → ℕ → Bool → Code → Type 0
+TellsReached (Join news) ip port told answer = answer ≡ code.Nothing
+TellsReached (Joined news) ip port told answer = answer ≡ code.Nothing
+TellsReached (Ping news) ip port told answer = answer ≡ code.Nothing
+TellsReached (Ack news) ip port told answer = answer ≡ code.Nothing
+TellsReached (PingReq news target) ip port told answer = answer ≡ code.Nothing
+TellsReached (PingReqAck news target reached) ip port told answer = (answer ≡ code.Done) × Told target ip port × (told ≡ reached)
+TellsReached (Forward keys body) ip port told answer = answer ≡ code.Nothing
+TellsReached (Reply body) ip port told answer = answer ≡ code.Nothing
+TellsReached NotOwner ip port told answer = answer ≡ code.Nothing
+TellsReached (Refused reason) ip port told answer = answer ≡ code.Nothing
 
 -- a line is that of a message of which this is told, or it is none and the code says why
 abbrev pub IsRead : (Message → Code → Type 0) → List ℕ → Code → Type 0

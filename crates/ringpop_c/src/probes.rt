@@ -3,7 +3,7 @@ ghost use Rattle.std.specs.Prelude.{◌≡◌, ◌≢◌, ◌≤◌, ◌<◌, So
 ghost use Rattle.change_core.specs.Address.{address_of};
 ghost use Rattle.change_core.specs.Numbers.{greatest_number};
 ghost use Rattle.ringpop_c.specs.Codes.{code_number};
-ghost use Rattle.ringpop_c.specs.Probing.{AcksBy, HearsHelper, LosesBy, ProbesBy, TellsHelper, TellsWaiting, running_in, said_of};
+ghost use Rattle.ringpop_c.specs.Probing.{AcksBy, HearsHelper, LosesBy, ProbesBy, TellsHelper, TellsRunning, TellsWaiting, running_in, said_of};
 ghost use Rattle.detector_core.specs.declared.asked.Said.{Said};
 ghost use Rattle.detector_core.specs.Picks.{running_of};
 ghost use Rattle.ringpop_c.specs.Steps.{Does, Looks};
@@ -112,6 +112,44 @@ pub extern "C" fn ringpop_node_lost(
     let code = lose(&mut served.node, number, moment);
     put_back(node, served);
     code.number()
+}
+
+/// Tells of a probe that runs its number and its target.
+fn tell_running(running: Option<Running>, number: &mut u64, ip: &mut u32, port: &mut u16) -> Code
+    ensures told { TellsRunning running number.new ip.new port.new result }
+    ensures untouched { result ≢ Code.Done → (number.new ≡ number.old) × (ip.new ≡ ip.old) × (port.new ≡ port.old) }
+{
+    match running {
+        Some(begun) => {
+            *number = begun.number;
+            *ip = begun.target.ip();
+            *port = begun.target.port();
+            Code::Done
+        }
+        None => Code::Nothing,
+    }
+}
+
+/// The number of the running probe, and its target. `Nothing`: no probe runs.
+#[unsafe(no_mangle)]
+pub extern "C" fn ringpop_node_running(
+    alloc: Global,
+    node: &mut RingpopNode,
+    number: &mut u64,
+    ip: &mut u32,
+    port: &mut u16,
+) -> u32
+    ensures told { Looks (λ n answer. TellsRunning (running_of n.probing) number.new ip.new port.new answer) node.old.at.value result }
+    ensures same { node.new.at.value ≡ node.old.at.value }
+    ensures untouched { result ≢ code_number Code.Done
+        → (number.new ≡ number.old) × (ip.new ≡ ip.old) × (port.new ≡ port.old) }
+{
+    let Some(served) = lift(alloc, node) else {
+        return Code::NoNode.number();
+    };
+    let running = served.node.running();
+    put_back(node, served);
+    tell_running(running, number, ip, port).number()
 }
 
 /// Tells of a probe that runs whom it waits for.

@@ -1,11 +1,66 @@
-//! Lines that are read beside a node: whom one asks to ping, and what a helper says.
+//! Lines that are read beside a node: of which kind one is and whom it is from, whom it asks to ping, and what a helper says.
 ghost use Rattle.std.specs.Prelude.{◌≡◌, ◌≢◌};
 ghost use Rattle.ringpop_c.specs.Codes.{code_number};
-ghost use Rattle.ringpop_c.specs.Reading.{IsRead, ReadsLine, TellsReached, TellsTarget};
+ghost use Rattle.ringpop_c.specs.Reading.{IsRead, ReadsLine, TellsReached, TellsSource, TellsTarget, kind_number};
 
 use crate::codes::Code;
 use std::alloc::Global;
 use wire_json::{Content, Message, decode};
+
+/// The number of a kind, which the header names.
+fn number_of(content: &Content) -> u8
+    ensures { result ≡ kind_number content.now }
+{
+    match content {
+        Content::Join(_) => 0,
+        Content::Joined(_) => 1,
+        Content::Ping(_) => 2,
+        Content::Ack(_) => 3,
+        Content::PingReq(_, _) => 4,
+        Content::PingReqAck(_, _, _) => 5,
+        Content::Forward(_, _) => 6,
+        Content::Reply(_) => 7,
+        Content::NotOwner => 8,
+        Content::Refused(_) => 9,
+    }
+}
+
+/// Tells of which kind a message is, and whom it is from.
+fn tell_source(message: &Message, kind: &mut u8, ip: &mut u32, port: &mut u16) -> Code
+    ensures told { TellsSource message.now kind.new ip.new port.new result }
+    ensures untouched { result ≢ Code.Done → (kind.new ≡ kind.old) × (ip.new ≡ ip.old) × (port.new ≡ port.old) }
+{
+    *kind = number_of(&message.content);
+    *ip = message.source.ip();
+    *port = message.source.port();
+    Code::Done
+}
+
+/// Of which kind a line is, and whom it is from.
+fn read_source(alloc: Global, line: &[u8], kind: &mut u8, ip: &mut u32, port: &mut u16) -> Code
+    ensures told { IsRead (λ message answer. TellsSource message kind.new ip.new port.new answer) line.now result }
+    ensures untouched { result ≢ Code.Done → (kind.new ≡ kind.old) × (ip.new ≡ ip.old) × (port.new ≡ port.old) }
+{
+    match decode(alloc, line) {
+        Ok(message) => tell_source(&message, kind, ip, port),
+        Err(error) => Code::of_wire(error),
+    }
+}
+
+/// Of which kind the message of a line is, without a newline, and whom it is from. A fault of the line, `Memory`.
+#[unsafe(no_mangle)]
+pub extern "C" fn ringpop_line_source(
+    alloc: Global,
+    line: &[u8],
+    kind: &mut u8,
+    ip: &mut u32,
+    port: &mut u16,
+) -> u32
+    ensures told { ReadsLine (λ message answer. TellsSource message kind.new ip.new port.new answer) line.now result }
+    ensures untouched { result ≢ code_number Code.Done → (kind.new ≡ kind.old) × (ip.new ≡ ip.old) × (port.new ≡ port.old) }
+{
+    read_source(alloc, line, kind, ip, port).number()
+}
 
 /// Tells whom a message asks to ping.
 fn tell_target(message: &Message, ip: &mut u32, port: &mut u16) -> Code
@@ -47,13 +102,15 @@ pub extern "C" fn ringpop_line_target(
     read_target(alloc, line, ip, port).number()
 }
 
-/// Tells what a message says of a target.
-fn tell_reached(message: &Message, reached: &mut bool) -> Code
-    ensures told { TellsReached message.now.content reached.new result }
-    ensures untouched { result ≢ Code.Done → reached.new ≡ reached.old }
+/// Tells of which target a message says whether it was reached, and what it says.
+fn tell_reached(message: &Message, ip: &mut u32, port: &mut u16, reached: &mut bool) -> Code
+    ensures told { TellsReached message.now.content ip.new port.new reached.new result }
+    ensures untouched { result ≢ Code.Done → (ip.new ≡ ip.old) × (port.new ≡ port.old) × (reached.new ≡ reached.old) }
 {
     match &message.content {
-        Content::PingReqAck(_, _, said) => {
+        Content::PingReqAck(_, about, said) => {
+            *ip = about.ip();
+            *port = about.port();
             *reached = *said;
             Code::Done
         }
@@ -61,23 +118,35 @@ fn tell_reached(message: &Message, reached: &mut bool) -> Code
     }
 }
 
-/// Whether a line says that a target was reached.
-fn read_reached(alloc: Global, line: &[u8], reached: &mut bool) -> Code
-    ensures told { IsRead (λ message answer. TellsReached message.content reached.new answer) line.now result }
-    ensures untouched { result ≢ Code.Done → reached.new ≡ reached.old }
+/// Of which target a line says whether it was reached, and what it says.
+fn read_reached(
+    alloc: Global,
+    line: &[u8],
+    ip: &mut u32,
+    port: &mut u16,
+    reached: &mut bool,
+) -> Code
+    ensures told { IsRead (λ message answer. TellsReached message.content ip.new port.new reached.new answer) line.now result }
+    ensures untouched { result ≢ Code.Done → (ip.new ≡ ip.old) × (port.new ≡ port.old) × (reached.new ≡ reached.old) }
 {
     match decode(alloc, line) {
-        Ok(message) => tell_reached(&message, reached),
+        Ok(message) => tell_reached(&message, ip, port, reached),
         Err(error) => Code::of_wire(error),
     }
 }
 
-/// Whether a helper's line, without a newline, says that the target was reached. `Nothing`: it is no helper's. A fault of
+/// The target of a helper's line, without a newline, and whether it was reached. `Nothing`: it is no helper's. A fault of
 /// the line, `Memory`.
 #[unsafe(no_mangle)]
-pub extern "C" fn ringpop_line_reached(alloc: Global, line: &[u8], reached: &mut bool) -> u32
-    ensures told { ReadsLine (λ message answer. TellsReached message.content reached.new answer) line.now result }
-    ensures untouched { result ≢ code_number Code.Done → reached.new ≡ reached.old }
+pub extern "C" fn ringpop_line_reached(
+    alloc: Global,
+    line: &[u8],
+    ip: &mut u32,
+    port: &mut u16,
+    reached: &mut bool,
+) -> u32
+    ensures told { ReadsLine (λ message answer. TellsReached message.content ip.new port.new reached.new answer) line.now result }
+    ensures untouched { result ≢ code_number Code.Done → (ip.new ≡ ip.old) × (port.new ≡ port.old) × (reached.new ≡ reached.old) }
 {
-    read_reached(alloc, line, reached).number()
+    read_reached(alloc, line, ip, port, reached).number()
 }

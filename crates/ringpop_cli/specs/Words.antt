@@ -7,8 +7,8 @@ use Rattle.clap.specs.Words.{rows_of, subcommand_rows_of}
 use Rattle.clap.specs.declared.parser.matches.ArgMatches.{ArgMatches}
 use Rattle.clap.specs.declared.parser.matches.Found.{Found}
 use Rattle.change_core.specs.Address.{address_text}
-use Rattle.cli_core.specs.declared.subcommands.OwnerWords.{OwnerWords}
-use Rattle.cli_core.specs.declared.subcommands.SimWords.{SimWords}
+use Rattle.cli_core.specs.declared.words.OwnerWords.{OwnerWords}
+use Rattle.cli_core.specs.declared.words.SimWords.{SimWords}
 use Rattle.cli_core.specs.declared.subcommands.Subcommand.{Subcommand}
 use Rattle.cli_core.specs.declared.subcommands.Subcommand.TheVariants.{Fold, Hash, Owner, Sim}
 use Rattle.serve_core.specs.declared.commands.ClusterCommand.{ClusterCommand}

@@ -1,7 +1,7 @@
 #!/usr/bin/env bash
-# Rings of 10, 100, 1,000 and 4,096 servers of 100 points by SHA-256: builds in micro- or milliseconds, owners and three owners in nanoseconds a
-# call, adds and removes in microseconds; and what no search can be without, the hash of a key and one read of a random place among as many
-# points. Beside them, one after another: a sorted vector in Rust by the soft SHA-256 of the crate sha2,
+# Rings of 10, 100, 1,000 and 4,096 servers of 100 points by SHA-256: builds server by server and at once in micro- or milliseconds, one,
+# few and all owners in nanoseconds a call, adds and removes in microseconds; and what no search can be without, the hash of a key and one
+# read of a random place among as many points. Beside them, one after another: a sorted vector in Rust by the soft SHA-256 of the crate sha2,
 # groupcache in Go, uhashring in Python and libmemcached's ketama in C. Wants rt; of the others it says so where one is not there:
 # cargo with the crate sha2 0.10, go with groupcache (on Debian golang-github-golang-groupcache-dev, else in GOPATH), a python3 with
 # uhashring, cc with libmemcached's headers. Where the crates of Rust lie in a folder (Debian's librust packages put them there), CRATES

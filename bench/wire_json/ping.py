@@ -1,6 +1,7 @@
 """Makes the lines of pings, and measures Python's readers and writers of JSON on them.
 
-ping.py make FOLDER    writes ping0.json, ping64.json and ping4096.json
+ping.py make FOLDER    writes ping0.json, ping64.json and ping4096.json, and longest.json and objects.json, of 1,048,576 bytes: a request
+                       with a long body, and a ping whose changes are objects without members
 ping.py time FILE..    prints MB/s, the median of five rounds
 """
 import json
@@ -38,6 +39,22 @@ def ping(count):
     }
 
 
+def longest():
+    """A request whose body makes its line as long as one may be."""
+    whole = {"kind": "forward", "source": "10.0.0.1:7946", "sourceIncarnationNumber": 1, "keys": ["k"], "body": ""}
+    return {**whole, "body": "x" * (1_048_576 - len(written(whole)))}
+
+
+def objects():
+    """A ping of as many bytes, whose changes are objects without members."""
+    whole = ping(0)
+    return {**whole, "changes": [{}] * ((1_048_577 - len(written(whole))) // 3)}
+
+
+def written(value):
+    return json.dumps(value, separators=(",", ":"))
+
+
 def speed(size, call):
     turns = max(5, min(50_000, 8_000_000 // size))
     rounds = []
@@ -51,9 +68,9 @@ def speed(size, call):
 
 def main():
     if sys.argv[1] == "make":
-        for count in [0, 64, 4096]:
-            line = json.dumps(ping(count), separators=(",", ":"))
-            pathlib.Path(sys.argv[2], f"ping{count}.json").write_text(line)
+        lines = {"ping0": ping(0), "ping64": ping(64), "ping4096": ping(4096), "longest": longest(), "objects": objects()}
+        for name, line in lines.items():
+            pathlib.Path(sys.argv[2], f"{name}.json").write_text(written(line))
         return
     for file in sys.argv[2:]:
         line = pathlib.Path(file).read_bytes()

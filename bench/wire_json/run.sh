@@ -1,8 +1,8 @@
 #!/usr/bin/env bash
-# Decode and encode of pings with 0, 64 and 4,096 changes, in MB/s, in one run: this product, serde_json in Rust (where cargo
-# finds it), and Python's json (and orjson where it is there). Wants rt, python3 and cargo; where the crates of Rust lie in a folder
-# (Debian's librust packages put them there), CRATES names it; PYTHON may name another Python. It works on a copy, which it proves
-# first (some minutes), so nothing is left in the repository.
+# Decode and encode of pings with 0, 64 and 4,096 changes, in MB/s, in one run: this product, serde_json in Rust (where cargo finds it),
+# and Python's json (and orjson where it is there); then how much memory the longest lines take, each read once. Wants rt, python3 and
+# cargo; where the crates of Rust lie in a folder (Debian's librust packages put them there), CRATES names it; PYTHON may name another
+# Python. It works on a copy, which it proves first (some minutes), so nothing is left in the repository.
 set -euo pipefail
 here=$(cd "$(dirname "$0")" && pwd)
 root=$here/../..
@@ -23,6 +23,7 @@ echo 'wire_bench: change_core wire_json anyhow' >> "$work/crates.txt"
 python3 "$here/ping.py" make "$work"
 files=("$work/ping0.json" "$work/ping64.json" "$work/ping4096.json")
 (cd "$work/crates/wire_bench" && rt run -- "${files[@]}")
+for name in ping4096 longest objects; do "$work/crates/wire_bench/out/wire_bench" once "$work/$name.json"; done
 offline=()
 if [ -n "${CRATES:-}" ]; then
     offline=(--offline --config 'source.crates-io.replace-with="folder"' --config "source.folder.directory=\"$CRATES\"")
@@ -30,6 +31,7 @@ fi
 cp -r "$here/rust" "$work/rust"
 if (cd "$work/rust" && cargo build --release --quiet "${offline[@]}"); then
     "$work/rust/target/release/ping_lines" "${files[@]}"
+    for name in ping4096 longest objects; do "$work/rust/target/release/ping_lines" once "$work/$name.json"; done
 else
     echo "no serde_json for Rust here"
 fi

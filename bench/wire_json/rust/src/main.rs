@@ -1,4 +1,6 @@
-//! serde_json on the lines of pings: to and from a `Value`, and to and from structs.
+//! serde_json on the lines of pings: to and from a `Value`, and to and from structs. Or a line is read once to a `Value`, and the most
+//! memory that the program had before and after is told.
+//! usage: ping_lines FILE.. | ping_lines once FILE
 use serde::{Deserialize, Serialize};
 use serde_json::Value;
 use std::hint::black_box;
@@ -40,7 +42,29 @@ fn speed(bytes: usize, mut call: impl FnMut()) -> f64 {
     bytes as f64 / rounds[2] / 1e6
 }
 
+/// The most memory that the program had resident, as the system tells it.
+fn peak() -> String {
+    let text = std::fs::read_to_string("/proc/self/status").expect("a status");
+    let peak = text.lines().find_map(|line| line.strip_prefix("VmHWM:"));
+    peak.expect("a peak").trim().to_owned()
+}
+
+fn once(file: &str) {
+    let text = std::fs::read_to_string(file).expect("a file");
+    let before = peak();
+    let value: Value = serde_json::from_slice(text.as_bytes()).expect("a value");
+    let after = peak();
+    println!("rust serde_json  {file}: at most {before} before, {after} after");
+    black_box(value);
+}
+
 fn main() {
+    let words: Vec<String> = std::env::args().collect();
+    if let [_, word, file] = words.as_slice() {
+        if word == "once" {
+            return once(file);
+        }
+    }
     for file in std::env::args().skip(1) {
         let text = std::fs::read_to_string(&file).expect("a file");
         let line = text.trim_end();

@@ -1,7 +1,7 @@
 #!/usr/bin/env bash
-# A round of gossip in a node of 2 to 4,096 members whose peers answer at once, and the answer to a Forward of a key of its own in one of
-# 2 to 4,000, in nanoseconds; and how many requests a second a node answers over channels with 1, 2 and 4 workers. Wants rt. It works on
-# a copy, which it proves first, so nothing is left in the repository.
+# A round of gossip in a node of 2 to 4,096 members whose peers answer at once, in nanoseconds; and how many requests a second a node
+# answers over channels with 1, 2 and 4 workers. Wants rt. It works on a copy, which it proves first, so nothing is left in the
+# repository.
 set -euo pipefail
 here=$(cd "$(dirname "$0")" && pwd)
 root=$here/../..

@@ -61,7 +61,7 @@ The status is alive, suspect, faulty, leave or tombstone. A member of more weigh
 
 Examples:
   ringpop < changes.jsonl                        the members, and the digest that equal members share
-  ringpop owner --n 2 trip-42 < changes.jsonl    the owner of the key trip-42, and the one after it
+  ringpop owner --n 2 trip-42 < changes.jsonl    the two members that own the key trip-42, the first first
   ringpop members 10.0.0.2:7946                  the members that a running node holds, and their digest
   ringpop ask --any 10.0.0.2:7946 trip-42 where  what the owner of the key trip-42 answers to the request
   ringpop serve 10.0.0.1:7946 1 1000             the first node of a cluster, which ends after 1,000 connections
@@ -142,7 +142,7 @@ fn sum_flag<'a>(alloc: Global) -> Arg<'a> {
 
 fn owner_command<'a>(alloc: Global) -> Result<Command<'a>, AllocError> {
     let count = option(alloc, COUNT, "N", "1", 0, MOST_MEMBERS as u64).help(
-        "How many owners to print, the owner first: 0 to 4096",
+        "How many owners to print, the first first: 0 to 4096",
     );
     let key = word(alloc, KEY, "KEY", "The key: any text, which may be empty");
     Command::new(alloc, "owner")
@@ -203,9 +203,8 @@ fn incarnation_word<'a>(alloc: Global) -> Arg<'a> {
 
 /// How many connections are served.
 fn requests_word<'a>(alloc: Global) -> Arg<'a> {
-    let help =
-        "How many connections the node serves before it ends, those of gossip too: 1 to 1000000";
-    number_word(alloc, REQUESTS, "CONNECTIONS", help, 1, MOST_REQUESTS)
+    let help = "How many connections are served, those of gossip too: 1 to 1000000";
+    number_word(alloc, REQUESTS, "REQUESTS", help, 1, MOST_REQUESTS)
 }
 
 /// The nodes that are asked to let the node join.

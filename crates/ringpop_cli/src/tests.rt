@@ -410,11 +410,11 @@ fn reads_the_hosts_of_serve_in_their_order(rt: HostRuntime) {
 const REFUSED_SERVERS: [(&[&str], &str); 18] = [
     (
         &["ringpop", "serve"],
-        "error: the following required arguments were not provided:\n  <ADDRESS>\n  <INCARNATION>\n  <CONNECTIONS>\n",
+        "error: the following required arguments were not provided:\n  <ADDRESS>\n  <INCARNATION>\n  <REQUESTS>\n",
     ),
     (
         &["ringpop", "serve", AT, "1"],
-        "error: the following required arguments were not provided:\n  <CONNECTIONS>\n",
+        "error: the following required arguments were not provided:\n  <REQUESTS>\n",
     ),
     (
         &["ringpop", "serve", AT, "one", "1"],
@@ -426,11 +426,11 @@ const REFUSED_SERVERS: [(&[&str], &str); 18] = [
     ),
     (
         &["ringpop", "serve", AT, "1", "0"],
-        "error: invalid value '0' for '<CONNECTIONS>'",
+        "error: invalid value '0' for '<REQUESTS>'",
     ),
     (
         &["ringpop", "serve", AT, "1", "1000001"],
-        "error: invalid value '1000001' for '<CONNECTIONS>'",
+        "error: invalid value '1000001' for '<REQUESTS>'",
     ),
     (
         &["ringpop", "serve", "--workers", "0", AT, "1", "1"],

@@ -23,10 +23,10 @@ fn count(
     alloc: Global,
     counts: &mut BTreeMap<String, u64>,
     rider: &str,
-) -> Result<Text, AllocError> {
+) -> Result<String, AllocError> {
     let count = counts.entry(String::from_str(alloc, rider)?)?.or_insert(0);
     *count = count.saturating_add(1);
-    Ok(Text::from_string(format!(in alloc; "{count}")?))
+    format!(in alloc; "{count}")
 }
 
 impl Handler for Trips {
@@ -42,6 +42,9 @@ impl Handler for Trips {
     ) -> Result<Text, HandlerFault> {
         let rider = keys.get(0).ok_or(HandlerFault::Failed)?;
         let mut counts = self.counts.lock(rt);
-        count(alloc, &mut *counts, rider.as_str()).map_err(|_| HandlerFault::Memory)
+        match count(alloc, &mut *counts, rider.as_str()) {
+            Ok(answer) => Ok(Text::from_string(answer)),
+            Err(_) => Err(HandlerFault::Memory),
+        }
     }
 }

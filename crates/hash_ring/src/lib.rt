@@ -12,7 +12,6 @@ mod search;
 mod servers;
 mod sorted;
 mod starts;
-mod text;
 
 pub use errors::RingError;
 pub use hash::{PointHash, Sha256Hash, SumHash};

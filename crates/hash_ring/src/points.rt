@@ -1,21 +1,27 @@
 //! Points of servers, ascending, and how far a key is from them.
 ghost use Rattle.std.specs.Prelude.{◌≡◌, ℕ, ◌+◌, ◌*◌, ◌/◌, ◌≤◌, ◌<◌, ◌++◌, [], length, not, IsOk, OnOk, vec_len, vec_capacity};
 ghost use Rattle.std.specs.List.{filter, position, position_or_len};
+ghost use Rattle.change_core.specs.Address.{address_text};
 ghost use Rattle.change_core.specs.Ascending.{ascending, In, IsAscending};
 ghost use Rattle.change_core.specs.Numeral.{number_text};
 ghost use Rattle.hash_ring.specs.Points.{IsReplicas, AreSmall, distance, point_cmp, points_of};
 ghost use Rattle.hash_ring.specs.Servers.{is_same};
 ghost use Rattle.hash_ring.specs.declared.points.Point.{Point};
+ghost use Rattle.arrayvec.specs.ArrayString.{array_string_len};
 
 use crate::hash::PointHash;
 use crate::sorted::merge;
 use crate::starts::{Passed, Starts};
-use crate::text::ShortText;
-use change_core::{Address, Weight};
+use arrayvec::ArrayString;
+use change_core::{Address, AddressText, Weight};
+use itoa::Buffer;
 use std::alloc::AllocError;
 
 /// The greatest number of points that a server has for each unit of its weight.
 pub const MOST_REPLICAS: u32 = 1000;
+
+/// At most 21 bytes of an address and four digits.
+const TEXT_BYTES: usize = 25;
 
 /// A place on the ring that stands for a server.
 #[derive(Clone, Copy, Debug, PartialEq, Eq, PartialOrd, Ord)]
@@ -33,16 +39,26 @@ pub(crate) fn point_count(replicas: u32, weight: Weight) -> u32
     replicas * u32::from(weight.number())
 }
 
+/// The text of an address, with room for a number after it.
+fn text_of(address: Address) -> ArrayString<TEXT_BYTES>
+    ensures text { result.bytes ≡ address_text address }
+    ensures len { array_string_len result ≤ 21 }
+{
+    let mut text = ArrayString::new();
+    text.push_str(AddressText::of(address).as_str());
+    text
+}
+
 /// The hash of a text followed by a number. The text stays.
-fn point_hash<H: PointHash>(hash: H, text: &mut ShortText, index: u32) -> u64
+fn point_hash<H: PointHash>(hash: H, text: &mut ArrayString<TEXT_BYTES>, index: u32) -> u64
     requires few { index < 8000 }
-    requires short { length text.old ≤ 21 }
-    ensures hash { result ≡ H.hash_of hash (text.old ++ number_text index) }
-    ensures same { text.new ≡ text.old }
+    requires short { array_string_len text.old ≤ 21 }
+    ensures hash { result ≡ H.hash_of hash (text.old.bytes ++ number_text index) }
+    ensures same { text.new.bytes ≡ text.old.bytes }
 {
     let len = text.len();
-    text.push_decimal(index);
-    let point = hash.hash(text.as_slice());
+    text.push_str(Buffer::new().format(index));
+    let point = hash.hash(text.as_str().as_bytes());
     text.truncate(len);
     point
 }
@@ -60,7 +76,7 @@ pub fn distance<H: PointHash>(
     ensures { result ≡ distance (H.hash_of hash) (replicas * weight) server key.now }
 {
     let from = hash.hash(key);
-    let mut text = ShortText::of(server);
+    let mut text = text_of(server);
     let mut least = u64::MAX;
     for index in 0..point_count(replicas, weight) {
         least = least.min(point_hash(hash, &mut text, index).wrapping_sub(from));
@@ -82,7 +98,7 @@ pub(crate) fn push_points<H: PointHash>(
     ensures len { vec_len points.new ≡ vec_len points.old + count }
     ensures capacity { vec_capacity points.old ≤ vec_capacity points.new }
 {
-    let mut text = ShortText::of(server);
+    let mut text = text_of(server);
     for index in 0..count {
         let point = Point {
             hash: point_hash(hash, &mut text, index),

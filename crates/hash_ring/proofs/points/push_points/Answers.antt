@@ -9,7 +9,7 @@ loop-index-preserved g c =
     let point : Point = record { hash = c.point_hash.result; server = c.args.server } in
     record {
       text = c.point_hash.ensures.same ∙ c.loop-index.invariant.text;
-      pushed = points_of_more (g.H.PointHash.hash_of c.args.hash) c.args.server c.loop-index.index c.point_hash.result c.args.points.now.items before _ c.loop-index.text c.loop-index.invariant.text c.point_hash.ensures.hash c.loop-index.invariant.pushed c.push_reserved.ensures.items;
+      pushed = points_of_more (g.H.PointHash.hash_of c.args.hash) c.args.server c.loop-index.index c.point_hash.result c.args.points.now.items before _ c.loop-index.text.bytes c.loop-index.invariant.text c.point_hash.ensures.hash c.loop-index.invariant.pushed c.push_reserved.ensures.items;
       small = λ h. small_more before point _ c.push_reserved.ensures.items c.point_hash.type_inv (c.loop-index.invariant.small h);
       len = omega (arith, c.push_reserved.ensures.len, c.loop-index.invariant.len);
       capacity = omega (arith, c.push_reserved.ensures.capacity, c.loop-index.invariant.capacity);

@@ -5,7 +5,7 @@ use Rattle.hash_ring.proofs.points.push_points.Given as goal
 
 abbrev pub invariant-loop-index : goal.invariant-loop-index
 invariant-loop-index g l = record {
-  text : l.text ≡ address_text l.server;
+  text : l.text.bytes ≡ address_text l.server;
   pushed : l.points.items ≡ l.fn.points.items ++ points_of (g.H.PointHash.hash_of l.hash) l.index l.server;
   small : AreSmall l.fn.points.items → AreSmall l.points.items;
   len : vec_len l.points ≡ vec_len l.fn.points + l.index;

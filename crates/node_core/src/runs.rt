@@ -1,5 +1,5 @@
 //! Calls of a node, one after another.
-ghost use Rattle.std.specs.Prelude.{◌≡◌, length, IfOk, IfErr};
+ghost use Rattle.std.specs.Prelude.{◌≡◌, ◌<◌, length, IfOk, IfErr, OnErr};
 ghost use Rattle.node_core.specs.Agreement.{IsNodeOf};
 ghost use Rattle.node_core.specs.Itself.{IsItself};
 ghost use Rattle.node_core.specs.Run.{log, IsRun};
@@ -26,6 +26,7 @@ pub fn run<H: PointHash>(
     ensures itself { IfOk result (λ r. IsItself node.node r.node.node) }
     ensures each { IfOk result (λ r. length r.replies ≡ length events.now) }
     ensures refused { IfErr result (λ r. r.node ≡ node) }
+    ensures growth { OnErr result (0 < length events.now) }
 {
     let Ok(mut replies) = Vec::with_capacity(alloc, events.len()) else {
         return Err(RunRefused { node });

@@ -63,14 +63,19 @@ static void probe_nobody_answers(int prober) {
   uint64_t number = 0;
   uint32_t code, ip = 0;
   uint16_t port = 0;
+  ringpop_entry entry = {0, 0, 0};
   AGAIN(prober, code, ringpop_node_probe(&nodes[prober], &number, &ip, &port));
   expect("probe", code, RINGPOP_DONE);
-  AGAIN(prober, code, ringpop_node_lost(&nodes[prober], number, moment));
+  AGAIN(prober, code, ringpop_node_lost(&nodes[prober], number, moment, &entry));
   expect("lost", code, RINGPOP_DONE);
   AGAIN(prober, code, ringpop_node_waiting(&nodes[prober], &number, &ip, &port));
   expect("waiting", code, RINGPOP_DONE);
-  AGAIN(prober, code, ringpop_node_helper_said(&nodes[prober], number, ip, port, 1, moment));
+  AGAIN(prober, code, ringpop_node_helper_said(&nodes[prober], number, ip, port, 1, moment, &entry));
   expect("helper said", code, RINGPOP_SUSPECTED);
+  expect("the target is suspect", entry.status, RINGPOP_SUSPECT);
+  AGAIN(prober, code, ringpop_node_expire(&nodes[prober], moment + 5000, &ip, &port, &entry));
+  expect("expire", code, RINGPOP_DONE);
+  expect("the target is faulty", entry.status, RINGPOP_FAULTY);
 }
 
 /* The owners of a key by a node, and by a view of it. */

@@ -52,7 +52,7 @@ static void refuse_empty(ringpop_node *node) {
   expect("digest by an empty handle", ringpop_node_digest(node, out, sizeof out, &count), RINGPOP_NO_NODE);
   expect("members by an empty handle", ringpop_node_members(node, out, sizeof out, &count), RINGPOP_NO_NODE);
   expect("ping by an empty handle, in a short buffer", ringpop_node_ping(node, 1, 1, out, 3, &count), RINGPOP_NO_NODE);
-  expect("expire by an empty handle", ringpop_node_expire(node, 1), RINGPOP_NO_NODE);
+  expect("expire by an empty handle", ringpop_node_expire(node, 1, &ip, &port, &entry), RINGPOP_NO_NODE);
   expect("rejoin by an empty handle", ringpop_node_rejoin(node), RINGPOP_NO_NODE);
   expect("probe by an empty handle", ringpop_node_probe(node, &number, &ip, &port), RINGPOP_NO_NODE);
   expect("running by an empty handle", ringpop_node_running(node, &number, &ip, &port), RINGPOP_NO_NODE);
@@ -175,12 +175,14 @@ static void refuse_probes(ringpop_node *node) {
   uint64_t number = 0;
   uint32_t ip = 0;
   uint16_t port = 0;
+  ringpop_entry entry = {0, 0, 0};
   expect("probe with nobody to ping", ringpop_node_probe(node, &number, &ip, &port), RINGPOP_NOTHING);
   expect("ack of no probe", ringpop_node_acked(node, 1), RINGPOP_STALE_PROBE);
-  expect("loss of no probe", ringpop_node_lost(node, 1, 2500), RINGPOP_STALE_PROBE);
-  expect("word 3", ringpop_node_helper_said(node, 1, 1, 1, 3, 2500), RINGPOP_BAD_WORD);
-  expect("word of port 0", ringpop_node_helper_said(node, 1, 1, 0, 0, 2500), RINGPOP_BAD_ADDRESS);
-  expect("word for no probe", ringpop_node_helper_said(node, 1, 1, 1, 0, 2500), RINGPOP_STALE_PROBE);
+  expect("loss of no probe", ringpop_node_lost(node, 1, 2500, &entry), RINGPOP_STALE_PROBE);
+  expect("word 3", ringpop_node_helper_said(node, 1, 1, 1, 3, 2500, &entry), RINGPOP_BAD_WORD);
+  expect("word of port 0", ringpop_node_helper_said(node, 1, 1, 0, 0, 2500, &entry), RINGPOP_BAD_ADDRESS);
+  expect("word for no probe", ringpop_node_helper_said(node, 1, 1, 1, 0, 2500, &entry), RINGPOP_STALE_PROBE);
+  if (entry.weight != 0) expect("no entry is written", entry.weight, 0);
 }
 
 /* Owners of a key among four. */
@@ -202,13 +204,34 @@ static void refuse_owners(ringpop_node *node) {
   expect("free of a view", ringpop_view_free(&view), RINGPOP_DONE);
 }
 
+/* What was written is this entry of a member. */
+static void expect_entry(const char *what, ringpop_entry entry, uint64_t incarnation, uint8_t status, uint8_t weight) {
+  if (entry.incarnation != incarnation || entry.status != status || entry.weight != weight) expect(what, 1, 0);
+}
+
+/* A suspect expires, and is told. */
+static void expire_suspect(ringpop_node *node, uint32_t target, uint16_t target_port) {
+  uint32_t ip = 5;
+  uint16_t port = 6;
+  ringpop_entry entry = {7, 8, 9}, held = {0, 0, 0};
+  expect("expire before the deadline", ringpop_node_expire(node, 6999, &ip, &port, &entry), RINGPOP_NOTHING);
+  if (ip != 5 || port != 6) expect("nobody is told", 1, 0);
+  expect_entry("nothing is told", entry, 7, 8, 9);
+  expect("expire at the deadline", ringpop_node_expire(node, 7000, &ip, &port, &entry), RINGPOP_DONE);
+  if (ip != target || port != target_port) expect("the suspect is told", 1, 0);
+  expect_entry("which is faulty", entry, 1, RINGPOP_FAULTY, 1);
+  expect("member", ringpop_node_member(node, ip, port, &held), RINGPOP_DONE);
+  expect_entry("and held so", held, 1, RINGPOP_FAULTY, 1);
+  expect("expire again", ringpop_node_expire(node, 7000, &ip, &port, &entry), RINGPOP_NOTHING);
+}
+
 /* A node with three others. */
 static void probe_others(ringpop_config config) {
   ringpop_node node = RINGPOP_NODE_EMPTY;
   uint64_t number = 0, running = 0;
   uint32_t ip = 0, helper = 0;
   uint16_t port = 0, helper_port = 0;
-  ringpop_entry entry;
+  ringpop_entry entry = {0, 0, 0};
   expect("new", ringpop_node_new(&node, &config, 0x0A000001, 7946, 7, 1, 1), RINGPOP_DONE);
   for (uint32_t last = 2; last < 5; last++) expect("take", take(&node, last, 1, "alive"), RINGPOP_DONE);
   refuse_owners(&node);
@@ -216,25 +239,42 @@ static void probe_others(ringpop_config config) {
   expect("second probe", ringpop_node_probe(&node, &running, &helper, &helper_port), RINGPOP_BUSY);
   expect("running", ringpop_node_running(&node, &running, &helper, &helper_port), RINGPOP_DONE);
   if (running != number || helper != ip || helper_port != port) expect("the running probe", 1, 0);
-  expect("lost at 2^53", ringpop_node_lost(&node, number, (uint64_t)1 << 53), RINGPOP_BAD_NUMBER);
-  expect("lost", ringpop_node_lost(&node, number, 2000), RINGPOP_DONE);
-  expect("word of the target", ringpop_node_helper_said(&node, number, ip, port, 2, 2000), RINGPOP_NOT_ASKED);
-  expect("word at 2^53", ringpop_node_helper_said(&node, number, ip, port, 2, (uint64_t)1 << 53), RINGPOP_BAD_NUMBER);
+  expect("lost at 2^53", ringpop_node_lost(&node, number, (uint64_t)1 << 53, &entry), RINGPOP_BAD_NUMBER);
+  expect("lost", ringpop_node_lost(&node, number, 2000, &entry), RINGPOP_DONE);
+  expect("word of the target", ringpop_node_helper_said(&node, number, ip, port, 2, 2000, &entry), RINGPOP_NOT_ASKED);
+  expect("word at 2^53", ringpop_node_helper_said(&node, number, ip, port, 2, (uint64_t)1 << 53, &entry), RINGPOP_BAD_NUMBER);
   expect("waiting", ringpop_node_waiting(&node, &running, &helper, &helper_port), RINGPOP_DONE);
-  expect("one failed", ringpop_node_helper_said(&node, running, helper, helper_port, 2, 2000), RINGPOP_WAITING);
+  expect("one failed", ringpop_node_helper_said(&node, running, helper, helper_port, 2, 2000, &entry), RINGPOP_WAITING);
   expect("waiting", ringpop_node_waiting(&node, &running, &helper, &helper_port), RINGPOP_DONE);
-  expect("all failed", ringpop_node_helper_said(&node, running, helper, helper_port, 2, 2000), RINGPOP_INCONCLUSIVE);
+  expect("all failed", ringpop_node_helper_said(&node, running, helper, helper_port, 2, 2000, &entry), RINGPOP_INCONCLUSIVE);
   expect("probe", ringpop_node_probe(&node, &number, &ip, &port), RINGPOP_DONE);
-  expect("lost", ringpop_node_lost(&node, number, 2000), RINGPOP_DONE);
+  expect("lost", ringpop_node_lost(&node, number, 2000, &entry), RINGPOP_DONE);
   expect("waiting", ringpop_node_waiting(&node, &running, &helper, &helper_port), RINGPOP_DONE);
-  expect("not reached", ringpop_node_helper_said(&node, running, helper, helper_port, 1, 2000), RINGPOP_WAITING);
+  expect("not reached", ringpop_node_helper_said(&node, running, helper, helper_port, 1, 2000, &entry), RINGPOP_WAITING);
   expect("waiting", ringpop_node_waiting(&node, &running, &helper, &helper_port), RINGPOP_DONE);
-  expect("and the other failed", ringpop_node_helper_said(&node, running, helper, helper_port, 2, 2000), RINGPOP_SUSPECTED);
-  expect("expire before the deadline", ringpop_node_expire(&node, 6999), RINGPOP_NOTHING);
-  expect("expire at the deadline", ringpop_node_expire(&node, 7000), RINGPOP_DONE);
-  expect("expire again", ringpop_node_expire(&node, 7000), RINGPOP_NOTHING);
-  expect("member", ringpop_node_member(&node, ip, port, &entry), RINGPOP_DONE);
-  if (entry.status != RINGPOP_FAULTY) expect("faulty", entry.status, RINGPOP_FAULTY);
+  expect_entry("no suspect until then", entry, 0, 0, 0);
+  expect("and the other failed", ringpop_node_helper_said(&node, running, helper, helper_port, 2, 2000, &entry), RINGPOP_SUSPECTED);
+  expect_entry("the suspect", entry, 1, RINGPOP_SUSPECT, 1);
+  expire_suspect(&node, ip, port);
+  expect("free", ringpop_node_free(&node), RINGPOP_DONE);
+}
+
+/* A target is lost where nobody can be asked, and once more when it is suspect already. */
+static void lose_without_helpers(ringpop_config config) {
+  ringpop_node node = RINGPOP_NODE_EMPTY;
+  uint64_t number = 0;
+  uint32_t ip = 0;
+  uint16_t port = 0;
+  ringpop_entry first = {0, 0, 0}, second = {0, 0, 0};
+  config.helpers = 0;
+  expect("new", ringpop_node_new(&node, &config, 0x0A000001, 7946, 7, 1, 1), RINGPOP_DONE);
+  expect("take", take(&node, 2, 4, "alive"), RINGPOP_DONE);
+  expect("probe", ringpop_node_probe(&node, &number, &ip, &port), RINGPOP_DONE);
+  expect("lost with nobody to ask", ringpop_node_lost(&node, number, 2000, &first), RINGPOP_SUSPECTED);
+  expect_entry("the suspect", first, 4, RINGPOP_SUSPECT, 1);
+  expect("probe of the suspect", ringpop_node_probe(&node, &number, &ip, &port), RINGPOP_DONE);
+  expect("lost again", ringpop_node_lost(&node, number, 2000, &second), RINGPOP_SUSPECTED);
+  expect_entry("nothing is written", second, 0, 0, 0);
   expect("free", ringpop_node_free(&node), RINGPOP_DONE);
 }
 
@@ -242,8 +282,12 @@ int main(void) {
   ringpop_node node = RINGPOP_NODE_EMPTY;
   ringpop_config config;
   size_t count = 0;
+  uint32_t ip = 0;
+  uint16_t port = 0;
+  ringpop_entry entry = {0, 0, 0};
   ringpop_config_standard(&config);
   probe_others(config);
+  lose_without_helpers(config);
   read_lines();
   config.max_members = 2;
   refuse_empty(&node);
@@ -261,8 +305,8 @@ int main(void) {
   refuse_probes(&node);
   expect("members in a short buffer", ringpop_node_members(&node, out, 3, &count), RINGPOP_SHORT_BUFFER);
   take_changes(&node);
-  expect("expire at 2^53", ringpop_node_expire(&node, (uint64_t)1 << 53), RINGPOP_BAD_NUMBER);
-  expect("expire", ringpop_node_expire(&node, 3000), RINGPOP_NOTHING);
+  expect("expire at 2^53", ringpop_node_expire(&node, (uint64_t)1 << 53, &ip, &port, &entry), RINGPOP_BAD_NUMBER);
+  expect("expire", ringpop_node_expire(&node, 3000, &ip, &port, &entry), RINGPOP_NOTHING);
   expect("rejoin before it left", ringpop_node_rejoin(&node), RINGPOP_NOT_LEFT);
   expect("leave", ringpop_node_leave(&node), RINGPOP_DONE);
   expect("second leave", ringpop_node_leave(&node), RINGPOP_ALREADY_LEFT);

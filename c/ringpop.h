@@ -4,8 +4,8 @@
    - A call ends, and touches no memory but its handle, its buffers and its own heap.
    - It makes one step of the node in the handle and answers for that, or it makes none and says why. Each call below names what it
      answers beside DONE; refusals are named in the order in which they are looked for, so that the first that holds is answered.
-   - What stands behind a pointer that is written to stays as it was where the code is not DONE, but for two: a count at
-     SHORT_BUFFER, and the number of ringpop_node_waiting.
+   - What stands behind a pointer that is written to stays as it was where the code is not DONE, but for three: a count at
+     SHORT_BUFFER, the number of ringpop_node_waiting, and a suspect's entry at SUSPECTED.
    - Behind a buffer's first count bytes, or a place's first count addresses, nothing is written.
    - A written line is read as the very message that the step made, has RINGPOP_MAX_LINE bytes at most, and no newline.
    - Calls of one handle, one after another, are a run of the node's own calls (docs/PROMISES.md says what holds of those).
@@ -238,8 +238,9 @@ uint32_t ringpop_line_target(const uint8_t *line, size_t length, uint32_t *ip, u
    NOTHING: it is another kind. */
 uint32_t ringpop_line_reached(const uint8_t *line, size_t length, uint32_t *ip, uint16_t *port, bool *reached);
 
-/* The first entry at its deadline becomes what it does then. DONE: call again. NOTHING: none is due. BAD_NUMBER, NO_NODE, MEMORY. */
-uint32_t ringpop_node_expire(ringpop_node *node, uint64_t moment);
+/* The first entry at its deadline becomes what it does then. DONE: whose it is, and what it became; call again. NOTHING: none is
+   due. BAD_NUMBER, NO_NODE, MEMORY. */
+uint32_t ringpop_node_expire(ringpop_node *node, uint64_t moment, uint32_t *ip, uint16_t *port, ringpop_entry *entry);
 /* The node leaves: it tells so in its messages, and owns no key. NO_NODE, ALREADY_LEFT, MEMORY. */
 uint32_t ringpop_node_leave(ringpop_node *node);
 /* The node is back, at its next incarnation. NO_NODE, NOT_LEFT, EXHAUSTED, MEMORY: the node is as it was. */
@@ -251,17 +252,18 @@ uint32_t ringpop_node_probe(ringpop_node *node, uint64_t *number, uint32_t *ip, 
 uint32_t ringpop_node_running(ringpop_node *node, uint64_t *number, uint32_t *ip, uint16_t *port);
 /* The target of the probe of this number answered, by an ACK whose source it is, and the probe ends. NO_NODE, STALE_PROBE. */
 uint32_t ringpop_node_acked(ringpop_node *node, uint64_t number);
-/* The target did not answer by this moment. DONE: helpers are to be asked. SUSPECTED: nobody could be, and the probe ends: the
-   target is suspect from now on if it was held as alive, as below.
+/* The target did not answer by this moment. DONE: helpers are to be asked. SUSPECTED: nobody could be, and the probe ends: if the
+   target was held as alive it is suspect from now on, and its entry is written, else nothing is; as below.
    BAD_NUMBER, NO_NODE, STALE_PROBE, also where it was called for this probe before, MEMORY. */
-uint32_t ringpop_node_lost(ringpop_node *node, uint64_t number, uint64_t moment);
+uint32_t ringpop_node_lost(ringpop_node *node, uint64_t number, uint64_t moment, ringpop_entry *entry);
 /* The running probe's number, and the helper of least address that is to be asked and has not answered. NOTHING: there is none; the
    number is written where a probe runs. NO_NODE. */
 uint32_t ringpop_node_waiting(ringpop_node *node, uint64_t *number, uint32_t *ip, uint16_t *port);
 /* What a helper said by this moment. Its word: 0, it reached the target; 1, it did not; 2, nothing, since it failed. DONE: the
    target was reached. SUSPECTED: all have answered, and one did not reach it. INCONCLUSIVE: all failed. At these three the probe
    ends. WAITING: another helper has not answered. BAD_ADDRESS, BAD_WORD, BAD_NUMBER, NO_NODE, STALE_PROBE, NOT_ASKED, MEMORY. */
-uint32_t ringpop_node_helper_said(ringpop_node *node, uint64_t number, uint32_t ip, uint16_t port, uint8_t word, uint64_t moment);
+uint32_t ringpop_node_helper_said(ringpop_node *node, uint64_t number, uint32_t ip, uint16_t port, uint8_t word, uint64_t moment,
+                                  ringpop_entry *entry);
 
 /* The node's own address, and what it holds of itself. NO_NODE. */
 uint32_t ringpop_node_own(ringpop_node *node, uint32_t *ip, uint16_t *port, ringpop_entry *entry);

@@ -74,8 +74,9 @@ static void probe_by_helper(int prober) {
   uint16_t target_port = 0, helper_port = 0, said_port = 0;
   size_t length = 0;
   bool reached = false;
+  ringpop_entry entry = {0, 0, 0};
   expect("probe", ringpop_node_probe(&nodes[prober], &number, &target_ip, &target_port), RINGPOP_DONE);
-  expect("lost", ringpop_node_lost(&nodes[prober], number, ++moment), RINGPOP_DONE);
+  expect("lost", ringpop_node_lost(&nodes[prober], number, ++moment, &entry), RINGPOP_DONE);
   expect("waiting", ringpop_node_waiting(&nodes[prober], &running, &helper_ip, &helper_port), RINGPOP_DONE);
   int helper = (int)(helper_ip - IP(1));
   uint32_t code =
@@ -85,7 +86,8 @@ static void probe_by_helper(int prober) {
   tell(RINGPOP_DONE, prober, length);
   expect("reached", ringpop_line_reached(line, length, &said_ip, &said_port, &reached), RINGPOP_DONE);
   if (!reached || said_ip != target_ip || said_port != target_port) expect("the target was reached", 0, 1);
-  expect("helper said", ringpop_node_helper_said(&nodes[prober], running, helper_ip, helper_port, 0, ++moment), RINGPOP_DONE);
+  expect("helper said", ringpop_node_helper_said(&nodes[prober], running, helper_ip, helper_port, 0, ++moment, &entry), RINGPOP_DONE);
+  if (entry.weight != 0) expect("nobody is suspect", entry.weight, 0);
   expect("no probe runs", ringpop_node_running(&nodes[prober], &running, &helper_ip, &helper_port), RINGPOP_NOTHING);
 }
 

@@ -25,11 +25,11 @@ use Rattle.ringpop_c.specs.Steps.{owner_by, sha_hash}
 pub exports_are_calls : ExportsAreCalls
 exports_are_calls Leave old new answer (left, code, step) = inr (call.Leave, reply.Leave left, refl, step, tt)
 exports_are_calls Rejoin old new answer (back, code, step) = inr (call.Rejoin, reply.Rejoin back, refl, step, tt)
-exports_are_calls (Expire moment) old new answer (expired, code, step) = inr (call.Expire moment, reply.Expire expired, refl, step, tt)
+exports_are_calls (Expire moment ip port entry) old new answer (expired, tells, step) = inr (call.Expire moment, reply.Expire expired, refl, step, tt)
 exports_are_calls (Probe number ip port) old new answer (begun, tells, step, draw) = inr (call.Probe, reply.Probe begun, refl, step, draw)
 exports_are_calls (Acked number) old new answer (acked, code, step) = inr (call.Acked number, reply.Acked acked, refl, step, tt)
-exports_are_calls (Lost number moment) old new answer (loss, code, step, draw) = inr (call.Lost number moment, reply.Lost loss, refl, step, draw)
-exports_are_calls (HelperSaid number helper said moment) old new answer (outcome, code, step) =
+exports_are_calls (Lost number moment place) old new answer (loss, tells, step, draw) = inr (call.Lost number moment, reply.Lost loss, refl, step, draw)
+exports_are_calls (HelperSaid number helper said moment place) old new answer (outcome, tells, step) =
     inr (call.HelperSaid number helper said moment, reply.HelperSaid outcome, refl, step, tt)
 exports_are_calls (Take line moment) old new answer (inl (change, reads, (taken, code, step))) =
     inr (call.Take (change ∷ []) moment, reply.Take taken, (change, reads, refl), step, tt)

@@ -18,6 +18,16 @@ abbrev pub TellsEntry : Option Entry → RingpopEntry → Code → Type 0
 TellsEntry None told answer = answer ≡ code.Nothing
 TellsEntry (Some e) told answer = (answer ≡ code.Done) × (told ≡ entry_told e)
 
+-- a place of the caller's for an entry: what was in it, and what is in it then
+pub record EntryPlace : Type 0 where
+  pub before : RingpopEntry
+  pub after : RingpopEntry
+
+-- the target of a probe is suspect, and its entry is told where it was held as alive, else nothing
+abbrev pub TellsSuspicion : Option Change → EntryPlace → Code → Type 0
+TellsSuspicion None place answer = (answer ≡ code.Suspected) × (place.after ≡ place.before)
+TellsSuspicion (Some change) place answer = (answer ≡ code.Suspected) × (place.after ≡ entry_told (entry_of change))
+
 -- a change is told: its address, and the entry beside it
 abbrev pub TellsChange : Change → ℕ → ℕ → RingpopEntry → Code → Type 0
 TellsChange change ip port told answer = (answer ≡ code.Done) × (ip ≡ ip_of change.address) × (port ≡ port_of change.address) × (told ≡ entry_told (entry_of change))

@@ -21,7 +21,7 @@ use Rattle.node_core.specs.Run.{IsRun}
 use Rattle.node_core.specs.Step.{DrawStep, NodeStep}
 use Rattle.ringpop_c.specs.declared.codes.Code.{Code}
 use Rattle.ringpop_c.specs.declared.entries.RingpopEntry.{RingpopEntry}
-use Rattle.ringpop_c.specs.Entries.{TellsChange, TellsEntry}
+use Rattle.ringpop_c.specs.Entries.{EntryPlace, TellsChange, TellsEntry}
 use Rattle.ringpop_c.specs.Lines.{Buffer, HearsBy, SaysBy, TellsText}
 use Rattle.ringpop_c.specs.Owners.{OwnersBy, Place}
 use Rattle.ringpop_c.specs.Probing.{AcksBy, HearsHelper, LosesBy, ProbesBy, TellsRunning, TellsWaiting}
@@ -32,11 +32,11 @@ use Rattle.ringpop_c.specs.Taking.{HearsChange}
 pub data Export : Type 0 where
   Leave : Export
   Rejoin : Export
-  Expire : ℕ → Export
+  Expire : ℕ → ℕ → ℕ → RingpopEntry → Export
   Probe : ℕ → ℕ → ℕ → Export
   Acked : ℕ → Export
-  Lost : ℕ → ℕ → Export
-  HelperSaid : ℕ → ℕ → Said → ℕ → Export
+  Lost : ℕ → ℕ → EntryPlace → Export
+  HelperSaid : ℕ → ℕ → Said → ℕ → EntryPlace → Export
   Take : List ℕ → ℕ → Export
   Receive : List ℕ → ℕ → Buffer → Export
   Join : Buffer → Export
@@ -57,11 +57,11 @@ pub data Export : Type 0 where
 abbrev pub ExportStep : Export → Node Sha256Hash → Code → Node Sha256Hash → Type 0
 ExportStep Leave old answer new = LeavesBy old answer new
 ExportStep Rejoin old answer new = RejoinsBy old answer new
-ExportStep (Expire moment) old answer new = ExpiresBy moment old answer new
+ExportStep (Expire moment ip port entry) old answer new = ExpiresBy moment ip port entry old answer new
 ExportStep (Probe number ip port) old answer new = ProbesBy number ip port old answer new
 ExportStep (Acked number) old answer new = AcksBy number old answer new
-ExportStep (Lost number moment) old answer new = LosesBy number moment old answer new
-ExportStep (HelperSaid number helper said moment) old answer new = HearsHelper number helper said moment old answer new
+ExportStep (Lost number moment place) old answer new = LosesBy number moment place old answer new
+ExportStep (HelperSaid number helper said moment place) old answer new = HearsHelper number helper said moment place old answer new
 ExportStep (Take line moment) old answer new = HearsChange line moment old answer new
 ExportStep (Receive line moment buffer) old answer new = HearsBy line moment buffer old answer new
 ExportStep (Join buffer) old answer new = SaysBy (λ n. join_by n) (λ n. n) buffer old answer new
@@ -83,11 +83,11 @@ ExportStep (Owners key n place) old answer new = OwnersBy key n place old answer
 abbrev pub IsCallOf : Export → Event → Type 0
 IsCallOf Leave event = event ≡ call.Leave
 IsCallOf Rejoin event = event ≡ call.Rejoin
-IsCallOf (Expire moment) event = event ≡ call.Expire moment
+IsCallOf (Expire moment ip port entry) event = event ≡ call.Expire moment
 IsCallOf (Probe number ip port) event = event ≡ call.Probe
 IsCallOf (Acked number) event = event ≡ call.Acked number
-IsCallOf (Lost number moment) event = event ≡ call.Lost number moment
-IsCallOf (HelperSaid number helper said moment) event = event ≡ call.HelperSaid number helper said moment
+IsCallOf (Lost number moment place) event = event ≡ call.Lost number moment
+IsCallOf (HelperSaid number helper said moment place) event = event ≡ call.HelperSaid number helper said moment
 IsCallOf (Take line moment) event = (change : Sourced) × IsLine (λ v. ChangeForm v change) line × (event ≡ call.Take (change ∷ []) moment)
 IsCallOf (Receive line moment buffer) event = (message : Message) × IsLine (λ v. MessageForm v message) line × (event ≡ call.Receive message moment)
 IsCallOf (Join buffer) event = event ≡ call.JoinMessage

@@ -17,6 +17,7 @@ use Rattle.node_core.specs.Probes.{AckedStep, HelperStep, LostDraw, LostStep, Pr
 use Rattle.ringpop_c.specs.declared.codes.Code.{Code}
 use Rattle.ringpop_c.specs.declared.codes.Code.TheVariants as code
 use Rattle.ringpop_c.specs.Codes.{code_of_error}
+use Rattle.ringpop_c.specs.Entries.{EntryPlace, TellsSuspicion}
 use Rattle.ringpop_c.specs.Owned.{Held}
 
 -- a probe that began, and whom it is to ping; that there is nobody to ping; or why none began
@@ -39,29 +40,29 @@ code_of_ack (Err error) = code_of_error error
 abbrev pub AcksBy : ℕ → Node Sha256Hash → Code → Node Sha256Hash → Type 0
 AcksBy number old answer new = (acked : Result (Unit {0}) NodeError) × (answer ≡ code_of_ack acked) × AckedStep old number acked new
 
--- what a lost target, or its refusal, answers
-abbrev pub code_of_loss : Result NodeLost NodeError → Code
-code_of_loss (Ok (lost.Ask helpers)) = code.Done
-code_of_loss (Ok (lost.Suspect change)) = code.Suspected
-code_of_loss (Err error) = code_of_error error
+-- what became of a probe that was lost: that helpers are to be asked, or that the target is suspect; or why it is none
+abbrev pub TellsLoss : Result NodeLost NodeError → EntryPlace → Code → Type 0
+TellsLoss (Ok (lost.Ask helpers)) place answer = answer ≡ code.Done
+TellsLoss (Ok (lost.Suspect change)) place answer = TellsSuspicion change place answer
+TellsLoss (Err error) place answer = answer ≡ code_of_error error
 
 -- helpers are asked that the node's generator draws, or nobody can be and the target is suspect, or it is refused with the code of why
-abbrev pub LosesBy : ℕ → ℕ → Node Sha256Hash → Code → Node Sha256Hash → Type 0
-LosesBy number moment old answer new =
-    (loss : Result NodeLost NodeError) × (answer ≡ code_of_loss loss) × LostStep old number moment loss new × LostDraw old number loss new
+abbrev pub LosesBy : ℕ → ℕ → EntryPlace → Node Sha256Hash → Code → Node Sha256Hash → Type 0
+LosesBy number moment place old answer new =
+    (loss : Result NodeLost NodeError) × TellsLoss loss place answer × LostStep old number moment loss new × LostDraw old number loss new
 
--- what a helper's word, or its refusal, answers
-abbrev pub code_of_outcome : Result NodeOutcome NodeError → Code
-code_of_outcome (Ok word.Waiting) = code.Waiting
-code_of_outcome (Ok word.Reached) = code.Done
-code_of_outcome (Ok (word.Suspect change)) = code.Suspected
-code_of_outcome (Ok word.Inconclusive) = code.Inconclusive
-code_of_outcome (Err error) = code_of_error error
+-- what a helper's word came to: the target's entry where the verdict makes it suspect; or why it is none
+abbrev pub TellsOutcome : Result NodeOutcome NodeError → EntryPlace → Code → Type 0
+TellsOutcome (Ok word.Waiting) place answer = answer ≡ code.Waiting
+TellsOutcome (Ok word.Reached) place answer = answer ≡ code.Done
+TellsOutcome (Ok (word.Suspect change)) place answer = TellsSuspicion change place answer
+TellsOutcome (Ok word.Inconclusive) place answer = answer ≡ code.Inconclusive
+TellsOutcome (Err error) place answer = answer ≡ code_of_error error
 
 -- a helper's word is taken, or it is refused with the code of why
-abbrev pub HearsHelper : ℕ → ℕ → Said → ℕ → Node Sha256Hash → Code → Node Sha256Hash → Type 0
-HearsHelper number helper said moment old answer new =
-    (outcome : Result NodeOutcome NodeError) × (answer ≡ code_of_outcome outcome) × HelperStep old number helper said moment outcome new
+abbrev pub HearsHelper : ℕ → ℕ → Said → ℕ → EntryPlace → Node Sha256Hash → Code → Node Sha256Hash → Type 0
+HearsHelper number helper said moment place old answer new =
+    (outcome : Result NodeOutcome NodeError) × TellsOutcome outcome place answer × HelperStep old number helper said moment outcome new
 
 -- a helper that is waited for is told; that none is
 abbrev pub TellsHelper : Option ℕ → ℕ → ℕ → Code → Type 0

@@ -12,7 +12,9 @@ use Rattle.node_core.specs.Node.{Node}
 use Rattle.node_core.specs.Step.{owners_by}
 use Rattle.ringpop_c.specs.declared.codes.Code.{Code}
 use Rattle.ringpop_c.specs.declared.codes.Code.TheVariants as code
+use Rattle.ringpop_c.specs.declared.entries.RingpopEntry.{RingpopEntry}
 use Rattle.ringpop_c.specs.Codes.{code_number, code_of_error}
+use Rattle.ringpop_c.specs.Entries.{TellsChange}
 use Rattle.ringpop_c.specs.Owned.{Held}
 
 -- the hash of the ring: the first eight bytes of SHA-256, the high byte first
@@ -38,15 +40,16 @@ LeavesBy old answer new = (left : Result Change NodeError) × (answer ≡ code_o
 abbrev pub RejoinsBy : Node Sha256Hash → Code → Node Sha256Hash → Type 0
 RejoinsBy old answer new = (back : Result Change NodeError) × (answer ≡ code_of_change back) × RejoinStep old back new
 
--- what an expiry, or its refusal, answers: nothing to tell where no entry was due
-abbrev pub code_of_expiry : Result (Option Change) NodeError → Code
-code_of_expiry (Ok None) = code.Nothing
-code_of_expiry (Ok (Some change)) = code.Done
-code_of_expiry (Err error) = code_of_error error
+-- an entry that expired is told, its address and what it became; that none was due; or why none did
+abbrev pub TellsExpiry : Result (Option Change) NodeError → ℕ → ℕ → RingpopEntry → Code → Type 0
+TellsExpiry (Ok None) ip port told answer = answer ≡ code.Nothing
+TellsExpiry (Ok (Some change)) ip port told answer = TellsChange change ip port told answer
+TellsExpiry (Err error) ip port told answer = answer ≡ code_of_error error
 
--- the first entry that is due becomes what it does at its deadline, or none is due, or it is refused
-abbrev pub ExpiresBy : ℕ → Node Sha256Hash → Code → Node Sha256Hash → Type 0
-ExpiresBy moment old answer new = (expired : Result (Option Change) NodeError) × (answer ≡ code_of_expiry expired) × ExpireStep old moment expired new
+-- the first entry that is due becomes what it does at its deadline, and is told, or none is due, or it is refused
+abbrev pub ExpiresBy : ℕ → ℕ → ℕ → RingpopEntry → Node Sha256Hash → Code → Node Sha256Hash → Type 0
+ExpiresBy moment ip port told old answer new =
+    (expired : Result (Option Change) NodeError) × TellsExpiry expired ip port told answer × ExpireStep old moment expired new
 
 -- the owner of a key among the members of a node, by the first eight bytes of SHA-256
 abbrev pub owner_by : Node Sha256Hash → List ℕ → Option ℕ

@@ -1,10 +1,11 @@
 //! What a node asserts unasked: that it leaves, that it is back, and what becomes of an entry at its deadline.
-ghost use Rattle.std.specs.Prelude.{◌≡◌, ◌≤◌, ◌<◌};
+ghost use Rattle.std.specs.Prelude.{◌≡◌, ◌≢◌, ◌≤◌, ◌<◌};
 ghost use Rattle.change_core.specs.Numbers.{greatest_number};
 ghost use Rattle.ringpop_c.specs.Codes.{code_number};
 ghost use Rattle.ringpop_c.specs.Steps.{Does, ExpiresBy, LeavesBy, RejoinsBy};
 
 use crate::codes::Code;
+use crate::entries::{RingpopEntry, tell_change};
 use crate::handles::{RingpopNode, lift, put_back};
 use change_core::Moment;
 use hash_ring::Sha256Hash;
@@ -58,23 +59,38 @@ pub extern "C" fn ringpop_node_rejoin(alloc: Global, node: &mut RingpopNode) -> 
 }
 
 /// An entry at its deadline.
-fn expire(node: &mut NodeState<Sha256Hash>, moment: Moment) -> Code
-    ensures step { ExpiresBy moment node.old.node result node.new.node }
+fn expire(
+    node: &mut NodeState<Sha256Hash>,
+    moment: Moment,
+    ip: &mut u32,
+    port: &mut u16,
+    entry: &mut RingpopEntry,
+) -> Code
+    ensures step { ExpiresBy moment ip.new port.new entry.new node.old.node result node.new.node }
+    ensures untouched { result ≢ Code.Done → (ip.new ≡ ip.old) × (port.new ≡ port.old) × (entry.new ≡ entry.old) }
 {
     match node.expire(moment) {
-        Ok(Some(_)) => Code::Done,
+        Ok(Some(change)) => tell_change(&change, ip, port, entry),
         Ok(None) => Code::Nothing,
         Err(error) => Code::of_error(error),
     }
 }
 
-/// The first entry whose deadline has come at this moment, in milliseconds, becomes what it does then. `Done`: call again.
-/// `Nothing`: none is due. `BadNumber`, `Memory`.
+/// The first entry whose deadline has come at this moment, in milliseconds, becomes what it does then. `Done`: its address
+/// and what it became; call again. `Nothing`: none is due. `BadNumber`, `Memory`.
 #[unsafe(no_mangle)]
-pub extern "C" fn ringpop_node_expire(alloc: Global, node: &mut RingpopNode, moment: u64) -> u32
+pub extern "C" fn ringpop_node_expire(
+    alloc: Global,
+    node: &mut RingpopNode,
+    moment: u64,
+    ip: &mut u32,
+    port: &mut u16,
+    entry: &mut RingpopEntry,
+) -> u32
     ensures number { greatest_number < moment → result ≡ code_number Code.BadNumber }
     ensures refused { greatest_number < moment → node.new.at.value ≡ node.old.at.value }
-    ensures step { moment ≤ greatest_number → Does (ExpiresBy moment) node.old.at.value result node.new.at.value }
+    ensures step { moment ≤ greatest_number → Does (ExpiresBy moment ip.new port.new entry.new) node.old.at.value result node.new.at.value }
+    ensures untouched { result ≢ code_number Code.Done → (ip.new ≡ ip.old) × (port.new ≡ port.old) × (entry.new ≡ entry.old) }
 {
     let Some(moment) = Moment::new(moment) else {
         return Code::BadNumber.number();
@@ -82,7 +98,7 @@ pub extern "C" fn ringpop_node_expire(alloc: Global, node: &mut RingpopNode, mom
     let Some(mut served) = lift(alloc, node) else {
         return Code::NoNode.number();
     };
-    let code = expire(&mut served.node, moment);
+    let code = expire(&mut served.node, moment, ip, port, entry);
     put_back(node, served);
     code.number()
 }

@@ -5,7 +5,7 @@ ghost use Rattle.change_core.specs.Change.{entry_of};
 ghost use Rattle.change_core.specs.Members.{greatest};
 ghost use Rattle.node_core.specs.Node.{own_change};
 ghost use Rattle.ringpop_c.specs.Codes.{code_number};
-ghost use Rattle.ringpop_c.specs.Entries.{TellsChange, TellsEntry};
+ghost use Rattle.ringpop_c.specs.Entries.{TellsChange, TellsEntry, TellsSuspicion, entry_told};
 ghost use Rattle.ringpop_c.specs.Steps.{Looks};
 
 use crate::codes::Code;
@@ -25,6 +25,19 @@ pub struct RingpopEntry {
     pub weight: u8,
 }
 
+impl RingpopEntry {
+    /// An entry, as C has it.
+    fn of(held: Entry) -> Self
+        ensures { result ≡ entry_told held }
+    {
+        RingpopEntry {
+            incarnation: held.incarnation.number(),
+            status: held.status.rank(),
+            weight: held.weight.number(),
+        }
+    }
+}
+
 /// Tells an entry, if there is one.
 fn tell_entry(held: Option<Entry>, entry: &mut RingpopEntry) -> Code
     ensures told { TellsEntry held entry.new result }
@@ -33,11 +46,7 @@ fn tell_entry(held: Option<Entry>, entry: &mut RingpopEntry) -> Code
     let Some(held) = held else {
         return Code::Nothing;
     };
-    *entry = RingpopEntry {
-        incarnation: held.incarnation.number(),
-        status: held.status.rank(),
-        weight: held.weight.number(),
-    };
+    *entry = RingpopEntry::of(held);
     Code::Done
 }
 
@@ -67,12 +76,27 @@ pub extern "C" fn ringpop_node_member(
 }
 
 /// Tells a change.
-fn tell_change(change: &Change, ip: &mut u32, port: &mut u16, entry: &mut RingpopEntry) -> Code
+pub(crate) fn tell_change(
+    change: &Change,
+    ip: &mut u32,
+    port: &mut u16,
+    entry: &mut RingpopEntry,
+) -> Code
     ensures told { TellsChange change.now ip.new port.new entry.new result }
 {
     *ip = change.address.ip();
     *port = change.address.port();
     tell_entry(Some(change.entry()), entry)
+}
+
+/// Tells what became of a target that is suspect, where it was held as alive.
+pub(crate) fn tell_suspicion(change: &Option<Change>, entry: &mut RingpopEntry) -> Code
+    ensures told { TellsSuspicion change.now (record { before = entry.old; after = entry.new }) result }
+{
+    if let Some(change) = change {
+        *entry = RingpopEntry::of(change.entry());
+    }
+    Code::Suspected
 }
 
 /// The node's own address, and what it holds of itself.

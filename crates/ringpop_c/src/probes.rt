@@ -1,14 +1,15 @@
 //! A node's probes.
-ghost use Rattle.std.specs.Prelude.{◌≡◌, ◌≢◌, ◌≤◌, ◌<◌, Some, None};
+ghost use Rattle.std.specs.Prelude.{◌≡◌, ◌≢◌, ◌≤◌, ◌<◌, Some, None, Ok};
 ghost use Rattle.change_core.specs.Address.{address_of};
 ghost use Rattle.change_core.specs.Numbers.{greatest_number};
 ghost use Rattle.ringpop_c.specs.Codes.{code_number};
-ghost use Rattle.ringpop_c.specs.Probing.{AcksBy, HearsHelper, LosesBy, ProbesBy, TellsHelper, TellsRunning, TellsWaiting, running_in, said_of};
+ghost use Rattle.ringpop_c.specs.Probing.{AcksBy, HearsHelper, LosesBy, ProbesBy, TellsHelper, TellsLoss, TellsRunning, TellsWaiting, running_in, said_of};
 ghost use Rattle.detector_core.specs.declared.asked.Said.{Said};
 ghost use Rattle.detector_core.specs.Picks.{running_of};
 ghost use Rattle.ringpop_c.specs.Steps.{Does, Looks};
 
 use crate::codes::Code;
+use crate::entries::{RingpopEntry, tell_suspicion};
 use crate::handles::{RingpopNode, lift, put_back};
 use change_core::{Address, Moment};
 use detector_core::{Running, Said};
@@ -78,30 +79,49 @@ pub extern "C" fn ringpop_node_acked(alloc: Global, node: &mut RingpopNode, numb
     code.number()
 }
 
+/// Tells what became of a probe that was lost.
+fn tell_loss(loss: &NodeLost, entry: &mut RingpopEntry) -> Code
+    ensures told { TellsLoss (Ok loss.now) (record { before = entry.old; after = entry.new }) result }
+    ensures untouched { result ≢ Code.Suspected → entry.new ≡ entry.old }
+{
+    match loss {
+        NodeLost::Ask(_) => Code::Done,
+        NodeLost::Suspect(change) => tell_suspicion(change, entry),
+    }
+}
+
 /// The target of a probe did not answer.
-fn lose(node: &mut NodeState<Sha256Hash>, number: u64, moment: Moment) -> Code
-    ensures step { LosesBy number moment node.old.node result node.new.node }
+fn lose(
+    node: &mut NodeState<Sha256Hash>,
+    number: u64,
+    moment: Moment,
+    entry: &mut RingpopEntry,
+) -> Code
+    ensures step { LosesBy number moment (record { before = entry.old; after = entry.new }) node.old.node result node.new.node }
+    ensures untouched { result ≢ Code.Suspected → entry.new ≡ entry.old }
 {
     match node.lost(number, moment) {
-        Ok(NodeLost::Ask(_)) => Code::Done,
-        Ok(NodeLost::Suspect(_)) => Code::Suspected,
+        Ok(loss) => tell_loss(&loss, entry),
         Err(error) => Code::of_error(error),
     }
 }
 
 /// The target of the running probe did not answer by this moment, in milliseconds. `Done`: helpers are to be asked, one
-/// after another, as `ringpop_node_waiting` names them. `Suspected`: nobody could be asked. `BadNumber`, `StaleProbe`,
-/// `Memory`.
+/// after another, as `ringpop_node_waiting` names them. `Suspected`: nobody could be asked; its entry is told where it was
+/// held as alive. `BadNumber`, `StaleProbe`, `Memory`.
 #[unsafe(no_mangle)]
 pub extern "C" fn ringpop_node_lost(
     alloc: Global,
     node: &mut RingpopNode,
     number: u64,
     moment: u64,
+    entry: &mut RingpopEntry,
 ) -> u32
     ensures number { greatest_number < moment → result ≡ code_number Code.BadNumber }
     ensures refused { greatest_number < moment → node.new.at.value ≡ node.old.at.value }
-    ensures step { moment ≤ greatest_number → Does (LosesBy number moment) node.old.at.value result node.new.at.value }
+    ensures step { moment ≤ greatest_number
+        → Does (LosesBy number moment (record { before = entry.old; after = entry.new })) node.old.at.value result node.new.at.value }
+    ensures untouched { result ≢ code_number Code.Suspected → entry.new ≡ entry.old }
 {
     let Some(moment) = Moment::new(moment) else {
         return Code::BadNumber.number();
@@ -109,7 +129,7 @@ pub extern "C" fn ringpop_node_lost(
     let Some(mut served) = lift(alloc, node) else {
         return Code::NoNode.number();
     };
-    let code = lose(&mut served.node, number, moment);
+    let code = lose(&mut served.node, number, moment, entry);
     put_back(node, served);
     code.number()
 }
@@ -217,21 +237,23 @@ fn hear_helper(
     helper: Address,
     said: Said,
     moment: Moment,
+    entry: &mut RingpopEntry,
 ) -> Code
-    ensures step { HearsHelper number helper said moment node.old.node result node.new.node }
+    ensures step { HearsHelper number helper said moment (record { before = entry.old; after = entry.new }) node.old.node result node.new.node }
+    ensures untouched { result ≢ Code.Suspected → entry.new ≡ entry.old }
 {
     match node.helper_said(number, helper, said, moment) {
         Ok(NodeOutcome::Waiting) => Code::Waiting,
         Ok(NodeOutcome::Reached) => Code::Done,
-        Ok(NodeOutcome::Suspect(_)) => Code::Suspected,
+        Ok(NodeOutcome::Suspect(change)) => tell_suspicion(&change, entry),
         Ok(NodeOutcome::Inconclusive) => Code::Inconclusive,
         Err(error) => Code::of_error(error),
     }
 }
 
 /// What a helper said of the running probe's target by this moment, in milliseconds: 0, it reached the target; 1, it did
-/// not; 2, nothing, since it failed. `Done`: the target was reached. `Waiting`, `Suspected`, `Inconclusive`, `BadAddress`,
-/// `BadWord`, `BadNumber`, `StaleProbe`, `NotAsked`, `Memory`.
+/// not; 2, nothing, since it failed. `Done`: the target was reached. `Suspected`: its entry is told where it was held as
+/// alive. `Waiting`, `Inconclusive`, `BadAddress`, `BadWord`, `BadNumber`, `StaleProbe`, `NotAsked`, `Memory`.
 #[unsafe(no_mangle)]
 pub extern "C" fn ringpop_node_helper_said(
     alloc: Global,
@@ -241,6 +263,7 @@ pub extern "C" fn ringpop_node_helper_said(
     port: u16,
     word: u8,
     moment: u64,
+    entry: &mut RingpopEntry,
 ) -> u32
     ensures address { port ≡ 0 → result ≡ code_number Code.BadAddress }
     ensures address_stays { port ≡ 0 → node.new.at.value ≡ node.old.at.value }
@@ -249,7 +272,8 @@ pub extern "C" fn ringpop_node_helper_said(
     ensures number { (said : Said) → 0 < port → said_of word ≡ Some said → greatest_number < moment → result ≡ code_number Code.BadNumber }
     ensures moment_stays { greatest_number < moment → node.new.at.value ≡ node.old.at.value }
     ensures step { (said : Said) → 0 < port → said_of word ≡ Some said → moment ≤ greatest_number
-        → Does (HearsHelper number (address_of ip port) said moment) node.old.at.value result node.new.at.value }
+        → Does (HearsHelper number (address_of ip port) said moment (record { before = entry.old; after = entry.new })) node.old.at.value result node.new.at.value }
+    ensures untouched { result ≢ code_number Code.Suspected → entry.new ≡ entry.old }
 {
     let Some(helper) = Address::new(ip, port) else {
         return Code::BadAddress.number();
@@ -263,7 +287,7 @@ pub extern "C" fn ringpop_node_helper_said(
     let Some(mut served) = lift(alloc, node) else {
         return Code::NoNode.number();
     };
-    let code = hear_helper(&mut served.node, number, helper, said, moment);
+    let code = hear_helper(&mut served.node, number, helper, said, moment, entry);
     put_back(node, served);
     code.number()
 }

@@ -2,7 +2,8 @@
 use crate::peers::Page;
 use crate::plans::{ALL, Plan, plan_at};
 use crate::shared::{
-    Counting, Ended, Question, Running, answers, asked, connect, end, spend, start, stop, turn,
+    Counting, Ended, Question, Running, answers, answers_by, asked, connect, end, spend, start,
+    stop, turn,
 };
 use crate::tells::Lines;
 use change_core::Address;
@@ -14,22 +15,25 @@ use std::net::{Net, TcpListener, TcpStream};
 use std::sync::Wait;
 use std::time::Clock;
 
-/// Two requests under the standard waits, at a port that the system may have given to a connection, so that both sides try again.
+/// How often each side tries at a port that the system may have given to a connection.
+const FEW_TRIES: u32 = 10_000;
+
+/// Two requests under the standard waits, at such a port, so that both sides try again.
 fn echoes_twice<R: Net<Listener = TcpListener, Stream = TcpStream> + Host>(
     rt: &R,
     alloc: Global,
 ) -> bool {
     let plan = Plan {
         line: None,
-        tries: 10_000,
+        tries: FEW_TRIES,
         ..plan_at(39_171, 2)
     };
     let Some(server) = start(rt, alloc, &plan) else {
         return false;
     };
     let line = "127.0.0.1:39171 hi\n";
-    let is_served = answers(rt, alloc, &server, Question::Ask, line)
-        && answers(rt, alloc, &server, Question::Ask, line);
+    let is_served = answers_by(rt, alloc, &server, Question::Ask, line, FEW_TRIES)
+        && answers_by(rt, alloc, &server, Question::Ask, line, FEW_TRIES);
     match end(rt, server, is_served) {
         Some(ended) => ended.is(Ok(()), "serving 127.0.0.1:39171\ndone\n"),
         None => false,

@@ -299,15 +299,17 @@ pub(crate) fn asked<R: Net<Listener = TcpListener, Stream = TcpStream> + Wait + 
     Ok(page.bytes)
 }
 
-/// What a server answers that begins so; none where it refuses, ends before, or never answers so.
+/// What a server answers that begins so, asked so often at most, a millisecond apart; none where it refuses, ends before, or never
+/// answers so.
 pub(crate) fn answer<R: Net<Listener = TcpListener, Stream = TcpStream> + Wait + Clock>(
     rt: &R,
     alloc: Global,
     server: &Running,
     question: Question,
     front: &str,
+    tries: u32,
 ) -> Option<Vec<u8>> {
-    for _ in 0..TRIES {
+    for _ in 0..tries {
         match asked(rt, alloc, server.address, question) {
             Ok(text) if text.as_slice().starts_with(front.as_bytes()) => return Some(text),
             Err(AskFault::Refused(_)) => return None,
@@ -329,7 +331,19 @@ pub(crate) fn answers<R: Net<Listener = TcpListener, Stream = TcpStream> + Wait 
     question: Question,
     text: &str,
 ) -> bool {
-    match answer(rt, alloc, server, question, text) {
+    answers_by(rt, alloc, server, question, text, TRIES)
+}
+
+/// Whether a server answers with this text at last, asked so often at most.
+pub(crate) fn answers_by<R: Net<Listener = TcpListener, Stream = TcpStream> + Wait + Clock>(
+    rt: &R,
+    alloc: Global,
+    server: &Running,
+    question: Question,
+    text: &str,
+    tries: u32,
+) -> bool {
+    match answer(rt, alloc, server, question, text, tries) {
         Some(answer) => answer.len() == text.len(),
         None => false,
     }

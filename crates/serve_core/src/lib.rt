@@ -28,7 +28,7 @@ pub use faults::{AskFault, ServeFault, TellFault};
 pub use hosts::Host;
 pub use looks::{members_over, members_run};
 pub use owners::{ask_any_over, ask_any_run};
-pub use servers::Server;
+pub use servers::{Server, make_rounds};
 pub use serving::{serve_run, serve_within};
 pub use telling::{tell_over, tell_run};
 pub use waits::Waits;

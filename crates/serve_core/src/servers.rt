@@ -8,7 +8,7 @@ use crate::waits::Waits;
 use crate::watches::Watch;
 use change_core::Address;
 use cluster_core::gossip_round;
-use cluster_links::TcpLink;
+use cluster_links::{Deadline, TcpLink};
 use hash_ring::PointHash;
 use locked_node::{LockedNode, NodePass};
 use std::alloc::Global;
@@ -115,6 +115,31 @@ impl<H: PointHash> Server<H> {
         self.has_ended.store(true, Ordering::SeqCst);
         self.bell.unpark();
     }
+
+    /// Rests for so long at most; whether rounds are still made.
+    fn nap<R: Wait>(&self, rt: &R, time: Duration) -> bool {
+        self.bell.park_timeout(rt, time);
+        !self.has_ended.load(Ordering::SeqCst)
+    }
+
+    /// Rests for a whole period, also where it is woken before, or until the rounds are ended; whether they are still made. Where
+    /// the clock fails it rests once.
+    fn rest<R: Wait + Clock>(&self, rt: &R, period: Duration) -> bool {
+        let Ok(deadline) = Deadline::after(rt, period) else {
+            return self.nap(rt, period);
+        };
+        let mut left = period;
+        for _ in rt.forever() {
+            if !self.nap(rt, left) {
+                return false;
+            }
+            let Ok(more) = deadline.left() else {
+                return true;
+            };
+            left = more;
+        }
+        unreachable!()
+    }
 }
 
 /// Serves connections until no ticket is left, from when nobody holds the workers.
@@ -138,7 +163,8 @@ pub fn work<R: Net + Wait + Clock + Copy, H: PointHash>(
     }
 }
 
-/// Makes a round each `period` milliseconds until the rounds are ended. What refuses a round ends none.
+/// Makes rounds until they are ended, each `period` milliseconds after the one before has ended, never sooner by the clock. What
+/// refuses a round ends none.
 pub fn make_rounds<R: Net + Wait + Clock + Copy, H: PointHash>(
     server: &Server<H>,
     pass: &mut NodePass<H>,
@@ -150,9 +176,9 @@ pub fn make_rounds<R: Net + Wait + Clock + Copy, H: PointHash>(
     ensures fits { Fits server.now.node pass.new }
 {
     let mut link = TcpLink::with_limits(*rt, server.waits.links);
+    let period = Duration::from_millis(period);
     for _ in rt.forever() {
-        server.bell.park_timeout(rt, Duration::from_millis(period));
-        if server.has_ended.load(Ordering::SeqCst) {
+        if !server.rest(rt, period) {
             return;
         }
         let now = server.watch.moment(rt);

@@ -12,7 +12,7 @@ use std::net::{Net, TcpListener, TcpStream};
 use std::sync::Wait;
 
 /// 127.0.0.1:29177 at 1; none where there is no memory for it.
-fn node(alloc: Global) -> Option<NodeState<SumHash>> {
+pub(crate) fn node(alloc: Global) -> Option<NodeState<SumHash>> {
     let (own, first) = (local(29_177)?, Incarnation::new(1)?);
     let config = Config::standard();
     NodeState::new(alloc, config, SumHash, own, first, 1, Moment::new(0)?).ok()

@@ -18,6 +18,8 @@ mod peers;
 #[cfg(test)]
 mod plans;
 #[cfg(test)]
+mod rounds;
+#[cfg(test)]
 mod servers;
 #[cfg(test)]
 mod shared;

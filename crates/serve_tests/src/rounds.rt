@@ -1,0 +1,149 @@
+//! That a server makes no round before its period is over, by a clock that each look at it moves by a millisecond: it is slower than
+//! the system's, so that a rest is over by the one long before it is by the other, as where a thread is woken early.
+use crate::connections::node;
+use crate::plans::local;
+use change_core::{Change, Incarnation, Moment, Sourced, Status, Weight};
+use cluster_links::share;
+use hash_ring::SumHash;
+use node_core::NodeState;
+use serve_core::{Server, Waits, Watch, make_rounds};
+use std::alloc::Global;
+use std::cell::Cell;
+use std::io;
+use std::io::ErrorKind;
+use std::net::{Net, SocketAddr, TcpListener, TcpStream};
+use std::sync::Wait;
+use std::time::{Clock, Duration};
+
+/// The milliseconds between two rounds, more than there are looks at the clock in a round.
+const PERIOD: u64 = 8;
+
+/// After how many rounds they are ended.
+const ROUNDS: u32 = 3;
+
+/// A clock that goes on by a millisecond with each look.
+#[derive(Drop)]
+struct Looks {
+    seen: Cell<u64>,
+}
+
+impl Clock for Looks {
+    fn monotonic(&self) -> io::Result<Duration> {
+        self.seen.set(self.seen.get().wrapping_add(1));
+        Ok(Duration::from_millis(self.seen.get()))
+    }
+
+    fn since_1970(&self) -> io::Result<Duration> {
+        self.monotonic()
+    }
+}
+
+/// A network where nobody is reached, and what a server does there.
+#[derive(Drop)]
+struct Desert<'a, R> {
+    rt: &'a R,
+    looks: &'a Looks,
+    server: &'a Server<SumHash>,
+    /// When the last round was made, or else the beginning.
+    last: Cell<u64>,
+    /// How many were made.
+    rounds: Cell<u32>,
+    /// How many of them were made before their period was over.
+    early: Cell<u32>,
+}
+
+impl<'a, R> Desert<'a, R> {
+    /// A round is made, whose target is asked for; after enough of them they are ended.
+    fn see_round(&self) {
+        let now = self.looks.seen.get();
+        if now.saturating_sub(self.last.get()) < PERIOD {
+            self.early.set(self.early.get().wrapping_add(1));
+        }
+        self.last.set(now);
+        self.rounds.set(self.rounds.get().wrapping_add(1));
+        if self.rounds.get() >= ROUNDS {
+            self.server.end_rounds();
+        }
+    }
+}
+
+impl<'a, R> Net for Desert<'a, R> {
+    type Stream = TcpStream;
+
+    type Listener = TcpListener;
+
+    fn bind(&self, _addr: SocketAddr) -> io::Result<TcpListener> {
+        Err(io::Error::from(ErrorKind::Unsupported))
+    }
+
+    fn connect(&self, _addr: SocketAddr) -> io::Result<TcpStream> {
+        Err(io::Error::from(ErrorKind::Unsupported))
+    }
+
+    fn connect_timeout(&self, _addr: SocketAddr, _timeout: Duration) -> io::Result<TcpStream> {
+        self.see_round();
+        Err(io::Error::from(ErrorKind::TimedOut))
+    }
+}
+
+impl<'a, R> Clock for Desert<'a, R> {
+    fn monotonic(&self) -> io::Result<Duration> {
+        self.looks.monotonic()
+    }
+
+    fn since_1970(&self) -> io::Result<Duration> {
+        self.looks.since_1970()
+    }
+}
+
+impl<'a, R: Wait> Wait for Desert<'a, R> {}
+
+/// A node that holds another one as alive; none where there is no memory for it.
+fn node_of_two(alloc: Global) -> Option<NodeState<SumHash>> {
+    let mut node = node(alloc)?;
+    let (other, first) = (local(29_170)?, Incarnation::new(1)?);
+    let change = Change {
+        address: other,
+        incarnation: first,
+        status: Status::Alive,
+        weight: Weight::new(1)?,
+    };
+    let given = [Sourced {
+        change,
+        source: other,
+        source_incarnation: first,
+    }];
+    node.take(&given, Moment::new(0)?).ok()?;
+    Some(node)
+}
+
+/// How many rounds a server makes until they are ended, and how many of them too early; none where there was no memory.
+fn rounds<R: Net<Listener = TcpListener, Stream = TcpStream> + Wait>(
+    rt: &R,
+    alloc: Global,
+) -> Option<(u32, u32)> {
+    let listener = TcpListener::bind(rt, "127.0.0.1:0").ok()?;
+    let Ok((node, mut pass, _others)) = share(alloc, node_of_two(alloc)?, 0) else {
+        return None;
+    };
+    let looks = Looks { seen: Cell::new(0) };
+    let (watch, waits) = (Watch::start(&looks), Waits::standard());
+    let server = Server::new(node, local(29_177)?, watch, waits, listener, 1);
+    let desert = Desert {
+        rt,
+        looks: &looks,
+        server: &server,
+        last: Cell::new(looks.seen.get()),
+        rounds: Cell::new(0),
+        early: Cell::new(0),
+    };
+    make_rounds(&server, &mut pass, &&desert, alloc, PERIOD);
+    Some((desert.rounds.get(), desert.early.get()))
+}
+
+#[test]
+fn no_round_comes_before_its_period_is_over(rt: HostRuntime) {
+    let alloc: Global = rt.alloc();
+    let wanted = Some((ROUNDS, 0));
+    assert!(&rt; rounds(&rt, alloc) == wanted || rounds(&rt, alloc) == wanted);
+}

@@ -1,28 +1,90 @@
-//! An example: a service of three nodes in one process that counts the trips of riders. Each line of standard input is a
-//! rider; the node that owns the rider counts one trip more, and the answer is printed.
+//! An example: three nodes of one process count the trips of riders. Each line of standard input is a rider; the node that
+//! owns the rider counts one trip more, and its answer is printed.
 #![tactic(auto)]
 
-mod nodes;
-mod routing;
+ghost use Rattle.cluster_links.specs.Clusters.{IsWhole};
+
 mod trips;
 
-use anyhow::Context;
+use anyhow::{Context, bail};
+use change_core::{Address, Incarnation, Moment};
 use cluster_links::Cluster;
+use hash_ring::Sha256Hash;
+use node_core::{Config, NodeState, Received};
+use std::alloc::Global;
+use std::sync::Wait;
 use trips::Trips;
+use wire_json::{Content, Keys, Message, Text};
 
-/// Where the nodes are. Each has one worker, a thread that answers for it.
+/// Where the nodes are.
 const ADDRESSES: [&str; 3] = ["10.0.0.1:7946", "10.0.0.2:7946", "10.0.0.3:7946"];
+
+type Node = NodeState<Sha256Hash>;
+
+/// The nodes, at their first incarnation, each of which has joined the first one and heard from it of all members. A node
+/// that starts anew begins with a greater incarnation; each node of a service has a seed of its own, where here it is 1.
+fn start(alloc: Global, first: Incarnation, now: Moment) -> anyhow::Result<Vec<Node>> {
+    let mut nodes: Vec<Node> = Vec::with_capacity(alloc, ADDRESSES.len())?;
+    for address in ADDRESSES {
+        let own = Address::parse(address)?;
+        let mut node = NodeState::new(alloc, Config::standard(), Sha256Hash, own, first, 1, now)?;
+        if let Some(host) = nodes.first_mut() {
+            let Received::Answer(_, joined) = host.receive(&node.join_message()?, now) else {
+                bail!("{own} was not let in");
+            };
+            node.receive(&joined, now);
+        }
+        nodes.push(node)?;
+    }
+    Ok(nodes)
+}
+
+/// One round of gossip of each node: it pings another, and both tell what they have heard. A service lets each node make
+/// one every 200 milliseconds or so.
+fn gossip<R: Wait>(
+    rt: &R,
+    alloc: Global,
+    cluster: &mut Cluster<Sha256Hash>,
+    now: Moment,
+) -> anyhow::Result<()>
+    requires { IsWhole cluster.old }
+    ensures { IsWhole cluster.new }
+{
+    // In a loop the clause on the cluster would have to be its invariant, which stands in a proof file.
+    cluster.round(rt, alloc, Address::parse(ADDRESSES[0])?, now)?;
+    cluster.round(rt, alloc, Address::parse(ADDRESSES[1])?, now)?;
+    cluster.round(rt, alloc, Address::parse(ADDRESSES[2])?, now)?;
+    Ok(())
+}
+
+/// What a request carries: the rider as its one key, and no body.
+fn forward(alloc: Global, rider: &str) -> anyhow::Result<Content> {
+    let keys = Keys::new(alloc, Text::new(alloc, rider)?)?;
+    Ok(Content::Forward(keys, Text::new(alloc, "")?))
+}
 
 fn main(rt: HostRuntime) -> anyhow::Result<()> {
     let alloc = rt.alloc();
-    let mut nodes = nodes::start(alloc, &ADDRESSES)?;
-    let view = nodes::view(&mut nodes)?;
+    let first = Incarnation::new(1).context("an incarnation is at most 2^53 - 1")?;
+    let now = Moment::new(0).context("a moment is at most 2^53 - 1")?;
+    let mut nodes = start(alloc, first, now)?;
+    // The owners as the first node knows them, which all others have joined.
+    let view = nodes.first_mut().context("there is no node")?.view()?;
+    // Each node has one worker, a thread that answers for it.
     let started = Cluster::start(&rt, alloc, nodes, 1, Trips::new(alloc));
     let mut cluster = started.ok().context("the cluster was not started")?;
-    nodes::gossip(&rt, alloc, &mut cluster, &ADDRESSES)?;
+    gossip(&rt, alloc, &mut cluster, now)?;
     for line in rt.lines(alloc) {
         let rider = line?;
-        let (owner, trips) = routing::ask(&rt, alloc, &cluster, &view, rider.as_str())?;
+        let owner = view.owner(rider.as_bytes()).context("nobody serves")?;
+        let request = Message {
+            source: view.own(),
+            source_incarnation: first,
+            content: forward(alloc, rider.as_str())?,
+        };
+        let Content::Reply(trips) = cluster.ask(&rt, alloc, owner, &request)?.content else {
+            bail!("{owner} did not count the trip");
+        };
         println!(rt; "{rider}: trip {}, counted by {owner}", trips.as_str())?;
     }
     let stopped = cluster.stop(&rt, alloc);

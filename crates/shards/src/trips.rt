@@ -13,8 +13,9 @@ pub struct Trips {
 
 impl Trips {
     pub fn new(alloc: Global) -> Trips {
-        let counts = Mutex::new(BTreeMap::new(alloc));
-        Trips { counts }
+        Trips {
+            counts: Mutex::new(BTreeMap::new(alloc)),
+        }
     }
 }
 
@@ -23,10 +24,10 @@ fn count(
     alloc: Global,
     counts: &mut BTreeMap<String, u64>,
     rider: &str,
-) -> Result<String, AllocError> {
+) -> Result<Text, AllocError> {
     let count = counts.entry(String::from_str(alloc, rider)?)?.or_insert(0);
     *count = count.saturating_add(1);
-    format!(in alloc; "{count}")
+    Ok(Text::from_string(format!(in alloc; "{count}")?))
 }
 
 impl Handler for Trips {
@@ -42,9 +43,6 @@ impl Handler for Trips {
     ) -> Result<Text, HandlerFault> {
         let rider = keys.get(0).ok_or(HandlerFault::Failed)?;
         let mut counts = self.counts.lock(rt);
-        match count(alloc, &mut *counts, rider.as_str()) {
-            Ok(answer) => Ok(Text::from_string(answer)),
-            Err(_) => Err(HandlerFault::Memory),
-        }
+        count(alloc, &mut *counts, rider.as_str()).map_err(|_| HandlerFault::Memory)
     }
 }

@@ -1,6 +1,6 @@
 //! serde_json on the lines of pings: to and from a `Value`, and to and from structs. Or a line is read once to a `Value`, and the most
-//! memory that the program had before and after is told.
-//! usage: ping_lines FILE.. | ping_lines once FILE
+//! memory that the program had before and after is told. Or it is read to a `Value`, or written from one, so many times.
+//! usage: ping_lines FILE.. | ping_lines once FILE | ping_lines decode|encode TURNS FILE
 use serde::{Deserialize, Serialize};
 use serde_json::Value;
 use std::hint::black_box;
@@ -58,8 +58,26 @@ fn once(file: &str) {
     black_box(value);
 }
 
+fn do_turns(way: &str, turns: u64, file: &str) {
+    let text = std::fs::read_to_string(file).expect("a file");
+    let value: Value = serde_json::from_str(&text).expect("a value");
+    for _ in 0..turns {
+        if way == "decode" {
+            black_box(serde_json::from_slice::<Value>(black_box(text.as_bytes())).expect("a value"));
+        } else {
+            black_box(serde_json::to_vec(black_box(&value)).expect("a line"));
+        }
+    }
+}
+
 fn main() {
     let words: Vec<String> = std::env::args().collect();
+    if let [_, way, turns, file] = words.as_slice() {
+        return match turns.parse() {
+            Ok(turns) => do_turns(way, turns, file),
+            Err(_) => println!("no turns: {turns}"),
+        };
+    }
     if let [_, word, file] = words.as_slice() {
         if word == "once" {
             return once(file);

@@ -1,10 +1,24 @@
-"""Writes change lines: python3 make_lines.py LINES ADDRESSES. The same arguments give the same lines."""
+"""Writes change lines. The same arguments give the same lines.
+
+make_lines.py LINES ADDRESSES          changes of every kind about so many addresses
+make_lines.py servers COUNT WEIGHT     so many members that are alive, each of this weight
+"""
 import sys
 
 WORDS = ["alive", "suspect", "faulty", "leave", "tombstone"]
 
 
+def servers(count, weight):
+    for i in range(count):
+        print(
+            f'{{"address":"10.0.{i // 256}.{i % 256}:7946","incarnationNumber":1,"source":"10.0.0.1:7946",'
+            f'"sourceIncarnationNumber":1,"status":"alive","weight":{weight}}}'
+        )
+
+
 def main():
+    if sys.argv[1] == "servers":
+        return servers(int(sys.argv[2]), int(sys.argv[3]))
     lines, addresses = int(sys.argv[1]), int(sys.argv[2])
     for i in range(lines):
         place = i * 2654435761 % addresses

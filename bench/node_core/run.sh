@@ -1,6 +1,7 @@
 #!/usr/bin/env bash
-# A node of 10, 100, 1,000 and 4,000 members with 100 points each: new, older, newer and refuted changes, answers to pings with and without
-# news, the first view and the next ones, in nanoseconds a call. Wants rt. It works on a copy, which it proves first, so nothing is left in the repository.
+# A node of 10, 100, 1,000 and 4,000 members with 100 points each, in nanoseconds: all other members by one full synchronisation and one by
+# one, beside the hashes of their points; older, newer and refuted changes, answers to pings with and without news, the first view after a
+# change of the ring and the next ones. Wants rt. It works on a copy, which it proves first, so nothing is left in the repository.
 set -euo pipefail
 here=$(cd "$(dirname "$0")" && pwd)
 root=$here/../..

@@ -5,4 +5,3 @@ pub mod Answered
 pub mod Written
 pub mod Entered
 pub mod Heard
-pub mod Worked

@@ -7,4 +7,3 @@ pub mod Owning
 pub mod Service
 pub mod Telling
 pub mod Words
-pub mod Working

@@ -5,3 +5,4 @@ pub mod Answered
 pub mod Written
 pub mod Entered
 pub mod Heard
+pub mod Worked

@@ -7,3 +7,4 @@ pub mod Owning
 pub mod Service
 pub mod Telling
 pub mod Words
+pub mod Working

@@ -1,5 +1,7 @@
 //! One connection of a server: one line in and one line out.
 ghost use Rattle.locked_node.specs.Passes.{Fits};
+ghost use Rattle.cluster_core.specs.Acts.{Makes};
+ghost use Rattle.serve_core.specs.Working.{IsConnection};
 
 use crate::answering::respond;
 use crate::inputs::hear;
@@ -24,6 +26,7 @@ pub fn serve_connection<R: Net + Wait + Clock, H: PointHash, S: Read + Write + O
     stream: S,
 )
     requires { Fits server.now.node pass.old }
+    ensures made { Makes server.now.node (IsConnection H.hash_of) pass.old pass.new }
     ensures fits { Fits server.now.node pass.new }
 {
     let Ok(deadline) = Deadline::after(rt, server.waits.line) else {

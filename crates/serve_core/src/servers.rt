@@ -1,6 +1,8 @@
 //! What the threads of a server share, and what each of them does.
 ghost use Rattle.std.specs.Prelude.{◌≡◌};
 ghost use Rattle.locked_node.specs.Passes.{Fits};
+ghost use Rattle.cluster_core.specs.Acts.{Makes};
+ghost use Rattle.serve_core.specs.Working.{IsConnection, IsOneRound, Repeats};
 
 use crate::connections::serve_connection;
 use crate::echoes::Echo;
@@ -150,6 +152,7 @@ pub fn work<R: Net + Wait + Clock + Copy, H: PointHash>(
     alloc: Global,
 )
     requires { Fits server.now.node pass.old }
+    ensures made { Makes server.now.node (Repeats (IsConnection H.hash_of)) pass.old pass.new }
     ensures fits { Fits server.now.node pass.new }
 {
     server.wait_for_gate(rt);
@@ -173,6 +176,7 @@ pub fn make_rounds<R: Net + Wait + Clock + Copy, H: PointHash>(
     period: u64,
 )
     requires { Fits server.now.node pass.old }
+    ensures made { Makes server.now.node (Repeats IsOneRound) pass.old pass.new }
     ensures fits { Fits server.now.node pass.new }
 {
     let mut link = TcpLink::with_limits(*rt, server.waits.links);

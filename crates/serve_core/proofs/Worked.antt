@@ -1,0 +1,47 @@
+-- What a thread of a server does to the node, connection by connection and round by round.
+use Rattle.std.proofs.Common.{◌≡◌, ℕ, List, Result, subst, sym, inl, inr}
+use Rattle.locked_node.specs.declared.node.LockedNode.{LockedNode}
+use Rattle.locked_node.specs.Passes.{NodePass}
+use Rattle.cluster_core.specs.declared.errors.ClusterError.{ClusterError}
+use Rattle.cluster_core.specs.declared.rounds.Round.{Round}
+use Rattle.cluster_core.specs.Acts.{Act, OfActs, Makes}
+use Rattle.cluster_core.specs.Parts.{Does}
+use Rattle.cluster_core.specs.Rounds.{IsRound}
+use Rattle.cluster_core.proofs.Acts.{makes_as, makes_none, makes_then}
+use Rattle.cluster_links.specs.Channels.{any_answer}
+use Rattle.serve_core.specs.Answering.{IsSilent, Responds}
+use Rattle.serve_core.specs.Working.{IsConnection, IsOneRound, IsTreated, Repeats}
+use Rattle.serve_core.specs.declared.inputs.Input.{Input}
+use Rattle.serve_core.specs.declared.inputs.Input.TheVariants as input
+
+module _ {H : Type 0} (locked : LockedNode H) where
+  pub none_yet : (One : OfActs H) (p : NodePass H) → Makes locked (Repeats One) p p
+  none_yet One p = makes_as (Repeats One) (λ acts n. subst (λ (xs : List (Act H)). Repeats One xs) (sym n) Repeats.none) (makes_none locked p)
+
+  pub one_more : (One : OfActs H) (p q s : NodePass H) → Makes locked (Repeats One) p q → Makes locked One q s → Makes locked (Repeats One) p s
+  one_more One p q s before next =
+      makes_as (Repeats One) (λ acts t. subst (λ (xs : List (Act H)). Repeats One xs) (sym t.2) (Repeats.more t.3 t.4)) (makes_then before next)
+
+  -- a round is one, whatever it came to
+  pub a_round : (now : ℕ) (r : Result Round ClusterError) (p q : NodePass H) → Does locked (IsRound any_answer now) r p q → Makes locked IsOneRound p q
+  a_round now r p q d = makes_as IsOneRound (λ acts h. (now, r, h)) d.makes
+
+module _ {H : Type 0} (hash_of : H → List ℕ → ℕ) (now : ℕ) (locked : LockedNode H) where
+  -- nobody was heard
+  pub quiet_connection : (p : NodePass H) → Makes locked (IsConnection hash_of) p p
+  quiet_connection p = makes_as (IsConnection hash_of) (λ acts n. (now, input.Nothing, n)) (makes_none locked p)
+
+  treated : (heard : Input) (line : List ℕ) (acts : List (Act H)) → Responds hash_of any_answer now heard line acts → IsTreated hash_of now heard acts
+  treated (input.Line came) line acts h = inl (line, h)
+  treated (input.Refused why) line acts h = inl (line, h)
+  treated input.Nothing line acts h = absurd h.1.3
+
+  -- a line was sent, or none
+  pub answered_connection : (heard : Input) (line : List ℕ) (p q : NodePass H)
+      → Makes locked (Responds hash_of any_answer now heard line) p q → Makes locked (IsConnection hash_of) p q
+  answered_connection heard line p q m = makes_as (IsConnection hash_of) (λ acts h. (now, heard, treated heard line acts h)) m
+
+  pub silent_connection : (heard : Input) (p q : NodePass H) → IsSilent hash_of any_answer now heard locked p q → Makes locked (IsConnection hash_of) p q
+  silent_connection (input.Line came) p q t = makes_as (IsConnection hash_of) (λ acts h. (now, input.Line came, inr (t.0, h))) t.1.makes
+  silent_connection (input.Refused why) p q t = makes_as (IsConnection hash_of) (λ acts h. (now, input.Refused why, inr (t.0, h))) t.1.makes
+  silent_connection input.Nothing p q same = subst (λ (x : NodePass H). Makes locked (IsConnection hash_of) p x) (sym same) (quiet_connection p)

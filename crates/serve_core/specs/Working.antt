@@ -1,0 +1,33 @@
+-- What the threads of a server do to its node. Own.
+use Rattle.std.specs.Prelude.{◌⊎◌, ℕ, List, [], ◌++◌, Result}
+use Rattle.turn_lock.specs.declared.errors.LockError.{LockError}
+use Rattle.cluster_core.specs.declared.errors.ClusterError.{ClusterError}
+use Rattle.cluster_core.specs.declared.rounds.Round.{Round}
+use Rattle.cluster_core.specs.Acts.{Act, OfActs, Nothing}
+use Rattle.cluster_core.specs.Parts.{let_in}
+use Rattle.cluster_core.specs.Rounds.{IsRound}
+use Rattle.cluster_links.specs.Channels.{any_answer}
+use Rattle.serve_core.specs.Answering.{Responds, StaysSilent}
+use Rattle.serve_core.specs.declared.inputs.Input.{Input}
+use Rattle.serve_core.specs.declared.inputs.Input.TheVariants as input
+
+module _ {H : Type 0} where
+  -- the same kind of acts again and again, as often as it may be
+  pub data Repeats (One : OfActs H) : List (Act H) → Type 0 where
+    none : Repeats One []
+    more : {acts next : List (Act H)} → Repeats One acts → One next → Repeats One (acts ++ next)
+
+  -- a round at some moment, over a link of which nothing is known, whatever it came to
+  abbrev pub IsOneRound : OfActs H
+  IsOneRound acts = (now : ℕ) × (r : Result Round ClusterError) × IsRound any_answer now r acts
+
+  -- what came was answered by a line, or by none; where nothing that is answered came, no call is made
+  abbrev pub IsTreated : (H → List ℕ → ℕ) → ℕ → Input → OfActs H
+  IsTreated hash_of now input.Nothing acts = Nothing acts
+  IsTreated hash_of now heard acts =
+      ((line : List ℕ) × Responds hash_of any_answer now heard line acts)
+      ⊎ ((r : Result (Unit {0}) LockError) × StaysSilent hash_of any_answer now heard (let_in r) acts)
+
+  -- something came over a connection, and was treated so at some moment
+  abbrev pub IsConnection : (H → List ℕ → ℕ) → OfActs H
+  IsConnection hash_of acts = (now : ℕ) × (heard : Input) × IsTreated hash_of now heard acts

@@ -1,4 +1,4 @@
--- Links over channels. Own.
+-- Links over channels.
 use Rattle.std.specs.Prelude.{ℕ, List}
 use Rattle.std.specs.Arc.{arc_value}
 use Rattle.cluster_links.specs.declared.channel_links.ChannelLink.{ChannelLink}

@@ -1,4 +1,4 @@
--- The nodes of one process, by their addresses. Own.
+-- The nodes of one process, by their addresses.
 use Rattle.std.specs.Prelude.{◌≡◌, ◌≢◌, ℕ, ◌+◌, ◌-◌, ◌^◌, ◌<◌, ◌≤◌, List, [], ◌∷◌, ◌++◌, All, Result, drop, length, map, slice_index_or}
 use Rattle.std.specs.Arc.{arc_value}
 use Rattle.std.specs.List.{AllZip, range_with_len}

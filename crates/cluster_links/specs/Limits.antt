@@ -1,4 +1,4 @@
--- How long the calls of a link may take. Own.
+-- How long the calls of a link may take.
 use Rattle.std.specs.Prelude.{◌≡◌, ◌*◌, ◌^◌}
 use Rattle.std.specs.Duration.{as_nanos}
 use Rattle.std.specs.declared.time.Duration.{Duration}

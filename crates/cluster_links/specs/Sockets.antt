@@ -1,4 +1,4 @@
--- Links over sockets. Own.
+-- Links over sockets.
 use Rattle.std.specs.Prelude.{◌≡◌, ℕ, ◌<◌, length}
 use Rattle.std.specs.Net.Addr.{IsIpv4OfBits, IsV4And}
 use Rattle.std.specs.Net.Socket.{socket_ip, socket_port}

@@ -1,4 +1,4 @@
--- What the program's words read and write: a subcommand's lines, or what a command that speaks to nodes tells. Own.
+-- What the program's words read and write: a subcommand's lines, or what a command that speaks to nodes tells.
 use Rattle.std.specs.Prelude.{ℕ, List, Option}
 use Rattle.cli_core.specs.Subcommands.{Finishes, Fails, Reads}
 use Rattle.serve_core.specs.Commands.{CommandFinishes, CommandFails, CommandReads}

@@ -1,4 +1,4 @@
--- What a server answers to what comes over a connection. Own.
+-- What a server answers to what comes over a connection.
 use Rattle.std.specs.Prelude.{◌≡◌, ◌≢◌, ◌⊎◌, ℕ, ◌<◌, List, length, Option, Some, None, Result, Ok, Err, Vec}
 use Rattle.std.specs.Global.{Global}
 use Rattle.serde_json.specs.Written.{compact_text}

@@ -1,4 +1,4 @@
--- What is asked of a running node by nobody, and what its answer comes to. Own.
+-- What is asked of a running node by nobody, and what its answer comes to.
 use Rattle.std.specs.Prelude.{◌≡◌, ℕ, List, [], ◌∷◌, ◌++◌, Option, Result, Ok, Err}
 use Rattle.std.specs.Io.KnownBytes.{Appends, Keeps}
 use Rattle.change_core.specs.declared.addresses.Address.{Address}

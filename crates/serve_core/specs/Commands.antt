@@ -1,4 +1,4 @@
--- What a command that speaks to nodes reads and writes. Own.
+-- What a command that speaks to nodes reads and writes.
 use Rattle.std.specs.Prelude.{◌≡◌, ℕ, List, [], Option}
 use Rattle.cli_core.specs.Owner.{hash_by}
 use Rattle.cluster_links.specs.Channels.{any_answer}

@@ -1,4 +1,4 @@
--- How a server handles a request. Own.
+-- How a server handles a request.
 use Rattle.std.specs.Prelude.{◌≡◌, ℕ, List, ◌∷◌, ◌++◌, Ok, Err}
 use Rattle.change_core.specs.Address.{address_text}
 use Rattle.cluster_core.specs.Handling.{MayHandle}

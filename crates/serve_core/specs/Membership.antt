@@ -1,4 +1,4 @@
--- The membership that a running node tells whoever joins, and what is written of it. Own.
+-- The membership that a running node tells whoever joins, and what is written of it.
 use Rattle.std.specs.Prelude.{◌≡◌, ◌⊎◌, ℕ, Bool, true, false, List, [], ◌∷◌, ◌++◌, map, replicate, Option, Ok, Err}
 use Rattle.std.specs.List.{flat_map}
 use Rattle.std.specs.Io.KnownBytes.{Appends, Keeps}

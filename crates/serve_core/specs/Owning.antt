@@ -1,4 +1,4 @@
--- A request to whichever node owns its key, by what one node tells of the members. Own.
+-- A request to whichever node owns its key, by what one node tells of the members.
 use Rattle.std.specs.Prelude.{◌≡◌, ◌⊎◌, ℕ, List, [], Option, Some, None}
 use Rattle.change_core.specs.declared.addresses.Address.{Address}
 use Rattle.wire_json.specs.declared.kinds.Reason.TheVariants as reason

@@ -1,4 +1,4 @@
--- Changes that a running node is told, a line each. Own.
+-- Changes that a running node is told, a line each.
 use Rattle.std.specs.Prelude.{◌≡◌, ℕ, ◌+◌, ◌≤◌, Bool, true, false, List, [], ◌∷◌, ◌++◌, length, Option, Some, None, IfSome, Result, Ok, Err}
 use Rattle.std.specs.Io.KnownBytes.{Keeps}
 use Rattle.change_core.specs.Numbers.{most_members}

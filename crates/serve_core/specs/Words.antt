@@ -1,4 +1,4 @@
--- What the words of a server may be. Own.
+-- What the words of a server may be.
 use Rattle.std.specs.Prelude.{ℕ, ◌≤◌}
 
 -- the greatest number of connections that a server serves

@@ -1,4 +1,4 @@
--- What the threads of a server do to its node. Own.
+-- What the threads of a server do to its node.
 use Rattle.std.specs.Prelude.{◌⊎◌, ℕ, List, [], ◌++◌, Result}
 use Rattle.turn_lock.specs.declared.errors.LockError.{LockError}
 use Rattle.cluster_core.specs.declared.errors.ClusterError.{ClusterError}

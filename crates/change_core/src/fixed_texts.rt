@@ -2,7 +2,7 @@
 ghost use Rattle.std.specs.Prelude.{◌≡◌, ℕ, List, ◌+◌, ◌*◌, ◌/◌, ◌%◌, ◌<◌, ◌≤◌, [], ◌∷◌, ◌++◌, length, take, IsAscii};
 ghost use Rattle.std.specs.Fmt.{decimal};
 ghost use Rattle.change_core.specs.Address.{IsAddress, address_text};
-ghost use Rattle.change_core.specs.Digest.{IsDigest, digest_digits, hex_digit};
+ghost use Rattle.change_core.specs.Digest.{IsDigest, digest_digits};
 ghost use Rattle.change_core.specs.Printing.{upto};
 
 use crate::addresses::Address;
@@ -146,15 +146,14 @@ impl AddressText {
 #[derive(Drop)]
 pub struct DigestText {
     bytes: [u8; DIGEST_BYTES],
-    len: usize,
 }
 
 impl Model for DigestText {
     ghost Value = { List ℕ };
 
-    ghost view = { λ t. take t.len t.bytes };
+    ghost view = { λ t. t.bytes };
 
-    ghost invariant = { λ t. (t.len ≤ 64) × IsAscii (take t.len t.bytes) };
+    ghost invariant = { λ t. IsAscii t.bytes };
 }
 
 impl DigestText {
@@ -163,60 +162,28 @@ impl DigestText {
         ensures text { result ≡ digest_digits digest.now.bytes }
         ensures valid { IsDigest digest.now.bytes }
     {
-        let mut text = DigestText::new();
-        for byte in digest.bytes() {
-            text.push_byte(byte);
-        }
-        text
-    }
-
-    fn new() -> Self
-        ensures { result ≡ [] }
-    {
-        DigestText {
-            bytes: [0; DIGEST_BYTES],
-            len: 0,
-        }
+        let bytes = digits_of(&digest.bytes());
+        DigestText { bytes }
     }
 
     /// The text, lent.
     pub fn as_str(&self) -> &str
         ensures { result.now ≡ self.now }
     {
-        unsafe { std::str::from_utf8_unchecked(&self.bytes[..self.len]) }
-    }
-
-    /// Adds the two digits of a byte.
-    #[inline(always)]
-    fn push_byte(&mut self, byte: u8)
-        requires { length self.old + 2 ≤ 64 }
-        ensures { self.new ≡ self.old ++ hex_digit (byte / 16) ∷ hex_digit (byte % 16) ∷ [] }
-    {
-        self.push(digit_of(byte / 16));
-        self.push(digit_of(byte % 16));
-    }
-
-    #[inline(always)]
-    fn push(&mut self, byte: u8)
-        requires room { length self.old < 64 }
-        requires ascii { byte < 128 }
-        ensures { self.new ≡ self.old ++ byte ∷ [] }
-    {
-        self.bytes[self.len] = byte;
-        self.len += 1;
+        unsafe { std::str::from_utf8_unchecked(&self.bytes) }
     }
 }
 
-/// The lower-case hexadecimal digit of a number below 16.
-#[inline(always)]
-fn digit_of(number: u8) -> u8
-    requires { number < 16 }
-    ensures value { result ≡ hex_digit number }
-    ensures ascii { result < 128 }
+/// Two lower-case hexadecimal digits for each of 32 bytes.
+fn digits_of(bytes: &[u8]) -> [u8; DIGEST_BYTES]
+    requires { length bytes.now ≡ 32 }
+    ensures digits { result ≡ digest_digits bytes.now }
+    ensures ascii { IsAscii result }
+    ensures valid { IsDigest bytes.now }
 {
-    if number < 10 {
-        b'0' + number
-    } else {
-        b'a' + (number - 10)
-    }
+    let mut digits = [0; DIGEST_BYTES];
+    let Ok(()) = hex::encode_to_slice(bytes, &mut digits) else {
+        unreachable!();
+    };
+    digits
 }

@@ -1,7 +1,7 @@
 #!/usr/bin/env bash
 # Decode and encode of pings with 0, 64 and 4,096 changes, in MB/s, in one run: this product, serde_json in Rust (where cargo finds it),
 # and Python's json (and orjson where it is there); how much memory the longest lines take, each read once; and, where valgrind is there,
-# how many instructions one line takes. Wants rt, python3 and cargo; where the crates of Rust lie in a folder (Debian's librust packages put
+# how many instructions one line takes (`value`: its reading as a `Value` alone). Wants rt, python3 and cargo; where the crates of Rust lie in a folder (Debian's librust packages put
 # them there), CRATES names it; PYTHON may name another Python. It works on a copy, which it proves first (some minutes), so nothing is left
 # in the repository.
 set -euo pipefail
@@ -30,7 +30,7 @@ done
 # A check reads each .rt and .antt file of the repository, so those of a benchmark bear another ending there.
 find "$work" \( -name '*.rt.txt' -o -name '*.antt.txt' \) | while read -r file; do mv "$file" "${file%.txt}"; done
 grep -E '^(change_core|wire_json):' "$root/crates.txt" > "$work/crates.txt"
-echo 'wire_bench: change_core wire_json anyhow' >> "$work/crates.txt"
+echo 'wire_bench: change_core wire_json serde_json anyhow' >> "$work/crates.txt"
 python3 "$here/ping.py" make "$work"
 files=("$work/ping0.json" "$work/ping64.json" "$work/ping4096.json")
 (cd "$work/crates/wire_bench" && rt run -- "${files[@]}")
@@ -57,4 +57,5 @@ if command -v valgrind > /dev/null; then
             instructions "$program" "$way" 1 "$work/ping4096.json"
         done
     done
+    instructions "$work/crates/wire_bench/out/wire_bench" value 100 "$work/ping0.json"
 fi

@@ -563,6 +563,9 @@ fn check_meeting<R: Wait + Abort>(
         return false;
     }
     assert!(rt; joined == Ok(1) && held == Some(Status::Alive));
+    let heard = link.node.member(member(rt, 1));
+    let heard = heard.map(|entry| (entry.incarnation.number(), entry.status));
+    assert!(rt; heard == Some((7, Status::Alive)));
     let round = gossip_round(rt, alloc, shared, pass, link, now);
     if round == Err(ClusterError::Memory) {
         return false;

@@ -27,4 +27,4 @@ pub use node_core::{
     StopCause, Stopped, Taken, View,
 };
 pub use turn_lock::{CloseError, LockError, NewError};
-pub use wire_json::{Changes, Content, Kind, Message, News, Text};
+pub use wire_json::{Changes, Content, Keys, Kind, Message, News, Reason, Text};

@@ -1,9 +1,9 @@
 #!/usr/bin/env bash
 # Decode and encode of pings with 0, 64 and 4,096 changes, in MB/s, in one run: this product, serde_json in Rust (where cargo finds it),
 # and Python's json (and orjson where it is there); how much memory the longest lines take, each read once; and, where valgrind is there,
-# how many instructions one line takes (`value`: its reading as a `Value` alone). Wants rt, python3 and cargo; where the crates of Rust lie in a folder (Debian's librust packages put
-# them there), CRATES names it; PYTHON may name another Python. It works on a copy, which it proves first (some minutes), so nothing is left
-# in the repository.
+# how many instructions one line takes (`value`: its reading as a `Value` alone). Wants rt, python3 and cargo; where the crates of Rust
+# lie in a folder (Debian's librust packages put them there), CRATES names it; PYTHON may name another Python. It works on a copy, which
+# it proves first (some minutes), so nothing is left in the repository.
 set -euo pipefail
 here=$(cd "$(dirname "$0")" && pwd)
 root=$here/../..

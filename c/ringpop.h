@@ -3,13 +3,16 @@
    Proved of the library, as the clause of each export says it (crates/ringpop_c):
    - A call ends, and touches no memory but its handle, its buffers and its own heap.
    - It makes one step of the node in the handle and answers for that, or it makes none and says why. Each call below names what it
-     answers beside DONE; refusals are named in the order in which they are looked for, so that the first that holds is answered.
+     answers beside DONE; refusals are named in the order in which they are looked for, so that the first that holds is answered. Of a
+     line that is an object, UNKNOWN_KIND, MISSING_FIELD, BAD_FIELD and TOO_MANY have no order: its fields are looked at one after
+     another (docs/FORMATS.md), and the first at fault is told.
    - What stands behind a pointer that is written to stays as it was where the code is not DONE, but for three: a count at
      SHORT_BUFFER, the number of ringpop_node_waiting, and a suspect's entry at SUSPECTED.
    - Behind a buffer's first count bytes, or a place's first count addresses, nothing is written.
    - A written line is read as the very message that the step made, has RINGPOP_MAX_LINE bytes at most, and no newline.
    - Calls of one handle, one after another, are a run of the node's own calls (docs/PROMISES.md says what holds of those).
-   Not proved: that MEMORY comes only where an allocation failed, that free gives all memory back, and this header itself.
+   Not proved: that MEMORY and UNANSWERED come only where an allocation failed, that free gives all memory back, that views share one
+   copy of the ring, and this header itself.
 
    What C owes, which nothing checks:
    - A handle is RINGPOP_NODE_EMPTY or RINGPOP_VIEW_EMPTY at first. Only the library writes its members; a full one is never

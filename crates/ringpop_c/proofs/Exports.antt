@@ -6,6 +6,7 @@ use Rattle.change_core.specs.Members.{digest_text, greatest}
 use Rattle.detector_core.specs.Picks.{running_of}
 use Rattle.hash_ring.specs.declared.hash.Sha256Hash.{Sha256Hash}
 use Rattle.node_core.specs.declared.errors.NodeError.TheVariants as error
+use Rattle.node_core.specs.declared.events.Event.{Event}
 use Rattle.node_core.specs.declared.events.Event.TheVariants as call
 use Rattle.node_core.specs.declared.events.Reply.TheVariants as reply
 use Rattle.node_core.specs.Invariant.{IsNode}
@@ -18,7 +19,7 @@ use Rattle.node_core.proofs.Itself.{run_itself}
 use Rattle.ringpop_c.specs.declared.codes.Code.{Code}
 use Rattle.ringpop_c.specs.Exports.{Export, Leave, Rejoin, Expire, Probe, Acked, Lost, HelperSaid, Take, Receive, Join, Ping, PingReq, PingReqAck}
 use Rattle.ringpop_c.specs.Exports.{Running, Waiting, Own, Member, Len, Members, Digest, Owner, Owners}
-use Rattle.ringpop_c.specs.Exports.{ExportsAreCalls, ExportRunsAreRuns, ExportRunsKeepIt, GoesByCalls, IsExportRun, StaysOrCalls}
+use Rattle.ringpop_c.specs.Exports.{AreCallsOf, ExportsAreCalls, ExportRunsAreRuns, ExportRunsKeepIt, GoesByCalls, IsExportRun, StaysOrCalls}
 use Rattle.ringpop_c.specs.Steps.{owner_by, sha_hash}
 
 -- each step of an export is one call of the node, or none
@@ -72,19 +73,26 @@ exports_are_calls (Owner key ip port) old new answer (tells, same) = inr (call.O
 exports_are_calls (Owners key n place) old new answer ((named, names, tells), same) =
     inr (call.Owners key n, reply.Owners named, refl, (names, same), tt)
 
+-- an export that makes no call leaves the calls of the rest
+none_of : (export : Export) (exports : List Export) (events : List Event) → AreCallsOf exports events → AreCallsOf (export ∷ exports) events
+none_of export exports [] are = are
+none_of export exports (event ∷ events) are = inl are
+
 -- a step before a run
-run_after : (export : Export) (old mid new : Node Sha256Hash) → StaysOrCalls export old mid → GoesByCalls mid new → GoesByCalls old new
-run_after export old mid new (inl same) (events, replies, run) =
-    (events, replies, subst (λ (n : Node Sha256Hash). IsRun sha_hash n events replies new) same run)
-run_after export old mid new (inr (event, answer, which, step, draw)) (events, replies, run) = (event ∷ events, answer ∷ replies, (mid, step, run))
+run_after : (export : Export) (exports : List Export) (old mid new : Node Sha256Hash) → StaysOrCalls export old mid → GoesByCalls exports mid new
+    → GoesByCalls (export ∷ exports) old new
+run_after export exports old mid new (inl same) (events, replies, are, run) =
+    (events, replies, none_of export exports events are, subst (λ (n : Node Sha256Hash). IsRun sha_hash n events replies new) same run)
+run_after export exports old mid new (inr (event, answer, which, step, draw)) (events, replies, are, run) =
+    (event ∷ events, answer ∷ replies, inr (which, are), (mid, step, run))
 
 -- one step after another is a run
 pub export_runs_are_runs : ExportRunsAreRuns
-export_runs_are_runs old new [] [] is = ([], [], is)
+export_runs_are_runs old new [] [] is = ([], [], tt, is)
 export_runs_are_runs old new [] (answer ∷ answers) run = absurd run
 export_runs_are_runs old new (export ∷ exports) [] run = absurd run
 export_runs_are_runs old new (export ∷ exports) (answer ∷ answers) (mid, step, run) =
-    run_after export old mid new (exports_are_calls export old mid answer step) (export_runs_are_runs mid new exports answers run)
+    run_after export exports old mid new (exports_are_calls export old mid answer step) (export_runs_are_runs mid new exports answers run)
 
 -- a step keeps what holds of a node
 kept : (export : Export) (old new : Node Sha256Hash) → IsNode old → StaysOrCalls export old new → IsNode new
@@ -99,9 +107,9 @@ all_kept old new (export ∷ exports) (answer ∷ answers) whole (mid, step, run
     all_kept mid new exports answers (kept export old mid whole (exports_are_calls export old mid answer step)) run
 
 -- the node is itself by the run that it is
-itself : (old new : Node Sha256Hash) → GoesByCalls old new → IsItself old new
-itself old new (events, replies, run) = run_itself sha_hash old events replies new run
+itself : (exports : List Export) (old new : Node Sha256Hash) → GoesByCalls exports old new → IsItself old new
+itself exports old new (events, replies, are, run) = run_itself sha_hash old events replies new run
 
 pub export_runs_keep_it : ExportRunsKeepIt
 export_runs_keep_it old new exports answers whole run =
-    (all_kept old new exports answers whole run, itself old new (export_runs_are_runs old new exports answers run))
+    (all_kept old new exports answers whole run, itself exports old new (export_runs_are_runs old new exports answers run))

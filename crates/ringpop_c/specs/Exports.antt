@@ -122,14 +122,21 @@ IsExportRun old (export ∷ exports) [] new = ⊥
 IsExportRun old (export ∷ exports) (answer ∷ answers) new =
     (mid : Node Sha256Hash) × ExportStep export old answer mid × IsExportRun mid exports answers new
 
--- the node goes from old to new by some run of its calls
-abbrev pub GoesByCalls : Node Sha256Hash → Node Sha256Hash → Type 0
-GoesByCalls old new = (events : List Event) × (replies : List Reply) × IsRun sha_hash old events replies new
+-- these are the calls that the exports make, in their order, each of them one or none
+abbrev pub AreCallsOf : List Export → List Event → Type 0
+AreCallsOf [] [] = Unit {0}
+AreCallsOf [] (event ∷ events) = ⊥
+AreCallsOf (export ∷ exports) [] = AreCallsOf exports []
+AreCallsOf (export ∷ exports) (event ∷ events) = AreCallsOf exports (event ∷ events) ⊎ (IsCallOf export event × AreCallsOf exports events)
+
+-- the node goes from old to new by a run of the calls that these exports make
+abbrev pub GoesByCalls : List Export → Node Sha256Hash → Node Sha256Hash → Type 0
+GoesByCalls exports old new = (events : List Event) × (replies : List Reply) × AreCallsOf exports events × IsRun sha_hash old events replies new
 
 -- whatever the exports do one after another is such a run
 abbrev pub ExportRunsAreRuns : Type 0
 ExportRunsAreRuns =
-    (old new : Node Sha256Hash) (exports : List Export) (answers : List Code) → IsExportRun old exports answers new → GoesByCalls old new
+    (old new : Node Sha256Hash) (exports : List Export) (answers : List Code) → IsExportRun old exports answers new → GoesByCalls exports old new
 
 -- and what holds of a node between any two calls still holds after it, and the node is still itself
 abbrev pub ExportRunsKeepIt : Type 0

@@ -1,5 +1,5 @@
 /* Three nodes come to one owner though an allocation fails, each in turn by scripts/c-examples: what answers MEMORY is as it
-   was, and is called again. */
+   was, and is called again. UNANSWERED is told on standard error, and the line comes again. */
 #include <stdio.h>
 #include <string.h>
 
@@ -51,6 +51,7 @@ static void talk(int from, int to, bool join) {
   expect("say", code, RINGPOP_DONE);
   moment++;
   code = ringpop_node_receive(&nodes[to], line, length, moment, answer, sizeof answer, &answered);
+  if (code == RINGPOP_UNANSWERED) fputs("unanswered\n", stderr);
   if (code == RINGPOP_MEMORY || code == RINGPOP_UNANSWERED)
     code = ringpop_node_receive(&nodes[to], line, length, moment, answer, sizeof answer, &answered);
   expect("receive", code, RINGPOP_DONE);

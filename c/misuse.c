@@ -45,6 +45,7 @@ static void refuse_empty(ringpop_node *node) {
   uint16_t port = 0;
   ringpop_entry entry;
   ringpop_address owner;
+  ringpop_view view = RINGPOP_VIEW_EMPTY;
   expect("take by an empty handle", take(node, 2, 1, "alive"), RINGPOP_NO_NODE);
   expect("own by an empty handle", ringpop_node_own(node, &ip, &port, &entry), RINGPOP_NO_NODE);
   expect("member by an empty handle", ringpop_node_member(node, 1, 1, &entry), RINGPOP_NO_NODE);
@@ -62,6 +63,14 @@ static void refuse_empty(ringpop_node *node) {
   expect("line for an empty handle", receive(node, "{}"), RINGPOP_NO_NODE);
   expect("owner by an empty handle", ringpop_node_owner(node, out, 1, &ip, &port), RINGPOP_NO_NODE);
   expect("owners by an empty handle, in a short buffer", ringpop_node_owners(node, out, 1, 2, &owner, 0, &count), RINGPOP_NO_NODE);
+  expect("ping_req by an empty handle", ringpop_node_ping_req(node, 1, 1, 2, 1, out, sizeof out, &count), RINGPOP_NO_NODE);
+  expect("ping_req_ack by an empty handle", ringpop_node_ping_req_ack(node, 1, 1, 2, 1, true, out, sizeof out, &count), RINGPOP_NO_NODE);
+  expect("ack by an empty handle", ringpop_node_acked(node, 1), RINGPOP_NO_NODE);
+  expect("loss by an empty handle", ringpop_node_lost(node, 1, 1, &entry), RINGPOP_NO_NODE);
+  expect("waiting by an empty handle", ringpop_node_waiting(node, &number, &ip, &port), RINGPOP_NO_NODE);
+  expect("word by an empty handle", ringpop_node_helper_said(node, 1, 1, 1, 0, 1, &entry), RINGPOP_NO_NODE);
+  expect("view of an empty handle", ringpop_view_new(&view, node), RINGPOP_NO_NODE);
+  expect("owner by an empty view", ringpop_view_owner(&view, out, 1, &ip, &port), RINGPOP_NO_NODE);
 }
 
 static void refuse_new(ringpop_node *node, ringpop_config config) {

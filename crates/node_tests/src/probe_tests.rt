@@ -250,6 +250,18 @@ fn a_view_stays_as_it_was(rt: HostRuntime) {
     with_others(&rt, rt.alloc(), 2, |node| change_after_view(&rt, node));
 }
 
+/// Has a view, and another while nothing changed. That one is not asked for again, so where it took memory the test fails
+/// once that is refused.
+fn view_again(rt: &impl Abort, node: &mut NodeState<SumHash>) {
+    check_view(rt, &view(node).ok().expect(rt, "a view"));
+    check_view(rt, &node.view().ok().expect(rt, "the same view"));
+}
+
+#[test]
+fn a_view_of_the_same_ring_takes_no_memory(rt: HostRuntime) {
+    with_others(&rt, rt.alloc(), 2, |node| view_again(&rt, node));
+}
+
 /// Looks up owners, members and the text.
 fn look_up(rt: &impl Abort, node: &NodeState<SumHash>) {
     assert!(rt; names(rt, node, "zzzz2", &[TEXTS[2], TEXTS[0]]));

@@ -1,8 +1,10 @@
 """Nodes in processes of their own, and what scripts ask of them."""
 import argparse
+import contextlib
 import json
 import os
 import pathlib
+import select
 import signal
 import socket
 import subprocess
@@ -15,6 +17,8 @@ PROGRAM = ROOT / "crates" / "ringpop_cli" / "out" / "ringpop_cli"
 NOBODY = "e3b0c44298fc1c149afbf4c8996fb92427ae41e4649b934ca495991b7852b855"
 # the greatest number of connections that a node serves
 MOST = 1_000_000
+# within how many seconds a node says that it serves
+PATIENCE = 30
 
 
 class Wrong(Exception):
@@ -43,16 +47,31 @@ def first_port():
     return 12_000 + os.getpid() % 1_000 * 16
 
 
-class Node:
-    """A node as a process of its own, at a port of 127.0.0.1."""
+def first_line(stream, seconds):
+    """What a process writes up to its first newline, to its end, or until it has written nothing more in time."""
+    came, end = b"", time.monotonic() + seconds
+    while not came.endswith(b"\n"):
+        ready, _, _ = select.select([stream], [], [], max(0, end - time.monotonic()))
+        more = os.read(stream.fileno(), 1) if ready else b""
+        if not more:
+            break
+        came += more
+    return came.decode()
 
-    def __init__(self, program, port, incarnation, hosts=(), period=200, more=()):
+
+class Node:
+    """A node as a process of its own, at a port of 127.0.0.1, that serves so many connections."""
+
+    def __init__(self, program, port, incarnation, hosts=(), period=200, more=(), requests=MOST):
         self.program, self.port, self.address = program, port, address(port)
-        line = [program, "serve", "--period", str(period), *more, self.address, str(incarnation), str(MOST)]
-        self.process = subprocess.Popen([*line, *map(address, hosts)], stdout=subprocess.PIPE, text=True)
-        said = self.process.stdout.readline()
+        line = [program, "serve", "--period", str(period), *more, self.address, str(incarnation), str(requests)]
+        self.process = subprocess.Popen([*line, *map(address, hosts)], stdout=subprocess.PIPE, bufsize=0)
+        said = first_line(self.process.stdout, PATIENCE)
         if said != f"serving {self.address}\n":
-            raise Wrong(f"{self.address} says {said!r} and ends with {self.process.wait()}")
+            with contextlib.suppress(subprocess.TimeoutExpired):
+                self.process.wait(1)
+            self.kill()
+            raise Wrong(f"{self.address} says {said!r} and ends with {self.process.returncode}")
 
     def is_up(self):
         return self.process.poll() is None
@@ -65,13 +84,28 @@ class Node:
         self.process.wait()
         self.process.stdout.close()
 
+    def open_descriptors(self):
+        """The numbers of its open descriptors."""
+        return [int(number) for number in os.listdir(f"/proc/{self.process.pid}/fd")]
+
+    def counts(self):
+        """How many descriptors it holds, seen 50 times in half a second."""
+        for _ in range(50):
+            yield len(self.open_descriptors())
+            time.sleep(0.01)
+
     def descriptors(self):
         """How many descriptors it holds between its rounds, which have a link of their own."""
-        seen = []
-        for _ in range(50):
-            seen.append(len(os.listdir(f"/proc/{self.process.pid}/fd")))
-            time.sleep(0.01)
-        return min(seen)
+        return min(self.counts())
+
+    def most_descriptors(self):
+        """How many descriptors it holds at most within half a second."""
+        return max(self.counts())
+
+    def ended(self, seconds):
+        """How it ends by itself in time, and what it wrote behind its first line."""
+        status = self.process.wait(seconds)
+        return status, self.process.stdout.read().decode()
 
     def memory(self):
         """How many KiB of memory it holds."""
@@ -156,7 +190,8 @@ def judged(script, *given):
     name = pathlib.Path(sys.argv[0]).name
     try:
         script(*given)
-    except (Wrong, OSError, subprocess.TimeoutExpired) as fault:
-        print(f"{name}: FAILED: {fault}")
+    except Exception as fault:
+        kind = "" if isinstance(fault, Wrong) else f"{type(fault).__name__}: "
+        print(f"{name}: FAILED: {kind}{fault}")
         sys.exit(1)
     print(f"{name}: passed")

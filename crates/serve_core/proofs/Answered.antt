@@ -1,10 +1,10 @@
 -- What is answered to a line, and what is sent for an answer.
-use Rattle.std.proofs.Common.{◌≡◌, ◌≢◌, ℕ, inl, inr, subst, sym, List, Option, Some, None, Result, Ok, Err, Vec}
+use Rattle.std.proofs.Common.{◌≡◌, ◌≢◌, ◌≤◌, ℕ, inl, inr, length, subst, sym, List, Option, Some, None, Result, Ok, Err, Vec}
 use Rattle.std.specs.Prelude.{IfOk, IfNone, IfSome}
 use Rattle.std.specs.Global.{Global}
 use Rattle.std.specs.Result.{result_ok}
 use Rattle.turn_lock.specs.declared.errors.LockError.{LockError}
-use Rattle.wire_json.specs.Lines.{Faults, IsLine}
+use Rattle.wire_json.specs.Lines.{Faults, IsLine, max_line}
 use Rattle.wire_json.specs.MessageFaults.{MessageFault}
 use Rattle.wire_json.specs.Messages.{MessageForm}
 use Rattle.wire_json.specs.declared.errors.WireError.{WireError}
@@ -64,8 +64,8 @@ module _ {H : Type 0} where
 
   -- an answer's own line is sent, or that of a refusal
   pub sent_own : (locked : LockedNode H) (answer : Message) (line : List ℕ) (p : NodePass H)
-      → line ≡ line_text answer → Makes locked (IsSentAs answer line) p p
-  sent_own locked answer line p e = makes_as (IsSentAs answer line) (λ acts n. inl (n, e)) (makes_none locked p)
+      → length line ≤ max_line → line ≡ line_text answer → Makes locked (IsSentAs answer line) p p
+  sent_own locked answer line p short e = makes_as (IsSentAs answer line) (λ acts n. inl (n, short, e)) (makes_none locked p)
 
   pub sent_refusal : (locked : LockedNode H) (answer : Message) (why : Reason) (o : Option (Vec ℕ Global)) (p q : NodePass H)
       → IsUnsent answer why → IfSome o (λ v. Makes locked (IsRefusalLine why v.items) p q) → IfSome o (λ v. Makes locked (IsSentAs answer v.items) p q)

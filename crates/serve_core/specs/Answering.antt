@@ -1,5 +1,5 @@
 -- What a server answers to what comes over a connection.
-use Rattle.std.specs.Prelude.{◌≡◌, ◌≢◌, ◌⊎◌, ℕ, ◌<◌, List, length, Option, Some, None, Result, Ok, Err, Vec}
+use Rattle.std.specs.Prelude.{◌≡◌, ◌≢◌, ◌⊎◌, ℕ, ◌<◌, ◌≤◌, List, length, Option, Some, None, Result, Ok, Err, Vec}
 use Rattle.std.specs.Global.{Global}
 use Rattle.serde_json.specs.Written.{compact_text}
 use Rattle.wire_json.specs.Input.{TakesLine}
@@ -63,10 +63,11 @@ module _ {H : Type 0} where
   abbrev pub IsRefusalLine : Reason → List ℕ → OfActs H
   IsRefusalLine why line acts = (refusal : Message) × Refuses why (Ok refusal) acts × (line ≡ line_text refusal)
 
-  -- what is sent for an answer: its own line, with no call; or, where it has none, the line of the refusal that stands for it
+  -- what is sent for an answer: its own line, which is not too long, with no call; or, where it has none, the line of the refusal that
+  -- stands for it
   abbrev pub IsSentAs : Message → List ℕ → OfActs H
   IsSentAs answer line acts =
-      (Nothing acts × (line ≡ line_text answer)) ⊎ ((why : Reason) × IsUnsent answer why × IsRefusalLine why line acts)
+      (Nothing acts × (length line ≤ max_line) × (line ≡ line_text answer)) ⊎ ((why : Reason) × IsUnsent answer why × IsRefusalLine why line acts)
 
   -- by this pass a part was done up to its end, or up to the call that the lock refused
   abbrev pub IsTried : {A : Type 0} → Part H A → LockedNode H → NodePass H → NodePass H → Type 0

@@ -1,6 +1,6 @@
 //! What a server answers to what came.
-ghost use Rattle.std.specs.Prelude.{◌≡◌, Ok, IfOk, IfErr, IfNone, IfSome};
-ghost use Rattle.wire_json.specs.Lines.{IsLine};
+ghost use Rattle.std.specs.Prelude.{◌≡◌, ◌≤◌, Ok, IfOk, IfErr, IfNone, IfSome, length};
+ghost use Rattle.wire_json.specs.Lines.{IsLine, max_line};
 ghost use Rattle.wire_json.specs.Messages.{MessageForm};
 ghost use Rattle.locked_node.specs.Passes.{Fits};
 ghost use Rattle.cluster_core.specs.Acts.{Makes};
@@ -107,6 +107,7 @@ fn answer<R: Wait, H: PointHash, L: Link>(
 /// The line of an answer, or the reason why it has none: `Failed` where it is too long, else `Memory`.
 fn own_line(alloc: Global, answer: &Message) -> Result<Vec<u8>, Reason>
     ensures line { IfOk result (λ v. v.items ≡ line_text answer.now) }
+    ensures short { IfOk result (λ v. length v.items ≤ max_line) }
     ensures reason { IfErr result (IsUnsent answer.now) }
 {
     match encode(alloc, answer) {
@@ -157,8 +158,13 @@ fn line_of<R: Wait, H: PointHash>(
     }
 }
 
-/// The line that goes back for what came at a moment; none where the connection is closed without an answer: where nothing
-/// that is answered came, where the lock refused a call, and where there was no memory even for a refusal.
+/// The line, without its newline, that goes back for what came at a moment. To a line that is a message it is that of what
+/// `serve_one` answers, requests by the echo; to any other line, and to one that was too long, a refusal `malformed`; and `memory` where
+/// there was none to read a line. Where the answer's line would have more than 1,048,576 bytes it is that of a refusal `failed`, where
+/// there was no memory for it that of a refusal `memory`, by one call of the node more.
+///
+/// None where the connection is to be closed without an answer: where nothing that is answered came, where the lock refused a call, and
+/// where there was no memory even for a refusal.
 pub fn respond<R: Wait, H: PointHash, L: Link>(
     rt: &R,
     alloc: Global,

@@ -21,11 +21,14 @@ mod waits;
 mod watches;
 mod words;
 
+pub use answering::respond;
 pub use asking::{ask_over, ask_run};
 pub use commands::{ClusterCommand, ClusterFault, cluster_command_run};
 pub use connections::serve_connection;
+pub use echoes::Echo;
 pub use faults::{AskFault, ServeFault, TellFault};
 pub use hosts::Host;
+pub use inputs::{Input, hear};
 pub use looks::{members_over, members_run};
 pub use owners::{ask_any_over, ask_any_run};
 pub use servers::{Server, make_rounds};

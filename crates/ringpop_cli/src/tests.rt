@@ -407,7 +407,7 @@ fn reads_the_hosts_of_serve_in_their_order(rt: HostRuntime) {
 }
 
 /// Words of `serve`, and how their refusal begins.
-const REFUSED_SERVERS: [(&[&str], &str); 18] = [
+const REFUSED_SERVERS: [(&[&str], &str); 19] = [
     (
         &["ringpop", "serve"],
         "error: the following required arguments were not provided:\n  <ADDRESS>\n  <INCARNATION>\n  <REQUESTS>\n",
@@ -434,6 +434,10 @@ const REFUSED_SERVERS: [(&[&str], &str); 18] = [
     ),
     (
         &["ringpop", "serve", "--workers", "0", AT, "1", "1"],
+        "error: invalid value '0' for '--workers <W>'",
+    ),
+    (
+        &["ringpop", "serve", "--workers", "0", "x", "1", "1"],
         "error: invalid value '0' for '--workers <W>'",
     ),
     (

@@ -1,32 +1,82 @@
-//! How long a server waits for a line, and for its answer to be taken, to the millisecond.
+//! How long a server waits for a line, and for its answer to be taken, to the millisecond, and at which moment it serves.
+ghost use Rattle.locked_node.specs.Passes.{Fits};
+
 use crate::clocks::{Manner, NEVER, Peer, SILENT, Town, Wire};
 use crate::lines::{MALFORMED, NOT_REACHED, PING_REQ};
 use crate::plans::local;
-use change_core::{Incarnation, Moment};
+use change_core::{Change, Incarnation, Moment, Sourced, Status, Weight};
 use cluster_links::{Limits, TcpLink, share};
 use hash_ring::SumHash;
+use locked_node::NodePass;
 use node_core::{Config, NodeState};
 use serve_core::{Server, Waits, Watch, serve_connection};
 use std::alloc::Global;
 use std::net::{Net, TcpListener, TcpStream};
 use std::sync::Wait;
 
-/// 127.0.0.1:29177 at 1; none where there is no memory for it.
-pub(crate) fn node(alloc: Global) -> Option<NodeState<SumHash>> {
+/// 127.0.0.1:29177 at 1, born at 0, which holds a suspect as faulty so many milliseconds later; none where there is no memory for it.
+fn node(alloc: Global, suspect_ms: u64) -> Option<NodeState<SumHash>> {
     let (own, first) = (local(29_177)?, Incarnation::new(1)?);
-    let config = Config::standard();
+    let config = Config {
+        suspect_ms,
+        ..Config::standard()
+    };
     NodeState::new(alloc, config, SumHash, own, first, 1, Moment::new(0)?).ok()
 }
 
-/// The millisecond at which a server with the standard waits has served a peer of this manner, and how many bytes of its answer that has
-/// taken; none where there was no memory.
+/// The same, which was told at 0 that 127.0.0.1:29170 is this at 1; none where there is no memory for it.
+pub(crate) fn node_of_two(
+    alloc: Global,
+    suspect_ms: u64,
+    status: Status,
+) -> Option<NodeState<SumHash>> {
+    let mut node = node(alloc, suspect_ms)?;
+    let (other, first) = (local(29_170)?, Incarnation::new(1)?);
+    let change = Change {
+        address: other,
+        incarnation: first,
+        status,
+        weight: Weight::new(1)?,
+    };
+    let given = [Sourced {
+        change,
+        source: other,
+        source_incarnation: first,
+    }];
+    node.take(&given, Moment::new(0)?).ok()?;
+    Some(node)
+}
+
+/// Whether a node of a server has an entry that is due at this moment, or at the last one at which it was called, where that is later;
+/// none where there was no memory.
+pub(crate) fn is_due<R: Wait>(
+    rt: &R,
+    server: &Server<SumHash>,
+    pass: &mut NodePass<SumHash>,
+    moment: u64,
+) -> Option<bool>
+    requires { Fits server.now.node pass.old }
+    ensures fits { Fits server.now.node pass.new }
+{
+    match server.node.expire(rt, pass, Moment::new(moment)?) {
+        Ok(Ok(change)) => Some(change.is_some()),
+        _ => None,
+    }
+}
+
+/// What comes of a connection.
+type Served = (u64, usize, Option<bool>);
+
+/// The millisecond at which a server with the standard waits has served a peer of this manner, how many bytes of its answer that has
+/// taken, and whether its node then has an entry that is due; none where there was no memory.
 fn serve<R: Net<Listener = TcpListener, Stream = TcpStream> + Wait>(
     rt: &R,
     alloc: Global,
+    node: Option<NodeState<SumHash>>,
     manner: Manner,
-) -> Option<(u64, usize)> {
+) -> Option<Served> {
     let listener = TcpListener::bind(rt, "127.0.0.1:0").ok()?;
-    let Ok((node, mut pass, _others)) = share(alloc, node(alloc)?, 0) else {
+    let Ok((node, mut pass, _others)) = share(alloc, node?, 0) else {
         return None;
     };
     let peer = Peer::new(manner);
@@ -36,7 +86,17 @@ fn serve<R: Net<Listener = TcpListener, Stream = TcpStream> + Wait>(
     let server = Server::new(node, local(29_177)?, watch, waits, listener, 1);
     let stream = Wire { peer: &peer };
     serve_connection(&server, &mut pass, &town, alloc, &mut link, stream);
-    Some((peer.now(), peer.taken()))
+    let is_due = is_due(rt, &server, &mut pass, 0);
+    Some((peer.now(), peer.taken(), is_due))
+}
+
+/// The same of a node alone.
+fn serve_alone<R: Net<Listener = TcpListener, Stream = TcpStream> + Wait>(
+    rt: &R,
+    alloc: Global,
+    manner: Manner,
+) -> Option<Served> {
+    serve(rt, alloc, node(alloc, 5_000), manner)
 }
 
 /// A line of 64 letters that is no message.
@@ -76,8 +136,44 @@ fn a_line_and_its_answer_have_a_limit_each(rt: HostRuntime) {
         (helped, 1_335, NOT_REACHED.len()),
     ];
     for (manner, over, taken) in rows {
-        let wanted = Some((over, taken));
-        let is_so = serve(&rt, alloc, manner) == wanted || serve(&rt, alloc, manner) == wanted;
+        let wanted = Some((over, taken, Some(false)));
+        let is_so = serve_alone(&rt, alloc, manner) == wanted
+            || serve_alone(&rt, alloc, manner) == wanted;
         assert!(&rt; is_so, "{manner:?}");
+    }
+}
+
+/// Whether a node that was told of a suspect at 0, to be faulty at 400, has that due once it has served a line that was whole by this
+/// moment; none where there was no memory.
+fn is_due_behind<R: Net<Listener = TcpListener, Stream = TcpStream> + Wait>(
+    rt: &R,
+    alloc: Global,
+    by: u64,
+) -> Option<bool> {
+    let asking = Manner {
+        says: PING_REQ,
+        by,
+        ..SILENT
+    };
+    let node = node_of_two(alloc, 400, Status::Suspect);
+    let (_over, _taken, is_due) = serve(rt, alloc, node, asking)?;
+    is_due
+}
+
+#[test]
+fn a_line_is_served_at_the_moment_at_which_it_is_there(rt: HostRuntime) {
+    let alloc: Global = rt.alloc();
+    let rows = [
+        (0, false),
+        (300, false),
+        (399, false),
+        (400, true),
+        (499, true),
+    ];
+    for (by, is_due) in rows {
+        let wanted = Some(is_due);
+        let is_so = is_due_behind(&rt, alloc, by) == wanted
+            || is_due_behind(&rt, alloc, by) == wanted;
+        assert!(&rt; is_so, "by {by}");
     }
 }

@@ -1,11 +1,11 @@
 //! That a server makes no round before its period is over, by a clock that each look at it moves by a millisecond: it is slower than
-//! the system's, so that a rest is over by the one long before it is by the other, as where a thread is woken early.
-use crate::connections::node;
+//! the system's, so that a rest is over by the one long before it is by the other, as where a thread is woken early; and that a round
+//! is made at the moment that it is.
+use crate::connections::{is_due, node_of_two};
 use crate::plans::local;
-use change_core::{Change, Incarnation, Moment, Sourced, Status, Weight};
+use change_core::Status;
 use cluster_links::share;
 use hash_ring::SumHash;
-use node_core::NodeState;
 use serve_core::{Server, Waits, Watch, make_rounds};
 use std::alloc::Global;
 use std::cell::Cell;
@@ -98,32 +98,18 @@ impl<'a, R> Clock for Desert<'a, R> {
 
 impl<'a, R: Wait> Wait for Desert<'a, R> {}
 
-/// A node that holds another one as alive; none where there is no memory for it.
-fn node_of_two(alloc: Global) -> Option<NodeState<SumHash>> {
-    let mut node = node(alloc)?;
-    let (other, first) = (local(29_170)?, Incarnation::new(1)?);
-    let change = Change {
-        address: other,
-        incarnation: first,
-        status: Status::Alive,
-        weight: Weight::new(1)?,
-    };
-    let given = [Sourced {
-        change,
-        source: other,
-        source_incarnation: first,
-    }];
-    node.take(&given, Moment::new(0)?).ok()?;
-    Some(node)
-}
+/// After how many milliseconds a suspect is faulty.
+const SUSPECT: u64 = 1_000;
 
-/// How many rounds a server makes until they are ended, and how many of them too early; none where there was no memory.
+/// How many rounds a server makes until they are ended, how many of them too early, and whether the node that it suspects since the first
+/// of them is due as faulty so long after the last millisecond of the first period, and after now; none where there was no memory.
 fn rounds<R: Net<Listener = TcpListener, Stream = TcpStream> + Wait>(
     rt: &R,
     alloc: Global,
-) -> Option<(u32, u32)> {
+) -> Option<(u32, u32, Option<bool>, Option<bool>)> {
     let listener = TcpListener::bind(rt, "127.0.0.1:0").ok()?;
-    let Ok((node, mut pass, _others)) = share(alloc, node_of_two(alloc)?, 0) else {
+    let Ok((node, mut pass, _others)) = share(alloc, node_of_two(alloc, SUSPECT, Status::Alive)?, 0)
+    else {
         return None;
     };
     let looks = Looks { seen: Cell::new(0) };
@@ -138,12 +124,15 @@ fn rounds<R: Net<Listener = TcpListener, Stream = TcpStream> + Wait>(
         early: Cell::new(0),
     };
     make_rounds(&server, &mut pass, &&desert, alloc, PERIOD);
-    Some((desert.rounds.get(), desert.early.get()))
+    let now = SUSPECT.saturating_add(looks.seen.get());
+    let is_early = is_due(rt, &server, &mut pass, SUSPECT + PERIOD - 1);
+    let is_due = is_due(rt, &server, &mut pass, now);
+    Some((desert.rounds.get(), desert.early.get(), is_early, is_due))
 }
 
 #[test]
 fn no_round_comes_before_its_period_is_over(rt: HostRuntime) {
     let alloc: Global = rt.alloc();
-    let wanted = Some((ROUNDS, 0));
+    let wanted = Some((ROUNDS, 0, Some(false), Some(true)));
     assert!(&rt; rounds(&rt, alloc) == wanted || rounds(&rt, alloc) == wanted);
 }

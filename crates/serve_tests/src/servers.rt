@@ -32,8 +32,8 @@ fn echoes_twice<R: Net<Listener = TcpListener, Stream = TcpStream> + Host>(
         return false;
     };
     let line = "127.0.0.1:39171 hi\n";
-    let is_served = answers_by(rt, alloc, &server, Question::Ask, line, FEW_TRIES)
-        && answers_by(rt, alloc, &server, Question::Ask, line, FEW_TRIES);
+    let is_served = answers_by(rt, alloc, &server, Question::AskRun, line, FEW_TRIES)
+        && answers_by(rt, alloc, &server, Question::AskRun, line, FEW_TRIES);
     match end(rt, server, is_served) {
         Some(ended) => ended.is(Ok(()), "serving 127.0.0.1:39171\ndone\n"),
         None => false,

@@ -4,7 +4,8 @@ use crate::plans::{ALL, PATIENCE, Plan, local, words_of};
 use change_core::Address;
 use cluster_links::{Limits, TcpLink, socket_address};
 use serve_core::{
-    AskFault, Host, ServeFault, ServeWords, Waits, ask_over, members_over, serve_run, serve_within,
+    AskFault, Host, ServeFault, ServeWords, Waits, ask_over, ask_run, members_over, serve_run,
+    serve_within,
 };
 use std::alloc::Global;
 use std::cell::Cell;
@@ -280,6 +281,8 @@ pub(crate) fn spend<R: Net<Listener = TcpListener, Stream = TcpStream>>(
 pub(crate) enum Question {
     /// `hi` under the key `k`.
     Ask,
+    /// The same over a link of its own, with the standard limits.
+    AskRun,
     Members,
 }
 
@@ -294,6 +297,7 @@ pub(crate) fn asked<R: Net<Listener = TcpListener, Stream = TcpStream> + Wait + 
     let mut link = TcpLink::with_limits(rt, patient());
     match question {
         Question::Ask => ask_over(rt, alloc, &mut link, to, "k", "hi", &mut page)?,
+        Question::AskRun => ask_run(rt, alloc, to, "k", "hi", &mut page)?,
         Question::Members => members_over(rt, alloc, &mut link, to, false, &mut page)?,
     }
     Ok(page.bytes)

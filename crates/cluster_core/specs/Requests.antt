@@ -1,4 +1,4 @@
--- What the answer to a keyed request rests on, and why one is refused. Own; the parts are those of ringpop-go's package forward.
+-- What the answer to a keyed request rests on, and why one is refused. The parts are those of ringpop-go's package forward.
 use Rattle.std.specs.Prelude.{◌≡◌, ◌≢◌, ◌⊎◌, ℕ, List, [], Contains, Some, Result, Ok, Err, IfOk, IfErr}
 use Rattle.change_core.specs.declared.addresses.Address.{Address}
 use Rattle.change_core.specs.declared.changes.Change.{Change}

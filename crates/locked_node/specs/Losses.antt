@@ -1,4 +1,4 @@
--- A node takes at most once that a probe is lost, whatever its threads do. Own; lost probes and helpers are those of SWIM, section 3.1.
+-- A node takes at most once that a probe is lost, whatever its threads do. Lost probes and helpers are those of SWIM, section 3.1.
 use Rattle.std.specs.Prelude.{◌≡◌, ℕ, List, ◌∷◌, ◌++◌, Ok, Err}
 use Rattle.std.specs.List.{All}
 use Rattle.node_core.specs.declared.errors.NodeError.TheVariants as refusal

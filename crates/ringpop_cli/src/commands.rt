@@ -63,7 +63,7 @@ Examples:
   ringpop < changes.jsonl                        the members, and the digest that equal members share
   ringpop owner --n 2 trip-42 < changes.jsonl    the two members that own the key trip-42, the first first
   ringpop members 10.0.0.2:7946                  the members that a running node holds, and their digest
-  ringpop ask --any 10.0.0.2:7946 trip-42 where  what the owner of the key trip-42 answers to the request
+  ringpop ask --any 10.0.0.2:7946 trip-42 hello  what the owner of the key trip-42 answers to the request
   ringpop serve 10.0.0.1:7946 1 1000             the first node of a cluster, which ends after 1,000 connections
   ringpop serve --period 200 10.0.0.2:7946 1 1000 10.0.0.1:7946
                                                  a second one, which joins the first and gossips each 200 milliseconds

@@ -599,13 +599,13 @@ fn begin(rt: &impl Abort, alloc: Global, seed: u64) -> Option<World> {
     Some(world)
 }
 
-/// So many steps of a world, then synchronisations until nothing is altered; how many steps were made where a growth was refused.
-fn run<R: Wait + Abort>(rt: &R, alloc: Global, seed: u64, steps: u32) -> Result<(), u32> {
-    let mut world = begin(rt, alloc, seed).ok_or(0u32)?;
+/// So many steps of a world, then synchronisations until nothing is altered; none where a growth was refused.
+fn run<R: Wait + Abort>(rt: &R, alloc: Global, seed: u64, steps: u32) -> Option<()> {
+    let mut world = begin(rt, alloc, seed)?;
     for at in 0..steps {
         let number = (at % 3) as u8 + 1;
         if !step(rt, alloc, &mut world, number) {
-            return Err(at);
+            return None;
         }
         if !are_founded(&world) {
             panic!(rt; "seed {seed}, step {at}: an entry that nobody said");
@@ -615,28 +615,21 @@ fn run<R: Wait + Abort>(rt: &R, alloc: Global, seed: u64, steps: u32) -> Result<
         panic!(rt; "seed {seed}: too little happened");
     }
     for _ in 0..9 {
-        if !mingle(&mut world).ok_or(steps)? {
+        if !mingle(&mut world)? {
             break;
         }
     }
-    if !agree(&world).ok_or(steps)? {
+    if !agree(&world)? {
         panic!(rt; "seed {seed}: the digests differ");
     }
-    Ok(())
+    Some(())
 }
-
-/// More than 1,000 rounds: of 64 steps 62 are one.
-const STEPS: u32 = 1_100;
 
 #[test]
 fn nobody_holds_what_was_not_said(rt: HostRuntime) {
     let alloc = rt.alloc();
     for seed in 1..4 {
-        if run(&rt, alloc, seed, STEPS).is_ok() {
-            continue;
-        }
-        if let Err(at) = run(&rt, alloc, seed, STEPS) {
-            panic!(rt; "seed {seed}, step {at}: refused");
-        }
+        let done = run(&rt, alloc, seed, 1_100);
+        assert!(&rt; done.is_some() || run(&rt, alloc, seed, 1_100).is_some());
     }
 }

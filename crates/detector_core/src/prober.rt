@@ -158,7 +158,7 @@ impl Prober {
         ensures { result ≡ running_target self.now number }
     {
         match &self.running {
-            Some(attempt) if number == self.last => Some(attempt.target),
+            Some(probe) if number == self.last => Some(probe.target),
             _ => None,
         }
     }
@@ -231,9 +231,7 @@ impl Prober {
         ensures { result ≡ unasked_target self.now number }
     {
         match &self.running {
-            Some(attempt) if number == self.last && attempt.asked.is_empty() => Some(
-                attempt.target,
-            ),
+            Some(probe) if number == self.last && probe.asked.is_empty() => Some(probe.target),
             _ => None,
         }
     }
@@ -246,11 +244,11 @@ impl Prober {
         // What holds of a prober between any two calls.
         ensures whole { IsProbing self.now }
     {
-        let attempt = self.running.as_ref()?;
+        let probe = self.running.as_ref()?;
         Some(Running {
             number: self.last,
-            target: attempt.target,
-            waiting: asked::first_waiting(&attempt.asked),
+            target: probe.target,
+            waiting: asked::first_waiting(&probe.asked),
         })
     }
 
@@ -264,9 +262,9 @@ impl Prober {
         ensures { result ≡ would_say self.now number helper said }
     {
         match &self.running {
-            Some(attempt) if number == self.last => {
-                if asked::waits(&attempt.asked, helper) {
-                    Ok(asked::outcome_after(&attempt.asked, helper, said))
+            Some(probe) if number == self.last => {
+                if asked::waits(&probe.asked, helper) {
+                    Ok(asked::outcome_after(&probe.asked, helper, said))
                 } else {
                     Err(DetectorError::NotAsked)
                 }
@@ -292,8 +290,8 @@ impl Prober {
         let outcome = self.would_say(number, helper, said)?;
         if outcome != Outcome::Waiting {
             self.running = None;
-        } else if let Some(attempt) = &mut self.running {
-            asked::note(attempt.asked.as_mut_slice(), helper, said);
+        } else if let Some(probe) = &mut self.running {
+            asked::note(probe.asked.as_mut_slice(), helper, said);
         }
         Ok(outcome)
     }

@@ -4,4 +4,4 @@ use Rattle.detector_core.proofs.prober.Prober.running.Goals as goal
 
 pub returns-clause-unasked : goal.returns-clause-unasked
 returns-clause-unasked c =
-    unasked_waits c.args.self.now (search rules) (Some (record { number = c.self.inside.last; target = c.in_ok-attempt.attempt.now.target; waiting = c.first_waiting.result })) (search rules)
+    unasked_waits c.args.self.now (search rules) (Some (record { number = c.self.inside.last; target = c.in_ok-probe.probe.now.target; waiting = c.first_waiting.result })) (search rules)

@@ -1,16 +1,7 @@
 //! The members of a cluster and the owners of its keys, from a command line.
 #![tactic(auto)]
 
-mod cluster_words;
-mod commands;
-mod faults;
-mod runs;
-#[cfg(test)]
-mod tests;
-mod words;
-
-use faults::Fault;
-use runs::words_run;
+use cli_words::{Fault, read_words, words_not_text, words_run};
 use serve_core::Host;
 use std::alloc::{Alloc, Global};
 use std::env::Env;
@@ -24,7 +15,7 @@ fn given_words(rt: &(impl Env + Alloc<A = Global>)) -> Result<Vec<String>, Fault
     let given = match env::args(rt) {
         Ok(given) => given,
         Err(error) if error.kind() == ErrorKind::OutOfMemory => return Err(Fault::NoMemory),
-        Err(_) => return Err(words::words_not_text(rt.alloc())),
+        Err(_) => return Err(words_not_text(rt.alloc())),
     };
     let mut words = Vec::with_capacity(rt.alloc(), given.len())?;
     for word in given {
@@ -44,7 +35,7 @@ fn run<
 >(rt: &R) -> Result<(), Fault> {
     let alloc = rt.alloc();
     let given = given_words(rt)?;
-    let words = words::read_words(alloc, given.as_slice())?;
+    let words = read_words(alloc, given.as_slice())?;
     let mut reader = BufReader::new(alloc, rt.reader()).map_err(|_| Fault::NoMemory)?;
     let mut writer = BufWriter::new(alloc, io::writer(rt)).map_err(|_| Fault::NoMemory)?;
     words_run(rt, alloc, &words, &mut reader, &mut writer)

@@ -2,10 +2,10 @@
 use Rattle.std.specs.Prelude.{ℕ, List, Option}
 use Rattle.cli_core.specs.Subcommands.{Finishes, Fails, Reads}
 use Rattle.serve_core.specs.Commands.{CommandFinishes, CommandFails, CommandReads}
-use Rattle.ringpop_cli.specs.declared.faults.Fault.{Fault}
-use Rattle.ringpop_cli.specs.declared.faults.Fault.TheVariants as fault
-use Rattle.ringpop_cli.specs.declared.words.Words.{Words}
-use Rattle.ringpop_cli.specs.declared.words.Words.TheVariants.{Lines, Cluster}
+use Rattle.cli_words.specs.declared.faults.Fault.{Fault}
+use Rattle.cli_words.specs.declared.faults.Fault.TheVariants as fault
+use Rattle.cli_words.specs.declared.words.Words.{Words}
+use Rattle.cli_words.specs.declared.words.Words.TheVariants.{Lines, Cluster}
 
 -- what is written for the known input, where what the words ask for comes to its end
 abbrev pub WordsFinish : Words → Option (List ℕ) → Option (List ℕ) → Option (List ℕ) → Type 0

@@ -16,8 +16,8 @@ use Rattle.serve_core.specs.declared.commands.ClusterCommand.TheVariants.{Serve,
 use Rattle.serve_core.specs.declared.words.AskAnyWords.{AskAnyWords}
 use Rattle.serve_core.specs.declared.words.MembersWords.{MembersWords}
 use Rattle.serve_core.specs.declared.words.ServeWords.{ServeWords}
-use Rattle.ringpop_cli.specs.declared.words.Words.{Words}
-use Rattle.ringpop_cli.specs.declared.words.Words.TheVariants.{Lines, Cluster}
+use Rattle.cli_words.specs.declared.words.Words.{Words}
+use Rattle.cli_words.specs.declared.words.Words.TheVariants.{Lines, Cluster}
 
 -- the word of this name is there, and it is this number, as a `u64` is read
 pub record IsNumberAt (found : Found) (name : List ℕ) (n : ℕ) : Type 0 where

@@ -1,6 +1,6 @@
 //! Why the program ends before its end.
 ghost use Rattle.std.specs.Prelude.{◌≡◌};
-ghost use Rattle.ringpop_cli.specs.declared.faults.Fault.TheVariants.{Cluster, NoMemory, Subcommand};
+ghost use Rattle.cli_words.specs.declared.faults.Fault.TheVariants.{Cluster, NoMemory, Subcommand};
 
 use clap::error::ErrorKind;
 use cli_core::SubcommandFault;
@@ -24,7 +24,7 @@ pub enum Fault {
 }
 
 impl Fault {
-    ghost use Rattle.ringpop_cli.specs.Faults.{status_of};
+    ghost use Rattle.cli_words.specs.Faults.{status_of};
 
     /// The exit status: 2 where the words are refused, else 1.
     pub fn status(&self) -> u8
@@ -82,7 +82,7 @@ impl<T: Drop> From<AllocFailed<T>> for Fault {
 }
 
 impl From<clap::Error> for Fault {
-    ghost use Rattle.ringpop_cli.specs.Faults.{fault_of_words};
+    ghost use Rattle.cli_words.specs.Faults.{fault_of_words};
 
     ghost from_gives = { λ e f. f ≡ fault_of_words e };
 

@@ -1,6 +1,6 @@
 //! What the words ask for, run over any reader and writer.
 ghost use Rattle.std.specs.Prelude.{IfErr, OnOk};
-ghost use Rattle.ringpop_cli.specs.Runs.{WordsFail, WordsFinish, WordsRead};
+ghost use Rattle.cli_words.specs.Runs.{WordsFail, WordsFinish, WordsRead};
 
 use crate::faults::Fault;
 use crate::words::Words;

@@ -1,7 +1,7 @@
 use Rattle.std.proofs.Common.{sym}
 use Rattle.clap.specs.Matches.{found_of}
-use Rattle.ringpop_cli.proofs.Named.{named_by}
-use Rattle.ringpop_cli.proofs.words.words_of.Goals as goal
+use Rattle.cli_words.proofs.Named.{named_by}
+use Rattle.cli_words.proofs.words.words_of.Goals as goal
 
 pub returns-in-Some-clause-named : goal.returns-in-Some-clause-named
 returns-in-Some-clause-named c = λ h.

@@ -4,9 +4,9 @@ use Rattle.clap.specs.Matches.{subcommand_name_of}
 use Rattle.clap.specs.Words.{rows_of, subcommand_rows_of}
 use Rattle.clap.specs.declared.parser.matches.ArgMatches.{ArgMatches}
 use Rattle.clap.specs.declared.parser.matches.Found.{Found}
-use Rattle.ringpop_cli.specs.Words.{AreWordsOf, Names}
-use Rattle.ringpop_cli.specs.declared.faults.Fault.{Fault}
-use Rattle.ringpop_cli.specs.declared.words.Words.{Words}
+use Rattle.cli_words.specs.Words.{AreWordsOf, Names}
+use Rattle.cli_words.specs.declared.faults.Fault.{Fault}
+use Rattle.cli_words.specs.declared.words.Words.{Words}
 
 -- what the subcommand that they name asks for is what they ask for
 pub named_by : (matches : ArgMatches) (name : List ℕ) (found : Found) → subcommand_name_of matches ≡ Some name

@@ -4,8 +4,8 @@ use Rattle.clap.specs.Values.{kind_of}
 use Rattle.clap.specs.declared.error.Error.{Error}
 use Rattle.clap.specs.declared.error.kind.ErrorKind.{ErrorKind}
 use Rattle.clap.specs.declared.error.kind.ErrorKind.TheVariants.{OutOfMemory as no_room}
-use Rattle.ringpop_cli.specs.declared.faults.Fault.{Fault}
-use Rattle.ringpop_cli.specs.declared.faults.Fault.TheVariants.{Usage, BadAddress, NoMemory, Subcommand, Cluster}
+use Rattle.cli_words.specs.declared.faults.Fault.{Fault}
+use Rattle.cli_words.specs.declared.faults.Fault.TheVariants.{Usage, BadAddress, NoMemory, Subcommand, Cluster}
 
 -- an error of the words is a refusal of them, unless a growth was refused
 abbrev pub fault_of_kind : ErrorKind → Error → Fault

@@ -2,8 +2,8 @@
 ghost use Rattle.std.specs.Prelude.{◌≡◌, ◌≢◌, ℕ, map, codes, IfErr, IfOk, IfSome};
 ghost use Rattle.clap.specs.Matches.{found_of};
 ghost use Rattle.change_core.specs.Address.{IsAddress, address_text};
-ghost use Rattle.ringpop_cli.specs.Faults.{IsWordsFault};
-ghost use Rattle.ringpop_cli.specs.Words.{AreAddressesAt, AreMembersAt, AreNumbersAt, IsAddressAt, IsAnyAskedAt, IsAskedAt, IsCommandOf, IsServedAt};
+ghost use Rattle.cli_words.specs.Faults.{IsWordsFault};
+ghost use Rattle.cli_words.specs.Words.{AreAddressesAt, AreMembersAt, AreNumbersAt, IsAddressAt, IsAnyAskedAt, IsAskedAt, IsCommandOf, IsServedAt};
 
 use crate::commands::{
     ADDRESS, ANY, BODY, HOST, INCARNATION, KEY, LINES, PERIOD, REQUESTS, SUM, WEIGHT, WORKERS,

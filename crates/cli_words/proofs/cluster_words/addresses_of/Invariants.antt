@@ -1,6 +1,6 @@
 use Rattle.std.proofs.Common.{◌≡◌, map, take}
 use Rattle.change_core.specs.Address.{address_text}
-use Rattle.ringpop_cli.proofs.cluster_words.addresses_of.Given as goal
+use Rattle.cli_words.proofs.cluster_words.addresses_of.Given as goal
 
 -- the texts so far are those of the addresses
 abbrev pub invariant-loop-text : goal.invariant-loop-text

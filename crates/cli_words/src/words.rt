@@ -3,8 +3,8 @@ ghost use Rattle.std.specs.Prelude.{◌≡◌, ◌≢◌, ◌≤◌, length, cod
 ghost use Rattle.clap.specs.Matches.{found_of, subcommand_name_of};
 ghost use Rattle.clap.specs.Values.{kind_of};
 ghost use Rattle.hash_ring.specs.Points.{IsReplicas};
-ghost use Rattle.ringpop_cli.specs.Faults.{IsWordsFault};
-ghost use Rattle.ringpop_cli.specs.Words.{AreLinesOf, AreWordsOf, IsFlagAt, IsNumberAt, IsOwnedAt, IsScriptAt, Names};
+ghost use Rattle.cli_words.specs.Faults.{IsWordsFault};
+ghost use Rattle.cli_words.specs.Words.{AreLinesOf, AreWordsOf, IsFlagAt, IsNumberAt, IsOwnedAt, IsScriptAt, Names};
 
 use crate::cluster_words::cluster_command_of;
 use crate::commands::{COUNT, KEY, REPLICAS, SUM, TEXT, ringpop_command};

@@ -1,0 +1,235 @@
+//! Words that are refused, and what is said of them.
+
+use crate::faults::told;
+use crate::reads::{AT, read};
+use cli_words::{Fault, words_not_text};
+use std::alloc::Global;
+use std::process::Abort;
+
+/// That a refusal of words begins with this text, and ends the program with status 2.
+fn begins(rt: &impl Abort, alloc: Global, fault: &Fault, text: &str) {
+    assert!(rt; told(rt, alloc, fault).as_str().starts_with(text), "{text}");
+    assert_eq!(rt; fault.status(), 2);
+}
+
+/// Words of `serve`, and how their refusal begins.
+const REFUSED_SERVERS: [(&[&str], &str); 19] = [
+    (
+        &["ringpop", "serve"],
+        "error: the following required arguments were not provided:\n  <ADDRESS>\n  <INCARNATION>\n  <REQUESTS>\n",
+    ),
+    (
+        &["ringpop", "serve", AT, "1"],
+        "error: the following required arguments were not provided:\n  <REQUESTS>\n",
+    ),
+    (
+        &["ringpop", "serve", AT, "one", "1"],
+        "error: invalid value 'one' for '<INCARNATION>'",
+    ),
+    (
+        &["ringpop", "serve", AT, "9007199254740992", "1"],
+        "error: invalid value '9007199254740992' for '<INCARNATION>'",
+    ),
+    (
+        &["ringpop", "serve", AT, "1", "0"],
+        "error: invalid value '0' for '<REQUESTS>'",
+    ),
+    (
+        &["ringpop", "serve", AT, "1", "1000001"],
+        "error: invalid value '1000001' for '<REQUESTS>'",
+    ),
+    (
+        &["ringpop", "serve", "--workers", "0", AT, "1", "1"],
+        "error: invalid value '0' for '--workers <W>'",
+    ),
+    (
+        &["ringpop", "serve", "--workers", "0", "x", "1", "1"],
+        "error: invalid value '0' for '--workers <W>'",
+    ),
+    (
+        &["ringpop", "serve", "--workers", "17", AT, "1", "1"],
+        "error: invalid value '17' for '--workers <W>'",
+    ),
+    (
+        &[
+            "ringpop",
+            "serve",
+            "--period",
+            "9007199254740992",
+            AT,
+            "1",
+            "1",
+        ],
+        "error: invalid value '9007199254740992' for '--period <MS>'",
+    ),
+    (
+        &["ringpop", "serve", "--replicas", "0", AT, "1", "1"],
+        "error: invalid value '0' for '--replicas <R>'",
+    ),
+    (
+        &["ringpop", "serve", "--replicas", "1001", AT, "1", "1"],
+        "error: invalid value '1001' for '--replicas <R>'",
+    ),
+    (
+        &["ringpop", "serve", "--weight", "0", AT, "1", "1"],
+        "error: invalid value '0' for '--weight <W>'",
+    ),
+    (
+        &["ringpop", "serve", "--weight", "9", AT, "1", "1"],
+        "error: invalid value '9' for '--weight <W>'",
+    ),
+    (
+        &["ringpop", "serve", "--lines", AT, "1", "1"],
+        "error: unexpected argument '--lines' found\n",
+    ),
+    (
+        &["ringpop", "serve", "127.0.0.1:01", "1", "1"],
+        "ringpop: bad address\n",
+    ),
+    (
+        &["ringpop", "serve", AT, "1", "1", "x"],
+        "ringpop: bad address\n",
+    ),
+    (
+        &["ringpop", "serve", AT, "1", "1", AT, "127.0.0.1:0", AT],
+        "ringpop: bad address\n",
+    ),
+    (
+        &["ringpop", "serve", AT, "1", "1", AT, ""],
+        "ringpop: bad address\n",
+    ),
+];
+
+#[test]
+fn refuses_the_words_of_a_server(rt: HostRuntime) {
+    for (words, text) in REFUSED_SERVERS {
+        let Err(fault) = read(rt.alloc(), words) else {
+            panic!(rt; "not refused: {text}")
+        };
+        begins(&rt, rt.alloc(), &fault, text);
+    }
+}
+
+/// Words, and how their refusal begins.
+const REFUSED_WORDS: [(&[&str], &str); 28] = [
+    (&["ringpop", ""], "error: unrecognized subcommand ''\n"),
+    (
+        &["ringpop", "server"],
+        "error: unrecognized subcommand 'server'\n",
+    ),
+    (
+        &["ringpop", "--help"],
+        "The members of a cluster and the owners of its keys",
+    ),
+    (&["ringpop", "--version"], "ringpop 0.1.0\n"),
+    (
+        &["elsewhere/ringpop", "sim", "--help"],
+        "Reads a script of nodes in one process, a command a line; answers each with a line\n\nUsage: ringpop sim [OPTIONS]\n",
+    ),
+    (
+        &["ringpop", "fold", "x"],
+        "error: unexpected argument 'x' found\n",
+    ),
+    (
+        &["ringpop", "hash"],
+        "error: the following required arguments were not provided:\n",
+    ),
+    (
+        &["ringpop", "owner"],
+        "error: the following required arguments were not provided:\n",
+    ),
+    (
+        &["ringpop", "owner", "k", "l"],
+        "error: unexpected argument 'l' found\n",
+    ),
+    (
+        &["ringpop", "owner", "--n", "4097", "k"],
+        "error: invalid value '4097' for '--n <N>'",
+    ),
+    (
+        &["ringpop", "owner", "--replicas", "0", "k"],
+        "error: invalid value '0' for '--replicas <R>'",
+    ),
+    (
+        &["ringpop", "owner", "--replicas", "1001", "k"],
+        "error: invalid value '1001' for '--replicas <R>'",
+    ),
+    (
+        &["ringpop", "sim", "x"],
+        "error: unexpected argument 'x' found\n",
+    ),
+    (
+        &["ringpop", "sim", "--replicas", "0"],
+        "error: invalid value '0' for '--replicas <R>'",
+    ),
+    (
+        &["ringpop", "sim", "--replicas", "1001"],
+        "error: invalid value '1001' for '--replicas <R>'",
+    ),
+    (
+        &["ringpop", "ask", "127.0.0.1:1", "k"],
+        "error: the following required arguments were not provided:\n",
+    ),
+    (
+        &["ringpop", "ask", "--sum", "127.0.0.1:1", "k", "b"],
+        "error: the following required arguments were not provided:\n  --any\n",
+    ),
+    (
+        &["ringpop", "ask", "--replicas", "2", "127.0.0.1:1", "k", "b"],
+        "error: the following required arguments were not provided:\n  --any\n",
+    ),
+    (
+        &["ringpop", "ask", "--any", "--replicas", "0", "x", "k", "b"],
+        "error: invalid value '0' for '--replicas <R>'",
+    ),
+    (
+        &["ringpop", "members"],
+        "error: the following required arguments were not provided:\n",
+    ),
+    (
+        &["ringpop", "members", "127.0.0.1:1", "l"],
+        "error: unexpected argument 'l' found\n",
+    ),
+    (
+        &["ringpop", "tell"],
+        "error: the following required arguments were not provided:\n",
+    ),
+    (
+        &["ringpop", "ask", "10.0.0.01:1", "k", "b"],
+        "ringpop: bad address\n",
+    ),
+    (
+        &["ringpop", "ask", "--any", "x", "k", "b"],
+        "ringpop: bad address\n",
+    ),
+    (
+        &["ringpop", "members", "10.0.0.1:0"],
+        "ringpop: bad address\n",
+    ),
+    (&["ringpop", "members", ""], "ringpop: bad address\n"),
+    (&["ringpop", "tell", "x"], "ringpop: bad address\n"),
+    (
+        &["ringpop", "tell", "--help"],
+        "Reads at most 4096 change lines; tells them to a running node, and prints how many members it then holds\n\nUsage: ringpop tell <HOST>\n",
+    ),
+];
+
+#[test]
+fn refuses_words(rt: HostRuntime) {
+    for (words, text) in REFUSED_WORDS {
+        let Err(fault) = read(rt.alloc(), words) else {
+            panic!(rt; "not refused: {text}")
+        };
+        begins(&rt, rt.alloc(), &fault, text);
+    }
+}
+
+#[test]
+fn refuses_words_that_are_not_text(rt: HostRuntime) {
+    let fault = match words_not_text(rt.alloc()) {
+        Fault::NoMemory => words_not_text(rt.alloc()),
+        fault => fault,
+    };
+    let text = "error: the words are not UTF-8\n";
+    begins(&rt, rt.alloc(), &fault, text);
+}

@@ -8,7 +8,7 @@ mod messages;
 mod nodes;
 mod readers;
 mod runs;
-mod worlds;
+mod simulation;
 
 pub use faults::{ScriptFault, SimFault};
 pub use runs::sim_run;

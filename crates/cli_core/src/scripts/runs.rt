@@ -10,7 +10,7 @@ use crate::counted::next_line;
 use crate::outputs::write_text;
 use crate::scripts::faults::{ScriptFault, SimFault};
 use crate::scripts::lines::read_command;
-use crate::scripts::worlds::Simulation;
+use crate::scripts::simulation::Simulation;
 use crate::words::SimWords;
 use hash_ring::{PointHash, Sha256Hash, SumHash};
 use std::alloc::Global;

@@ -1,4 +1,4 @@
-use Rattle.cli_core.proofs.scripts.worlds.Simulation.obey.Goals as goal
+use Rattle.cli_core.proofs.scripts.simulation.Simulation.obey.Goals as goal
 
 pub returns-in-Ask-clause-answer : goal.returns-in-Ask-clause-answer
 returns-in-Ask-clause-answer g c = rw c.in-Ask.is c.ask.ensures.answer

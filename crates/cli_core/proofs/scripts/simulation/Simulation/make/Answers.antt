@@ -2,8 +2,8 @@ use Rattle.std.proofs.Common.{◌<◌, ap, arith, length}
 use Rattle.std.proofs.lemmas.List.{length-map}
 use Rattle.std.proofs.lemmas.Result.{err_from_is_err_and}
 use Rattle.cli_core.specs.Script.{most_nodes, nodes_in}
-use Rattle.cli_core.proofs.ScriptWorlds.{absent_place, exists_place, nodes_push, script_of}
-use Rattle.cli_core.proofs.scripts.worlds.Simulation.make.Goals as goal
+use Rattle.cli_core.proofs.ScriptCommands.{absent_place, exists_place, nodes_push, script_of}
+use Rattle.cli_core.proofs.scripts.simulation.Simulation.make.Goals as goal
 
 pub returns-then-is_some-clause-fault : goal.returns-then-is_some-clause-fault
 returns-then-is_some-clause-fault g c =

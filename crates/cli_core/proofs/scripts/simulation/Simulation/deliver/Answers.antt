@@ -1,8 +1,8 @@
 use Rattle.std.proofs.Common.{inl, refl, sym, ap}
 use Rattle.std.proofs.lemmas.Result.{err_from_is_err_and}
 use Rattle.cli_core.specs.Script.{nodes_in}
-use Rattle.cli_core.proofs.ScriptWorlds.{answer_refused, script_of}
-use Rattle.cli_core.proofs.scripts.worlds.Simulation.deliver.Goals as goal
+use Rattle.cli_core.proofs.ScriptCommands.{answer_refused, script_of}
+use Rattle.cli_core.proofs.scripts.simulation.Simulation.deliver.Goals as goal
 
 pub returns-in_default-place_of-clause-answer : goal.returns-in_default-place_of-clause-answer
 returns-in_default-place_of-clause-answer g c =

@@ -1,6 +1,6 @@
 use Rattle.cli_core.specs.Script.{nodes_in}
-use Rattle.cli_core.proofs.ScriptWorlds.{asks, lacks, script_of}
-use Rattle.cli_core.proofs.scripts.worlds.Simulation.ask.Goals as goal
+use Rattle.cli_core.proofs.ScriptCommands.{asks, lacks, script_of}
+use Rattle.cli_core.proofs.scripts.simulation.Simulation.ask.Goals as goal
 
 pub returns-clause-answer : goal.returns-clause-answer
 returns-clause-answer g c =

@@ -1,8 +1,8 @@
 use Rattle.std.proofs.Common.{◌<◌, ◌≤◌, ap, length, rules}
 use Rattle.std.proofs.lemmas.Result.{err_from_is_err_and}
 use Rattle.cli_core.specs.Script.{most_messages, nodes_in}
-use Rattle.cli_core.proofs.ScriptWorlds.{place_known, script_of, send_refused}
-use Rattle.cli_core.proofs.scripts.worlds.Simulation.send.Goals as goal
+use Rattle.cli_core.proofs.ScriptCommands.{place_known, script_of, send_refused}
+use Rattle.cli_core.proofs.scripts.simulation.Simulation.send.Goals as goal
 
 pub returns-then-len-ge-MOST_MESSAGES-clause-fault : goal.returns-then-len-ge-MOST_MESSAGES-clause-fault
 returns-then-len-ge-MOST_MESSAGES-clause-fault g c =

@@ -1,8 +1,8 @@
 use Rattle.std.proofs.Common.{◌<◌, ◌≤◌, ap, arith}
 use Rattle.std.proofs.lemmas.Result.{err_from_is_err_and}
-use Rattle.cli_core.proofs.ScriptWorlds.{held_below, held_not_below, restarted, script_of}
+use Rattle.cli_core.proofs.ScriptCommands.{held_below, held_not_below, restarted, script_of}
 use Rattle.cli_core.specs.Script.{nodes_in, with_node}
-use Rattle.cli_core.proofs.scripts.worlds.Simulation.restart.Goals as goal
+use Rattle.cli_core.proofs.scripts.simulation.Simulation.restart.Goals as goal
 
 pub returns-then-number-clause-fault : goal.returns-then-number-clause-fault
 returns-then-number-clause-fault g c =

@@ -31,30 +31,30 @@ fn fault_of_read(fault: WireError) -> ScriptFault
 /// Does the command of a line; the text of the answer.
 fn answer_line<H: PointHash>(
     alloc: Global,
-    world: &mut Simulation<H>,
+    simulation: &mut Simulation<H>,
     line: &[u8],
 ) -> Result<String, ScriptFault>
     requires { length line.now ≤ max_line }
-    ensures answer { IfOk result (λ text. AnswersLine H.hash_of world.old line.now (string_bytes text) world.new) }
-    ensures fault { IfErr result (λ f. IsLineRefused H.hash_of world.old line.now f) }
+    ensures answer { IfOk result (λ text. AnswersLine H.hash_of simulation.old line.now (string_bytes text) simulation.new) }
+    ensures fault { IfErr result (λ f. IsLineRefused H.hash_of simulation.old line.now f) }
 {
     let Some(command) = read_command(line) else {
         return Err(ScriptFault::BadCommand);
     };
-    let answer = world.obey(&command)?;
+    let answer = simulation.obey(&command)?;
     answer.text(alloc)
 }
 
 /// Reads the line of this number, does its command and writes the answer; false at the end of the input.
 fn turn<H: PointHash, R: Read, W: Write>(
     alloc: Global,
-    world: &mut Simulation<H>,
+    simulation: &mut Simulation<H>,
     reader: &mut R,
     writer: &mut W,
     number: u64,
 ) -> Result<bool, SimFault>
-    ensures turn { IfSome (R.remaining reader.old) (λ xs. Turns H.hash_of world.old xs (W.contents writer.old) number result
-        world.new (R.remaining reader.new) (W.contents writer.new)) }
+    ensures turn { IfSome (R.remaining reader.old) (λ xs. Turns H.hash_of simulation.old xs (W.contents writer.old) number result
+        simulation.new (R.remaining reader.new) (W.contents writer.new)) }
     ensures counted { IfOk result (λ more. more ≡ true → number ≤ greatest_number) }
 {
     let line = match next_line(alloc, reader, number) {
@@ -62,7 +62,7 @@ fn turn<H: PointHash, R: Read, W: Write>(
         Ok(None) => return Ok(false),
         Err(fault) => return Err(SimFault::AtLine(number, fault_of_read(fault))),
     };
-    let text = match answer_line(alloc, world, line.as_slice()) {
+    let text = match answer_line(alloc, simulation, line.as_slice()) {
         Ok(text) => text,
         Err(fault) => return Err(SimFault::AtLine(number, fault)),
     };
@@ -86,10 +86,10 @@ fn sim_run_by<H: PointHash, R: Read, W: Write>(
     ensures fault { IfErr result (λ e. Stops H.hash_of (beginning hash replicas) e
         (R.remaining reader.old) (W.contents writer.old) (W.contents writer.new)) }
 {
-    let mut world = Simulation::new(alloc, hash, replicas);
+    let mut simulation = Simulation::new(alloc, hash, replicas);
     let mut number = 1;
     'lines: loop {
-        match turn(alloc, &mut world, reader, writer, number) {
+        match turn(alloc, &mut simulation, reader, writer, number) {
             Ok(true) => number += 1,
             Ok(false) => return Ok(()),
             Err(fault) => return Err(fault),

@@ -7,5 +7,5 @@ returns-in_default-clause-fault g c = (c.requires, c.in_default.ensures.none ref
 
 pub returns-clause-fault : goal.returns-clause-fault
 returns-clause-fault g c =
-    untold_line g.H.PointHash.hash_of c.args.world.now c.obey.new.self c.args.line.now c.in-Some.command c.in_ok-answer.answer c.text.result
+    untold_line g.H.PointHash.hash_of c.args.simulation.now c.obey.new.self c.args.line.now c.in-Some.command c.in_ok-answer.answer c.text.result
     c.requires c.in-Some.ensures.read c.in_ok-answer.ensures.answer c.text.ensures.refusal

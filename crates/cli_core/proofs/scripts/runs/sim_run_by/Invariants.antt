@@ -9,7 +9,7 @@ abbrev pub invariant-lines : goal.invariant-lines
 invariant-lines g l = record {
   counted : l.number ≤ greatest_number + 1;
   answered : HasAnswered g.H.PointHash.hash_of (beginning l.fn.hash l.fn.replicas) (g.R.Read.remaining l.fn.reader) (g.R.Read.remaining l.reader)
-      (g.W.Write.contents l.fn.writer) (g.W.Write.contents l.writer) l.number l.world;
+      (g.W.Write.contents l.fn.writer) (g.W.Write.contents l.writer) l.number l.simulation;
 }
 
 -- the lines that may yet come

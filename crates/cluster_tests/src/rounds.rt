@@ -410,6 +410,7 @@ fn close_with(rt: &impl Abort, shared: Shared, passes: Vec<Caller>)
         .ok()
         .expect(rt, "both passes are there");
     assert!(rt; closed.running() == unasked(rt));
+    drop(closed);
 }
 
 fn leaves_a_probe<R: Wait + Abort>(rt: &R, alloc: Global) -> bool {
@@ -579,9 +580,11 @@ fn meets<R: Wait + Abort>(rt: &R, alloc: Global) -> bool {
         node: state(rt, alloc, 2, 4096),
         failures: 0,
     };
-    with_node(rt, alloc, &among(0), |shared, pass| {
+    let met = with_node(rt, alloc, &among(0), |shared, pass| {
         check_meeting(rt, alloc, shared, pass, &mut link)
-    })
+    });
+    drop(link);
+    met
 }
 
 #[test]

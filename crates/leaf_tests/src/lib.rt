@@ -14,5 +14,3 @@ mod lock_tests;
 mod member_tests;
 #[cfg(test)]
 mod ring_tests;
-#[cfg(test)]
-mod wire_tests;

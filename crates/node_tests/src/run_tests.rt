@@ -68,17 +68,8 @@ fn finish(
     }
 }
 
-/// Whether a new node with this many members at most answers these calls so.
-fn answers(
-    rt: &impl Abort,
-    alloc: Global,
-    max: usize,
-    events: &[Event],
-    wanted: &[Told],
-) -> Option<bool> {
-    let start = node(rt, alloc, SumHash, A, 7, max);
-    let finished = finish(rt, alloc, start, events);
-    let replies = finished.replies.as_slice();
+/// Whether these replies tell this; none where a call was refused memory.
+fn tell(replies: &[Reply], wanted: &[Told]) -> Option<bool> {
     for reply in replies {
         if is_refused(read(reply)) {
             return None;
@@ -89,6 +80,19 @@ fn answers(
         .zip(wanted.iter())
         .all(|(reply, wanted)| read(reply) == *wanted);
     Some(is_each && replies.len() == wanted.len())
+}
+
+/// Whether a new node with this many members at most answers these calls so.
+fn answers(
+    rt: &impl Abort,
+    alloc: Global,
+    max: usize,
+    events: &[Event],
+    wanted: &[Told],
+) -> Option<bool> {
+    let start = node(rt, alloc, SumHash, A, 7, max);
+    let finished = finish(rt, alloc, start, events);
+    tell(finished.replies.as_slice(), wanted)
 }
 
 /// Checks what a node answers to these calls; where one was refused memory, a new node makes them all.

@@ -252,7 +252,6 @@ fn check_message<R: Wait + Env + Abort>(
         assert!(rt; served.1 == (0, 0) || served.1 == wanted);
         served = serve_in(rt, alloc, shared, pass, &given);
     }
-    drop(given);
     assert!(rt; served == (None, wanted));
     let is_told = status(rt, shared, pass, 5) == Some(Status::Alive);
     assert!(rt; is_told == (kind != Kind::Forward));

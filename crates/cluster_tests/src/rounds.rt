@@ -410,7 +410,6 @@ fn close_with(rt: &impl Abort, shared: Shared, passes: Vec<Caller>)
         .ok()
         .expect(rt, "both passes are there");
     assert!(rt; closed.running() == unasked(rt));
-    drop(closed);
 }
 
 fn leaves_a_probe<R: Wait + Abort>(rt: &R, alloc: Global) -> bool {
@@ -580,11 +579,9 @@ fn meets<R: Wait + Abort>(rt: &R, alloc: Global) -> bool {
         node: state(rt, alloc, 2, 4096),
         failures: 0,
     };
-    let met = with_node(rt, alloc, &among(0), |shared, pass| {
+    with_node(rt, alloc, &among(0), |shared, pass| {
         check_meeting(rt, alloc, shared, pass, &mut link)
-    });
-    drop(link);
-    met
+    })
 }
 
 #[test]

@@ -19,56 +19,26 @@ type Moods = (Mood, Mood);
 
 const WILLING: Moods = (Mood::Willing, Mood::Willing);
 
-/// What an answer is.
-#[derive(Clone, Copy, Debug, PartialEq, Eq)]
-enum Said {
-    Joined,
-    Ack,
-    /// Whether this target was reached.
-    Word(Address, bool),
-    /// A Reply of the text `body`.
-    Body,
-    NotOwner,
-    Refused(Reason),
-    Other,
-}
-
-fn kind_of(content: &Content) -> Said {
-    match content {
-        Content::Joined(_) => Said::Joined,
-        Content::Ack(_) => Said::Ack,
-        Content::PingReqAck(_, target, reached) => Said::Word(*target, *reached),
-        Content::Reply(text) if text.as_str() == "body" => Said::Body,
-        Content::NotOwner => Said::NotOwner,
-        Content::Refused(reason) => Said::Refused(*reason),
-        _ => Said::Other,
-    }
-}
-
 /// What is answered to a message, and how often the link and the handler were asked.
-#[derive(Clone, Copy, Debug, PartialEq, Eq)]
+#[derive(Drop)]
 pub(crate) struct Answer {
-    said: Said,
+    content: Content,
     pub(crate) sent: u64,
     pub(crate) handled: u64,
-}
-
-/// An answer for which neither the link nor the handler was asked.
-fn own(said: Said) -> Answer {
-    Answer {
-        said,
-        sent: 0,
-        handled: 0,
-    }
 }
 
 impl Answer {
     /// Why the message was refused, if it was.
     pub(crate) fn reason(&self) -> Option<Reason> {
-        match self.said {
-            Said::Refused(reason) => Some(reason),
+        match &self.content {
+            Content::Refused(reason) => Some(*reason),
             _ => None,
         }
+    }
+
+    /// Whether neither the link nor the handler was asked.
+    fn is_own(&self) -> bool {
+        self.sent == 0 && self.handled == 0
     }
 
     /// Whether it lacks memory, other than that of a link or a handler that never has any.
@@ -77,25 +47,6 @@ impl Answer {
         let of_handler = moods.1 == Mood::Starved && self.handled != 0;
         self.reason() == Some(Reason::Memory) && !of_link && !of_handler
     }
-}
-
-/// What is answered to a message, by way of this link and this handler.
-fn serve_by<R: Wait + Abort>(
-    rt: &R,
-    alloc: Global,
-    shared: &Shared,
-    pass: &mut Caller,
-    by: (&mut Fake, &Counting),
-    given: &Message,
-) -> Content
-    requires { Fits shared.now pass.old }
-    ensures { Fits shared.now pass.new }
-{
-    let now = moment(rt, 0);
-    let answer = serve_one(rt, alloc, shared, pass, by.0, by.1, now, given);
-    let answer = answer.ok().expect(rt, "a turn");
-    assert!(rt; answer.source == member(rt, 1));
-    answer.content
 }
 
 /// What is answered to a message.
@@ -112,11 +63,12 @@ pub(crate) fn serve<R: Wait + Abort>(
 {
     let mut link = Fake::new(moods.0);
     let handler = Counting::new(moods.1);
-    let content = serve_by(rt, alloc, shared, pass, (&mut link, &handler), given);
-    let said = kind_of(&content);
-    drop(content);
+    let now = moment(rt, 0);
+    let answer = serve_one(rt, alloc, shared, pass, &mut link, &handler, now, given);
+    let answer = answer.ok().expect(rt, "a turn");
+    assert!(rt; answer.source == member(rt, 1));
     Answer {
-        said,
+        content: answer.content,
         sent: link.calls,
         handled: handler.calls(),
     }
@@ -142,21 +94,22 @@ fn ask<R: Wait + Abort>(
     first
 }
 
-/// What is answered to a message of 10.0.0.2:1 by a willing link and handler.
-fn answer_to<R: Wait + Abort>(
+/// Why a message of 10.0.0.2:1 is refused, if it is, with neither the link nor the handler asked.
+fn refusal<R: Wait + Abort>(
     rt: &R,
     alloc: Global,
     shared: &Shared,
     pass: &mut Caller,
+    moods: Moods,
     content: Content,
-) -> Answer
+) -> Option<Reason>
     requires { Fits shared.now pass.old }
     ensures { Fits shared.now pass.new }
 {
     let given = message(rt, 2, content);
-    let answer = ask(rt, alloc, shared, pass, WILLING, &given);
-    drop(given);
-    answer
+    let answer = ask(rt, alloc, shared, pass, moods, &given);
+    assert!(rt; answer.is_own());
+    answer.reason()
 }
 
 /// The changes that a Joined or an Ack carries.
@@ -167,78 +120,19 @@ fn carried(content: &Content) -> &[Sourced] {
     }
 }
 
-/// What is answered to a message with neither the link nor the handler asked.
-fn serve_own<R: Wait + Abort>(
-    rt: &R,
-    alloc: Global,
-    shared: &Shared,
-    pass: &mut Caller,
-    given: &Message,
-) -> Content
-    requires { Fits shared.now pass.old }
-    ensures { Fits shared.now pass.new }
-{
-    let mut link = Fake::new(Mood::Willing);
-    let handler = Counting::new(Mood::Willing);
-    let content = serve_by(rt, alloc, shared, pass, (&mut link, &handler), given);
-    assert!(rt; link.calls == 0 && handler.calls() == 0);
-    content
-}
-
-/// Whether an answer is this, with these changes; none where there was no memory.
-fn brings(content: Content, wanted: Said, changes: &[Sourced]) -> Option<bool> {
-    let said = kind_of(&content);
-    let is_so = said == wanted && carried(&content) == changes;
-    drop(content);
-    if said == Said::Refused(Reason::Memory) {
-        None
-    } else {
-        Some(is_so)
-    }
-}
-
-/// Whether a message is answered so; where there was no memory, when it comes again.
-fn is_answered<R: Wait + Abort>(
-    rt: &R,
-    alloc: Global,
-    shared: &Shared,
-    pass: &mut Caller,
-    given: &Message,
-    wanted: (Said, &[Sourced]),
-) -> bool
-    requires { Fits shared.now pass.old }
-{
-    let (said, changes) = wanted;
-    let first = brings(serve_own(rt, alloc, shared, pass, given), said, changes);
-    match first {
-        Some(is_so) => is_so,
-        None => {
-            let again = serve_own(rt, alloc, shared, pass, given);
-            brings(again, said, changes) == Some(true)
-        }
-    }
-}
-
 /// Checks that a join is answered by all members, as this node says them.
 fn check_join<R: Wait + Abort>(rt: &R, alloc: Global, shared: &Shared, pass: &mut Caller)
     requires { Fits shared.now pass.old }
 {
     let other = news(rt, 2, 5, Status::Alive);
+    let given = message(rt, 2, Content::Join(content(rt, alloc, &[other])));
+    let answer = ask(rt, alloc, shared, pass, WILLING, &given);
+    let joined = &answer.content;
     let own = news(rt, 1, 7, Status::Alive);
     let mut told = own;
     told.change = other.change;
-    let all = [own, told];
-    let given = message(rt, 2, Content::Join(content(rt, alloc, &[other])));
-    assert!(rt;
-        is_answered(
-            rt,
-            alloc,
-            shared,
-            pass,
-            &given,
-            (Said::Joined, all.as_slice())
-        )
-    );
+    assert!(rt; matches!(joined, Content::Joined(_)) && answer.is_own());
+    assert!(rt; carried(joined) == [own, told].as_slice());
 }
 
 #[test]
@@ -254,10 +148,12 @@ fn check_ping<R: Wait + Abort>(rt: &R, alloc: Global, shared: &Shared, pass: &mu
     requires { Fits shared.now pass.old }
 {
     let other = news(rt, 2, 5, Status::Alive);
-    let own = [news(rt, 1, 7, Status::Alive)];
     let given = message(rt, 2, Content::Ping(content(rt, alloc, &[other])));
-    assert!(rt; is_answered(rt, alloc, shared, pass, &given, (Said::Ack, own.as_slice())));
-    drop(given);
+    let answer = ask(rt, alloc, shared, pass, WILLING, &given);
+    let ack = &answer.content;
+    let own = news(rt, 1, 7, Status::Alive);
+    assert!(rt; matches!(ack, Content::Ack(_)) && answer.is_own());
+    assert!(rt; carried(ack) == [own].as_slice());
 }
 
 #[test]
@@ -292,22 +188,6 @@ const STOPS: [Stop; 2] = [
     },
 ];
 
-/// Checks that a message is refused so, with neither the link nor the handler asked.
-fn check_refused<R: Wait + Abort>(
-    rt: &R,
-    alloc: Global,
-    shared: &Shared,
-    pass: &mut Caller,
-    content: Content,
-    reason: Reason,
-)
-    requires { Fits shared.now pass.old }
-    ensures { Fits shared.now pass.new }
-{
-    let answer = answer_to(rt, alloc, shared, pass, content);
-    assert!(rt; answer == own(Said::Refused(reason)));
-}
-
 /// Checks how messages with this change are refused.
 fn check_stop<R: Wait + Abort>(
     rt: &R,
@@ -318,14 +198,14 @@ fn check_stop<R: Wait + Abort>(
 )
     requires { Fits shared.now pass.old }
 {
-    let reason = stop.reason;
+    let wanted = Some(stop.reason);
     let told = [news(rt, stop.number, stop.incarnation, stop.status)];
     let join = Content::Join(content(rt, alloc, &told));
-    check_refused(rt, alloc, shared, pass, join, reason);
+    assert!(rt; refusal(rt, alloc, shared, pass, WILLING, join) == wanted);
     let ping = Content::Ping(content(rt, alloc, &told));
-    check_refused(rt, alloc, shared, pass, ping, reason);
+    assert!(rt; refusal(rt, alloc, shared, pass, WILLING, ping) == wanted);
     let asked = Content::PingReq(content(rt, alloc, &told), member(rt, 3));
-    check_refused(rt, alloc, shared, pass, asked, reason);
+    assert!(rt; refusal(rt, alloc, shared, pass, WILLING, asked) == wanted);
 }
 
 #[test]
@@ -353,6 +233,15 @@ struct Sought {
     calls: u64,
 }
 
+/// What a PingReqAck says of the target, or that there was no memory; else none.
+fn word_in(content: &Content, target: Address) -> Option<Option<bool>> {
+    match content {
+        Content::PingReqAck(_, about, reached) if *about == target => Some(Some(*reached)),
+        Content::Refused(Reason::Memory) => Some(None),
+        _ => None,
+    }
+}
+
 /// Checks what is said of the target of a PingReq.
 fn check_target<R: Wait + Abort>(
     rt: &R,
@@ -366,17 +255,10 @@ fn check_target<R: Wait + Abort>(
     let target = member(rt, row.target);
     let told = content(rt, alloc, &[news(rt, 3, 1, Status::Alive)]);
     let given = message(rt, 2, Content::PingReq(told, target));
-    let answer = ask(rt, alloc, shared, pass, (row.mood, Mood::Willing), &given);
-    drop(given);
-    let wanted = Answer {
-        said: match row.reached {
-            Some(reached) => Said::Word(target, reached),
-            None => Said::Refused(Reason::Memory),
-        },
-        sent: row.calls,
-        handled: 0,
-    };
-    assert!(rt; answer == wanted);
+    let moods = (row.mood, Mood::Willing);
+    let answer = ask(rt, alloc, shared, pass, moods, &given);
+    assert!(rt; word_in(&answer.content, target) == Some(row.reached));
+    assert!(rt; answer.sent == row.calls && answer.handled == 0);
 }
 
 const TARGETS: [(u8, Mood, Option<bool>, u64); 5] = [
@@ -405,31 +287,11 @@ fn a_ping_req_tells_whether_its_target_was_reached(rt: HostRuntime) {
 
 const ONE: (&str, &str) = ("zzzz1", "zzzz1");
 
-/// Checks what is answered to a request for these keys, with the body `body`.
-fn check_request<R: Wait + Abort>(
-    rt: &R,
-    alloc: Global,
-    shared: &Shared,
-    pass: &mut Caller,
-    keys: (&str, &str),
-    handler: Mood,
-    wanted: Answer,
-)
-    requires { Fits shared.now pass.old }
-    ensures { Fits shared.now pass.new }
-{
-    let given = request(rt, alloc, keys, "body");
-    let answer = ask(rt, alloc, shared, pass, (Mood::Willing, handler), &given);
-    drop(given);
-    assert!(rt; answer == wanted);
-}
-
-/// An answer for which the handler was asked once.
-fn handled(said: Said) -> Answer {
-    Answer {
-        said,
-        sent: 0,
-        handled: 1,
+/// Whether an answer is a Reply of this text.
+fn is_reply(content: &Content, wanted: &str) -> bool {
+    match content {
+        Content::Reply(body) => body.as_str() == wanted,
+        _ => false,
     }
 }
 
@@ -437,12 +299,18 @@ fn handled(said: Said) -> Answer {
 fn check_here<R: Wait + Abort>(rt: &R, alloc: Global, shared: &Shared, pass: &mut Caller)
     requires { Fits shared.now pass.old }
 {
-    let reply = handled(Said::Body);
-    check_request(rt, alloc, shared, pass, ONE, Mood::Willing, reply);
-    let failed = handled(Said::Refused(Reason::Failed));
-    check_request(rt, alloc, shared, pass, ONE, Mood::Failing, failed);
-    let refused = handled(Said::Refused(Reason::Memory));
-    check_request(rt, alloc, shared, pass, ONE, Mood::Starved, refused);
+    let given = request(rt, alloc, ONE, "body");
+    let reply = ask(rt, alloc, shared, pass, WILLING, &given);
+    assert!(rt; is_reply(&reply.content, "body"));
+    assert!(rt; reply.sent == 0 && reply.handled == 1);
+    let failing = (Mood::Willing, Mood::Failing);
+    let failed = ask(rt, alloc, shared, pass, failing, &given);
+    assert!(rt; failed.reason() == Some(Reason::Failed));
+    assert!(rt; failed.sent == 0 && failed.handled == 1);
+    let starved = (Mood::Willing, Mood::Starved);
+    let refused = ask(rt, alloc, shared, pass, starved, &given);
+    assert!(rt; refused.reason() == Some(Reason::Memory));
+    assert!(rt; refused.sent == 0 && refused.handled == 1);
 }
 
 #[test]
@@ -457,10 +325,12 @@ fn a_request_is_handled_by_the_owner_of_its_keys(rt: HostRuntime) {
 fn check_elsewhere<R: Wait + Abort>(rt: &R, alloc: Global, shared: &Shared, pass: &mut Caller)
     requires { Fits shared.now pass.old }
 {
-    let mood = Mood::Willing;
-    check_request(rt, alloc, shared, pass, ONE, mood, own(Said::NotOwner));
-    let split = own(Said::Refused(Reason::Diverged));
-    check_request(rt, alloc, shared, pass, ("zzzz0", "zzzz1"), mood, split);
+    let given = request(rt, alloc, ONE, "body");
+    let answer = ask(rt, alloc, shared, pass, WILLING, &given);
+    assert!(rt; matches!(&answer.content, Content::NotOwner) && answer.is_own());
+    let split = request(rt, alloc, ("zzzz0", "zzzz1"), "body");
+    let answer = ask(rt, alloc, shared, pass, WILLING, &split);
+    assert!(rt; answer.reason() == Some(Reason::Diverged) && answer.is_own());
 }
 
 #[test]
@@ -476,8 +346,9 @@ fn check_nobody<R: Wait + Abort>(rt: &R, alloc: Global, shared: &Shared, pass: &
     requires { Fits shared.now pass.old }
 {
     leave(rt, shared, pass);
-    let nobody = own(Said::Refused(Reason::Nobody));
-    check_request(rt, alloc, shared, pass, ONE, Mood::Willing, nobody);
+    let given = request(rt, alloc, ONE, "body");
+    let answer = ask(rt, alloc, shared, pass, WILLING, &given);
+    assert!(rt; answer.reason() == Some(Reason::Nobody) && answer.is_own());
 }
 
 #[test]
@@ -488,19 +359,20 @@ fn a_request_to_nobody_is_refused(rt: HostRuntime) {
     });
 }
 
-const UNEXPECTED: Reason = Reason::Unexpected;
+const UNEXPECTED: Option<Reason> = Some(Reason::Unexpected);
 
 /// Checks that answers with news are refused, and nothing of them is taken.
 fn check_news<R: Wait + Abort>(rt: &R, alloc: Global, shared: &Shared, pass: &mut Caller)
     requires { Fits shared.now pass.old }
+    ensures { Fits shared.now pass.new }
 {
     let told = [news(rt, 2, 1, Status::Alive)];
     let joined = Content::Joined(content(rt, alloc, &told));
-    check_refused(rt, alloc, shared, pass, joined, UNEXPECTED);
+    assert!(rt; refusal(rt, alloc, shared, pass, WILLING, joined) == UNEXPECTED);
     let ack = Content::Ack(content(rt, alloc, &told));
-    check_refused(rt, alloc, shared, pass, ack, UNEXPECTED);
+    assert!(rt; refusal(rt, alloc, shared, pass, WILLING, ack) == UNEXPECTED);
     let word = Content::PingReqAck(content(rt, alloc, &told), member(rt, 3), true);
-    check_refused(rt, alloc, shared, pass, word, UNEXPECTED);
+    assert!(rt; refusal(rt, alloc, shared, pass, WILLING, word) == UNEXPECTED);
     assert!(rt; status(rt, shared, pass, 2).is_none());
 }
 
@@ -509,10 +381,11 @@ fn check_answers<R: Wait + Abort>(rt: &R, alloc: Global, shared: &Shared, pass: 
     requires { Fits shared.now pass.old }
 {
     let reply = Content::Reply(text(rt, alloc, "body"));
-    check_refused(rt, alloc, shared, pass, reply, UNEXPECTED);
-    check_refused(rt, alloc, shared, pass, Content::NotOwner, UNEXPECTED);
+    assert!(rt; refusal(rt, alloc, shared, pass, WILLING, reply) == UNEXPECTED);
+    let other = Content::NotOwner;
+    assert!(rt; refusal(rt, alloc, shared, pass, WILLING, other) == UNEXPECTED);
     let refused = Content::Refused(Reason::Full);
-    check_refused(rt, alloc, shared, pass, refused, UNEXPECTED);
+    assert!(rt; refusal(rt, alloc, shared, pass, WILLING, refused) == UNEXPECTED);
 }
 
 #[test]
@@ -526,32 +399,17 @@ fn answers_are_unexpected(rt: HostRuntime) {
     });
 }
 
-/// Whether a message is refused since the pass is spent.
-fn is_refused<R: Wait + Abort>(
-    rt: &R,
-    alloc: Global,
-    shared: &Shared,
-    pass: &mut Caller,
-    given: &Message,
-) -> bool
+/// Whether a request is refused since the pass is spent.
+fn is_spent<R: Wait + Abort>(rt: &R, alloc: Global, shared: &Shared, pass: &mut Caller) -> bool
     requires { Fits shared.now pass.old }
 {
     let mut link = Fake::new(Mood::Willing);
     let handler = Counting::new(Mood::Willing);
     let now = moment(rt, 0);
-    let answer = serve_one(rt, alloc, shared, pass, &mut link, &handler, now, given);
-    assert!(rt; link.calls == 0);
-    answer.err() == Some(LockError::PassSpent)
-}
-
-/// Whether a request is refused since the pass is spent.
-fn is_spent<R: Wait + Abort>(rt: &R, alloc: Global, shared: &Shared, pass: &mut Caller) -> bool
-    requires { Fits shared.now pass.old }
-{
     let given = request(rt, alloc, ONE, "body");
-    let is_refused = is_refused(rt, alloc, shared, pass, &given);
-    drop(given);
-    is_refused
+    let answer = serve_one(rt, alloc, shared, pass, &mut link, &handler, now, &given);
+    assert!(rt; link.calls == 0);
+    matches!(&answer, Err(LockError::PassSpent))
 }
 
 #[test]

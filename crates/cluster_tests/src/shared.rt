@@ -93,10 +93,7 @@ pub(crate) fn with_node<R: Wait + Abort, B, F: FnOnce(&Shared, &mut Caller) -> B
 {
     let (shared, mut pass) = alone(rt, alloc, start);
     meet(rt, &shared, &mut pass, start.others);
-    let came = body(&shared, &mut pass);
-    drop(pass);
-    drop(shared);
-    came
+    body(&shared, &mut pass)
 }
 
 /// The status that a node holds a member in.

@@ -124,29 +124,19 @@ fn try_call<
     let peer = peer.ok()?;
     let mut link = TcpLink::with_limits(rt, limits);
     let answer = link.call(rt, alloc, to, message);
-    let failures = link.failures();
-    drop(link);
-    if matches!(&answer, Err(LinkError::Memory)) {
+    let is_refused = matches!(&answer, Err(LinkError::Memory));
+    if is_refused {
         knock(rt, to);
     }
-    called_so(answer, failures, peer.join(rt))
-}
-
-/// What a call came to; none where a growth was refused.
-fn called_so(
-    answer: Result<Message, LinkError>,
-    failures: u64,
-    line: Option<Vec<u8>>,
-) -> Option<Called> {
-    let is_refused = matches!(&answer, Err(LinkError::Memory));
-    match line {
-        Some(line) if !is_refused => Some(Called {
-            answer,
-            failures,
-            line,
-        }),
-        _ => None,
+    let line = peer.join(rt)?;
+    if is_refused {
+        return None;
     }
+    Some(Called {
+        answer,
+        failures: link.failures(),
+        line,
+    })
 }
 
 /// The same; where a growth was refused, of another peer.
@@ -184,53 +174,16 @@ fn ack_line(rt: &impl Abort, alloc: Global) -> Vec<u8> {
     line
 }
 
-/// Whether an answer is an Ack of this node.
-fn is_ack(answer: &Result<Message, LinkError>, from: Address) -> bool {
-    match answer {
-        Ok(message) => matches!(&message.content, Content::Ack(_)) && message.source == from,
-        Err(_) => false,
-    }
-}
-
-/// Checks that a peer has read this message, and has answered by an Ack of its own.
-fn check_called(rt: &impl Abort, alloc: Global, called: &Called, ping: &Message) {
-    assert!(rt; is_ack(&called.answer, member(rt, 3)) && called.failures == 0);
-    assert!(rt; called.line.as_slice() == line_of(rt, alloc, ping).as_slice());
-}
-
 #[test]
 fn a_line_goes_out_and_a_line_comes_back(rt: HostRuntime) {
     let alloc: Global = rt.alloc();
     let line = ack_line(&rt, alloc);
     let ping = ping(&rt, alloc);
     let called = call(&rt, alloc, patient(), &ping, AT_ONCE, line.as_slice());
-    check_called(&rt, alloc, &called, &ping);
-    drop(called);
-    drop(ping);
-}
-
-/// Why a call came to no answer, if it did not, and how often its link has failed.
-type Came = (Option<LinkError>, u64);
-
-fn outcome(called: Called) -> Came {
-    (called.answer.err(), called.failures)
-}
-
-/// What a ping comes to.
-fn ping_outcome<
-    R: Net<Listener = TcpListener, Stream = TcpStream>
-        + Threads
-        + Wait
-        + Clock
-        + Copy
-        + Send
-        + Abort
-        + 'static,
->(rt: &R, alloc: Global, limits: Limits, drip: Drip, bytes: &[u8]) -> Came {
-    let ping = ping(rt, alloc);
-    let came = outcome(call(rt, alloc, limits, &ping, drip, bytes));
-    drop(ping);
-    came
+    let answer = called.answer.ok().expect(&rt, "an answer");
+    assert!(&rt; answer.source == member(&rt, 3) && matches!(&answer.content, Content::Ack(_)));
+    assert!(&rt; called.failures == 0);
+    assert!(&rt; called.line.as_slice() == line_of(&rt, alloc, &ping).as_slice());
 }
 
 #[test]
@@ -245,23 +198,29 @@ fn what_is_no_answer_is_a_fault(rt: HostRuntime) {
             0,
         ),
     ];
+    let limits = patient();
+    let ping = ping(&rt, rt.alloc());
     for (text, fault, counted) in rows {
-        let came = ping_outcome(&rt, rt.alloc(), patient(), AT_ONCE, text.as_bytes());
-        assert!(&rt; came == (Some(fault), counted));
+        let text = text.as_bytes();
+        let called = call(&rt, rt.alloc(), limits, &ping, AT_ONCE, text);
+        assert!(&rt; called.answer.err() == Some(fault) && called.failures == counted);
     }
 }
 
 #[test]
 fn an_answer_may_be_cut_anywhere(rt: HostRuntime) {
     let alloc: Global = rt.alloc();
+    let limits = patient();
+    let ping = ping(&rt, alloc);
     let mut line = ack_line(&rt, alloc);
     let _newline = line.pop();
-    let whole = ping_outcome(&rt, alloc, patient(), AT_ONCE, line.as_slice());
-    assert!(&rt; whole == (None, 0));
+    let whole = call(&rt, alloc, limits, &ping, AT_ONCE, line.as_slice());
+    assert!(&rt; whole.answer.is_ok() && whole.failures == 0);
     for _ in 1..line.len() {
         let _last = line.pop();
-        let came = ping_outcome(&rt, alloc, patient(), AT_ONCE, line.as_slice());
-        assert!(&rt; came == (Some(LinkError::Wire(WireError::BadJson)), 0));
+        let called = call(&rt, alloc, limits, &ping, AT_ONCE, line.as_slice());
+        let fault = LinkError::Wire(WireError::BadJson);
+        assert!(&rt; called.answer.err() == Some(fault) && called.failures == 0);
     }
 }
 
@@ -277,8 +236,9 @@ fn slowly() -> Drip {
 fn a_peer_that_drips_is_left_at_the_limit(rt: HostRuntime) {
     let alloc: Global = rt.alloc();
     let line = ack_line(&rt, alloc);
-    let came = ping_outcome(&rt, alloc, short_pings(), slowly(), line.as_slice());
-    assert!(&rt; came == (Some(LinkError::Io), 1));
+    let ping = ping(&rt, alloc);
+    let called = call(&rt, alloc, short_pings(), &ping, slowly(), line.as_slice());
+    assert!(&rt; called.answer.err() == Some(LinkError::Io) && called.failures == 1);
 }
 
 #[test]
@@ -295,8 +255,7 @@ fn a_helper_has_longer_than_a_pinged_node(rt: HostRuntime) {
         slowly(),
         line.as_slice(),
     );
-    assert!(&rt; outcome(called) == (None, 0));
-    drop(request);
+    assert!(&rt; called.answer.is_ok() && called.failures == 0);
 }
 
 /// So many letters.
@@ -315,8 +274,7 @@ fn an_answer_may_be_too_long(rt: HostRuntime) {
     let request = message(&rt, 9, Content::NotOwner);
     let called = call(&rt, alloc, patient(), &request, AT_ONCE, endless.as_slice());
     let too_long = LinkError::Wire(WireError::LineTooLong);
-    assert!(&rt; outcome(called) == (Some(too_long), 0));
-    drop(request);
+    assert!(&rt; called.answer.err() == Some(too_long) && called.failures == 0);
 }
 
 /// The address of a port where nobody listens.
@@ -361,25 +319,11 @@ fn check_failing<R: Net<Listener = TcpListener, Stream = TcpStream> + Wait + Clo
         let fault = fault(rt, alloc, &mut link, to, &ping);
         assert!(rt; fault == Some(LinkError::Io) && link.failures() == failures);
     }
-    drop(ping);
 }
 
 #[test]
 fn nobody_listens(rt: HostRuntime) {
     check_failing(&rt, rt.alloc(), nobody_at(&rt));
-}
-
-/// Checks that a link that is spent asks nobody.
-fn check_spent<R: Net<Listener = TcpListener, Stream = TcpStream> + Wait + Clock + Abort>(
-    rt: &R,
-    alloc: Global,
-    to: Address,
-) {
-    let mut link = TcpLink::new(rt).after_failures(u64::MAX);
-    let ping = ping(rt, alloc);
-    let fault = link.call(rt, alloc, to, &ping).err();
-    drop(ping);
-    assert!(rt; fault == Some(LinkError::Spent) && link.failures() == u64::MAX);
 }
 
 /// Whether the first that connects where a spent link was to send is one that knocks.
@@ -390,7 +334,9 @@ fn sends_nothing<R: Net<Listener = TcpListener, Stream = TcpStream> + Wait + Clo
     let listener = TcpListener::bind(rt, "127.0.0.1:0").ok()?;
     let port = listener.local_addr().ok()?.port();
     let to = Address::new(0x7f00_0001, port)?;
-    check_spent(rt, alloc, to);
+    let mut link = TcpLink::new(rt).after_failures(u64::MAX);
+    let answer = link.call(rt, alloc, to, &ping(rt, alloc));
+    assert!(rt; matches!(&answer, Err(LinkError::Spent)) && link.failures() == u64::MAX);
     let wait = Duration::from_secs(10);
     let mut knocks = TcpStream::connect_timeout(rt, &socket_address(to), wait).ok()?;
     knocks.write_all(b"knock\n").ok()?;
@@ -413,7 +359,6 @@ fn a_message_too_long_is_not_sent(rt: HostRuntime) {
     let request = request(&rt, alloc, ("a", "b"), body);
     let mut link = TcpLink::new(&rt);
     let fault = fault(&rt, alloc, &mut link, nobody_at(&rt), &request);
-    drop(request);
     assert!(&rt; fault == Some(LinkError::Wire(WireError::LineTooLong)));
     assert!(&rt; link.failures() == 0);
 }

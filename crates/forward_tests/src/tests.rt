@@ -24,7 +24,6 @@ fn check_route(
     let first = texts.first().copied().unwrap_or("");
     let keys = keys(rt, alloc, texts);
     assert_eq!(rt; route_keys(view, &keys), wanted, "of {first}");
-    drop(keys);
 }
 
 /// Checks the keys of each view.
@@ -100,9 +99,7 @@ fn check_calls(rt: &impl Abort, attempt: Attempt, calls: &[Call]) -> Attempt {
 fn attempt_of(rt: &impl Abort, alloc: Global, texts: &[&str], calls: &[Call]) -> (u32, usize) {
     let attempt = Attempt::start(keys(rt, alloc, texts));
     let attempt = check_calls(rt, attempt, calls);
-    let counts = (attempt.sends(), attempt.keys().len());
-    drop(attempt);
-    counts
+    (attempt.sends(), attempt.keys().len())
 }
 
 /// Checks an attempt that fails each time.
@@ -225,7 +222,6 @@ fn count_routing<'a>(
         let keys = keys(rt, alloc, texts.as_slice());
         let before = calls.load(Ordering::SeqCst);
         assert_eq!(rt; route_keys(view, &keys), *wanted);
-        drop(keys);
         assert_eq!(rt; calls.load(Ordering::SeqCst), before.wrapping_add(*hashes));
     }
 }
@@ -249,7 +245,6 @@ fn count<'a>(rt: &impl Abort, alloc: Global, view: &View<CountingHash<'a>>, call
     count_routing(rt, alloc, view, calls);
     let mut attempt = Attempt::start(keys(rt, alloc, &["zzzz1", "zzzz2", "zzzy3"]));
     count_attempt(rt, &mut attempt, view, calls);
-    drop(attempt);
 }
 
 #[test]
@@ -259,5 +254,4 @@ fn each_key_is_hashed_once(rt: HostRuntime) {
     let two = [(B, Status::Faulty), (C, Status::Alive)];
     let view = view(&rt, rt.alloc(), hash, A, &two);
     count(&rt, rt.alloc(), &view, &calls);
-    drop(view);
 }

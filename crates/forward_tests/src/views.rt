@@ -97,9 +97,7 @@ pub(crate) fn view<H: PointHash>(
     members: &[(&str, Status)],
 ) -> View<H> {
     let mut node = node(rt, alloc, hash, own);
-    let view = view_with(rt, &mut node, members);
-    drop(node);
-    view
+    view_with(rt, &mut node, members)
 }
 
 fn leave(node: &mut NodeState<SumHash>) -> Result<Change, NodeError> {
@@ -118,9 +116,7 @@ fn view_after_leave(rt: &impl Abort, node: &mut NodeState<SumHash>) -> View<SumH
 /// The view of a node that has left, and knows nobody else.
 fn left(rt: &impl Abort, alloc: Global) -> View<SumHash> {
     let mut node = node(rt, alloc, SumHash, A);
-    let view = view_after_leave(rt, &mut node);
-    drop(node);
-    view
+    view_after_leave(rt, &mut node)
 }
 
 /// The views of three nodes and of one that has left, by the sum of bytes.
@@ -159,7 +155,6 @@ pub(crate) fn with_views<F: FnMut(&Views)>(
 {
     let views = make_views(rt, alloc, status);
     body(&views);
-    drop(views);
 }
 
 fn text(rt: &impl Abort, alloc: Global, text: &str) -> Text {

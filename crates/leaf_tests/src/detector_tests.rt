@@ -9,6 +9,7 @@ use detector_core::{
 };
 use std::alloc::Global;
 use std::process::Abort;
+use std::test::Fail;
 
 /// The member 10.0.0.`number`:1.
 fn node(rt: &impl Abort, number: u8) -> Address
@@ -80,17 +81,22 @@ fn lose(
 }
 
 /// Starts a timer. Where the growth is refused nothing has changed, and the next try goes on.
-fn start(rt: &impl Abort, timers: &mut Timers, number: u8, next: Status, deadline: u64) {
+fn start(
+    rt: &impl Abort,
+    timers: &mut Timers,
+    number: u8,
+    next: Status,
+    deadline: u64,
+) -> Result<(), DetectorError> {
     let one = Incarnation::new(1).expect(rt, "an incarnation");
     let last = moment(rt, GREATEST_NUMBER);
     let before = (timers.len(), timers.due(last));
     if timers.reserve_one().is_err() {
-        assert!(rt; (timers.len(), timers.due(last)) == before);
-        let Ok(()) = timers.reserve_one() else {
-            panic!(rt; "no room")
-        };
+        assert_eq!(rt; (timers.len(), timers.due(last)), before);
+        timers.reserve_one()?;
     }
     timers.set(node(rt, number), one, next, deadline);
+    Ok(())
 }
 
 /// Has a new prober, which has used this number last, go through this.
@@ -403,77 +409,61 @@ fn a_helper_answers_once(rt: HostRuntime) {
     with_prober(rt.alloc(), 7, 16, 0, |prober| hear_once(&rt, prober));
 }
 
-/// Has new timers go through this.
-fn with_timers<F: FnMut(&mut Timers)>(alloc: Global, mut body: F)
-    requires { F.IsAlwaysCallable body }
-{
-    let mut timers = Timers::new(alloc);
-    body(&mut timers);
-}
-
-/// What a timer that was started with the status that comes next is to say.
-fn due(rt: &impl Abort, number: u8, next: Status) -> Due {
-    Due {
-        address: node(rt, number),
-        incarnation: Incarnation::new(1).expect(rt, "an incarnation"),
-        next,
-    }
-}
-
-/// Starts three timers, the last beyond the greatest moment, and has each due in its turn.
-fn start_three(rt: &impl Abort, timers: &mut Timers) {
-    for (number, deadline) in [(2, 20), (3, 10), (4, GREATEST_NUMBER + 1)] {
-        start(rt, timers, number, Status::Faulty, deadline);
-    }
+#[test]
+fn timers_run_out_at_their_deadlines(rt: HostRuntime) -> Result<(), Fail> {
+    let mut timers = Timers::new(rt.alloc());
+    start(&rt, &mut timers, 2, Status::Faulty, 20)?;
+    start(&rt, &mut timers, 3, Status::Faulty, 10)?;
+    start(&rt, &mut timers, 4, Status::Faulty, GREATEST_NUMBER + 1)?;
     for (now, wanted) in [
         (9, None),
-        (10, Some(due(rt, 3, Status::Faulty))),
-        (20, Some(due(rt, 2, Status::Faulty))),
-        (GREATEST_NUMBER, Some(due(rt, 2, Status::Faulty))),
+        (10, Some(3)),
+        (20, Some(2)),
+        (GREATEST_NUMBER, Some(2)),
     ] {
-        assert!(rt; timers.due(moment(rt, now)) == wanted, "at {now}");
+        let due = timers.due(moment(&rt, now)).map(|due| due.address);
+        assert_eq!(rt; due, wanted.map(|number| node(&rt, number)), "at {now}");
     }
-}
-
-/// Clears two of the three.
-fn clear_two(rt: &impl Abort, timers: &mut Timers) {
     for wanted in [true, false] {
-        assert!(rt; timers.clear(node(rt, 2)) == wanted);
+        assert_eq!(rt; timers.clear(node(&rt, 2)), wanted);
     }
-    assert!(rt; timers.due(moment(rt, 20)) == Some(due(rt, 3, Status::Faulty)));
-    timers.clear(node(rt, 3));
-    assert!(rt; timers.due(moment(rt, GREATEST_NUMBER)).is_none() && timers.len() == 1);
+    assert_eq!(rt;
+        timers.due(moment(&rt, 20)),
+        Some(Due {
+            address: node(&rt, 3),
+            incarnation: Incarnation::new(1).ok_or("an incarnation")?,
+            next: Status::Faulty
+        })
+    );
+    timers.clear(node(&rt, 3));
+    assert_eq!(rt; timers.due(moment(&rt, GREATEST_NUMBER)), None);
+    assert_eq!(rt; timers.len(), 1);
+    Ok(())
 }
 
 #[test]
-fn timers_run_out_at_their_deadlines(rt: HostRuntime) {
-    with_timers(rt.alloc(), |timers| {
-        start_three(&rt, timers);
-        clear_two(&rt, timers);
-    });
-}
-
-/// Starts a timer twice.
-fn start_again(rt: &impl Abort, timers: &mut Timers) {
+fn a_timer_is_replaced(rt: HostRuntime) -> Result<(), Fail> {
+    let address = node(&rt, 2);
+    let incarnation = Incarnation::new(1).ok_or("an incarnation")?;
+    let mut timers = Timers::new(rt.alloc());
     for (next, before, deadline) in [
         (Status::Faulty, 4_999, 5_000),
         (Status::Tombstone, 86_404_999, 86_405_000),
     ] {
-        start(rt, timers, 2, next, deadline);
-        assert!(rt; timers.len() == 1 && timers.due(moment(rt, before)).is_none());
-        assert!(rt; timers.due(moment(rt, deadline)) == Some(due(rt, 2, next)));
+        start(&rt, &mut timers, 2, next, deadline)?;
+        assert_eq!(rt; timers.len(), 1);
+        let due = Due {
+            address,
+            incarnation,
+            next,
+        };
+        for (now, wanted) in [(before, None), (deadline, Some(due))] {
+            assert_eq!(rt; timers.due(moment(&rt, now)), wanted, "at {now}");
+        }
     }
-}
-
-/// Starts a timer, and clears it.
-fn start_and_clear(rt: &impl Abort, timers: &mut Timers) {
-    start(rt, timers, 2, Status::Faulty, 5_000);
-    timers.clear(node(rt, 2));
-    assert!(rt; timers.due(moment(rt, 5_000)).is_none());
-}
-
-#[test]
-fn a_timer_is_replaced(rt: HostRuntime) {
-    with_timers(rt.alloc(), |timers| start_again(&rt, timers));
-    with_timers(rt.alloc(), |timers| start_and_clear(&rt, timers));
+    let mut cleared = Timers::new(rt.alloc());
+    start(&rt, &mut cleared, 2, Status::Faulty, 5_000)?;
+    cleared.clear(address);
+    assert_eq!(rt; cleared.due(moment(&rt, 5_000)), None);
+    Ok(())
 }

@@ -14,3 +14,5 @@ mod lock_tests;
 mod member_tests;
 #[cfg(test)]
 mod ring_tests;
+#[cfg(test)]
+mod wire_tests;

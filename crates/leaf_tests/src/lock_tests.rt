@@ -110,41 +110,32 @@ fn try_pair(
 
 /// The same. Where memory was refused, it is asked for once more.
 fn pair(
-    rt: &impl Abort,
     alloc: Global,
     name: u64,
     turns: u32,
-) -> (Shared, Entrant, Entrant, Vec<Entrant>)
-    ensures passes { IsOutside result.0 result.1 × IsOutside result.0 result.2 }
-    ensures name { name_of result.0 ≡ name }
-    ensures room { result.3.items ≡ [] }
+) -> Result<(Shared, Entrant, Entrant, Vec<Entrant>), Fail>
+    ensures passes { IfOk result (λ t. IsOutside t.0 t.1 × IsOutside t.0 t.2) }
+    ensures name { IfOk result (λ t. name_of t.0 ≡ name) }
+    ensures room { IfOk result (λ t. t.3.items ≡ []) }
 {
-    if let Ok(Some(made)) = try_pair(alloc, name, turns) {
-        return made;
+    if let Some(made) = try_pair(alloc, name, turns)? {
+        return Ok(made);
     }
-    let Ok(Some(made)) = try_pair(alloc, name, turns) else {
-        panic!(rt; "no lock")
-    };
-    made
+    Ok(try_pair(alloc, name, turns)?.ok_or("a lock")?)
 }
 
 fn close_pair(
-    rt: &impl Abort,
     lock: Shared,
     first: Entrant,
     second: Entrant,
     mut room: Vec<Entrant>,
-) -> Tally
+) -> Result<Tally, Fail>
     requires passes { IsOutside lock first × IsOutside lock second }
     requires room { room.items ≡ [] }
 {
-    let Ok(()) = room.push(first) else {
-        panic!(rt; "no room")
-    };
-    let Ok(()) = room.push(second) else {
-        panic!(rt; "no room")
-    };
-    lock.close(room).ok().expect(rt, "it closes")
+    room.push(first)?;
+    room.push(second)?;
+    Ok(lock.close(room).ok().ok_or("it closes")?)
 }
 
 fn add_in_both<R: Threads + Wait + Sync>(
@@ -171,16 +162,15 @@ fn add_in_both<R: Threads + Wait + Sync>(
 }
 
 #[test]
-fn two_threads_add_a_thousand_each(rt: HostRuntime) {
-    let (lock, first, second, room) = pair(&rt, rt.alloc(), 7, 1000);
-    let Ok((first, second)) = add_in_both(&rt, &lock, first, second) else {
-        panic!(rt; "a turn was refused")
-    };
-    let tally = close_pair(&rt, lock, first, second, room);
+fn two_threads_add_a_thousand_each(rt: HostRuntime) -> Result<(), Fail> {
+    let (lock, first, second, room) = pair(rt.alloc(), 7, 1000)?;
+    let (first, second) = add_in_both(&rt, &lock, first, second)?;
+    let tally = close_pair(lock, first, second, room)?;
     assert_eq!(rt;
         (tally.numbers.len(), tally.count(1), tally.count(2)),
         (2000, 1000, 1000)
     );
+    Ok(())
 }
 
 fn meet_in_both<R: Threads + Wait + Clock + Sync>(
@@ -204,9 +194,10 @@ fn meet_in_both<R: Threads + Wait + Clock + Sync>(
 }
 
 #[test]
-fn each_of_two_threads_reads_the_others_entry(rt: HostRuntime) {
-    let (lock, first, second, _) = pair(&rt, rt.alloc(), 7, 20_000);
-    assert!(rt; meet_in_both(&rt, &lock, first, second) == Ok((true, true)));
+fn each_of_two_threads_reads_the_others_entry(rt: HostRuntime) -> Result<(), Fail> {
+    let (lock, first, second, _) = pair(rt.alloc(), 7, 20_000)?;
+    assert_eq!(rt; meet_in_both(&rt, &lock, first, second)?, (true, true));
+    Ok(())
 }
 
 /// Rests inside, and then adds a number.
@@ -242,9 +233,10 @@ fn wait_for_a_number<R: Threads + Wait + Clock + Sync>(
 }
 
 #[test]
-fn a_pass_waits_while_another_rests_inside(rt: HostRuntime) {
-    let (lock, first, second, _) = pair(&rt, rt.alloc(), 7, 1);
-    assert!(rt; wait_for_a_number(&rt, &lock, first, second) == Ok(true));
+fn a_pass_waits_while_another_rests_inside(rt: HostRuntime) -> Result<(), Fail> {
+    let (lock, first, second, _) = pair(rt.alloc(), 7, 1)?;
+    assert!(rt; wait_for_a_number(&rt, &lock, first, second)?);
+    Ok(())
 }
 
 #[test]
@@ -282,56 +274,49 @@ fn a_lock_with_the_most_passes_and_turns_closes(rt: HostRuntime) -> Result<(), F
     Ok(())
 }
 
-/// Adds a number three times.
-fn add_thrice<R: Wait>(rt: &R, lock: &Shared, pass: &mut Entrant) -> [Result<(), LockError>; 3]
-    requires { IsOutside lock.now pass.old }
-    ensures { IsOutside lock.now pass.new }
-{
-    let once = add(rt, lock, pass, 1);
-    let twice = add(rt, lock, pass, 1);
-    [once, twice, add(rt, lock, pass, 1)]
-}
-
 #[test]
-fn a_pass_is_spent_after_its_turns(rt: HostRuntime) {
-    let (lock, mut first, second, room) = pair(&rt, rt.alloc(), 7, 2);
-    let answers = add_thrice(&rt, &lock, &mut first);
-    assert!(rt; answers == [Ok(()), Ok(()), Err(LockError::PassSpent)]);
-    let tally = close_pair(&rt, lock, first, second, room);
+fn a_pass_is_spent_after_its_turns(rt: HostRuntime) -> Result<(), Fail> {
+    let (lock, mut first, second, room) = pair(rt.alloc(), 7, 2)?;
+    let once = add(&rt, &lock, &mut first, 1);
+    let twice = add(&rt, &lock, &mut first, 1);
+    let refused = add(&rt, &lock, &mut first, 1);
+    assert_eq!(rt;
+        (once, twice, refused),
+        (Ok(()), Ok(()), Err(LockError::PassSpent))
+    );
+    let tally = close_pair(lock, first, second, room)?;
     assert_eq!(rt; tally.count(1), 2);
+    Ok(())
 }
 
 #[test]
 #[tactic(auto, unfolding(turn_lock::specs::Passes::IsOutside))]
-fn a_pass_of_another_lock_is_refused(rt: HostRuntime) {
-    let (lock, first, second, mut passes) = pair(&rt, rt.alloc(), 7, 2);
-    let (_other, mut foreign, _, _) = pair(&rt, rt.alloc(), 8, 2);
+fn a_pass_of_another_lock_is_refused(rt: HostRuntime) -> Result<(), Fail> {
+    let (lock, first, second, mut passes) = pair(rt.alloc(), 7, 2)?;
+    let (_other, mut foreign, _, _) = pair(rt.alloc(), 8, 2)?;
     let refused = lock.enter(&rt, &mut foreign).err();
     assert_eq!(rt; refused, Some(LockError::ForeignPass));
-    let Ok(()) = passes.push(first) else {
-        panic!(rt; "no room")
-    };
-    let Ok(()) = passes.push(foreign) else {
-        panic!(rt; "no room")
-    };
-    let Err(refused) = lock.close(passes) else {
+    passes.push(first)?;
+    passes.push(foreign)?;
+    let Err(
+        CloseRefused {
+            lock,
+            passes,
+            cause,
+        },
+    ) = lock.close(passes)
+    else {
         panic!(rt; "a pass is foreign")
     };
-    assert_eq!(rt;
-        (refused.cause, refused.passes.len()),
-        (CloseError::ForeignPass, 2)
-    );
+    assert_eq!(rt; (cause, passes.len()), (CloseError::ForeignPass, 2));
+    Ok(())
 }
 
 #[test]
-fn a_lock_does_not_close_without_a_pass(rt: HostRuntime) {
-    let (lock, mut first, second, mut passes) = pair(&rt, rt.alloc(), 7, 2);
-    let Ok(()) = add(&rt, &lock, &mut first, 5) else {
-        panic!(rt; "a turn was refused")
-    };
-    let Ok(()) = passes.push(first) else {
-        panic!(rt; "no room")
-    };
+fn a_lock_does_not_close_without_a_pass(rt: HostRuntime) -> Result<(), Fail> {
+    let (lock, mut first, second, mut passes) = pair(rt.alloc(), 7, 2)?;
+    add(&rt, &lock, &mut first, 5)?;
+    passes.push(first)?;
     let Err(
         CloseRefused {
             lock,
@@ -343,9 +328,8 @@ fn a_lock_does_not_close_without_a_pass(rt: HostRuntime) {
         panic!(rt; "a pass is missing")
     };
     assert_eq!(rt; (cause, passes.len()), (CloseError::MissingPass, 1));
-    let Ok(()) = passes.push(second) else {
-        panic!(rt; "no room")
-    };
-    let tally = lock.close(passes).ok().expect(&rt, "both passes are there");
+    passes.push(second)?;
+    let tally = lock.close(passes).ok().ok_or("both passes are there")?;
     assert_eq!(rt; tally.count(5), 1);
+    Ok(())
 }

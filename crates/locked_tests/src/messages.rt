@@ -1,10 +1,10 @@
 //! Messages that a locked node makes and answers, and what it says of its members.
 ghost use Rattle.locked_node.specs.Passes.{Fits};
 
-use crate::shared::{Caller, Shared, change, hear, made, member, moment, news, with_shared};
+use crate::shared::{Caller, Shared, change, hear, member, moment, news, tried, with_shared};
 use locked_node::{
-    Address, Change, Changes, Content, Digest, Incarnation, Kind, Message, News, Received, Sourced,
-    Status, Taken,
+    Addresses, ChangeList, Changes, Content, Digest, Incarnation, Kind, Message, News, Received,
+    Sourced, Status, Taken, Text,
 };
 use std::alloc::Global;
 use std::process::Abort;
@@ -23,18 +23,9 @@ fn digest_of(rt: &impl Abort, text: &str) -> Digest {
     Digest::parse(text).expect(rt, "a digest")
 }
 
-fn changes(rt: &impl Abort, alloc: Global, given: &[Sourced]) -> Changes {
-    match Changes::from_slice(alloc, given) {
-        Ok(changes) => changes,
-        Err(_) => Changes::from_slice(alloc, given).ok().expect(rt, "changes"),
-    }
-}
-
-fn news_of(rt: &impl Abort, alloc: Global, checksum: &str, given: &[Sourced]) -> News {
-    News {
-        checksum: digest_of(rt, checksum),
-        changes: changes(rt, alloc, given),
-    }
+fn news_of(rt: &impl Abort, checksum: Digest, changes: Vec<Sourced>) -> News {
+    let changes = Changes::from_vec(changes).ok().expect(rt, "changes");
+    News { checksum, changes }
 }
 
 /// A message of 10.0.0.1:1 at 7.
@@ -44,29 +35,6 @@ fn message(rt: &impl Abort, content: Content) -> Message {
         source_incarnation: Incarnation::new(7).expect(rt, "an incarnation"),
         content,
     }
-}
-
-/// What was taken of a message and what is answered; without an answer what was taken, if the message was.
-fn answered(received: Received) -> Result<(Taken, Message), Option<Taken>> {
-    match received {
-        Received::Answer(taken, answer) => Ok((taken, answer)),
-        Received::NoAnswer(taken) => Err(Some(taken)),
-        _ => Err(None),
-    }
-}
-
-/// What comes of a message that comes once.
-fn answer_once<R: Wait + Abort>(
-    rt: &R,
-    shared: &Shared,
-    pass: &mut Caller,
-    message: &Message,
-) -> Result<(Taken, Message), Option<Taken>>
-    requires { Fits shared.now pass.old }
-    ensures { Fits shared.now pass.new }
-{
-    let received = shared.receive(rt, pass, message, moment(rt, 0));
-    answered(received.ok().expect(rt, "a turn"))
 }
 
 /// The answer to a message. Where none could be made, the message comes again.
@@ -79,12 +47,22 @@ fn answer<R: Wait + Abort>(
     requires { Fits shared.now pass.old }
     ensures { Fits shared.now pass.new }
 {
-    match answer_once(rt, shared, pass, message) {
-        Ok(both) => Some(both),
-        Err(first) => match answer_once(rt, shared, pass, message) {
-            Ok((second, answer)) => Some((first.unwrap_or(second), answer)),
-            Err(_) => None,
+    let now = moment(rt, 0);
+    let first = shared
+        .receive(rt, pass, message, now)
+        .ok()
+        .expect(rt, "a turn");
+    match first {
+        Received::Answer(taken, answer) => Some((taken, answer)),
+        Received::NoAnswer(taken) => match shared.receive(rt, pass, message, now).ok()? {
+            Received::Answer(_, answer) => Some((taken, answer)),
+            _ => None,
         },
+        Received::Stopped(_) => match shared.receive(rt, pass, message, now).ok()? {
+            Received::Answer(taken, answer) => Some((taken, answer)),
+            _ => None,
+        },
+        Received::Done(_) | Received::NotGossip => None,
     }
 }
 
@@ -105,45 +83,43 @@ fn told(rt: &impl Abort, number: u8, incarnation: u64) -> Sourced {
     }
 }
 
+/// A list of one change.
+fn one_change(rt: &impl Abort, alloc: Global, given: Sourced) -> Vec<Sourced> {
+    let mut changes = Vec::new(alloc);
+    if changes.reserve(1).is_err() {
+        changes.reserve(1).ok().expect(rt, "room");
+    }
+    changes.push(given).ok().expect(rt, "room");
+    changes
+}
+
 /// A join of 10.0.0.1:1, alive at 7.
 fn join(rt: &impl Abort, alloc: Global) -> Message {
-    let own = [news(rt, 1, 7, Status::Alive)];
+    let changes = one_change(rt, alloc, news(rt, 1, 7, Status::Alive));
     message(
         rt,
-        Content::Join(news_of(rt, alloc, NOBODY, own.as_slice())),
+        Content::Join(news_of(rt, digest_of(rt, NOBODY), changes)),
     )
 }
 
 /// Whether it is a Joined of 10.0.0.2:1 with all members.
-fn is_joined(rt: &impl Abort, joined: Message) -> bool {
+fn is_joined(rt: &impl Abort, joined: &Message) -> bool {
     let all = [told(rt, 1, 7), told(rt, 2, 1)];
-    let is_joined = joined.source == member(rt, 2)
+    joined.source == member(rt, 2)
         && joined.content.kind() == Kind::Joined
-        && carried(&joined) == all.as_slice();
-    drop(joined);
-    is_joined
-}
-
-/// Whether a join is answered so, with one change applied.
-fn is_let_in<R: Wait + Abort>(rt: &R, shared: &Shared, pass: &mut Caller, join: &Message) -> bool
-    requires { Fits shared.now pass.old }
-{
-    let wanted = Taken {
-        applied: 1,
-        refuted: 0,
-    };
-    match answer(rt, shared, pass, join) {
-        Some((taken, joined)) => is_joined(rt, joined) && taken == wanted,
-        None => false,
-    }
+        && carried(joined) == all.as_slice()
 }
 
 fn check_join<R: Wait + Abort>(rt: &R, alloc: Global, shared: &Shared, pass: &mut Caller)
     requires { Fits shared.now pass.old }
 {
-    let join = join(rt, alloc);
-    assert!(rt; is_let_in(rt, shared, pass, &join));
-    drop(join);
+    let answered = answer(rt, shared, pass, &join(rt, alloc));
+    let (taken, joined) = answered.expect(rt, "an answer");
+    let wanted = Taken {
+        applied: 1,
+        refuted: 0,
+    };
+    assert!(rt; taken == wanted && is_joined(rt, &joined));
 }
 
 #[test]
@@ -156,14 +132,8 @@ fn a_join_is_answered_by_all_members(rt: HostRuntime) {
 
 /// A ping of 10.0.0.1:1 without changes.
 fn empty_ping(rt: &impl Abort, alloc: Global, checksum: &str) -> Message {
-    message(rt, Content::Ping(news_of(rt, alloc, checksum, &[])))
-}
-
-/// Whether it is an Ack with these changes.
-fn is_ack(message: Message, wanted: &[Sourced]) -> bool {
-    let is_ack = message.content.kind() == Kind::Ack && carried(&message) == wanted;
-    drop(message);
-    is_ack
+    let content = Content::Ping(news_of(rt, digest_of(rt, checksum), Vec::new(alloc)));
+    message(rt, content)
 }
 
 /// Whether a ping is answered by an Ack with these changes.
@@ -177,10 +147,10 @@ fn is_acked<R: Wait + Abort>(
     requires { Fits shared.now pass.old }
     ensures { Fits shared.now pass.new }
 {
-    match answer(rt, shared, pass, ping) {
-        Some((_, ack)) => is_ack(ack, wanted),
-        None => false,
-    }
+    let Some((_, ack)) = answer(rt, shared, pass, ping) else {
+        return false;
+    };
+    ack.content.kind() == Kind::Ack && carried(&ack) == wanted
 }
 
 /// Checks fifteen answers to a ping, which bring each the birth of 10.0.0.2:1 and no more.
@@ -192,33 +162,6 @@ fn check_fifteen<R: Wait + Abort>(rt: &R, shared: &Shared, pass: &mut Caller, pi
     for _ in 0..15u8 {
         assert!(rt; is_acked(rt, shared, pass, ping, birth.as_slice()));
     }
-}
-
-/// Has fifteen pings answered.
-fn ping_fifteen_times<R: Wait + Abort>(rt: &R, alloc: Global, shared: &Shared, pass: &mut Caller)
-    requires { Fits shared.now pass.old }
-    ensures { Fits shared.now pass.new }
-{
-    let ping = empty_ping(rt, alloc, NOBODY);
-    check_fifteen(rt, shared, pass, &ping);
-    drop(ping);
-}
-
-/// Whether a ping of a sender with this checksum is answered by these changes.
-fn is_told<R: Wait + Abort>(
-    rt: &R,
-    alloc: Global,
-    shared: &Shared,
-    pass: &mut Caller,
-    checksum: &str,
-    wanted: &[Sourced],
-) -> bool
-    requires { Fits shared.now pass.old }
-{
-    let ping = empty_ping(rt, alloc, checksum);
-    let is_acked = is_acked(rt, shared, pass, &ping, wanted);
-    drop(ping);
-    is_acked
 }
 
 /// Checks which members the Ack of the sixteenth ping names, where its sender has this checksum.
@@ -235,8 +178,9 @@ fn check_pings<R: Wait + Abort>(
     let mut given = news(rt, 3, 1, Status::Alive);
     given.source = member(rt, 1);
     hear(rt, shared, pass, &given, 0);
-    ping_fifteen_times(rt, alloc, shared, pass);
-    assert!(rt; is_told(rt, alloc, shared, pass, checksum, wanted));
+    check_fifteen(rt, shared, pass, &empty_ping(rt, alloc, NOBODY));
+    let last = empty_ping(rt, alloc, checksum);
+    assert!(rt; is_acked(rt, shared, pass, &last, wanted));
 }
 
 #[test]
@@ -250,59 +194,56 @@ fn pings_are_answered_by_news_and_then_by_all(rt: HostRuntime) {
     }
 }
 
+fn join_message<R: Wait + Abort>(rt: &R, shared: &Shared, pass: &mut Caller) -> Message
+    requires { Fits shared.now pass.old }
+    ensures { Fits shared.now pass.new }
+{
+    let made = tried!(rt, shared.join_message(rt, pass));
+    made.ok().expect(rt, "a message")
+}
+
+fn ping<R: Wait + Abort>(rt: &R, shared: &Shared, pass: &mut Caller) -> Message
+    requires { Fits shared.now pass.old }
+    ensures { Fits shared.now pass.new }
+{
+    let made = tried!(rt, shared.ping_to(rt, pass, member(rt, 2)));
+    made.ok().expect(rt, "a message")
+}
+
+fn ping_req<R: Wait + Abort>(rt: &R, shared: &Shared, pass: &mut Caller) -> Message
+    requires { Fits shared.now pass.old }
+    ensures { Fits shared.now pass.new }
+{
+    let made = tried!(
+        rt,
+        shared.ping_req_to(rt, pass, member(rt, 2), member(rt, 3))
+    );
+    made.ok().expect(rt, "a message")
+}
+
+fn ping_req_ack<R: Wait + Abort>(rt: &R, shared: &Shared, pass: &mut Caller) -> Message
+    requires { Fits shared.now pass.old }
+    ensures { Fits shared.now pass.new }
+{
+    let made = tried!(
+        rt,
+        shared.ping_req_ack_to(rt, pass, member(rt, 2), member(rt, 3), true)
+    );
+    made.ok().expect(rt, "a message")
+}
+
 /// Whether a message is of this kind, by 10.0.0.1:1.
 fn is_own(rt: &impl Abort, message: Message, kind: Kind) -> bool {
-    let is_own = message.content.kind() == kind && message.source == member(rt, 1);
-    drop(message);
-    is_own
-}
-
-/// Whether the node makes a Join of its own.
-fn makes_join<R: Wait + Abort>(rt: &R, shared: &Shared, pass: &mut Caller) -> bool
-    requires { Fits shared.now pass.old }
-    ensures { Fits shared.now pass.new }
-{
-    let message = made!(rt, shared.join_message(rt, pass));
-    is_own(rt, message, Kind::Join)
-}
-
-/// Whether the node makes a Ping of its own.
-fn makes_ping<R: Wait + Abort>(rt: &R, shared: &Shared, pass: &mut Caller) -> bool
-    requires { Fits shared.now pass.old }
-    ensures { Fits shared.now pass.new }
-{
-    let target = member(rt, 2);
-    let message = made!(rt, shared.ping_to(rt, pass, target));
-    is_own(rt, message, Kind::Ping)
-}
-
-/// Whether the node makes a PingReq of its own.
-fn makes_ping_req<R: Wait + Abort>(rt: &R, shared: &Shared, pass: &mut Caller) -> bool
-    requires { Fits shared.now pass.old }
-    ensures { Fits shared.now pass.new }
-{
-    let (helper, target) = (member(rt, 2), member(rt, 3));
-    let message = made!(rt, shared.ping_req_to(rt, pass, helper, target));
-    is_own(rt, message, Kind::PingReq)
-}
-
-/// Whether the node makes a PingReqAck of its own.
-fn makes_ping_req_ack<R: Wait + Abort>(rt: &R, shared: &Shared, pass: &mut Caller) -> bool
-    requires { Fits shared.now pass.old }
-    ensures { Fits shared.now pass.new }
-{
-    let (asker, target) = (member(rt, 2), member(rt, 3));
-    let message = made!(rt, shared.ping_req_ack_to(rt, pass, asker, target, true));
-    is_own(rt, message, Kind::PingReqAck)
+    message.content.kind() == kind && message.source == member(rt, 1)
 }
 
 fn check_messages<R: Wait + Abort>(rt: &R, shared: &Shared, pass: &mut Caller)
     requires { Fits shared.now pass.old }
 {
-    assert!(rt; makes_join(rt, shared, pass));
-    assert!(rt; makes_ping(rt, shared, pass));
-    assert!(rt; makes_ping_req(rt, shared, pass));
-    assert!(rt; makes_ping_req_ack(rt, shared, pass));
+    assert!(rt; is_own(rt, join_message(rt, shared, pass), Kind::Join));
+    assert!(rt; is_own(rt, ping(rt, shared, pass), Kind::Ping));
+    assert!(rt; is_own(rt, ping_req(rt, shared, pass), Kind::PingReq));
+    assert!(rt; is_own(rt, ping_req_ack(rt, shared, pass), Kind::PingReqAck));
 }
 
 #[test]
@@ -312,55 +253,47 @@ fn makes_messages(rt: HostRuntime) {
     });
 }
 
-/// Whether the node holds these members.
-fn holds<R: Wait + Abort>(rt: &R, shared: &Shared, pass: &mut Caller, wanted: &[Change]) -> bool
+fn members<R: Wait + Abort>(rt: &R, shared: &Shared, pass: &mut Caller) -> ChangeList
     requires { Fits shared.now pass.old }
     ensures { Fits shared.now pass.new }
 {
-    let members = made!(rt, shared.members(rt, pass));
-    members.as_slice() == wanted
+    let made = tried!(rt, shared.members(rt, pass));
+    made.ok().expect(rt, "members")
 }
 
-/// Whether the node's membership is this as a text.
-fn is_written<R: Wait + Abort>(rt: &R, shared: &Shared, pass: &mut Caller, wanted: &str) -> bool
+fn digest_text<R: Wait + Abort>(rt: &R, shared: &Shared, pass: &mut Caller) -> Text
     requires { Fits shared.now pass.old }
     ensures { Fits shared.now pass.new }
 {
-    let text = made!(rt, shared.digest_text(rt, pass));
-    text.as_str() == wanted
+    let made = tried!(rt, shared.digest_text(rt, pass));
+    made.ok().expect(rt, "a text")
 }
 
-/// Whether this is the node's digest.
-fn has_digest<R: Wait + Abort>(rt: &R, shared: &Shared, pass: &mut Caller, wanted: &str) -> bool
+fn digest<R: Wait + Abort>(rt: &R, shared: &Shared, pass: &mut Caller) -> Digest
     requires { Fits shared.now pass.old }
     ensures { Fits shared.now pass.new }
 {
-    made!(rt, shared.digest(rt, pass)) == digest_of(rt, wanted)
+    let made = tried!(rt, shared.digest(rt, pass));
+    made.ok().expect(rt, "a digest")
 }
 
-/// Whether the owners of a key are these.
-fn are_owners<R: Wait + Abort>(
-    rt: &R,
-    shared: &Shared,
-    pass: &mut Caller,
-    wanted: &[Address],
-) -> bool
+fn owners<R: Wait + Abort>(rt: &R, shared: &Shared, pass: &mut Caller) -> Addresses
     requires { Fits shared.now pass.old }
     ensures { Fits shared.now pass.new }
 {
-    let owners = made!(rt, shared.owners(rt, pass, b"key", 9));
-    owners.as_slice() == wanted
+    let made = tried!(rt, shared.owners(rt, pass, b"key", 9));
+    made.ok().expect(rt, "owners")
 }
 
 fn check_held<R: Wait + Abort>(rt: &R, shared: &Shared, pass: &mut Caller)
     requires { Fits shared.now pass.old }
 {
     let own = [change(rt, 1, 7, Status::Alive)];
-    assert!(rt; holds(rt, shared, pass, own.as_slice()));
-    assert!(rt; is_written(rt, shared, pass, "10.0.0.1:1alive7"));
-    assert!(rt; has_digest(rt, shared, pass, ALONE));
     let named = [member(rt, 1)];
-    assert!(rt; are_owners(rt, shared, pass, named.as_slice()));
+    assert!(rt; members(rt, shared, pass).as_slice() == own.as_slice());
+    assert!(rt; digest_text(rt, shared, pass).as_str() == "10.0.0.1:1alive7");
+    assert!(rt; digest(rt, shared, pass) == digest_of(rt, ALONE));
+    assert!(rt; owners(rt, shared, pass).as_slice() == named.as_slice());
 }
 
 #[test]

@@ -7,8 +7,8 @@ ghost use Rattle.turn_lock.specs.Passes.{lock_name};
 ghost use Rattle.locked_node.specs.Passes.{name_of, Fits, IsNew};
 
 use locked_node::{
-    Address, Change, Config, Incarnation, LockError, LockedNode, Moment, NodeError, NodePass,
-    NodeState, Sourced, Status, StopCause, Stopped, SumHash, Taken, Weight,
+    Address, Change, Config, Incarnation, LockedNode, Moment, NodePass, NodeState, Sourced, Status,
+    StopCause, Stopped, SumHash, Taken, Weight,
 };
 use std::alloc::Global;
 use std::process::Abort;
@@ -27,32 +27,6 @@ macro_rules! tried {
 }
 
 pub(crate) use tried;
-
-/// What a call of the node gives; none where it found no memory, and is to be made once more.
-pub(crate) fn given<T: Drop>(
-    rt: &impl Abort,
-    answer: Result<Result<T, NodeError>, LockError>,
-) -> Option<T> {
-    match answer.ok().expect(rt, "a turn") {
-        Ok(value) => Some(value),
-        Err(fault) => {
-            assert!(rt; fault == NodeError::Memory);
-            None
-        }
-    }
-}
-
-/// What a call of the node gives, made once more where it found no memory.
-macro_rules! made {
-    ($rt:expr, $call:expr) => {
-        match crate::shared::given($rt, $call) {
-            Some(value) => value,
-            None => crate::shared::given($rt, $call).expect($rt, "memory"),
-        }
-    };
-}
-
-pub(crate) use made;
 
 pub(crate) type Shared = LockedNode<SumHash>;
 
@@ -173,8 +147,6 @@ pub(crate) fn with_shared<F: FnOnce(&Shared, &mut Caller)>(
 {
     let (shared, mut pass) = alone(rt, alloc, number, incarnation, max);
     body(&shared, &mut pass);
-    drop(pass);
-    drop(shared);
 }
 
 /// The node at 7 with two passes, and the list that they came in, now empty.

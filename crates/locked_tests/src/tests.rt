@@ -1,13 +1,13 @@
 //! What no clause says: that the calls succeed, and that threads take turns. Worked examples, by one pass or by several.
-ghost use Rattle.std.specs.Prelude.{◌≡◌, []};
+ghost use Rattle.std.specs.Prelude.{◌≡◌};
 ghost use Rattle.std.specs.List.{All};
 ghost use Rattle.change_core.specs.Address.{address_of};
 ghost use Rattle.turn_lock.specs.Passes.{lock_name};
 ghost use Rattle.locked_node.specs.Passes.{Fits};
 
 use crate::shared::{
-    Caller, Shared, Start, change, hear, made, member, moment, news, node, own, owner, pair,
-    status_of, take, tried, with_shared,
+    Caller, Shared, Start, change, hear, member, moment, news, node, own, owner, pair, status_of,
+    take, tried, with_shared,
 };
 use locked_node::{
     Address, Addresses, Change, CloseError, LockError, LockedNode, NewError, NodeError, NodeState,
@@ -30,7 +30,8 @@ fn view<R: Wait + Abort>(rt: &R, shared: &Shared, pass: &mut Caller) -> View<Sum
     requires { Fits shared.now pass.old }
     ensures { Fits shared.now pass.new }
 {
-    made!(rt, shared.view(rt, pass))
+    let view = tried!(rt, shared.view(rt, pass));
+    view.ok().expect(rt, "a view")
 }
 
 /// Checks which members own two keys.
@@ -43,21 +44,6 @@ fn check_owners<R: Wait + Abort>(rt: &R, shared: &Shared, pass: &mut Caller, own
     assert!(rt; owner(rt, shared, pass, "zzzz1") == Some(member(rt, second)));
 }
 
-/// Has another member own a key.
-fn change_owner<R: Wait + Abort>(rt: &R, shared: &Shared, pass: &mut Caller)
-    requires { Fits shared.now pass.old }
-{
-    check_owners(rt, shared, pass, [1, 2]);
-    hear(rt, shared, pass, &news(rt, 2, 1, Status::Faulty), 0);
-    check_owners(rt, shared, pass, [1, 3]);
-}
-
-/// Checks that a view names the owners of its time.
-fn check_before(rt: &impl Abort, before: &View<SumHash>) {
-    assert!(rt; before.owner(b"zzzz0") == Some(member(rt, 1)));
-    assert!(rt; before.owner(b"zzzz1") == Some(member(rt, 2)));
-}
-
 /// Checks that a view names the owners of its time when another owns a key.
 fn check_view<R: Wait + Abort>(rt: &R, shared: &Shared, pass: &mut Caller)
     requires { Fits shared.now pass.old }
@@ -65,9 +51,11 @@ fn check_view<R: Wait + Abort>(rt: &R, shared: &Shared, pass: &mut Caller)
     hear(rt, shared, pass, &news(rt, 2, 1, Status::Alive), 0);
     hear(rt, shared, pass, &news(rt, 3, 1, Status::Alive), 0);
     let before = view(rt, shared, pass);
-    change_owner(rt, shared, pass);
-    check_before(rt, &before);
-    drop(before);
+    check_owners(rt, shared, pass, [1, 2]);
+    hear(rt, shared, pass, &news(rt, 2, 1, Status::Faulty), 0);
+    check_owners(rt, shared, pass, [1, 3]);
+    assert!(rt; before.owner(b"zzzz0") == Some(member(rt, 1)));
+    assert!(rt; before.owner(b"zzzz1") == Some(member(rt, 2)));
 }
 
 #[test]
@@ -77,32 +65,23 @@ fn a_view_answers_as_the_node_did(rt: HostRuntime) {
     });
 }
 
-/// What a node is told of itself at an incarnation, and what it takes and refutes of that.
-type Told = (u64, Status, usize, usize);
-
-/// Checks that the node stays alive when it is told so of itself.
-fn check_refuting<R: Wait + Abort>(rt: &R, shared: &Shared, pass: &mut Caller, row: Told)
-    requires { Fits shared.now pass.old }
-    ensures { Fits shared.now pass.new }
-{
-    let (incarnation, status, applied, refuted) = row;
-    let given = news(rt, 1, incarnation, status);
-    assert!(rt; take(rt, shared, pass, &given, 0) == Ok(Taken { applied, refuted }));
-    assert!(rt; own(rt, shared, pass) == change(rt, 1, 8, Status::Alive));
-}
-
 /// Checks that the node stays alive, whatever it is told of itself.
-fn refute<R: Wait + Abort>(rt: &R, shared: &Shared, pass: &mut Caller)
+fn check_refuting<R: Wait + Abort>(rt: &R, shared: &Shared, pass: &mut Caller)
     requires { Fits shared.now pass.old }
 {
-    check_refuting(rt, shared, pass, (7, Status::Suspect, 1, 1));
-    check_refuting(rt, shared, pass, (6, Status::Faulty, 0, 0));
+    let rows = [(7, Status::Suspect, 1, 1), (6, Status::Faulty, 0, 0)];
+    for (incarnation, status, applied, refuted) in rows {
+        let given = news(rt, 1, incarnation, status);
+        let answer = take(rt, shared, pass, &given, 0);
+        assert!(rt; answer == Ok(Taken { applied, refuted }));
+        assert!(rt; own(rt, shared, pass) == change(rt, 1, 8, Status::Alive));
+    }
 }
 
 #[test]
 fn refutes_what_is_wrong_about_itself(rt: HostRuntime) {
     with_shared(&rt, rt.alloc(), 1, 7, 4096, |shared, pass| {
-        refute(&rt, shared, pass)
+        check_refuting(&rt, shared, pass)
     });
 }
 
@@ -120,30 +99,16 @@ fn rejoin<R: Wait + Abort>(rt: &R, shared: &Shared, pass: &mut Caller) -> Result
     tried!(rt, shared.rejoin(rt, pass))
 }
 
-/// Leaves twice, and refutes.
-fn leave_twice<R: Wait + Abort>(rt: &R, shared: &Shared, pass: &mut Caller)
+/// Leaves twice, refutes, and comes back twice.
+fn leave_and_come_back<R: Wait + Abort>(rt: &R, shared: &Shared, pass: &mut Caller)
     requires { Fits shared.now pass.old }
-    ensures { Fits shared.now pass.new }
 {
     assert!(rt; leave(rt, shared, pass) == Ok(change(rt, 1, 7, Status::Leave)));
     assert!(rt; leave(rt, shared, pass) == Err(NodeError::AlreadyLeft));
     hear(rt, shared, pass, &news(rt, 1, 9, Status::Alive), 0);
     assert!(rt; own(rt, shared, pass) == change(rt, 1, 10, Status::Leave));
-}
-
-/// Comes back twice.
-fn rejoin_twice<R: Wait + Abort>(rt: &R, shared: &Shared, pass: &mut Caller)
-    requires { Fits shared.now pass.old }
-{
     assert!(rt; rejoin(rt, shared, pass) == Ok(change(rt, 1, 11, Status::Alive)));
     assert!(rt; rejoin(rt, shared, pass) == Err(NodeError::NotLeft));
-}
-
-fn leave_and_come_back<R: Wait + Abort>(rt: &R, shared: &Shared, pass: &mut Caller)
-    requires { Fits shared.now pass.old }
-{
-    leave_twice(rt, shared, pass);
-    rejoin_twice(rt, shared, pass);
 }
 
 #[test]
@@ -289,7 +254,6 @@ fn check_counts(rt: &impl Abort, alloc: Global, passes: u32, turns: u32) {
         panic!(rt; "{passes} passes of {turns} turns")
     };
     assert!(rt; given.own() == change(rt, 1, 7, Status::Alive));
-    drop(given);
 }
 
 #[test]
@@ -351,7 +315,6 @@ fn close_whole(rt: &impl Abort, shared: Shared, passes: Vec<Caller>)
         .expect(rt, "both passes are there");
     let held = closed.member(member(rt, 2)).map(|entry| entry.status);
     assert!(rt; held == Some(Status::Alive));
-    drop(closed);
 }
 
 #[test]
@@ -416,48 +379,14 @@ fn close_refused(shared: Shared, passes: Vec<Caller>) -> Option<(CloseError, usi
     Some((refused.cause, refused.passes.len()))
 }
 
-/// Both passes, of which the second is none of the node, after each has asked.
-fn check_len<R: Threads + Wait + Abort + Sync>(
-    rt: &R,
-    shared: &Shared,
-    own: Caller,
-    foreign: Caller,
-) -> (Caller, Caller)
-    requires own { Fits shared.now own }
-    requires foreign { Fits shared.now foreign }
-    ensures own { Fits shared.now result.0 }
-    ensures foreign { Fits shared.now result.1 }
-{
-    let (counted, refused) = len_by_two(rt, shared, own, foreign);
-    assert!(rt; counted.0 == Ok(1) && refused.0 == Err(LockError::ForeignPass));
-    (counted.1, refused.1)
-}
-
-/// A list of both passes, in the room that they came in.
-fn both(
-    rt: &impl Abort,
-    shared: &Shared,
-    room: Vec<Caller>,
-    first: Caller,
-    second: Caller,
-) -> Vec<Caller>
-    requires room { room.items ≡ [] }
-    requires first { Fits shared.now first }
-    requires second { Fits shared.now second }
-    ensures { All (Fits shared.now) result.items }
-{
-    let mut passes = room;
-    passes.push(first).ok().expect(rt, "room");
-    passes.push(second).ok().expect(rt, "room");
-    passes
-}
-
 #[test]
 fn a_pass_of_another_node_is_refused(rt: HostRuntime) {
-    let (shared, _, own, room) = pair(&rt, rt.alloc(), member(&rt, 1), 9);
+    let (shared, _, own, mut passes) = pair(&rt, rt.alloc(), member(&rt, 1), 9);
     let foreign = foreign_pass(&rt, rt.alloc());
-    let (own, foreign) = check_len(&rt, &shared, own, foreign);
-    let passes = both(&rt, &shared, room, own, foreign);
+    let (counted, refused) = len_by_two(&rt, &shared, own, foreign);
+    assert!(rt; counted.0 == Ok(1) && refused.0 == Err(LockError::ForeignPass));
+    passes.push(counted.1).ok().expect(&rt, "room");
+    passes.push(refused.1).ok().expect(&rt, "room");
     assert!(rt; close_refused(shared, passes) == Some((CloseError::ForeignPass, 2)));
 }
 
@@ -530,9 +459,10 @@ fn after_twenty<R: Threads + Wait + Abort + Sync>(
     number: u8,
     orders: (&[u8], &[u8]),
 ) -> NodeState<SumHash> {
-    let (shared, first, second, room) = pair(rt, alloc, member(rt, number), 1000);
+    let (shared, first, second, mut passes) = pair(rt, alloc, member(rt, number), 1000);
     let (first, second) = hear_by_two(rt, &shared, first, second, orders);
-    let passes = both(rt, &shared, room, first, second);
+    passes.push(first).ok().expect(rt, "room");
+    passes.push(second).ok().expect(rt, "room");
     shared.close(passes).ok().expect(rt, "it closes")
 }
 
@@ -541,11 +471,6 @@ fn digest_text(rt: &impl Abort, node: &NodeState<SumHash>) -> Text {
         return text;
     }
     node.digest_text().ok().expect(rt, "a text")
-}
-
-/// Whether a node's membership is this as a text.
-fn is_written(rt: &impl Abort, node: &NodeState<SumHash>, text: &str) -> bool {
-    digest_text(rt, node).as_str() == text
 }
 
 fn three_owners(rt: &impl Abort, node: &NodeState<SumHash>, key: &[u8]) -> Addresses {
@@ -568,7 +493,7 @@ fn names(rt: &impl Abort, node: &NodeState<SumHash>, key: &[u8], owners: [u8; 3]
 fn check_twenty(rt: &impl Abort, node: &NodeState<SumHash>) {
     let text =
         "10.0.0.1:1alive7;10.0.0.2:1suspect3;10.0.0.3:1faulty3;10.0.0.4:1leave3;10.0.0.5:1tombstone3;10.0.0.6:1alive7";
-    assert!(rt; is_written(rt, node, text));
+    assert!(rt; digest_text(rt, node).as_str() == text);
     assert!(rt; names(rt, node, b"zzzz1", [2, 6, 1]));
     assert!(rt; names(rt, node, b"zzzz3", [6, 1, 2]));
 }
@@ -582,7 +507,6 @@ fn check_orders<R: Threads + Wait + Abort + Sync>(
 ) {
     let node = after_twenty(rt, alloc, number, orders);
     check_twenty(rt, &node);
-    drop(node);
 }
 
 #[test]

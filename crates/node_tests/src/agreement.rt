@@ -11,6 +11,7 @@ use node_core::laws::agreement;
 use node_core::{Event, NodeState, Reply, Run, run};
 use std::alloc::Global;
 use std::process::Abort;
+use wire_json::Changes;
 
 const A: &str = "10.0.0.1:1";
 
@@ -42,8 +43,8 @@ fn both_runs<H: PointHash>(
 }
 
 /// The call by which a node hears these changes.
-fn hearing(rt: &impl Abort, alloc: Global, given: &[Sourced], now: Moment) -> Event {
-    Event::Take(changes(rt, alloc, given), now)
+fn hearing(alloc: Global, given: &[Sourced], now: Moment) -> Option<Event> {
+    Some(Event::Take(Changes::from_slice(alloc, given).ok()?, now))
 }
 
 /// Whether all was taken.
@@ -58,22 +59,18 @@ fn is_taken(finished: &Run<SumHash>) -> bool {
 /// A hears of the others at once, and B of them one after another in another order. None where a growth was refused.
 fn runs(rt: &impl Abort, alloc: Global) -> Option<(Run<SumHash>, Run<SumHash>)> {
     let now = moment(rt, 3);
-    let first = news(rt, A, 7, Status::Alive);
     let second = news(rt, B, 1, Status::Alive);
     let third = news(rt, C, 2, Status::Suspect);
-    let at_once = [hearing(rt, alloc, &[second, third], now)];
+    let at_once = [hearing(alloc, &[second, third], now)?];
+    let third = news(rt, C, 2, Status::Suspect);
+    let first = news(rt, A, 7, Status::Alive);
     let in_turn = [
-        hearing(rt, alloc, &[third], now),
-        hearing(rt, alloc, &[first], now),
+        hearing(alloc, &[third], now)?,
+        hearing(alloc, &[first], now)?,
     ];
     let one = node(rt, alloc, SumHash, A, 7, 4096);
     let other = node(rt, alloc, SumHash, B, 1, 4096);
-    both_runs(alloc, one, &at_once, other, &in_turn)
-}
-
-/// The same, where all was taken.
-fn whole_runs(rt: &impl Abort, alloc: Global) -> Option<(Run<SumHash>, Run<SumHash>)> {
-    let finished = runs(rt, alloc)?;
+    let finished = both_runs(alloc, one, &at_once, other, &in_turn)?;
     if is_taken(&finished.0) && is_taken(&finished.1) {
         Some(finished)
     } else {
@@ -90,7 +87,7 @@ fn check_node(rt: &impl Abort, node: &NodeState<SumHash>) {
 
 #[test]
 fn two_runs_agree(rt: HostRuntime) {
-    let finished = whole_runs(&rt, rt.alloc()).or_else(|| whole_runs(&rt, rt.alloc()));
+    let finished = runs(&rt, rt.alloc()).or_else(|| runs(&rt, rt.alloc()));
     let (one, other) = finished.expect(&rt, "two runs");
     check_node(&rt, &one.node);
     check_node(&rt, &other.node);

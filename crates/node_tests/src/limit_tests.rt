@@ -127,21 +127,6 @@ fn run_out_alike(rt: &impl Abort, first: &mut NodeState<SumHash>, second: &mut N
     }
 }
 
-/// Hears these, and compares itself with the first.
-fn compare(
-    rt: &impl Abort,
-    first: &mut NodeState<SumHash>,
-    second: &mut NodeState<SumHash>,
-    given: &[Sourced],
-) {
-    for sourced in given {
-        hear(rt, second, sourced, 0);
-    }
-    hold_alike(rt, first, second);
-    tell_alike(rt, first, second);
-    run_out_alike(rt, first, second);
-}
-
 /// Takes a batch, as far as memory lets it, and compares itself with a new node that takes as many of it.
 fn stop_where_memory_does(rt: &impl Abort, alloc: Global, first: &mut NodeState<SumHash>) {
     let given = [
@@ -152,10 +137,13 @@ fn stop_where_memory_does(rt: &impl Abort, alloc: Global, first: &mut NodeState<
     let answer = try_batch(first, &changes(rt, alloc, &given), moment(rt, 0));
     let taken = answer.err().map_or(3, |stopped| stopped.taken);
     assert!(rt; answer.is_ok() || taken < 3 && stopped(answer, taken, StopCause::Memory));
-    let heard = given.get(..taken).expect(rt, "no more than were given");
-    with_node(rt, alloc, A, 7, 4096, |second| {
-        compare(rt, first, second, heard)
-    });
+    let mut second = node(rt, alloc, SumHash, A, 7, 4096);
+    for sourced in given.iter().take(taken) {
+        hear(rt, &mut second, sourced, 0);
+    }
+    hold_alike(rt, first, &second);
+    tell_alike(rt, first, &mut second);
+    run_out_alike(rt, first, &mut second);
 }
 
 #[test]

@@ -68,20 +68,6 @@ fn finish(
     }
 }
 
-/// Whether these replies tell this; none where a call was refused memory.
-fn tell(replies: &[Reply], wanted: &[Told]) -> Option<bool> {
-    for reply in replies {
-        if is_refused(read(reply)) {
-            return None;
-        }
-    }
-    let is_each = replies
-        .iter()
-        .zip(wanted.iter())
-        .all(|(reply, wanted)| read(reply) == *wanted);
-    Some(is_each && replies.len() == wanted.len())
-}
-
 /// Whether a new node with this many members at most answers these calls so.
 fn answers(
     rt: &impl Abort,
@@ -92,7 +78,17 @@ fn answers(
 ) -> Option<bool> {
     let start = node(rt, alloc, SumHash, A, 7, max);
     let finished = finish(rt, alloc, start, events);
-    tell(finished.replies.as_slice(), wanted)
+    let replies = finished.replies.as_slice();
+    for reply in replies {
+        if is_refused(read(reply)) {
+            return None;
+        }
+    }
+    let is_each = replies
+        .iter()
+        .zip(wanted.iter())
+        .all(|(reply, wanted)| read(reply) == *wanted);
+    Some(is_each && replies.len() == wanted.len())
 }
 
 /// Checks what a node answers to these calls; where one was refused memory, a new node makes them all.

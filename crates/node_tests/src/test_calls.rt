@@ -255,18 +255,6 @@ fn try_receive<H: PointHash>(
     node.receive(message, moment)
 }
 
-/// What was taken of a message, and the answer.
-fn try_answer<H: PointHash>(
-    node: &mut NodeState<H>,
-    message: &Message,
-    moment: Moment,
-) -> Option<(Taken, Message)> {
-    match try_receive(node, message, moment) {
-        Received::Answer(taken, answer) => Some((taken, answer)),
-        _ => None,
-    }
-}
-
 /// What was taken of a message, and the answer. Where a growth was refused the message comes again.
 pub(crate) fn answer<H: PointHash>(
     node: &mut NodeState<H>,
@@ -275,11 +263,14 @@ pub(crate) fn answer<H: PointHash>(
 ) -> Option<(Taken, Message)> {
     match try_receive(node, message, moment) {
         Received::Answer(taken, answer) => Some((taken, answer)),
-        Received::NoAnswer(taken) => {
-            let (_, answer) = try_answer(node, message, moment)?;
-            Some((taken, answer))
-        }
-        Received::Stopped(_) => try_answer(node, message, moment),
+        Received::NoAnswer(taken) => match try_receive(node, message, moment) {
+            Received::Answer(_, answer) => Some((taken, answer)),
+            _ => None,
+        },
+        Received::Stopped(_) => match try_receive(node, message, moment) {
+            Received::Answer(taken, answer) => Some((taken, answer)),
+            _ => None,
+        },
         Received::Done(_) | Received::NotGossip => None,
     }
 }

@@ -5,3 +5,4 @@ pub mod Exports
 pub mod Placed
 pub mod Sent
 pub mod Sights
+pub mod Walking

@@ -1,79 +1,37 @@
--- `into_parts` of a full handle moves two fields, the pointer under its own type, and what they own goes with them.
-use mathlib.Core.Path.{refl, sym, subst}
-use mathlib.Core.List.{List, [], ◌∷◌, ◌++◌}
-use seplogic.Ra.Ura.{Ura}
-use mir.Val.{Val}
-use base.Logic.{SProp, ent, id⊢}
-use base.Fml.{ftrue, fsep}
-use prog.Memory.{Memory}
-use prog.Routine.{Routine}
-use prog.Wp.{WpFn, Tables}
-use types.Logic.{Logic}
-use contract.Monad.{Fun}
-use contract.Running.{tables, tables_of}
-use sound.WpLaws.{WpFn-mono}
-use types.Kit.{Item, ‵, raw, ◌⊛◌, ◌$◌, ◌∵◌, !, qed, by, move, drop, use1, join, split, fsplit, fjoin, suffices, done}
-use types.Part.{whole, sub, agg}
-use types.Run.{stop, fld, no_more, and_then, of_opd, returns, enter}
-use types.ByLocal.{alloc_all, pass_all, free_all, look_at, get, get_in, sets}
-use denote.Exit.{yes}
-use lib.Dec.{T}
-use Rattle.std.specs.Prelude.{◌≡◌, Option, Some, None, IsSome}
+-- `into_parts` of a full handle moves its two fields, the pointer under another type: what the handle owned is what the parts own.
+use Rattle.ringpop_c.proofs.Walking.{refl, [], ◌∷◌, Val, id⊢, ftrue, fsep, fact, ‵, raw, ◌⊛◌, ◌$◌, ◌∵◌, !, qed, move, drop, use1, join, split, rewrite, fsplit, fjoin, suffices, done, whole, sub, agg, stop, fld, no_more, and_then, of_opd, returns, enter, alloc_all, pass_all, free_all, look_at, get, get_in, sets, yes, plain, type_at, heard, nothing, says, Stays, stay_dropped, walk_of, ends_at, Goes-dropped, proved, Option, IsSome, found, points, of_heap}
 use Rattle.ringpop_c.specs.Owned.{Held}
-use contract.Monad.{fact}
-use denote.Steps.{heard}
-use types.Kit.{rewrite}
-use Rattle.ringpop_c.specs.contracts.handles.At as Handle
-use denote.Signature.{type_at}
-use denote.Steps.{nothing}
-use denote.Triple.Spec.{triple_of}
-use denote.Triple.Table.{entered}
-use denote.Triple.Walked.{says, Stays, stay_dropped, walk_of, ends_at, Goes-dropped, walk_Meets}
-use Rattle.std_alloc.proofs.BoxSteps.Form.{D, B, word, box_typed}
-use Rattle.std_alloc.proofs.BoxSteps.Steps.{box_out, box_in}
-use Rattle.ringpop_c.proofs.AsBox.{E, FromHandle as From}
-use Rattle.ringpop_c.specs.contracts.handles.At.into_parts as F
-use Rattle.ringpop_c.specs.contracts.handles.At.into_parts.Key.{name as #self}
-use Rattle.ringpop_c.proofs.handles.At.into_parts.Statement as stated
+use Rattle.ringpop_c.specs.contracts.handles.At.{the_row as Handle}
+use Rattle.ringpop_c.specs.contracts.handles.At.into_parts as f
+use Rattle.ringpop_c.proofs.handles.At.TheLaws.{lowered, lowers, the_row_laws as laws}
+use Rattle.ringpop_c.proofs.handles.At.into_parts.Statement.{statement}
 use Rattle.ringpop_c.proofs.handles.At.into_parts.Code as code
 
-found : (o : Option Held) → IsSome o → (x : Held) × (o ≡ Some x)
-found (Some x) full = (x, refl)
-found None full = absurd (subst T (sym full) tt)
+abbrev stayed : Stays f.ended.signature.params f.ended.kept
+stayed = (stay_dropped (plain (λ _. Handle)) yes, tt)
 
-abbrev stayed : Stays (F.ended).signature.params (F.ended).kept
-stayed = (stay_dropped From yes, tt)
-
-module _ {M : Type 1} {𝓤 : Ura M} (𝓛 : Logic 𝓤) (at_mem : Memory → SProp 𝓤) (run : Routine → Fun 𝓤) (𝓣 : Tables 𝓤 𝓛.H) where
-  open 𝓛 use {H}
-
-  walk : (z : (walk_of 𝓛 F.ended stayed (F.clauses 𝓛 at_mem run)).Ghost)
-      → ent 𝓤 ((walk_of 𝓛 F.ended stayed (F.clauses 𝓛 at_mem run)).pre z) (WpFn 𝓤 H 𝓣.C 𝓣.Λ code.function (z.0.4.0 ++ []) ((walk_of 𝓛 F.ended stayed (F.clauses 𝓛 at_mem run)).post z))
-  walk z =
-      let Post = (walk_of 𝓛 F.ended stayed (F.clauses 𝓛 at_mem run)).post z in
-      let o = z.0.3.0.value in
-      qed 𝓛 ((‵ ftrue ⊛ ‵ (fsep (Handle.the_row.own_val z.0.3.0 z.0.4.0) ftrue)) ∷ raw (fact 𝓤 (IsSome o)) ∷ []) ∵ move ! (1 ∷ []) $ heard ! (IsSome o) (λ full.
-      let x : Held = (found o full).0 in
-      let v : D E = record { ptr = z.0.3.0.at; alloc = z.0.3.0.heap; value = x } in
-      let To = type_at (F.signature).result tt in
-      let made : To.Denot = record { ptr = v.ptr; alloc = v.alloc; value = v.value } in
-      split ! $ drop ! $ fsplit ! $
-      rewrite ! 0 (λ (u : Option Held). ‵ (Handle.the_row.own_val (record { at = z.0.3.0.at; heap = z.0.3.0.heap; value = u }) z.0.4.0)) (found o full).1 refl $
-      use1 𝓛 (‵ ((B E).own_val v z.0.4.0)) (id⊢ 𝓤 _) $
-      box_out E ! v z.0.4.0 (λ b at hv e ws fa. box_in E ! v b at v.value e refl $ use1 𝓛 (‵ (To.own_val made (word E hv b at ∷ []))) (id⊢ 𝓤 _) $ move ! (1 ∷ []) $ drop ! $
-      let w = word E hv b at in
-      let Γ : List (Item 𝓤) = ‵ (To.own_val made (w ∷ [])) ∷ [] in
-      by ! (subst (λ (us : List Val). ent 𝓤 (types.Kit.⋆ 𝓛 Γ) (WpFn 𝓤 H 𝓣.C 𝓣.Λ code.function (us ++ []) Post)) (sym ws)
-      (qed 𝓛 Γ ∵ enter ! 𝓣.C 𝓣.Λ code.function (w ∷ []) _ $ alloc_all ! (λ ls. pass_all ! refl (box_typed E hv b at fa, tt) $
-      sets ! (of_opd ! (get_in ! (fld ! refl (stop !)) (sub ! 0 refl (whole !)))) refl (tt, tt) $ sets ! (of_opd ! (get_in ! (fld ! refl (stop !)) (sub ! 1 refl (whole !)))) refl fa $
-      sets ! (of_opd ! (get ! refl)) refl (tt, tt) $ sets ! (agg ! (and_then ! (get ! refl) (and_then ! (get ! refl) (no_more !)))) refl (box_typed E hv b at fa) $ returns ! (look_at ! 0 refl) $ free_all ! refl $
-      suffices ! _ (ends_at 𝓛 F.ended stayed (F.clauses 𝓛 at_mem run) z w made (tt, tt) (tt, tt)) $ says ! (found o full).1 $
-      nothing ! $ nothing ! $ fjoin ! $ join ! $ nothing ! $ join ! $ done !)))))
-
-pub into_parts_spec : {M : Type 1} → stated.statement M
-unfolding tables_of
+pub into_parts_spec : {M : Type 1} → statement M
 into_parts_spec 𝓤 𝓛 𝓜 𝓡 wired =
-    let 𝓣 : Tables 𝓤 𝓛.H = tables_of 𝓤 𝓛.H 𝓜 (tables 𝓤 𝓛.H 𝓜 𝓡 𝓡.env) in
-    entered 𝓤 𝓛.H (triple_of 𝓛 F.signature (F.spec 𝓛 𝓜.mem 𝓡.returns)) 𝓣.C 𝓣.Λ #self code.function (code.unfolded 𝓤 𝓛.H 𝓜 𝓡 wired)
-    (walk_Meets 𝓛 F.ended stayed (Goes-dropped 𝓛 0 From yes (λ κs x f. refl), tt) (F.clauses 𝓛 𝓜.mem 𝓡.returns) (WpFn 𝓤 𝓛.H 𝓣.C 𝓣.Λ code.function) (WpFn-mono 𝓤 𝓛.H 𝓛.laws 𝓣 code.function)
-    (walk 𝓛 𝓜.mem 𝓡.returns 𝓣))
+    let c = f.clauses 𝓛 𝓜.mem 𝓡.returns in
+    proved 𝓛 f.ended stayed c 𝓜 𝓡 (Goes-dropped 𝓛 0 (plain (λ _. Handle)) yes (λ κs x w. refl), tt)
+    f.Key.name code.function (code.unfolded 𝓤 𝓛.H 𝓜 𝓡 wired)
+    (λ κs. ((λ h. lowered h ∷ []), tt)) (λ κs. (lowers.val_is, tt)) (λ κs qs bounds a _ are.
+    let h = a.0 in let w : Val = lowered h in
+    let y : (walk_of 𝓛 f.ended stayed c).Ghost = ((κs, qs, bounds, a, (w ∷ [], tt)), tt) in
+    let fits = ((laws.lawful 𝓛).typed h (w ∷ []) are.0).0 in
+    let Parts = type_at f.signature.result κs in
+    qed 𝓛 ((‵ ftrue ⊛ ‵ (fsep (Handle.own_val h (w ∷ [])) ftrue)) ∷ raw (fact 𝓤 (IsSome h.value)) ∷ []) ∵
+    move ! (1 ∷ []) $ heard ! (IsSome h.value) (λ full. split ! $ drop ! $ fsplit ! $
+    let held = found h.value full in
+    let made : Parts.Denot = record { ptr = h.at; alloc = h.heap; value = held.0 } in
+    rewrite ! 0 (λ (u : Option Held). ‵ (Handle.own_val (record { at = h.at; heap = h.heap; value = u }) (w ∷ []))) held.1 refl $
+    use1 𝓛 (‵ (Parts.own_val made (w ∷ []))) (id⊢ 𝓤 _) $ move ! (1 ∷ []) $ drop ! $
+    enter ! _ _ _ _ _ $ alloc_all ! (λ l. pass_all ! refl (fits, tt) $
+    -- [what the parts own; the locals]
+    sets ! (of_opd ! (get_in ! (fld ! refl (stop !)) (sub ! 0 refl (whole !)))) refl (points h.at) $
+    sets ! (of_opd ! (get_in ! (fld ! refl (stop !)) (sub ! 1 refl (whole !)))) refl (of_heap h.heap) $
+    sets ! (of_opd ! (get ! refl)) refl (points h.at) $
+    sets ! (agg ! (and_then ! (get ! refl) (and_then ! (get ! refl) (no_more !)))) refl fits $
+    returns ! (look_at ! 0 refl) $ free_all ! refl $
+    suffices ! _ (ends_at 𝓛 f.ended stayed c y w made (tt, tt) (tt, tt)) $ says ! held.1 $
+    nothing ! $ nothing ! $ fjoin ! $ join ! $ nothing ! $ join ! $ done !)))

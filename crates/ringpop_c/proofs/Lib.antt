@@ -1,5 +1,3 @@
-pub mod AsBox
-pub mod AsViewBox
 pub mod Births
 pub mod Exports
 pub mod Placed

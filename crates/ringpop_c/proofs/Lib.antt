@@ -1,6 +1,7 @@
 pub mod Births
 pub mod Exports
 pub mod Placed
+pub mod Sending
 pub mod Sent
 pub mod Sights
 pub mod Walking

@@ -11,7 +11,7 @@ use Rattle.change_core.proofs.Members.{IsGreatest-greatest}
 use Rattle.node_core.specs.Node.{Node, Seen, or_birth, own_change}
 use Rattle.cli_core.specs.declared.scripts.faults.ScriptFault.{ScriptFault}
 use Rattle.cli_core.specs.declared.scripts.faults.ScriptFault.TheVariants.{OutOfMemory}
-use Rattle.cli_core.specs.Script.{IsPlace, GoesOn, node_at, nodes_in, with_node}
+use Rattle.cli_core.specs.Simulated.{IsPlace, GoesOn, node_at, nodes_in, with_node}
 
 -- what a node holds of itself is of its address
 pub own_change-address : {H : Type 0} (node : Node H) → (own_change node).address ≡ node.own

@@ -10,23 +10,23 @@ use Rattle.cli_core.specs.declared.scripts.faults.SimFault.{SimFault}
 use Rattle.cli_core.specs.declared.scripts.faults.SimFault.TheVariants.{AtLine, CannotWrite}
 use Rattle.cli_core.specs.Counted.{IsCountedFault, ReadsLine}
 use Rattle.cli_core.specs.Input.{lines_of}
-use Rattle.cli_core.specs.Script.{Script}
+use Rattle.cli_core.specs.Simulated.{Simulated}
 use Rattle.cli_core.specs.ScriptRuns.{AnswersAll, AnswersLine, Completes, IsCountedLine, IsLineRefused, IsRefusedAt, Stops, Turns, fault_of_read}
 use Rattle.cli_core.proofs.Scripting.{answers_more, appends_more, appends_nothing, counted_line, refused_first, unread_refused}
 
 -- ---- one turn
 
-pub turn_end : {H : Type 0} (hash_of : H → List ℕ → ℕ) (s : Script H) (known left written : Option (List ℕ)) (number : ℕ) → IfSome known (λ xs. ReadsLine xs (Ok None) left)
+pub turn_end : {H : Type 0} (hash_of : H → List ℕ → ℕ) (s : Simulated H) (known left written : Option (List ℕ)) (number : ℕ) → IfSome known (λ xs. ReadsLine xs (Ok None) left)
     → IfSome known (λ xs. Turns hash_of s xs written number (Ok false) s left written)
 turn_end hash_of s None left written number h = tt
 turn_end hash_of s (Some xs) left written number h = (h, refl, refl)
 
-pub turn_unread : {H : Type 0} (hash_of : H → List ℕ → ℕ) (s : Script H) (known left written : Option (List ℕ)) (number : ℕ) (e : WireError)
+pub turn_unread : {H : Type 0} (hash_of : H → List ℕ → ℕ) (s : Simulated H) (known left written : Option (List ℕ)) (number : ℕ) (e : WireError)
     → IfSome known (λ xs. ReadsLine xs (Err e) left) → IsCountedFault number e → IfSome known (λ xs. Turns hash_of s xs written number (Err (AtLine number (fault_of_read e))) s left written)
 turn_unread hash_of s None left written number e h counted = tt
 turn_unread hash_of s (Some xs) left written number e h counted = (refl, unread_refused hash_of s (lines_of xs) e h, counted_line number e counted, refl)
 
-pub turn_refused : {H : Type 0} (hash_of : H → List ℕ → ℕ) (s then : Script H) (known left written : Option (List ℕ)) (number : ℕ) (v : Vec ℕ Global) (f : ScriptFault)
+pub turn_refused : {H : Type 0} (hash_of : H → List ℕ → ℕ) (s then : Simulated H) (known left written : Option (List ℕ)) (number : ℕ) (v : Vec ℕ Global) (f : ScriptFault)
     → IfSome known (λ xs. ReadsLine xs (Ok (Some v)) left) → IsLineRefused hash_of s v.items f → IsCountedLine number f
     → IfSome known (λ xs. Turns hash_of s xs written number (Err (AtLine number f)) then left written)
 turn_refused hash_of s then None left written number v f h is counted = tt
@@ -34,13 +34,13 @@ turn_refused hash_of s then (Some xs) left written number v f h is counted =
     let (rest, e, lines) = h in
     (refl, subst (λ (ls : List (List ℕ)). IsRefusedAt hash_of s ls f) (sym lines) (refused_first hash_of s v.items (lines_of rest) f is), counted, refl)
 
-pub turn_done : {H : Type 0} (hash_of : H → List ℕ → ℕ) (s then : Script H) (known left written now : Option (List ℕ)) (number : ℕ) (v : Vec ℕ Global) (text : List ℕ)
+pub turn_done : {H : Type 0} (hash_of : H → List ℕ → ℕ) (s then : Simulated H) (known left written now : Option (List ℕ)) (number : ℕ) (v : Vec ℕ Global) (text : List ℕ)
     → IfSome known (λ xs. ReadsLine xs (Ok (Some v)) left) → AnswersLine hash_of s v.items text then → Appends written now (text ++ 10 ∷ [])
     → IfSome known (λ xs. Turns hash_of s xs written number (Ok true) then left now)
 turn_done hash_of s then None left written now number v text h is a = tt
 turn_done hash_of s then (Some xs) left written now number v text h is a = let (rest, e, lines) = h in (v.items, text, rest, e, lines, is, a)
 
-pub turn_unwritten : {H : Type 0} (hash_of : H → List ℕ → ℕ) (s then : Script H) (known left written now : Option (List ℕ)) (number : ℕ) (v : Vec ℕ Global) (text : List ℕ)
+pub turn_unwritten : {H : Type 0} (hash_of : H → List ℕ → ℕ) (s then : Simulated H) (known left written now : Option (List ℕ)) (number : ℕ) (v : Vec ℕ Global) (text : List ℕ)
     → IfSome known (λ xs. ReadsLine xs (Ok (Some v)) left) → AnswersLine hash_of s v.items text then → AppendsFront written now (text ++ 10 ∷ []) → number ≤ greatest_number
     → IfSome known (λ xs. Turns hash_of s xs written number (Err CannotWrite) then left now)
 turn_unwritten hash_of s then None left written now number v text h is a few = tt
@@ -49,15 +49,15 @@ turn_unwritten hash_of s then (Some xs) left written now number v text h is a fe
 -- ---- all turns
 
 -- of the known input, the lines before this number are answered, and the answers are written
-pub record HasAnswered {H : Type 0} (hash_of : H → List ℕ → ℕ) (start : Script H) (known left old written : Option (List ℕ)) (number : ℕ) (s : Script H) : Type 0 where
+pub record HasAnswered {H : Type 0} (hash_of : H → List ℕ → ℕ) (start : Simulated H) (known left old written : Option (List ℕ)) (number : ℕ) (s : Simulated H) : Type 0 where
   pub is : IfSome known (λ input. (rest : List ℕ) × (before : List (List ℕ)) × (output : List ℕ) × (left ≡ Some rest) × (lines_of input ≡ before ++ lines_of rest)
       × AnswersAll hash_of start before output s × (number ≡ length before + 1) × Appends old written output)
 
-pub starts : {H : Type 0} (hash_of : H → List ℕ → ℕ) (start s : Script H) (known old : Option (List ℕ)) → s ≡ start → HasAnswered hash_of start known known old old 1 s
+pub starts : {H : Type 0} (hash_of : H → List ℕ → ℕ) (start s : Simulated H) (known old : Option (List ℕ)) → s ≡ start → HasAnswered hash_of start known known old old 1 s
 starts hash_of start s None old e = record { is = tt }
 starts hash_of start s (Some input) old e = record { is = (input, [], [], refl, refl, (refl, e), refl, appends_nothing old) }
 
-pub goes : {H : Type 0} (hash_of : H → List ℕ → ℕ) (start : Script H) (known left new old written now : Option (List ℕ)) (number : ℕ) (s then : Script H)
+pub goes : {H : Type 0} (hash_of : H → List ℕ → ℕ) (start : Simulated H) (known left new old written now : Option (List ℕ)) (number : ℕ) (s then : Simulated H)
     → HasAnswered hash_of start known left old written number s → IfSome left (λ xs. Turns hash_of s xs written number (Ok true) then new now)
     → HasAnswered hash_of start known new old now (number + 1) then
 goes hash_of start None left new old written now number s then p h = record { is = tt }
@@ -77,7 +77,7 @@ goes hash_of start (Some input) left new old written now number s then p h =
       );
     }
 
-pub ends : {H : Type 0} (hash_of : H → List ℕ → ℕ) (start : Script H) (known left new old written now : Option (List ℕ)) (number : ℕ) (s then : Script H)
+pub ends : {H : Type 0} (hash_of : H → List ℕ → ℕ) (start : Simulated H) (known left new old written now : Option (List ℕ)) (number : ℕ) (s then : Simulated H)
     → HasAnswered hash_of start known left old written number s → number ≤ greatest_number + 1 → IfSome left (λ xs. Turns hash_of s xs written number (Ok false) then new now)
     → Completes hash_of start known old now
 ends hash_of start None left new old written now number s then p few h = tt
@@ -94,7 +94,7 @@ ends hash_of start (Some input) left new old written now number s then p few h =
       subst (λ (w : Option (List ℕ)). Appends old w output) (sym same) appended,
     )
 
-stops_known : {H : Type 0} (hash_of : H → List ℕ → ℕ) (start : Script H) (input rest : List ℕ) (before : List (List ℕ)) (output : List ℕ) (new old written now : Option (List ℕ)) (number : ℕ) (s then : Script H) (e : SimFault)
+stops_known : {H : Type 0} (hash_of : H → List ℕ → ℕ) (start : Simulated H) (input rest : List ℕ) (before : List (List ℕ)) (output : List ℕ) (new old written now : Option (List ℕ)) (number : ℕ) (s then : Simulated H) (e : SimFault)
     → lines_of input ≡ before ++ lines_of rest → AnswersAll hash_of start before output s → number ≡ length before + 1 → Appends old written output → Turns hash_of s rest written number (Err e) then new now
     → Stops hash_of start e (Some input) old now
 stops_known hash_of start input rest before output new old written now number s then (AtLine n f) lines answers place appended h =
@@ -123,7 +123,7 @@ stops_known hash_of start input rest before output new old written now number s 
       part,
     )
 
-pub stops : {H : Type 0} (hash_of : H → List ℕ → ℕ) (start : Script H) (known left new old written now : Option (List ℕ)) (number : ℕ) (s then : Script H) (e : SimFault)
+pub stops : {H : Type 0} (hash_of : H → List ℕ → ℕ) (start : Simulated H) (known left new old written now : Option (List ℕ)) (number : ℕ) (s then : Simulated H) (e : SimFault)
     → HasAnswered hash_of start known left old written number s → IfSome left (λ xs. Turns hash_of s xs written number (Err e) then new now)
     → Stops hash_of start e known old now
 stops hash_of start None left new old written now number s then (AtLine n f) p h = tt

@@ -12,7 +12,7 @@ use Rattle.cli_core.specs.declared.scripts.lines.Command.TheVariants as command
 use Rattle.cli_core.specs.declared.scripts.faults.ScriptFault.{ScriptFault}
 use Rattle.cli_core.specs.declared.scripts.faults.ScriptFault.TheVariants as fault
 use Rattle.cli_core.specs.Counted.{IsCountedFault, IsUnread}
-use Rattle.cli_core.specs.Script.{Script, IsRefusedFor, Obeys}
+use Rattle.cli_core.specs.Simulated.{Simulated, IsRefusedFor, Obeys}
 use Rattle.cli_core.specs.ScriptLines.{IsCommand}
 use Rattle.cli_core.specs.ScriptRuns.{AnswersAll, AnswersLine, IsCountedLine, IsLineRefused, IsRefusedAt, fault_of_read}
 
@@ -26,7 +26,7 @@ counted_line number e (inr (inr q)) = inr q.1
 
 -- ---- one line that is answered
 
-no_bad : {H : Type 0} (hash_of : H → List ℕ → ℕ) (s : Script H) (c : Command) → IsRefusedFor hash_of s c fault.BadCommand → ⊥
+no_bad : {H : Type 0} (hash_of : H → List ℕ → ℕ) (s : Simulated H) (c : Command) → IsRefusedFor hash_of s c fault.BadCommand → ⊥
 no_bad hash_of s (command.Node birth) h = h
 no_bad hash_of s (command.At moment) h = h
 no_bad hash_of s (command.Ask a question) h = h
@@ -34,7 +34,7 @@ no_bad hash_of s (command.Send a target) h = h
 no_bad hash_of s (command.Deliver n) h = h
 no_bad hash_of s (command.Restart birth) h = h
 
-no_long : {H : Type 0} (hash_of : H → List ℕ → ℕ) (s : Script H) (c : Command) → IsRefusedFor hash_of s c fault.LineTooLong → ⊥
+no_long : {H : Type 0} (hash_of : H → List ℕ → ℕ) (s : Simulated H) (c : Command) → IsRefusedFor hash_of s c fault.LineTooLong → ⊥
 no_long hash_of s (command.Node birth) h = h
 no_long hash_of s (command.At moment) h = h
 no_long hash_of s (command.Ask a question) h = h
@@ -42,7 +42,7 @@ no_long hash_of s (command.Send a target) h = h
 no_long hash_of s (command.Deliver n) h = h
 no_long hash_of s (command.Restart birth) h = h
 
-no_read : {H : Type 0} (hash_of : H → List ℕ → ℕ) (s : Script H) (c : Command) → IsRefusedFor hash_of s c fault.ReadFailed → ⊥
+no_read : {H : Type 0} (hash_of : H → List ℕ → ℕ) (s : Simulated H) (c : Command) → IsRefusedFor hash_of s c fault.ReadFailed → ⊥
 no_read hash_of s (command.Node birth) h = h
 no_read hash_of s (command.At moment) h = h
 no_read hash_of s (command.Ask a question) h = h
@@ -51,7 +51,7 @@ no_read hash_of s (command.Deliver n) h = h
 no_read hash_of s (command.Restart birth) h = h
 
 -- what is wrong with a command is wrong with its line
-pub refused_line : {H : Type 0} (hash_of : H → List ℕ → ℕ) (s : Script H) (line : List ℕ) (c : Command) (f : ScriptFault) → length line ≤ max_line → IsCommand c line
+pub refused_line : {H : Type 0} (hash_of : H → List ℕ → ℕ) (s : Simulated H) (line : List ℕ) (c : Command) (f : ScriptFault) → length line ≤ max_line → IsCommand c line
     → IsRefusedFor hash_of s c f → IsLineRefused hash_of s line f
 refused_line hash_of s line c fault.ReadFailed short is h = absurd (no_read hash_of s c h)
 refused_line hash_of s line c fault.LineTooLong short is h = absurd (no_long hash_of s c h)
@@ -65,18 +65,18 @@ refused_line hash_of s line c fault.TooManyMessages short is h = (short, c, is, 
 refused_line hash_of s line c fault.IncarnationNotGreater short is h = (short, c, is, h)
 
 -- the command was done, and its answer has no text
-pub untold_line : {H X : Type 0} (hash_of : H → List ℕ → ℕ) (s then : Script H) (line : List ℕ) (c : Command) (answer : Answer) (r : Result X ScriptFault) → length line ≤ max_line → IsCommand c line
+pub untold_line : {H X : Type 0} (hash_of : H → List ℕ → ℕ) (s then : Simulated H) (line : List ℕ) (c : Command) (answer : Answer) (r : Result X ScriptFault) → length line ≤ max_line → IsCommand c line
     → Obeys hash_of s c answer then → IsOkUnless r fault.OutOfMemory → IfErr r (λ f. IsLineRefused hash_of s line f)
 untold_line hash_of s then line c answer (Ok x) short is o e = tt
 untold_line hash_of s then line c answer (Err f) short is o e = rw e (short, c, is, inr (answer, then, o))
 
 -- what is wrong with a line that was read is wrong with the first of the lines
-pub refused_first : {H : Type 0} (hash_of : H → List ℕ → ℕ) (s : Script H) (line : List ℕ) (lines : List (List ℕ)) (f : ScriptFault) → IsLineRefused hash_of s line f → IsRefusedAt hash_of s (line ∷ lines) f
+pub refused_first : {H : Type 0} (hash_of : H → List ℕ → ℕ) (s : Simulated H) (line : List ℕ) (lines : List (List ℕ)) (f : ScriptFault) → IsLineRefused hash_of s line f → IsRefusedAt hash_of s (line ∷ lines) f
 refused_first hash_of s line lines fault.ReadFailed h = tt
 refused_first hash_of s line lines fault.OutOfMemory h = tt
 refused_first hash_of s line lines other h = h
 
-pub unread_refused : {H : Type 0} (hash_of : H → List ℕ → ℕ) (s : Script H) (lines : List (List ℕ)) (e : WireError) → IsUnread lines e → IsRefusedAt hash_of s lines (fault_of_read e)
+pub unread_refused : {H : Type 0} (hash_of : H → List ℕ → ℕ) (s : Simulated H) (lines : List (List ℕ)) (e : WireError) → IsUnread lines e → IsRefusedAt hash_of s lines (fault_of_read e)
 unread_refused hash_of s [] e h = ap fault_of_read h
 unread_refused hash_of s (line ∷ lines) Io h = tt
 unread_refused hash_of s (line ∷ lines) LineTooLong h = h
@@ -96,10 +96,10 @@ appends_more (Some xs) (Some ys) None a b p q = absurd q
 appends_more (Some xs) (Some ys) (Some zs) a b p q = q ∙ ap (λ w. w ++ b) p ∙ append_assoc xs a b
 
 -- one line more
-pub answers_more : {H : Type 0} (hash_of : H → List ℕ → ℕ) (old mid new : Script H) (lines : List (List ℕ)) (line output text : List ℕ)
+pub answers_more : {H : Type 0} (hash_of : H → List ℕ → ℕ) (old mid new : Simulated H) (lines : List (List ℕ)) (line output text : List ℕ)
     → AnswersAll hash_of old lines output mid → AnswersLine hash_of mid line text new → AnswersAll hash_of old (lines ++ line ∷ []) (output ++ (text ++ 10 ∷ [])) new
 answers_more {H} hash_of old mid new [] line output text p q =
-    (text, [], new, subst (λ (s : Script H). AnswersLine hash_of s line text new) p.1 q, (refl, refl), ap (λ z. z ++ (text ++ 10 ∷ [])) p.0 ∙ sym (append-nil (text ++ 10 ∷ [])))
+    (text, [], new, subst (λ (s : Simulated H). AnswersLine hash_of s line text new) p.1 q, (refl, refl), ap (λ z. z ++ (text ++ 10 ∷ [])) p.0 ∙ sym (append-nil (text ++ 10 ∷ [])))
 answers_more {H} hash_of old mid new (l ∷ ls) line output text p q =
     let (first, rest, next, is, others, e) = p in
     (first, rest ++ (text ++ 10 ∷ []), next, is, answers_more hash_of next mid new ls line rest text others q, ap (λ z. z ++ (text ++ 10 ∷ [])) e ∙ append_assoc (first ++ 10 ∷ []) rest (text ++ 10 ∷ []))

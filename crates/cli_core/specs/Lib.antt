@@ -8,6 +8,6 @@ pub mod Hash
 pub mod Owner
 pub mod ScriptLines
 pub mod ScriptAnswers
-pub mod Script
+pub mod Simulated
 pub mod ScriptRuns
 pub mod Subcommands

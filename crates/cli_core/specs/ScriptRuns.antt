@@ -16,38 +16,38 @@ use Rattle.hash_ring.specs.declared.hash.Sha256Hash.{Sha256Hash}
 use Rattle.hash_ring.specs.declared.hash.SumHash.{SumHash}
 use Rattle.cli_core.specs.Input.{lines_of}
 use Rattle.cli_core.specs.Owner.{hash_by}
-use Rattle.cli_core.specs.Script.{Script, IsRefusedFor, Obeys, beginning}
+use Rattle.cli_core.specs.Simulated.{Simulated, IsRefusedFor, Obeys, beginning}
 use Rattle.cli_core.specs.ScriptAnswers.{answer_text}
 use Rattle.cli_core.specs.ScriptLines.{IsCommand}
 
 -- the line is no longer than it may be, and a command, which the script answers with this text
-abbrev pub AnswersLine : {H : Type 0} → (H → List ℕ → ℕ) → Script H → List ℕ → List ℕ → Script H → Type 0
+abbrev pub AnswersLine : {H : Type 0} → (H → List ℕ → ℕ) → Simulated H → List ℕ → List ℕ → Simulated H → Type 0
 AnswersLine hash_of old line text new =
     (length line ≤ max_line) × (c : Command) × (answer : Answer) × IsCommand c line × Obeys hash_of old c answer new × (text ≡ answer_text answer)
 
 -- what is wrong with a line that was read, where the script is this one: that it is too long, or else that it is no command, or what is
 -- wrong with the command; or the command is done, and there is no memory for the text of its answer
-abbrev pub IsLineRefused : {H : Type 0} → (H → List ℕ → ℕ) → Script H → List ℕ → ScriptFault → Type 0
+abbrev pub IsLineRefused : {H : Type 0} → (H → List ℕ → ℕ) → Simulated H → List ℕ → ScriptFault → Type 0
 IsLineRefused hash_of s line fault.ReadFailed = ⊥
 IsLineRefused hash_of s line fault.LineTooLong = max_line < length line
 IsLineRefused hash_of s line fault.BadCommand = (length line ≤ max_line) × ((c : Command) → IsCommand c line → ⊥)
 IsLineRefused {H} hash_of s line fault.OutOfMemory =
-    (length line ≤ max_line) × (c : Command) × IsCommand c line × (IsRefusedFor hash_of s c fault.OutOfMemory ⊎ ((answer : Answer) × (then : Script H) × Obeys hash_of s c answer then))
+    (length line ≤ max_line) × (c : Command) × IsCommand c line × (IsRefusedFor hash_of s c fault.OutOfMemory ⊎ ((answer : Answer) × (then : Simulated H) × Obeys hash_of s c answer then))
 IsLineRefused hash_of s line other = (length line ≤ max_line) × (c : Command) × IsCommand c line × IsRefusedFor hash_of s c other
 
 -- what is wrong with the first of the lines that are left; a want of memory and a failed read say nothing of its bytes, since they may come
 -- before it is read; where none is left a read can fail, and nothing else
-abbrev pub IsRefusedAt : {H : Type 0} → (H → List ℕ → ℕ) → Script H → List (List ℕ) → ScriptFault → Type 0
+abbrev pub IsRefusedAt : {H : Type 0} → (H → List ℕ → ℕ) → Simulated H → List (List ℕ) → ScriptFault → Type 0
 IsRefusedAt hash_of s (line ∷ lines) fault.ReadFailed = Unit {0}
 IsRefusedAt hash_of s (line ∷ lines) fault.OutOfMemory = Unit {0}
 IsRefusedAt hash_of s (line ∷ lines) f = IsLineRefused hash_of s line f
 IsRefusedAt hash_of s [] f = f ≡ fault.ReadFailed
 
 -- the lines are answered one after another, each with a line of the output
-abbrev pub AnswersAll : {H : Type 0} → (H → List ℕ → ℕ) → Script H → List (List ℕ) → List ℕ → Script H → Type 0
+abbrev pub AnswersAll : {H : Type 0} → (H → List ℕ → ℕ) → Simulated H → List (List ℕ) → List ℕ → Simulated H → Type 0
 AnswersAll hash_of old [] output new = (output ≡ []) × (new ≡ old)
 AnswersAll {H} hash_of old (line ∷ lines) output new =
-    (text rest : List ℕ) × (mid : Script H) × AnswersLine hash_of old line text mid × AnswersAll hash_of mid lines rest new × (output ≡ (text ++ 10 ∷ []) ++ rest)
+    (text rest : List ℕ) × (mid : Simulated H) × AnswersLine hash_of old line text mid × AnswersAll hash_of mid lines rest new × (output ≡ (text ++ 10 ∷ []) ++ rest)
 
 -- a fault that the line has no part in
 abbrev pub IsOfMachine : ScriptFault → Type 0
@@ -60,16 +60,16 @@ abbrev pub IsCountedLine : ℕ → ScriptFault → Type 0
 IsCountedLine number f = IsOfMachine f ⊎ (number ≤ greatest_number)
 
 -- all lines of the input are answered by this output, and they are not too many to be counted
-pub record IsAnswered {H : Type 0} (hash_of : H → List ℕ → ℕ) (start : Script H) (input output : List ℕ) : Type 0 where
-  pub last : Script H
+pub record IsAnswered {H : Type 0} (hash_of : H → List ℕ → ℕ) (start : Simulated H) (input output : List ℕ) : Type 0 where
+  pub last : Simulated H
   pub answers : AnswersAll hash_of start (lines_of input) output last
   pub counted : length (lines_of input) ≤ greatest_number
 
 -- the first line at fault: its number from 1, and what is wrong with it after those before it, which this output answers
-pub record IsStoppedAt {H : Type 0} (hash_of : H → List ℕ → ℕ) (start : Script H) (input : List ℕ) (number : ℕ) (f : ScriptFault) (output : List ℕ) : Type 0 where
+pub record IsStoppedAt {H : Type 0} (hash_of : H → List ℕ → ℕ) (start : Simulated H) (input : List ℕ) (number : ℕ) (f : ScriptFault) (output : List ℕ) : Type 0 where
   pub before : List (List ℕ)
   pub left : List (List ℕ)
-  pub then : Script H
+  pub then : Simulated H
   pub lines : lines_of input ≡ before ++ left
   pub answers : AnswersAll hash_of start before output then
   pub place : number ≡ length before + 1
@@ -77,24 +77,24 @@ pub record IsStoppedAt {H : Type 0} (hash_of : H → List ℕ → ℕ) (start : 
   pub counted : IsCountedLine number f
 
 -- the first lines of the input are answered by this output, and the one behind them, which can be counted, by this text
-pub record IsCutAfter {H : Type 0} (hash_of : H → List ℕ → ℕ) (start : Script H) (input output text : List ℕ) : Type 0 where
+pub record IsCutAfter {H : Type 0} (hash_of : H → List ℕ → ℕ) (start : Simulated H) (input output text : List ℕ) : Type 0 where
   pub before : List (List ℕ)
   pub line : List ℕ
   pub left : List (List ℕ)
-  pub then : Script H
-  pub last : Script H
+  pub then : Simulated H
+  pub last : Simulated H
   pub lines : lines_of input ≡ before ++ line ∷ left
   pub answers : AnswersAll hash_of start before output then
   pub answer : AnswersLine hash_of then line text last
   pub counted : length before < greatest_number
 
 -- what is written for an input, where it is known, and all its lines are answered
-abbrev pub Completes : {H : Type 0} → (H → List ℕ → ℕ) → Script H → Option (List ℕ) → Option (List ℕ) → Option (List ℕ) → Type 0
+abbrev pub Completes : {H : Type 0} → (H → List ℕ → ℕ) → Simulated H → Option (List ℕ) → Option (List ℕ) → Option (List ℕ) → Type 0
 Completes hash_of start known old new = IfSome known (λ input. (output : List ℕ) × IsAnswered hash_of start input output × Appends old new output)
 
 -- why not all are answered, and what is written then: the answers to the lines before the first at fault; or where the writer failed the answers
 -- before the one that it failed at, and a front of that one
-abbrev pub Stops : {H : Type 0} → (H → List ℕ → ℕ) → Script H → SimFault → Option (List ℕ) → Option (List ℕ) → Option (List ℕ) → Type 0
+abbrev pub Stops : {H : Type 0} → (H → List ℕ → ℕ) → Simulated H → SimFault → Option (List ℕ) → Option (List ℕ) → Option (List ℕ) → Type 0
 Stops hash_of start (AtLine number f) known old new = IfSome known (λ input. (output : List ℕ) × IsStoppedAt hash_of start input number f output × Appends old new output)
 Stops hash_of start CannotWrite known old new =
     IfSome known (λ input. (output text : List ℕ) × (written : Option (List ℕ)) × IsCutAfter hash_of start input output text × Appends old written output × AppendsFront written new (text ++ 10 ∷ []))
@@ -106,13 +106,13 @@ fault_of_read Memory = fault.OutOfMemory
 fault_of_read e = fault.ReadFailed
 
 -- what one turn did with the known bytes: a line and its answer, or nothing at the end, or a fault
-abbrev pub Turns : {H : Type 0} → (H → List ℕ → ℕ) → Script H → List ℕ → Option (List ℕ) → ℕ → Result Bool SimFault → Script H → Option (List ℕ) → Option (List ℕ) → Type 0
+abbrev pub Turns : {H : Type 0} → (H → List ℕ → ℕ) → Simulated H → List ℕ → Option (List ℕ) → ℕ → Result Bool SimFault → Simulated H → Option (List ℕ) → Option (List ℕ) → Type 0
 Turns hash_of old xs written number (Ok false) new rest now = (xs ≡ []) × (now ≡ written) × (new ≡ old)
 Turns hash_of old xs written number (Ok true) new rest now =
     (line text left : List ℕ) × (rest ≡ Some left) × (lines_of xs ≡ line ∷ lines_of left) × AnswersLine hash_of old line text new × Appends written now (text ++ 10 ∷ [])
 Turns hash_of old xs written number (Err (AtLine n f)) new rest now = (n ≡ number) × IsRefusedAt hash_of old (lines_of xs) f × IsCountedLine n f × (now ≡ written)
 Turns {H} hash_of old xs written number (Err CannotWrite) new rest now =
-    (line text : List ℕ) × (left : List (List ℕ)) × (then : Script H) × (lines_of xs ≡ line ∷ left) × AnswersLine hash_of old line text then × AppendsFront written now (text ++ 10 ∷ []) × (number ≤ greatest_number)
+    (line text : List ℕ) × (left : List (List ℕ)) × (then : Simulated H) × (lines_of xs ≡ line ∷ left) × AnswersLine hash_of old line text then × AppendsFront written now (text ++ 10 ∷ []) × (number ≤ greatest_number)
 
 -- by the sum of the bytes, or by SHA-256's first eight: all lines are answered
 abbrev pub CompletesBy : Bool → ℕ → Option (List ℕ) → Option (List ℕ) → Option (List ℕ) → Type 0

@@ -13,8 +13,8 @@ use Rattle.node_core.specs.declared.events.Event.TheVariants as call
 use Rattle.node_core.specs.declared.events.Reply.TheVariants as reply
 use Rattle.node_core.specs.Viewing.{Viewed}
 use Rattle.forward_core.specs.declared.attempts.Stage.TheVariants as stage
-use Rattle.forward_core.specs.declared.attempts.Step.{Step}
-use Rattle.forward_core.specs.declared.attempts.Step.TheVariants.{Wait, Here, Send}
+use Rattle.forward_core.specs.declared.attempts.Decision.{Decision}
+use Rattle.forward_core.specs.declared.attempts.Decision.TheVariants.{Wait, Here, Send}
 use Rattle.forward_core.specs.declared.errors.ForwardError.{ForwardError}
 use Rattle.forward_core.specs.declared.errors.ForwardError.TheVariants as forward
 use Rattle.forward_core.specs.Attempts.{AttemptState, IsOpen, ReadyStep, FailedStep}
@@ -152,7 +152,7 @@ module _ {H : Type 0} (hash_of : H → List ℕ → ℕ) (Came : MayAnswer) (Han
       let seen : Contains acts (looked (Err n)) = has_first (looked (Err n)) acts first next eq v.0 in
       subst (λ (x : ClusterError). Unanswered x acts) (sym is) (IsUnanswered.no_view (subst (λ (x : NodeError). Contains acts (looked (Err x))) v.1 seen))
 
-  looked_up : (now : ℕ) (old new : AttemptState) (step : Step) (acts : List (Act H)) → LooksUp hash_of now old new (Ok step) acts
+  looked_up : (now : ℕ) (old new : AttemptState) (step : Decision) (acts : List (Act H)) → LooksUp hash_of now old new (Ok step) acts
       → (view : Viewed H) × Contains acts (looked (Ok view)) × ReadyStep hash_of view now old (Ok step) new
   looked_up now old new step acts (inl h) = absurd h
   looked_up now old new step acts (inr (Ok view, (first, next, eq, v, p))) = (view, has_first (looked (Ok view)) acts first next eq v, p.1)
@@ -204,7 +204,7 @@ module _ {H : Type 0} (hash_of : H → List ℕ → ℕ) (Came : MayAnswer) (Han
       )
       h
 
-  carried : (now : ℕ) (old : AttemptState) (request : Request) (view : Viewed H) (step : Step) (r : Result Tried ClusterError) (acts xs ys : List (Act H)) → acts ≡ xs ++ ys
+  carried : (now : ℕ) (old : AttemptState) (request : Request) (view : Viewed H) (step : Decision) (r : Result Tried ClusterError) (acts xs ys : List (Act H)) → acts ≡ xs ++ ys
       → Contains acts (looked (Ok view)) → old.keys ≡ keys → IsOpen old.stage → request.body ≡ body → ReadyStep hash_of view now old (Ok step) request.attempt
       → CarriesOut Came Handled Time request step r ys → Tried_so r acts
   carried now old request view (Wait until) r acts xs ys e c k o b h p =

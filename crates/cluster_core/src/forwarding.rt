@@ -13,7 +13,7 @@ use crate::handlers::Handler;
 use crate::links::Link;
 use crate::serving::say;
 use change_core::{Address, Moment};
-use forward_core::{Attempt, Step};
+use forward_core::{Attempt, Decision};
 use hash_ring::PointHash;
 use locked_node::{LockedNode, NodePass};
 use std::alloc::Global;
@@ -43,7 +43,7 @@ fn look_up<R: Wait, H: PointHash>(
     pass: &mut NodePass<H>,
     now: Moment,
     attempt: &mut Attempt,
-) -> Result<Step, ClusterError>
+) -> Result<Decision, ClusterError>
     requires fits { Fits node.now pass.old }
     requires open { IsOpen attempt.old.stage }
     ensures did { Does node.now (LooksUp H.hash_of now attempt.old attempt.new) result pass.old pass.new }
@@ -154,15 +154,15 @@ fn try_once<R: Wait, H: PointHash, L: Link, A: Handler, C: Clock>(
     let Request { mut attempt, body } = request;
     let step = look_up(rt, node, pass, clock.now(), &mut attempt)?;
     match step {
-        Step::Wait(until) => {
+        Decision::Wait(until) => {
             clock.wait_until(rt, until);
             Ok(Tried::Again(Request { attempt, body }))
         }
-        Step::Here => {
+        Decision::Here => {
             let text = handle(rt, alloc, handler, attempt.keys(), &body)?;
             Ok(Tried::Answered(text))
         }
-        Step::Send(owner) => {
+        Decision::Send(owner) => {
             let request = Request { attempt, body };
             send(rt, alloc, node, pass, link, clock, owner, request)
         }

@@ -4,7 +4,7 @@ use Rattle.std.proofs.Common.{◌≡◌, ℕ, List, Some, None, Option, [], arit
 use Rattle.detector_core.specs.Choices.{sample}
 use Rattle.detector_core.specs.Helpers.{others, unanswered}
 use Rattle.detector_core.specs.Order.{drawn_turn}
-use Rattle.detector_core.specs.Probing.{ProbeState, choices, Attempted, would_say, left_running, running_target}
+use Rattle.detector_core.specs.Probing.{ProbeState, choices, OpenedProbe, would_say, left_running, running_target}
 use Rattle.detector_core.specs.Picks.{PicksAreOne, LossesAreOne, WordsAreOne, AcksAreOne}
 use Rattle.detector_core.specs.declared.prober.Lost.TheVariants.{Ask, NoHelper}
 
@@ -64,7 +64,7 @@ losses_are_one pingable target s t s' t' (Ask helpers) (Ask more) agree one draw
     )
 
 -- the prober with another's last number and running probe
-abbrev standing : ProbeState → ℕ → Option Attempted → ProbeState
+abbrev standing : ProbeState → ℕ → Option OpenedProbe → ProbeState
 standing s last running = record s { last = last; running = running }
 
 pub words_are_one : WordsAreOne

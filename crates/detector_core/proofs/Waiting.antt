@@ -15,7 +15,7 @@ use Rattle.detector_core.specs.declared.prober.Running.{Running}
 use Rattle.detector_core.specs.declared.errors.DetectorError.TheVariants as refusals
 use Rattle.detector_core.specs.Helpers.{first_waiting, missed, noted, is_reached, outcome_after, unanswered, verdict, waits}
 use Rattle.detector_core.specs.Picks.{IsPick, WasLost, running_of}
-use Rattle.detector_core.specs.Probing.{IsProbing, ProbeState, Attempted, unasked_target, would_say, after_saying, left_running}
+use Rattle.detector_core.specs.Probing.{IsProbing, ProbeState, OpenedProbe, unasked_target, would_say, after_saying, left_running}
 
 -- one that has not answered is waited for
 first_some : (asked : List Asked) → list_any (λ q. is_none q.said) asked ≡ true → first_waiting asked ≢ None
@@ -74,12 +74,12 @@ module _ (s : ProbeState) (probed : IsProbing s) where
     waited = λ p e h. by_running s.running refl p e h;
   }
     where
-      by_running : (o : Option Attempted) → s.running ≡ o → (p : Attempted) → option_and_then (left_running outcome.Waiting helper said) o ≡ Some p → first_waiting p.asked ≡ None → p.asked ≡ []
+      by_running : (o : Option OpenedProbe) → s.running ≡ o → (p : OpenedProbe) → option_and_then (left_running outcome.Waiting helper said) o ≡ Some p → first_waiting p.asked ≡ None → p.asked ≡ []
       by_running None r p e h = cc
       by_running (Some a) r p e h =
           let same : map (noted helper said) a.asked ≡ p.asked = cc in
           let told : would_say (record s { running = Some a }) number helper said ≡ Ok outcome.Waiting
-          = subst (λ (o : Option Attempted). would_say (record s { running = o }) number helper said ≡ Ok outcome.Waiting) r word in
+          = subst (λ (o : Option OpenedProbe). would_say (record s { running = o }) number helper said ≡ Ok outcome.Waiting) r word in
           let whole : outcome_after a.asked helper said ≡ outcome.Waiting = waiting_tests (eqb number s.last) (waits a.asked helper) (outcome_after a.asked helper said) told in
           let silent : list_any (λ q. is_none q.said) (map (noted helper said) a.asked) ≡ true
           = waiting_verdict _ (list_any missed (map (noted helper said) a.asked)) (waiting_word (is_reached said) (verdict (map (noted helper said) a.asked)) whole) in
@@ -90,13 +90,13 @@ module _ (s : ProbeState) (probed : IsProbing s) where
   probed-ended = record { numbered = probed.numbered; different = probed.different; waited = λ p e. cc }
 
   -- one that has noted a word and waits for more
-  pub probed-noted : (number helper : ℕ) (said : Said) (a : Attempted) (asked : List Asked) → s.running ≡ Some a → would_say s number helper said ≡ Ok outcome.Waiting
+  pub probed-noted : (number helper : ℕ) (said : Said) (a : OpenedProbe) (asked : List Asked) → s.running ≡ Some a → would_say s number helper said ≡ Ok outcome.Waiting
       → asked ≡ map (noted helper said) a.asked → IsProbing (record s { running = Some (record { target = a.target; asked = asked }) })
   probed-noted number helper said a asked runs word are =
-      let more = ap (λ (o : Option Attempted). option_and_then (left_running outcome.Waiting helper said) o) runs in
+      let more = ap (λ (o : Option OpenedProbe). option_and_then (left_running outcome.Waiting helper said) o) runs in
       let same : option_and_then (left_running outcome.Waiting helper said) s.running ≡ Some (record { target = a.target; asked = asked })
       = more ∙ ap (λ (qs : List Asked). Some (record { target = a.target; asked = qs })) (sym are) in
-      subst (λ (o : Option Attempted). IsProbing (record s { running = o })) same (probed-waiting number helper said word)
+      subst (λ (o : Option OpenedProbe). IsProbing (record s { running = o })) same (probed-waiting number helper said word)
 
   -- the probe that runs has asked nobody exactly where it waits for nobody
   pub unasked_waits : (r : Option Running) → r ≡ running_of s → IfSome r (λ r. (r.waiting ≡ None) ↔ (unasked_target s r.number ≡ Some r.target))
@@ -114,9 +114,9 @@ module _ (s : ProbeState) (probed : IsProbing s) where
       none_asked n asked target e =
           none asked (eqb-true (length asked) 0 (and_parts (eqb n s.last) (eqb (length asked) 0) (is_met (eqb n s.last && eqb (length asked) 0) target e)).1)
 
-      by_running : (o : Option Attempted) → s.running ≡ o
-          → IfSome (option_map (λ (a : Attempted). record { number = s.last; target = a.target; waiting = first_waiting a.asked }) o)
-          (λ (r : Running). (r.waiting ≡ None) ↔ (option_and_then (λ (a : Attempted). cond (eqb r.number s.last && eqb (length a.asked) 0) (Some a.target) None) o ≡ Some r.target))
+      by_running : (o : Option OpenedProbe) → s.running ≡ o
+          → IfSome (option_map (λ (a : OpenedProbe). record { number = s.last; target = a.target; waiting = first_waiting a.asked }) o)
+          (λ (r : Running). (r.waiting ≡ None) ↔ (option_and_then (λ (a : OpenedProbe). cond (eqb r.number s.last && eqb (length a.asked) 0) (Some a.target) None) o ≡ Some r.target))
       by_running None runs = tt
       by_running (Some a) runs = (
         λ e. (λ j. cond (eq-eqb s.last s.last refl j && eqb (length (probed.waited a runs e j)) 0) (Some a.target) None),

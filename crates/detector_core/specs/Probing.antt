@@ -15,7 +15,7 @@ use Rattle.detector_core.specs.Helpers.{first_waiting, noted, waits, outcome_aft
 use Rattle.detector_core.specs.Order.{AllDifferent}
 
 -- the target of the running probe, and the helpers asked with what each said
-pub record Attempted : Type 0 where
+pub record OpenedProbe : Type 0 where
   pub target : ℕ
   pub asked : List Asked
 
@@ -26,14 +26,14 @@ pub record ProbeState : Type 0 where
   pub helpers : ℕ
   pub rest : List ℕ
   pub generator : Lcg
-  pub running : Option Attempted
+  pub running : Option OpenedProbe
 
 -- what holds of a prober between any two calls: its last number is within the greatest, nobody stands twice in the rest of the order, and a
 -- probe that waits for nobody has asked nobody, so that one whose helpers have all answered has ended
 pub record IsProbing (probing : ProbeState) : Type 0 where
   pub numbered : probing.last ≤ greatest_number
   pub different : AllDifferent probing.rest
-  pub waited : (p : Attempted) → probing.running ≡ Some p → first_waiting p.asked ≡ None → p.asked ≡ []
+  pub waited : (p : OpenedProbe) → probing.running ≡ Some p → first_waiting p.asked ≡ None → p.asked ≡ []
 
 -- the random choices to come
 abbrev pub choices : ProbeState → Stream
@@ -52,7 +52,7 @@ would_say s number helper said =
     (Err refusals.StaleProbe)
 
 -- a probe that waits for more notes the word, and any other outcome ends it
-abbrev pub left_running : Outcome → ℕ → Said → Attempted → Option Attempted
+abbrev pub left_running : Outcome → ℕ → Said → OpenedProbe → Option OpenedProbe
 left_running outcomes.Waiting helper said a = Some (record a { asked = map (noted helper said) a.asked })
 left_running outcomes.Reached helper said a = None
 left_running outcomes.Suspect helper said a = None

@@ -2,7 +2,7 @@ ghost use Rattle.std.specs.Prelude.{◌%◌, ◌^◌, sum};
 
 use crate::views::{A, B, C, Views, address, keys, moment, view, with_views};
 use change_core::Status;
-use forward_core::{Attempt, ForwardError, MOST_SENDS, Route, Step, route_keys};
+use forward_core::{Attempt, Decision, ForwardError, MOST_SENDS, Route, route_keys};
 use hash_ring::{PointHash, SumHash};
 use node_core::View;
 use std::alloc::Global;
@@ -56,14 +56,14 @@ fn one_owner_of_all_keys(rt: HostRuntime) {
 #[derive(Clone, Copy)]
 enum Call<'a> {
     /// `ready`, by this view at this moment.
-    Ready(&'a View<SumHash>, u64, Result<Step, ForwardError>),
+    Ready(&'a View<SumHash>, u64, Result<Decision, ForwardError>),
     /// `failed`, at this moment.
     Failed(u64, Result<(), ForwardError>),
 }
 
 /// The step that sends to this member.
-fn to(rt: &impl Abort, text: &str) -> Result<Step, ForwardError> {
-    Ok(Step::Send(address(rt, text)))
+fn to(rt: &impl Abort, text: &str) -> Result<Decision, ForwardError> {
+    Ok(Decision::Send(address(rt, text)))
 }
 
 /// Makes a call, and checks its answer, and that a refused `ready`, a `Wait` and a `Here` count no send.
@@ -73,7 +73,7 @@ fn check_call(rt: &impl Abort, attempt: &mut Attempt, call: &Call) {
         Call::Ready(view, now, wanted) => {
             let answer = attempt.ready(*view, moment(rt, *now));
             assert_eq!(rt; answer, *wanted, "ready at {now}");
-            let one = matches!(wanted, Ok(Step::Send(_)));
+            let one = matches!(wanted, Ok(Decision::Send(_)));
             assert_eq!(rt; attempt.sends(), before.wrapping_add(u32::from(one)));
         }
         Call::Failed(now, wanted) => {
@@ -108,13 +108,13 @@ fn check_failing(rt: &impl Abort, alloc: Global, views: &Views) {
     let calls = [
         Call::Ready(three, 0, to(rt, B)),
         Call::Failed(0, Ok(())),
-        Call::Ready(three, 2_999, Ok(Step::Wait(3_000))),
+        Call::Ready(three, 2_999, Ok(Decision::Wait(3_000))),
         Call::Ready(three, 3_000, to(rt, B)),
         Call::Failed(3_000, Ok(())),
-        Call::Ready(three, 8_999, Ok(Step::Wait(9_000))),
+        Call::Ready(three, 8_999, Ok(Decision::Wait(9_000))),
         Call::Ready(three, 9_000, to(rt, B)),
         Call::Failed(9_000, Ok(())),
-        Call::Ready(three, 20_999, Ok(Step::Wait(21_000))),
+        Call::Ready(three, 20_999, Ok(Decision::Wait(21_000))),
         Call::Ready(three, 21_000, to(rt, B)),
         Call::Failed(21_000, Err(ForwardError::RetriesSpent)),
         Call::Ready(three, 50_000, Err(ForwardError::RetriesSpent)),
@@ -142,9 +142,9 @@ fn check_owners(rt: &impl Abort, alloc: Global, views: &Views) {
         Call::Failed(0, Ok(())),
         Call::Failed(0, Err(ForwardError::NotInFlight)),
         Call::Ready(none, 2_999, Err(ForwardError::Nobody)),
-        Call::Ready(three, 2_999, Ok(Step::Wait(3_000))),
-        Call::Ready(at_c, 2_999, Ok(Step::Wait(3_000))),
-        Call::Ready(at_c, 3_000, Ok(Step::Here)),
+        Call::Ready(three, 2_999, Ok(Decision::Wait(3_000))),
+        Call::Ready(at_c, 2_999, Ok(Decision::Wait(3_000))),
+        Call::Ready(at_c, 3_000, Ok(Decision::Here)),
         Call::Ready(two, 3_000, to(rt, C)),
         Call::Ready(two, 9_000, Err(ForwardError::InFlight)),
     ];
@@ -154,7 +154,7 @@ fn check_owners(rt: &impl Abort, alloc: Global, views: &Views) {
 /// Checks an attempt that is this node's, and then another's.
 fn check_here(rt: &impl Abort, alloc: Global, views: &Views) {
     let calls = [
-        Call::Ready(&views.at_c, 0, Ok(Step::Here)),
+        Call::Ready(&views.at_c, 0, Ok(Decision::Here)),
         Call::Ready(&views.two, 0, to(rt, C)),
     ];
     attempt_of(rt, alloc, &["zzzz1"], &calls);
@@ -176,10 +176,10 @@ fn check_two_keys(rt: &impl Abort, alloc: Global, views: &Views) {
         Call::Ready(two, 0, to(rt, C)),
         Call::Failed(5, Ok(())),
         Call::Ready(three, 5, Err(ForwardError::Diverged)),
-        Call::Ready(two, 5, Ok(Step::Wait(3_005))),
+        Call::Ready(two, 5, Ok(Decision::Wait(3_005))),
         Call::Ready(two, LIMIT, to(rt, C)),
         Call::Failed(LIMIT, Ok(())),
-        Call::Ready(two, LIMIT, Ok(Step::Wait(9_007_199_254_746_991))),
+        Call::Ready(two, LIMIT, Ok(Decision::Wait(9_007_199_254_746_991))),
     ];
     assert!(rt; attempt_of(rt, alloc, &["zzzz1", "zzzz2"], &calls) == (2, 2));
 }

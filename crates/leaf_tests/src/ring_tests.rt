@@ -102,7 +102,7 @@ fn copy<H: PointHash>(rt: &impl Abort, ring: &Ring<H>) -> Result<Ring<H>, Fail> 
     }
 }
 
-// A key, how many owners are asked for, and their texts.
+/// A key, how many owners are asked for, and their texts.
 type Row<'a> = (&'a str, usize, &'a [&'a str]);
 
 fn check_rows<H: PointHash>(rt: &impl Abort, ring: &Ring<H>, rows: &[Row]) -> Result<(), Fail> {
@@ -338,7 +338,7 @@ fn draw(state: &mut u64, bound: u64) -> u64
 /// The ports of servers whose texts run into one another.
 const PORTS: [u16; 6] = [1, 11, 2, 12, 110, 21];
 
-// The weights of the servers of these ports, as they should be in a ring: kept beside it, by the edits alone.
+/// The weights of the servers of these ports, as they should be in a ring: kept beside it, by the edits alone.
 type Weights = [Option<Weight>; 6];
 
 /// The weight that the server of an address should have.
@@ -424,7 +424,7 @@ fn many_owners(rt: HostRuntime) -> Result<(), Fail> {
     Ok(())
 }
 
-// Both rings answer alike, and so does a copy of the first.
+/// Both rings answer alike, and so does a copy of the first.
 fn check_alike(rt: &impl Abort, late: &Ring<SumHash>, settled: &Ring<SumHash>) -> Result<(), Fail> {
     let copied = copy(rt, late)?;
     for place in 0..16u8 {
@@ -440,7 +440,7 @@ fn check_alike(rt: &impl Abort, late: &Ring<SumHash>, settled: &Ring<SumHash>) -
     Ok(())
 }
 
-// Adds a server to both rings, or removes it from both.
+/// Adds a server to both rings, or removes it from both.
 fn edit_both(
     rt: &impl Abort,
     late: &mut Ring<SumHash>,
@@ -460,7 +460,7 @@ fn edit_both(
     Ok(())
 }
 
-// One ring is settled at the end alone, and the other after each edit: servers are added, leave, and come back with other weights.
+/// One ring is settled at the end alone, and the other after each edit: servers are added, leave, and come back with other weights.
 #[test]
 fn a_ring_settles_late(rt: HostRuntime) -> Result<(), Fail> {
     let mut late = Ring::new(rt.alloc(), SumHash, 3)?;

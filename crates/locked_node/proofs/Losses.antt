@@ -12,7 +12,7 @@ use Rattle.detector_core.specs.declared.asked.Outcome.TheVariants as outcome
 use Rattle.detector_core.specs.declared.asked.Said.{Said}
 use Rattle.detector_core.specs.Helpers.{noted, unanswered}
 use Rattle.detector_core.specs.Picks.{WasAsked}
-use Rattle.detector_core.specs.Probing.{ProbeState, Attempted, unasked_target, after_saying, left_running}
+use Rattle.detector_core.specs.Probing.{ProbeState, OpenedProbe, unasked_target, after_saying, left_running}
 use Rattle.wire_json.specs.declared.messages.Message.{Message}
 use Rattle.wire_json.specs.declared.messages.Content.{Content}
 use Rattle.wire_json.specs.declared.messages.Content.TheVariants as content
@@ -53,14 +53,14 @@ module _ (k : ℕ) where
       by_test true c t j = refl
       by_test false c t j = cc
 
-      by_running : (o : Option Attempted) → option_and_then (λ (a : Attempted). cond (eqb k s.last && eqb (length a.asked) 0) (Some a.target) None) o ≡ Some target → k ≡ s.last
+      by_running : (o : Option OpenedProbe) → option_and_then (λ (a : OpenedProbe). cond (eqb k s.last && eqb (length a.asked) 0) (Some a.target) None) o ≡ Some target → k ≡ s.last
       by_running None j = cc
       by_running (Some a) j = eqb-true k s.last (by_test (eqb k s.last) (eqb (length a.asked) 0) a.target j)
 
   -- one that has asked is none that has asked nobody
-  has_asked : (s : ProbeState) (a : Attempted) → s.running ≡ Some a → 0 < length a.asked → unasked_target s k ≡ None
+  has_asked : (s : ProbeState) (a : OpenedProbe) → s.running ≡ Some a → 0 < length a.asked → unasked_target s k ≡ None
   has_asked s a e some =
-      ap (λ (o : Option Attempted). option_and_then (λ (a : Attempted). cond (eqb k s.last && eqb (length a.asked) 0) (Some a.target) None) o) e
+      ap (λ (o : Option OpenedProbe). option_and_then (λ (a : OpenedProbe). cond (eqb k s.last && eqb (length a.asked) 0) (Some a.target) None) o) e
       ∙ by_test (eqb k s.last) (eqb (length a.asked) 0) (ne_eqb (length a.asked) 0 (λ j. omega (arith, some, j)))
     where
       by_test : (b c : Bool) → c ≡ false → cond (b && c) (Some a.target) None ≡ None
@@ -76,7 +76,7 @@ module _ (k : ℕ) where
       by_test true c target j = cc
       by_test false c target j = refl
 
-      by_running : (o : Option Attempted) → option_and_then (λ (a : Attempted). cond (eqb k t.last && eqb (length a.asked) 0) (Some a.target) None) o ≡ None
+      by_running : (o : Option OpenedProbe) → option_and_then (λ (a : OpenedProbe). cond (eqb k t.last && eqb (length a.asked) 0) (Some a.target) None) o ≡ None
       by_running None = refl
       by_running (Some a) = by_test (eqb k t.last) (eqb (length a.asked) 0) a.target (ne_eqb k t.last (λ j. omega (arith, le, e, j)))
 
@@ -92,8 +92,8 @@ module _ (k : ℕ) where
   waits_on : (s : ProbeState) (helper : ℕ) (said : Said) → unasked_target s k ≡ None → unasked_target (after_saying s helper said outcome.Waiting) k ≡ None
   waits_on s helper said e = by_running s.running e
     where
-      by_running : (o : Option Attempted) → option_and_then (λ (a : Attempted). cond (eqb k s.last && eqb (length a.asked) 0) (Some a.target) None) o ≡ None
-          → option_and_then (λ (a : Attempted). cond (eqb k s.last && eqb (length a.asked) 0) (Some a.target) None) (option_and_then (left_running outcome.Waiting helper said) o) ≡ None
+      by_running : (o : Option OpenedProbe) → option_and_then (λ (a : OpenedProbe). cond (eqb k s.last && eqb (length a.asked) 0) (Some a.target) None) o ≡ None
+          → option_and_then (λ (a : OpenedProbe). cond (eqb k s.last && eqb (length a.asked) 0) (Some a.target) None) (option_and_then (left_running outcome.Waiting helper said) o) ≡ None
       by_running None j = refl
       by_running (Some a) j =
           subst (λ (n : ℕ). cond (eqb k s.last && eqb n 0) (Some a.target) None ≡ None) (sym (length-map a.asked (noted helper said))) j

@@ -11,19 +11,19 @@ use Rattle.detector_core.specs.declared.asked.Said.{Said}
 use Rattle.detector_core.specs.declared.prober.Lost.TheVariants.{Ask}
 use Rattle.detector_core.specs.declared.prober.Probe.{Probe}
 use Rattle.detector_core.specs.Picks.{IsPick, WasLost}
-use Rattle.detector_core.specs.Probing.{ProbeState, Attempted, running_target, unasked_target, after_saying, left_running}
+use Rattle.detector_core.specs.Probing.{ProbeState, OpenedProbe, running_target, unasked_target, after_saying, left_running}
 use Rattle.node_core.specs.Node.{Node, pingable}
 
 -- a probe that runs is of another
 abbrev pub IsOfOther : ℕ → ProbeState → Type 0
-IsOfOther own s = (p : Attempted) → s.running ≡ Some p → p.target ≢ own
+IsOfOther own s = (p : OpenedProbe) → s.running ≡ Some p → p.target ≢ own
 
-chosen : (o : Option Attempted) (test : Attempted → Bool) (target : ℕ) → option_and_then (λ a. cond (test a) (Some a.target) None) o ≡ Some target
-    → (a : Attempted) × (o ≡ Some a) × (a.target ≡ target)
+chosen : (o : Option OpenedProbe) (test : OpenedProbe → Bool) (target : ℕ) → option_and_then (λ a. cond (test a) (Some a.target) None) o ≡ Some target
+    → (a : OpenedProbe) × (o ≡ Some a) × (a.target ≡ target)
 chosen None test target e = cc
 chosen (Some a) test target e = by_test (test a) e
   where
-    by_test : (b : Bool) → cond b (Some a.target) None ≡ Some target → (x : Attempted) × (Some a ≡ Some x) × (x.target ≡ target)
+    by_test : (b : Bool) → cond b (Some a.target) None ≡ Some target → (x : OpenedProbe) × (Some a ≡ Some x) × (x.target ≡ target)
     by_test true k = let same : a.target ≡ target = cc in (a, refl, same)
     by_test false k = cc
 
@@ -44,7 +44,7 @@ module _ (own : ℕ) (s : ProbeState) (others : IsOfOther own s) where
   pub others-waiting : (helper : ℕ) (said : Said) → IsOfOther own (after_saying s helper said outcome.Waiting)
   others-waiting helper said p e k = by_running s.running refl e
     where
-      by_running : (o : Option Attempted) → s.running ≡ o → option_and_then (left_running outcome.Waiting helper said) o ≡ Some p → ⊥
+      by_running : (o : Option OpenedProbe) → s.running ≡ o → option_and_then (left_running outcome.Waiting helper said) o ≡ Some p → ⊥
       by_running None r j = cc
       by_running (Some a) r j = let same : a.target ≡ p.target = cc in others a r (same ∙ k)
 

@@ -14,7 +14,7 @@ use Rattle.change_core.specs.Ascending.{In}
 use Rattle.change_core.proofs.Order.{in_append_left, in_append_right, in_append}
 use Rattle.change_core.specs.Refutation.{is_refuted, refutation, refutations, log_one}
 use Rattle.detector_core.specs.declared.timers.Timer.{Timer}
-use Rattle.detector_core.specs.Probing.{Attempted}
+use Rattle.detector_core.specs.Probing.{OpenedProbe}
 use Rattle.node_core.proofs.Synchronising.{Exceeds-refutation}
 use Rattle.node_core.specs.Node.{Node, altered, asserted_by, or_birth, own_change, asserts}
 use Rattle.gossip_core.specs.Pending.{put_pending, below}
@@ -40,7 +40,7 @@ pub record IsSound {H : Type 0} (A : List Change) (node : Node H) : Type 0 where
   pub asserting : (d : Change) → In d A → asserts d.status ≡ true
   pub grounded : (c : Change) → In c node.members → IsGrounded A c
   pub news : (p : Pending) → In p node.gossip.pending → IsTold A p.sourced
-  pub others : (p : Attempted) → node.probing.running ≡ Some p → p.target ≢ node.own
+  pub others : (p : OpenedProbe) → node.probing.running ≡ Some p → p.target ≢ node.own
   pub timed : (t : Timer) → In t node.timers → IsAssertedAt A t.address t.incarnation
 
 -- A' has what A has

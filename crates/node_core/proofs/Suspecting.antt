@@ -11,7 +11,7 @@ use Rattle.change_core.specs.Members.{greatest}
 use Rattle.change_core.specs.Status.{rank}
 use Rattle.detector_core.specs.declared.asked.Outcome.TheVariants as outcome
 use Rattle.detector_core.specs.declared.asked.Said.{Said}
-use Rattle.detector_core.specs.Probing.{Attempted, ProbeState, after_saying, left_running}
+use Rattle.detector_core.specs.Probing.{OpenedProbe, ProbeState, after_saying, left_running}
 use Rattle.member_core.specs.declared.verdicts.Verdict.TheVariants.{Take}
 use Rattle.member_core.specs.Membership.{judged}
 use Rattle.node_core.specs.Edits.{membership_of}
@@ -69,22 +69,22 @@ suspicion-entry M target e found alive = by_held (greatest M target) refl found
 -- a word after which nobody is waited for ends the probe
 module _ (s : ProbeState) (helper : ℕ) (said : Said) where
   pub after_saying-reached : after_saying s helper said outcome.Reached ≡ record s { running = None }
-  after_saying-reached = ap (λ (o : Option Attempted). record s { running = o }) (by_running s.running)
+  after_saying-reached = ap (λ (o : Option OpenedProbe). record s { running = o }) (by_running s.running)
     where
-      by_running : (o : Option Attempted) → option_and_then (left_running outcome.Reached helper said) o ≡ None
+      by_running : (o : Option OpenedProbe) → option_and_then (left_running outcome.Reached helper said) o ≡ None
       by_running None = refl
       by_running (Some a) = refl
 
   pub after_saying-suspect : after_saying s helper said outcome.Suspect ≡ record s { running = None }
-  after_saying-suspect = ap (λ (o : Option Attempted). record s { running = o }) (by_running s.running)
+  after_saying-suspect = ap (λ (o : Option OpenedProbe). record s { running = o }) (by_running s.running)
     where
-      by_running : (o : Option Attempted) → option_and_then (left_running outcome.Suspect helper said) o ≡ None
+      by_running : (o : Option OpenedProbe) → option_and_then (left_running outcome.Suspect helper said) o ≡ None
       by_running None = refl
       by_running (Some a) = refl
 
   pub after_saying-inconclusive : after_saying s helper said outcome.Inconclusive ≡ record s { running = None }
-  after_saying-inconclusive = ap (λ (o : Option Attempted). record s { running = o }) (by_running s.running)
+  after_saying-inconclusive = ap (λ (o : Option OpenedProbe). record s { running = o }) (by_running s.running)
     where
-      by_running : (o : Option Attempted) → option_and_then (left_running outcome.Inconclusive helper said) o ≡ None
+      by_running : (o : Option OpenedProbe) → option_and_then (left_running outcome.Inconclusive helper said) o ≡ None
       by_running None = refl
       by_running (Some a) = refl

@@ -5,7 +5,7 @@ use Rattle.change_core.specs.declared.statuses.Status.{Status}
 use Rattle.change_core.specs.Ascending.{In}
 use Rattle.change_core.specs.Members.{greatest, serving, IsMemberList}
 use Rattle.detector_core.specs.declared.timers.Timer.{Timer}
-use Rattle.detector_core.specs.Probing.{Attempted, IsProbing}
+use Rattle.detector_core.specs.Probing.{OpenedProbe, IsProbing}
 use Rattle.gossip_core.specs.declared.pending.Pending.{Pending}
 use Rattle.gossip_core.specs.Pending.{subject, limit_for, OnePerAddress}
 use Rattle.hash_ring.specs.Points.{points}
@@ -47,7 +47,7 @@ pub record IsNode {H : Type 0} (node : Node H) : Type 0 where
   -- a timer runs exactly for each suspect or faulty entry of another
   pub timed : (a : ℕ) → option_map purpose_of (timer_of node.timers a) ≡ purpose node.own (greatest node.members a)
   -- a probe is of another
-  pub others : (p : Attempted) → node.probing.running ≡ Some p → p.target ≢ node.own
+  pub others : (p : OpenedProbe) → node.probing.running ≡ Some p → p.target ≢ node.own
   pub probed : IsProbing node.probing
   -- the parts are as configured
   pub configured : IsConfig node.config

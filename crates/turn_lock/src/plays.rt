@@ -4,6 +4,7 @@ use crate::table::View;
 use atomic_table::{Join, Play, Split};
 use std::marker::PhantomData;
 
+/// A ticket is drawn.
 pub(crate) struct Draw;
 
 impl<S, E> Play<Option<S>, View<S, E>> for Draw {
@@ -12,6 +13,7 @@ impl<S, E> Play<Option<S>, View<S, E>> for Draw {
     ghost then = { drew };
 }
 
+/// The ticket that is served is read, and with it the history so far.
 pub(crate) struct Look;
 
 impl<S: Kept> Play<Option<S>, View<S, S::Entry>> for Look {
@@ -20,6 +22,7 @@ impl<S: Kept> Play<Option<S>, View<S, S::Entry>> for Look {
     ghost then = { saw S.stands_for };
 }
 
+/// The turn is given to the next ticket, and what `J` names is told as the entry of this one.
 pub(crate) struct Give<J> {
     told: PhantomData<J>,
 }
@@ -30,6 +33,7 @@ impl<S, E, J: Told<E>> Play<Option<S>, View<S, E>> for Give<J> {
     ghost then = { gave J.entry };
 }
 
+/// A seat for one pass is split from the one that stands for all.
 pub(crate) struct Part;
 
 impl<S, E> Split<View<S, E>> for Part {
@@ -40,6 +44,7 @@ impl<S, E> Split<View<S, E>> for Part {
     ghost right = { cut_part };
 }
 
+/// A seat is joined to another, which then stands for the passes of both.
 pub(crate) struct Gather;
 
 impl<S, E> Join<View<S, E>> for Gather {

@@ -24,7 +24,9 @@ pub(crate) const TICKET: usize = 1;
 
 pub(crate) const STATE: usize = 0;
 
+/// Where a pass is in its turn.
 pub enum Stage {
+    /// It holds no ticket.
     Outside,
     /// It holds this ticket.
     Waiting(u64),
@@ -57,6 +59,7 @@ pub struct Terms<S> {
     pub opening: Snapshot<S>,
 }
 
+/// The rule of the table: the state is handed out by the order of the tickets. No value of it is made.
 pub struct InTurn;
 
 impl<S: Kept> TableRule<Option<S>, View<S, S::Entry>, Terms<S>> for InTurn {

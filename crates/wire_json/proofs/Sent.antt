@@ -19,7 +19,7 @@ use Rattle.wire_json.specs.declared.messages.Content.TheVariants.{Join, Joined, 
 use Rattle.wire_json.specs.Fields.{name}
 use Rattle.wire_json.specs.Forms.{plain_fields, weight_fields, change_data}
 use Rattle.wire_json.specs.Messages.{message_data}
-use Rattle.wire_json.specs.Sending.{Sends, SendsAll, content_sent, members_sent}
+use Rattle.wire_json.specs.Sending.{Sends, SendsAll, content_sent, fields_sent}
 use Rattle.wire_json.proofs.Elements.{take_here}
 use Rattle.wire_json.proofs.Encoding.{change_object}
 
@@ -126,6 +126,6 @@ message_in_order a i (Reply t) = refl
 message_in_order a i NotOwner = refl
 message_in_order a i (Refused r) = refl
 
-pub message_sent : (m : Message) (n : ℕ) (l0 l1 l2 l3 : Log) → ((a i : ℕ) → n ≡ length (content_sent m.content a i)) → Logs l0 l1 (event.map_begins (Some n)) → Sends (members_sent m) l1 l2 → Logs l2 l3 event.map_ends → SendsValue (message_data m) l0 l3
+pub message_sent : (m : Message) (n : ℕ) (l0 l1 l2 l3 : Log) → ((a i : ℕ) → n ≡ length (content_sent m.content a i)) → Logs l0 l1 (event.map_begins (Some n)) → Sends (fields_sent m) l1 l2 → Logs l2 l3 event.map_ends → SendsValue (message_data m) l0 l3
 message_sent m n l0 l1 l2 l3 count begins each ends =
-    subst (λ d. SendsValue d l0 l3) (message_in_order m.source m.source_incarnation m.content) (object_sent (members_sent m) n l0 l1 l2 l3 (count m.source m.source_incarnation) begins each ends)
+    subst (λ d. SendsValue d l0 l3) (message_in_order m.source m.source_incarnation m.content) (object_sent (fields_sent m) n l0 l1 l2 l3 (count m.source m.source_incarnation) begins each ends)

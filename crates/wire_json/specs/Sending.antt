@@ -61,8 +61,8 @@ content_sent NotOwner a i = head_sent NotOwner a i
 content_sent (Refused r) a i = (field.Kind, string (kind_word (kind_of (Refused r)))) ∷ (field.Reason, string (reason_word r)) ∷ source_sent a i
 
 -- the fields of a message, ascending by name
-abbrev pub members_sent : Message → List (Field × Data)
-members_sent m = content_sent m.content m.source m.source_incarnation
+abbrev pub fields_sent : Message → List (Field × Data)
+fields_sent m = content_sent m.content m.source m.source_incarnation
 
 -- keys and body are texts, as those of every message in the code are
 abbrev pub AreTexts : Content → Type 0

@@ -1,6 +1,6 @@
 //! What one node is asked, and what it answers.
 ghost use Rattle.std.specs.Prelude.{IfErr, IfOk, IsOkUnless};
-ghost use Rattle.cli_core.specs.Script.{NodeAnswers, NodeLacks};
+ghost use Rattle.cli_core.specs.Simulated.{NodeAnswers, NodeLacks};
 
 use crate::scripts::answers::Answer;
 use crate::scripts::faults::ScriptFault;

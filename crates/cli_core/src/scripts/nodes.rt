@@ -2,7 +2,7 @@
 ghost use Rattle.std.specs.Prelude.{◌≡◌, ◌<◌, ◌≤◌, ◌⊎◌, None, IfOk, IfErr, IfSome, OnErr};
 ghost use Rattle.hash_ring.specs.Points.{IsReplicas};
 ghost use Rattle.node_core.specs.Node.{own_change};
-ghost use Rattle.cli_core.specs.Script.{GoesOn, IsPlace, NodeAnswers, NodeLacks, Pings, Receives, born, node_at, nodes_in, with_node};
+ghost use Rattle.cli_core.specs.Simulated.{GoesOn, IsPlace, NodeAnswers, NodeLacks, Pings, Receives, born, node_at, nodes_in, with_node};
 
 use crate::scripts::answers::Answer;
 use crate::scripts::asked::ask;

@@ -3,7 +3,7 @@ ghost use Rattle.std.specs.Prelude.{◌≡◌, ◌≤◌, true, length, IfOk, If
 ghost use Rattle.change_core.specs.Numbers.{greatest_number};
 ghost use Rattle.hash_ring.specs.Points.{IsReplicas};
 ghost use Rattle.wire_json.specs.Lines.{max_line};
-ghost use Rattle.cli_core.specs.Script.{beginning};
+ghost use Rattle.cli_core.specs.Simulated.{beginning};
 ghost use Rattle.cli_core.specs.ScriptRuns.{AnswersLine, Completes, CompletesBy, IsLineRefused, Stops, StopsBy, Turns, fault_of_read};
 
 use crate::counted::next_line;

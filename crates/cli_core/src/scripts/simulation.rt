@@ -1,7 +1,7 @@
 //! The nodes of a script, its messages and its moment.
 ghost use Rattle.std.specs.Prelude.{◌≡◌, ◌+◌, ◌<◌, ◌≤◌, ◌⊎◌, length, option_copied, IfOk, IfErr};
 ghost use Rattle.hash_ring.specs.Points.{IsReplicas};
-ghost use Rattle.cli_core.specs.Script.{IsRefusedFor, Obeys, beginning, message_of, most_messages, with_message};
+ghost use Rattle.cli_core.specs.Simulated.{IsRefusedFor, Obeys, beginning, message_of, most_messages, with_message};
 
 use crate::scripts::answers::Answer;
 use crate::scripts::faults::ScriptFault;
@@ -37,9 +37,9 @@ pub struct Simulation<H: PointHash> {
 
 impl<H: PointHash> Model for Simulation<H> {
     ghost use Rattle.hash_ring.specs.Points.{IsReplicas};
-    ghost use Rattle.cli_core.specs.Script.{Script, nodes_in};
+    ghost use Rattle.cli_core.specs.Simulated.{Simulated, nodes_in};
 
-    ghost Value = { Script H };
+    ghost Value = { Simulated H };
 
     ghost view = { λ a. record {
       hash = a.hash;

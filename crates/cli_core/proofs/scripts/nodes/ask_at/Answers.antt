@@ -1,4 +1,4 @@
-use Rattle.cli_core.specs.Script.{NodeAnswers, NodeLacks}
+use Rattle.cli_core.specs.Simulated.{NodeAnswers, NodeLacks}
 use Rattle.cli_core.proofs.ScriptPlaces.{place_answers, place_lacks}
 use Rattle.cli_core.proofs.scripts.nodes.ask_at.Goals as goal
 

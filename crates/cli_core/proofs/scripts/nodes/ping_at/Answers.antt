@@ -1,4 +1,4 @@
-use Rattle.cli_core.specs.Script.{Pings}
+use Rattle.cli_core.specs.Simulated.{Pings}
 use Rattle.cli_core.proofs.ScriptPlaces.{place_goes}
 use Rattle.cli_core.proofs.scripts.nodes.ping_at.Goals as goal
 

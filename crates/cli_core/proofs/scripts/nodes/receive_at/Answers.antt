@@ -1,4 +1,4 @@
-use Rattle.cli_core.specs.Script.{Receives}
+use Rattle.cli_core.specs.Simulated.{Receives}
 use Rattle.cli_core.proofs.ScriptPlaces.{place_goes}
 use Rattle.cli_core.proofs.scripts.nodes.receive_at.Goals as goal
 

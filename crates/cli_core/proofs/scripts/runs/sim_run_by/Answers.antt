@@ -1,6 +1,6 @@
 use Rattle.std.proofs.Common.{◌≤◌, refl, arith}
 use Rattle.change_core.specs.Numbers.{greatest_number}
-use Rattle.cli_core.specs.Script.{beginning}
+use Rattle.cli_core.specs.Simulated.{beginning}
 use Rattle.cli_core.proofs.ScriptTurns.{ends, goes, stops}
 use Rattle.cli_core.proofs.scripts.runs.sim_run_by.Goals as goal
 

@@ -1,7 +1,7 @@
 use Rattle.std.proofs.Common.{inl, refl, sym, ap}
 use Rattle.std.proofs.lemmas.Result.{err_from_is_err_and}
-use Rattle.cli_core.specs.Script.{nodes_in}
-use Rattle.cli_core.proofs.ScriptCommands.{answer_refused, script_of}
+use Rattle.cli_core.specs.Simulated.{nodes_in}
+use Rattle.cli_core.proofs.ScriptCommands.{answer_refused, simulated_of}
 use Rattle.cli_core.proofs.scripts.simulation.Simulation.deliver.Goals as goal
 
 pub returns-in_default-place_of-clause-answer : goal.returns-in_default-place_of-clause-answer
@@ -33,7 +33,7 @@ pub returns-in_err-number-in-Answer-clause-fault : goal.returns-in_err-number-in
 returns-in_err-number-in-Answer-clause-fault g c =
     let p = err_from_is_err_and c.from_residual.result c.from_residual.ensures.1 in
     rw (← c.self.view_is, p.1, p.2) (answer_refused g.H.PointHash.hash_of
-    (script_of c.self.inside.hash c.self.inside.replicas c.self.inside.moment (nodes_in c.self.inside.nodes.items) c.self.inside.messages.items)
+    (simulated_of c.self.inside.hash c.self.inside.replicas c.self.inside.moment (nodes_in c.self.inside.nodes.items) c.self.inside.messages.items)
     c.args.number c.in-Some.sent.now (nodes_in c.receive_at.new.nodes.items) c.in-Answer.taken c.in-Answer.message _
     (sym (rw c.as_slice.ensures.value at c.in-Some.ensures), c.in-Answer.ensures) c.in_err-number-in-Answer.ensures.fault)
 
@@ -47,5 +47,5 @@ returns-in_ok-number-in-Answer-clause-answer g c =
       (sym (rw c.as_slice.ensures.value at c.in-Some.ensures), c.in-Answer.ensures),
       kept.0,
       kept.1,
-      ap (λ ms. script_of c.self.inside.hash c.self.inside.replicas c.self.inside.moment (nodes_in c.receive_at.new.nodes.items) ms) kept.2,
+      ap (λ ms. simulated_of c.self.inside.hash c.self.inside.replicas c.self.inside.moment (nodes_in c.receive_at.new.nodes.items) ms) kept.2,
     )

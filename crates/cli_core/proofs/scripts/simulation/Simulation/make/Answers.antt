@@ -1,8 +1,8 @@
 use Rattle.std.proofs.Common.{◌<◌, ap, arith, length}
 use Rattle.std.proofs.lemmas.List.{length-map}
 use Rattle.std.proofs.lemmas.Result.{err_from_is_err_and}
-use Rattle.cli_core.specs.Script.{most_nodes, nodes_in}
-use Rattle.cli_core.proofs.ScriptCommands.{absent_place, exists_place, nodes_push, script_of}
+use Rattle.cli_core.specs.Simulated.{most_nodes, nodes_in}
+use Rattle.cli_core.proofs.ScriptCommands.{absent_place, exists_place, nodes_push, simulated_of}
 use Rattle.cli_core.proofs.scripts.simulation.Simulation.make.Goals as goal
 
 pub returns-then-is_some-clause-fault : goal.returns-then-is_some-clause-fault
@@ -24,6 +24,6 @@ returns-clause-answer g c =
     rw (← c.self.view_is) (
       absent_place seen c.args.birth.now.address c.place_of.result c.is_some.result c.if-is_some.false c.is_some.ensures (rw c.as_slice.ensures.value at c.place_of.ensures.none),
       few,
-      ap (λ ns. script_of c.self.inside.hash c.self.inside.replicas c.self.inside.moment ns c.self.inside.messages.items)
+      ap (λ ns. simulated_of c.self.inside.hash c.self.inside.replicas c.self.inside.moment ns c.self.inside.messages.items)
           (nodes_push seen c.push.new.self.items c.in_ok-node.node _ c.in_ok-push.ensures.items c.in_ok-node.ensures.born),
     )

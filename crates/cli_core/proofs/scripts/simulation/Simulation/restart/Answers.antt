@@ -1,7 +1,7 @@
 use Rattle.std.proofs.Common.{◌<◌, ◌≤◌, ap, arith}
 use Rattle.std.proofs.lemmas.Result.{err_from_is_err_and}
-use Rattle.cli_core.proofs.ScriptCommands.{held_below, held_not_below, restarted, script_of}
-use Rattle.cli_core.specs.Script.{nodes_in, with_node}
+use Rattle.cli_core.proofs.ScriptCommands.{held_below, held_not_below, restarted, simulated_of}
+use Rattle.cli_core.specs.Simulated.{nodes_in, with_node}
 use Rattle.cli_core.proofs.scripts.simulation.Simulation.restart.Goals as goal
 
 pub returns-then-number-clause-fault : goal.returns-then-number-clause-fault
@@ -24,5 +24,5 @@ returns-clause-answer g c =
       with_node (nodes_in c.self.inside.nodes.items) c.args.birth.now.address c.in_ok-node.node.node,
       restarted c.self.inside.nodes.items c.args.birth.now.address c.in-Some.place c.incarnation_at-held.result c.args.birth.now.incarnation c.in_ok-node.node.node _
           (rw c.as_slice.ensures.value at c.in-Some.ensures.place) (rw c.as_slice-2.ensures.value at c.incarnation_at-held.ensures) above c.in_ok-node.ensures.born,
-      ap (λ ns. script_of c.self.inside.hash c.self.inside.replicas c.self.inside.moment ns c.self.inside.messages.items) c.put_at.ensures,
+      ap (λ ns. simulated_of c.self.inside.hash c.self.inside.replicas c.self.inside.moment ns c.self.inside.messages.items) c.put_at.ensures,
     )

@@ -1,4 +1,4 @@
--- A script: its nodes, its messages and its moment, and what each command does and answers.
+-- What a run of a script holds: its nodes, its messages and its moment; and what each command does and answers.
 use Rattle.std.specs.Prelude.{◌≡◌, ◌≢◌, ℕ, zero, suc, ◌+◌, ◌<◌, ◌≤◌, ◌==◌, ◌⊎◌, cond, Option, Some, None, Ok, Err, List, [], ◌∷◌, ◌++◌, length, map, slice_get, slice_index_or}
 use Rattle.std.specs.List.{find}
 use Rattle.change_core.specs.declared.changes.Change.{Change}
@@ -35,7 +35,7 @@ abbrev pub most_messages : ℕ
 most_messages = 65536
 
 -- the hash, how many points a unit of weight has, the moment, the nodes in the order of their making, and the messages by their numbers
-pub record Script (H : Type 0) : Type 0 where
+pub record Simulated (H : Type 0) : Type 0 where
   pub hash : H
   pub replicas : ℕ
   pub moment : ℕ
@@ -43,7 +43,7 @@ pub record Script (H : Type 0) : Type 0 where
   pub messages : List Sent
 
 -- no nodes and no messages, at moment 0
-abbrev pub beginning : {H : Type 0} → H → ℕ → Script H
+abbrev pub beginning : {H : Type 0} → H → ℕ → Simulated H
 beginning hash replicas = record { hash = hash; replicas = replicas; moment = 0; nodes = []; messages = [] }
 
 -- the node of an address
@@ -76,7 +76,7 @@ born hash replicas moment birth =
     newborn hash (record standard { replicas = replicas; weight = birth.weight }) birth.address birth.incarnation moment (seeded 0)
 
 -- the same in a script
-abbrev pub born_in : {H : Type 0} → Script H → Birth → Node H
+abbrev pub born_in : {H : Type 0} → Simulated H → Birth → Node H
 born_in s birth = born s.hash s.replicas s.moment birth
 
 -- a change that its subject says of itself
@@ -124,7 +124,7 @@ abbrev pub Receives : {H : Type 0} → (H → List ℕ → ℕ) → ℕ → Mess
 Receives hash_of now message result before after = NodeStep hash_of before (call.Receive message now) (reply.Receive result) after
 
 -- the message of this number comes to its node, which receives it so
-abbrev pub Comes : {H : Type 0} → (H → List ℕ → ℕ) → Script H → ℕ → Sent → Received → List (Node H) → Type 0
+abbrev pub Comes : {H : Type 0} → (H → List ℕ → ℕ) → Simulated H → ℕ → Sent → Received → List (Node H) → Type 0
 Comes hash_of s n sent result nodes =
     (message_of s.messages n ≡ Some sent) × GoesOn s.nodes sent.to (Receives hash_of s.moment sent.message result) nodes
 
@@ -133,7 +133,7 @@ abbrev pub with_message : List Sent → ℕ → Message → List Sent
 with_message messages to message = messages ++ record { to = to; message = message } ∷ []
 
 -- what a command is answered, and what the script is then
-abbrev pub Obeys : {H : Type 0} → (H → List ℕ → ℕ) → Script H → Command → Answer → Script H → Type 0
+abbrev pub Obeys : {H : Type 0} → (H → List ℕ → ℕ) → Simulated H → Command → Answer → Simulated H → Type 0
 Obeys hash_of old (Makes birth) answer.Done new =
     (node_at old.nodes birth.address ≡ None) × (length old.nodes < most_nodes) × (new ≡ record old { nodes = old.nodes ++ born_in old birth ∷ [] })
 Obeys hash_of old (At moment) answer.Done new = new ≡ record old { moment = moment }
@@ -161,13 +161,13 @@ Obeys {H} hash_of old (Restart birth) answer.Done new =
 Obeys hash_of old command other new = ⊥
 
 -- the message of this number is taken, and there is no memory for the answer to it, or none to keep that
-abbrev pub IsUnanswered : {H : Type 0} → (H → List ℕ → ℕ) → Script H → ℕ → Type 0
+abbrev pub IsUnanswered : {H : Type 0} → (H → List ℕ → ℕ) → Simulated H → ℕ → Type 0
 IsUnanswered {H} hash_of s n =
     (sent : Sent) × (nodes : List (Node H)) × (taken : Taken)
     × (Comes hash_of s n sent (received.NoAnswer taken) nodes ⊎ ((message : Message) × Comes hash_of s n sent (received.Answer taken message) nodes × (length s.messages < most_messages)))
 
 -- what is wrong with a command; memory is wanting in a call of a node, or for a node or a message more, where nothing else is wrong
-abbrev pub IsRefusedFor : {H : Type 0} → (H → List ℕ → ℕ) → Script H → Command → ScriptFault → Type 0
+abbrev pub IsRefusedFor : {H : Type 0} → (H → List ℕ → ℕ) → Simulated H → Command → ScriptFault → Type 0
 IsRefusedFor hash_of s (Makes birth) fault.OutOfMemory = (node_at s.nodes birth.address ≡ None) × (length s.nodes < most_nodes)
 IsRefusedFor {H} hash_of s (Ask a question) fault.OutOfMemory = (nodes : List (Node H)) × GoesOn s.nodes a (λ before after. NodeLacks hash_of s.moment before question after) nodes
 IsRefusedFor hash_of s (Send a target) fault.OutOfMemory = (node_at s.nodes a ≢ None) × (length s.messages < most_messages)

@@ -111,7 +111,11 @@ impl Attempt {
     ///
     /// Errors, in this order, each before any `Wait`: `RetriesSpent` once the fourth send has failed; `InFlight` while a
     /// send is; `Diverged` where two of the keys have different owners; `Nobody` where no member serves.
-    pub fn ready<H: PointHash>(&mut self, view: &View<H>, now: Moment) -> Result<Decision, ForwardError>
+    pub fn ready<H: PointHash>(
+        &mut self,
+        view: &View<H>,
+        now: Moment,
+    ) -> Result<Decision, ForwardError>
         ensures { ReadyStep H.hash_of view.now now self.old result self.new }
     {
         match self.stage {

@@ -38,18 +38,9 @@ impl AddressText {
         ensures len { length result ≤ 21 }
         ensures valid { IsAddress address }
     {
-        let mut text = AddressText::new();
-        text.push_address(address);
-        text
-    }
-
-    fn new() -> Self
-        ensures { result ≡ [] }
-    {
-        AddressText {
-            bytes: [0; ADDRESS_BYTES],
-            len: 0,
-        }
+        let mut bytes = [0; ADDRESS_BYTES];
+        let len = put_address(&mut bytes, address);
+        AddressText { bytes, len }
     }
 
     /// The text, lent.
@@ -58,87 +49,87 @@ impl AddressText {
     {
         unsafe { std::str::from_utf8_unchecked(&self.bytes[..self.len]) }
     }
+}
 
-    #[inline(always)]
-    fn push(&mut self, byte: u8)
-        requires room { length self.old < 21 }
-        requires ascii { byte < 128 }
-        ensures { self.new ≡ self.old ++ byte ∷ [] }
-    {
-        self.bytes[self.len] = byte;
-        self.len += 1;
-    }
+/// Puts a byte behind the first `len`, and answers how many there are then. The length is no field of what is written, so
+/// that it stays in a register.
+#[inline(always)]
+fn put(bytes: &mut [u8; ADDRESS_BYTES], len: usize, byte: u8) -> usize
+    requires room { len < 21 }
+    ensures text { take result bytes.new ≡ take len bytes.old ++ byte ∷ [] }
+    ensures len { result ≡ len + 1 }
+{
+    bytes[len] = byte;
+    len + 1
+}
 
-    /// Adds the last digit of a number, unless that is 0: the digits of a number, one after another.
-    #[inline(always)]
-    #[tactic(auto, using(crate::proofs::DecimalTexts::upto_step, crate::proofs::DecimalTexts::upto_none))]
-    fn push_digit(&mut self, number: u16)
-        requires { length self.old < 21 }
-        ensures digits { (front : List ℕ) → self.old ≡ front ++ upto (number / 10)
-            → self.new ≡ front ++ upto number }
-        ensures len { length self.new ≤ length self.old + 1 }
-    {
-        if number > 0 {
-            self.push(48 + (number % 10) as u8);
-        }
+/// Puts the last digit of a number, unless that is 0: the digits of a number, one after another.
+#[inline(always)]
+#[tactic(auto, using(crate::proofs::DecimalTexts::upto_step, crate::proofs::DecimalTexts::upto_none))]
+fn put_digit(bytes: &mut [u8; ADDRESS_BYTES], len: usize, number: u16) -> usize
+    requires room { len < 21 }
+    ensures digits { (front : List ℕ) → take len bytes.old ≡ front ++ upto (number / 10)
+        → take result bytes.new ≡ front ++ upto number }
+    ensures len { result ≤ len + 1 }
+{
+    if number == 0 {
+        return len;
     }
+    put(bytes, len, 48 + (number % 10) as u8)
+}
 
-    /// Adds a number below 256 in decimal.
-    #[inline(always)]
-    fn push_octet(&mut self, number: u8)
-        requires { length self.old + 3 ≤ 21 }
-        ensures text { self.new ≡ self.old ++ decimal number }
-        ensures len { length self.new ≤ length self.old + 3 }
-    {
-        let number = u16::from(number);
-        self.push_digit(number / 100);
-        self.push_digit(number / 10);
-        self.push(48 + (number % 10) as u8);
-    }
+/// Puts a number below 256 in decimal.
+#[inline(always)]
+fn put_octet(bytes: &mut [u8; ADDRESS_BYTES], len: usize, number: u8) -> usize
+    requires room { len + 3 ≤ 21 }
+    ensures text { take result bytes.new ≡ take len bytes.old ++ decimal number }
+    ensures len { result ≤ len + 3 }
+{
+    let number = u16::from(number);
+    let hundreds = put_digit(bytes, len, number / 100);
+    let tens = put_digit(bytes, hundreds, number / 10);
+    put(bytes, tens, 48 + (number % 10) as u8)
+}
 
-    /// Adds a port in decimal.
-    #[inline(always)]
-    fn push_port(&mut self, number: u16)
-        requires { length self.old + 5 ≤ 21 }
-        ensures text { self.new ≡ self.old ++ decimal number }
-        ensures len { length self.new ≤ length self.old + 5 }
-    {
-        self.push_digit(number / 10_000);
-        self.push_digit(number / 1_000);
-        self.push_digit(number / 100);
-        self.push_digit(number / 10);
-        self.push(48 + (number % 10) as u8);
-    }
+/// Puts a port in decimal.
+#[inline(always)]
+fn put_port(bytes: &mut [u8; ADDRESS_BYTES], len: usize, number: u16) -> usize
+    requires room { len + 5 ≤ 21 }
+    ensures text { take result bytes.new ≡ take len bytes.old ++ decimal number }
+    ensures len { result ≤ len + 5 }
+{
+    let first = put_digit(bytes, len, number / 10_000);
+    let second = put_digit(bytes, first, number / 1_000);
+    let third = put_digit(bytes, second, number / 100);
+    let fourth = put_digit(bytes, third, number / 10);
+    put(bytes, fourth, 48 + (number % 10) as u8)
+}
 
-    /// Adds a number below 256 in decimal, and the byte that ends it.
-    #[inline(always)]
-    fn push_part(&mut self, number: u8, end: u8)
-        requires ascii { end < 128 }
-        requires room { length self.old + 4 ≤ 21 }
-        ensures text { self.new ≡ self.old ++ (decimal number ++ end ∷ []) }
-        ensures len { length self.new ≤ length self.old + 4 }
-    {
-        self.push_octet(number);
-        self.push(end);
-    }
+/// Puts a number below 256 in decimal, and the byte that ends it.
+#[inline(always)]
+fn put_part(bytes: &mut [u8; ADDRESS_BYTES], len: usize, number: u8, end: u8) -> usize
+    requires room { len + 4 ≤ 21 }
+    ensures text { take result bytes.new ≡ take len bytes.old ++ (decimal number ++ end ∷ []) }
+    ensures len { result ≤ len + 4 }
+{
+    let octet = put_octet(bytes, len, number);
+    put(bytes, octet, end)
+}
 
-    /// Adds an address's text: four numbers joined by dots, a colon and the port.
-    #[inline(always)]
-    #[tactic(auto, using(crate::proofs::DecimalTexts::text_parts))]
-    fn push_address(&mut self, address: Address)
-        requires { length self.old ≡ 0 }
-        ensures text { self.new ≡ self.old ++ address_text address }
-        ensures len { length self.new ≤ 21 }
-        ensures valid { IsAddress address }
-    {
-        let ip = address.ip();
-        let port = address.port();
-        self.push_part((ip / 16_777_216 % 256) as u8, b'.');
-        self.push_part((ip / 65_536 % 256) as u8, b'.');
-        self.push_part((ip / 256 % 256) as u8, b'.');
-        self.push_part((ip % 256) as u8, b':');
-        self.push_port(port);
-    }
+/// Puts an address's text at the front: four numbers joined by dots, a colon and the port.
+#[inline(always)]
+fn put_address(bytes: &mut [u8; ADDRESS_BYTES], address: Address) -> usize
+    ensures text { take result bytes.new ≡ address_text address }
+    ensures len { result ≤ 21 }
+    ensures valid { IsAddress address }
+{
+    let ip = address.ip();
+    let port = address.port();
+    let first = put_part(bytes, 0, (ip / 16_777_216 % 256) as u8, b'.');
+    let second = put_part(bytes, first, (ip / 65_536 % 256) as u8, b'.');
+    let third = put_part(bytes, second, (ip / 256 % 256) as u8, b'.');
+    let fourth = put_part(bytes, third, (ip % 256) as u8, b':');
+    put_port(bytes, fourth, port)
 }
 
 /// The one text of a digest, as `Digest::text` gives it, in a buffer of 64 bytes: it takes no memory. Contracts see its

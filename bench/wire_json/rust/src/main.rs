@@ -63,7 +63,9 @@ fn do_turns(way: &str, turns: u64, file: &str) {
     let value: Value = serde_json::from_str(&text).expect("a value");
     for _ in 0..turns {
         if way == "decode" {
-            black_box(serde_json::from_slice::<Value>(black_box(text.as_bytes())).expect("a value"));
+            black_box(
+                serde_json::from_slice::<Value>(black_box(text.as_bytes())).expect("a value"),
+            );
         } else {
             black_box(serde_json::to_vec(black_box(&value)).expect("a line"));
         }
@@ -72,7 +74,9 @@ fn do_turns(way: &str, turns: u64, file: &str) {
 
 fn main() {
     let words: Vec<String> = std::env::args().collect();
-    if let [_, way, turns, file] = words.as_slice() {
+    if let [_, way @ ("decode" | "encode"), turns, file] =
+        words.iter().map(String::as_str).collect::<Vec<_>>()[..]
+    {
         return match turns.parse() {
             Ok(turns) => do_turns(way, turns, file),
             Err(_) => println!("no turns: {turns}"),
@@ -90,18 +94,30 @@ fn main() {
         let value: Value = serde_json::from_slice(bytes).expect("a value");
         let ping: Ping = serde_json::from_slice(bytes).expect("a ping");
         let rows = [
-            ("decode to Value", speed(bytes.len(), || {
-                black_box(serde_json::from_slice::<Value>(black_box(bytes)).expect("a value"));
-            })),
-            ("decode to structs", speed(bytes.len(), || {
-                black_box(serde_json::from_slice::<Ping>(black_box(bytes)).expect("a ping"));
-            })),
-            ("encode from Value", speed(bytes.len(), || {
-                black_box(serde_json::to_vec(black_box(&value)).expect("a line"));
-            })),
-            ("encode from structs", speed(bytes.len(), || {
-                black_box(serde_json::to_vec(black_box(&ping)).expect("a line"));
-            })),
+            (
+                "decode to Value",
+                speed(bytes.len(), || {
+                    black_box(serde_json::from_slice::<Value>(black_box(bytes)).expect("a value"));
+                }),
+            ),
+            (
+                "decode to structs",
+                speed(bytes.len(), || {
+                    black_box(serde_json::from_slice::<Ping>(black_box(bytes)).expect("a ping"));
+                }),
+            ),
+            (
+                "encode from Value",
+                speed(bytes.len(), || {
+                    black_box(serde_json::to_vec(black_box(&value)).expect("a line"));
+                }),
+            ),
+            (
+                "encode from structs",
+                speed(bytes.len(), || {
+                    black_box(serde_json::to_vec(black_box(&ping)).expect("a line"));
+                }),
+            ),
         ];
         for (name, rate) in rows {
             println!("rust serde_json  {file}: {name} {rate:.0} MB/s");

@@ -1,4 +1,5 @@
 pub mod Births
+pub mod Boxes
 pub mod Exports
 pub mod Placed
 pub mod Sending

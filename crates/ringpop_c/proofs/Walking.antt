@@ -1,5 +1,5 @@
--- What the proofs by hand of a node's handle and of a view's share. A handle and the parts of a box own the same by the same machine value, so
--- that the box is never opened.
+-- What the proofs by hand of a node's handle and of a view's share. A box and a full handle own the same by the same machine value, so that what
+-- lies in the box is never looked at.
 pub use mathlib.Core.Path.{◌≡◌, refl}
 pub use mathlib.Core.List.{List, [], ◌∷◌}
 use lib.Dec.{T, lit<}

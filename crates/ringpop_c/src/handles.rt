@@ -2,7 +2,6 @@
 ghost use Rattle.std.specs.Prelude.{◌≡◌, Option, Some, None, IfSome, IsSome, is_some, IsNone, false};
 ghost use Rattle.ringpop_c.specs.Owned.{Held, held_coded};
 
-use crate::parts::Parts;
 use hash_ring::Sha256Hash;
 use node_core::NodeState;
 use std::alloc::Global;
@@ -34,26 +33,23 @@ unsafe impl Send for At {}
 
 impl At {
     /// The handle of a box.
-    fn of_parts(parts: Parts<Served, Global>) -> At
-        ensures { result.value ≡ Some parts.value }
+    fn of_box(served: Box<Served>) -> At
+        ensures { result.value ≡ Some served.value }
     {
-        let Parts { ptr, alloc } = parts;
+        let (ptr, heap) = Box::into_raw_with_allocator(served);
         At {
             at: ptr as *mut u8,
-            heap: alloc,
+            heap,
         }
     }
 
-    /// The parts of a full handle.
-    fn into_parts(self) -> Parts<Served, Global>
+    /// The box of a full handle.
+    fn into_box(self) -> Box<Served>
         requires { IsSome self.value }
         ensures { self.value ≡ Some result.value }
     {
         let At { at, heap } = self;
-        Parts {
-            ptr: at as *mut Served,
-            alloc: heap,
-        }
+        unsafe { Box::from_raw(heap, at as *mut Served) }
     }
 
     /// The handle that owns nothing.
@@ -90,7 +86,7 @@ pub(crate) fn lift(alloc: Global, node: &mut RingpopNode) -> Option<Box<Served>>
         full: false,
     };
     let RingpopNode { at, full: _ } = std::mem::replace(node, empty);
-    Some(at.into_parts().into_box())
+    Some(at.into_box())
 }
 
 /// Puts a node into an empty handle.
@@ -99,7 +95,7 @@ pub(crate) fn put_back(node: &mut RingpopNode, served: Box<Served>)
     ensures { node.new.at.value ≡ Some served.value }
 {
     *node = RingpopNode {
-        at: At::of_parts(Parts::of(served)),
+        at: At::of_box(served),
         full: true,
     };
 }

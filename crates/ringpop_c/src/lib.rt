@@ -13,7 +13,6 @@ mod lookups;
 mod makers;
 mod messages;
 mod owners;
-mod parts;
 mod probes;
 mod reading;
 mod receiving;

@@ -11,7 +11,6 @@ use crate::codes::Code;
 use crate::handles::{RingpopNode, lift, put_back};
 use crate::lookups::tell_address;
 use crate::owners::{RingpopAddress, tell_owners};
-use crate::parts::Parts;
 use hash_ring::Sha256Hash;
 use node_core::{NodeState, View};
 use std::alloc::Global;
@@ -43,26 +42,23 @@ unsafe impl Send for ViewAt {}
 
 impl ViewAt {
     /// The handle of a box.
-    fn of_parts(parts: Parts<ServedView, Global>) -> ViewAt
-        ensures { result.value ≡ Some parts.value }
+    fn of_box(served: Box<ServedView>) -> ViewAt
+        ensures { result.value ≡ Some served.value }
     {
-        let Parts { ptr, alloc } = parts;
+        let (ptr, heap) = Box::into_raw_with_allocator(served);
         ViewAt {
             at: ptr as *mut u8,
-            heap: alloc,
+            heap,
         }
     }
 
-    /// The parts of a full handle.
-    fn into_parts(self) -> Parts<ServedView, Global>
+    /// The box of a full handle.
+    fn into_box(self) -> Box<ServedView>
         requires { IsSome self.value }
         ensures { self.value ≡ Some result.value }
     {
         let ViewAt { at, heap } = self;
-        Parts {
-            ptr: at as *mut ServedView,
-            alloc: heap,
-        }
+        unsafe { Box::from_raw(heap, at as *mut ServedView) }
     }
 
     /// The handle that owns nothing.
@@ -99,7 +95,7 @@ fn lift_view(alloc: Global, view: &mut RingpopView) -> Option<Box<ServedView>>
         full: false,
     };
     let RingpopView { at, full: _ } = std::mem::replace(view, empty);
-    Some(at.into_parts().into_box())
+    Some(at.into_box())
 }
 
 /// Puts a view into an empty handle.
@@ -108,7 +104,7 @@ fn put_view(view: &mut RingpopView, served: Box<ServedView>)
     ensures { view.new.at.value ≡ Some served.value }
 {
     *view = RingpopView {
-        at: ViewAt::of_parts(Parts::of(served)),
+        at: ViewAt::of_box(served),
         full: true,
     };
 }

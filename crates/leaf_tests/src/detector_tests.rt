@@ -1,7 +1,6 @@
-ghost use Rattle.std.specs.Prelude.{◌≡◌, ◌+◌, ◌≤◌};
+ghost use Rattle.std.specs.Prelude.{◌≡◌, ◌+◌};
 ghost use Rattle.std.specs.List.Sorted.{IsStrictlyIncreasing};
 ghost use Rattle.change_core.specs.Address.{address_of};
-ghost use Rattle.change_core.specs.Numbers.{greatest_number};
 
 use change_core::{Address, GREATEST_NUMBER, Incarnation, Moment, Status};
 use detector_core::{
@@ -9,7 +8,6 @@ use detector_core::{
 };
 use std::alloc::Global;
 use std::process::Abort;
-use std::test::Fail;
 
 /// The member 10.0.0.`number`:1.
 fn node(rt: &impl Abort, number: u8) -> Address
@@ -51,7 +49,7 @@ fn pick(
     let before = prober.running();
     match prober.next_target(pingable) {
         Err(DetectorError::Memory) => {
-            assert_eq!(rt; prober.running(), before);
+            assert!(rt; prober.running() == before);
             prober.next_target(pingable)
         }
         answer => answer,
@@ -70,7 +68,7 @@ fn lose(
     let before = prober.running();
     match prober.lost(number, pingable) {
         Err(DetectorError::Memory) => {
-            assert_eq!(rt; prober.running(), before);
+            assert!(rt; prober.running() == before);
             match prober.lost(number, pingable) {
                 Err(DetectorError::Memory) => prober.lost(number, pingable),
                 answer => answer,
@@ -81,37 +79,17 @@ fn lose(
 }
 
 /// Starts a timer. Where the growth is refused nothing has changed, and the next try goes on.
-fn start(
-    rt: &impl Abort,
-    timers: &mut Timers,
-    number: u8,
-    next: Status,
-    deadline: u64,
-) -> Result<(), DetectorError> {
+fn start(rt: &impl Abort, timers: &mut Timers, number: u8, next: Status, deadline: u64) {
     let one = Incarnation::new(1).expect(rt, "an incarnation");
     let last = moment(rt, GREATEST_NUMBER);
     let before = (timers.len(), timers.due(last));
     if timers.reserve_one().is_err() {
-        assert_eq!(rt; (timers.len(), timers.due(last)), before);
-        timers.reserve_one()?;
+        assert!(rt; (timers.len(), timers.due(last)) == before);
+        let Ok(()) = timers.reserve_one() else {
+            panic!(rt; "no room")
+        };
     }
     timers.set(node(rt, number), one, next, deadline);
-    Ok(())
-}
-
-/// Has a new prober, which has used this number last, go through this.
-fn with_prober<F: FnMut(&mut Prober)>(
-    alloc: Global,
-    seed: u64,
-    helpers: usize,
-    last: u64,
-    mut body: F,
-)
-    requires called { F.IsAlwaysCallable body }
-    requires last { last ≤ greatest_number }
-{
-    let mut prober = Prober::new(alloc, seed, helpers, last);
-    body(&mut prober);
 }
 
 /// The probe that begins.
@@ -140,22 +118,24 @@ fn assert_picks(rt: &impl Abort, prober: &mut Prober, pingable: &[Address], want
 {
     for number in wanted {
         let probe = begin(rt, prober, pingable);
-        assert_eq!(rt; probe.target, node(rt, *number));
-        assert_eq!(rt; prober.acked(probe.number), Ok(()));
+        assert!(rt; probe.target == node(rt, *number));
+        assert!(rt; prober.acked(probe.number) == Ok(()));
     }
 }
 
-/// Picks of three, of four and of two members.
+/// Picks of three, of four and of two members, from this seed.
 fn pick_as_members_change(
     rt: &impl Abort,
-    prober: &mut Prober,
+    alloc: Global,
+    seed: u64,
     of_three: &[u8],
     of_four: &[u8],
     of_pair: &[u8],
 ) {
-    assert_picks(rt, prober, &three(rt), of_three);
-    assert_picks(rt, prober, &four(rt), of_four);
-    assert_picks(rt, prober, &pair(rt), of_pair);
+    let mut prober = Prober::new(alloc, seed, 2, 0);
+    assert_picks(rt, &mut prober, &three(rt), of_three);
+    assert_picks(rt, &mut prober, &four(rt), of_four);
+    assert_picks(rt, &mut prober, &pair(rt), of_pair);
 }
 
 /// The numbers were made by a program of its own after the published PCG32 and Rust's `rand`: each order holds each of
@@ -167,20 +147,15 @@ fn picks_follow_from_the_seed(rt: HostRuntime) {
         (1, [4, 2, 3, 2], [4, 3, 2, 5], [3, 3, 5]),
         (7, [3, 4, 2, 4], [3, 2, 3, 5], [5, 3, 5]),
     ] {
-        with_prober(
-            rt.alloc(),
-            seed,
-            2,
-            0,
-            |prober| pick_as_members_change(&rt, prober, &of_three, &of_four, &of_pair),
-        );
+        pick_as_members_change(&rt, rt.alloc(), seed, &of_three, &of_four, &of_pair);
     }
 }
 
-/// Picks each of the three, order by order.
-fn pick_in_orders(rt: &impl Abort, prober: &mut Prober, orders: &[[u8; 3]; 2]) {
+/// Picks each of the three, order by order, from this seed.
+fn pick_in_orders(rt: &impl Abort, alloc: Global, seed: u64, orders: &[[u8; 3]; 2]) {
+    let mut prober = Prober::new(alloc, seed, 2, 0);
     for order in orders {
-        assert_picks(rt, prober, &three(rt), order);
+        assert_picks(rt, &mut prober, &three(rt), order);
     }
 }
 
@@ -188,41 +163,49 @@ fn pick_in_orders(rt: &impl Abort, prober: &mut Prober, orders: &[[u8; 3]; 2]) {
 #[test]
 fn two_rounds_hold_each_member(rt: HostRuntime) {
     for (seed, orders) in [(7, [[3, 4, 2], [4, 3, 2]]), (1, [[4, 2, 3], [2, 4, 3]])] {
-        with_prober(
-            rt.alloc(),
-            seed,
-            2,
-            0,
-            |prober| pick_in_orders(&rt, prober, &orders),
-        );
+        pick_in_orders(&rt, rt.alloc(), seed, &orders);
     }
 }
 
+/// Whether these are the members of these numbers.
+fn are_nodes(rt: &impl Abort, members: &[Address], numbers: &[u8]) -> bool {
+    for (member, number) in members.iter().zip(numbers.iter()) {
+        if *member != node(rt, *number) {
+            return false;
+        }
+    }
+    members.len() == numbers.len()
+}
+
+/// Asks these helpers where a probe is lost.
+fn ask_these(rt: &impl Abort, prober: &mut Prober, number: u64, pingable: &[Address], wanted: &[u8])
+    requires { IsStrictlyIncreasing pingable.now }
+{
+    let helpers = ask(rt, prober, number, pingable);
+    assert!(rt; are_nodes(rt, helpers.as_slice(), wanted));
+}
+
 /// Loses its first probe, of this target, asks these helpers, and picks this member next.
-fn ask_and_go_on(rt: &impl Abort, prober: &mut Prober, target: u8, wanted: &[u8; 2], next: u8) {
+fn ask_and_go_on(rt: &impl Abort, prober: &mut Prober, target: u8, wanted: &[u8], next: u8) {
     let pingable = four(rt);
     let probe = begin(rt, prober, &pingable);
-    assert_eq!(rt; probe.target, node(rt, target));
-    let helpers = ask(rt, prober, probe.number, &pingable);
-    assert_eq!(rt; helpers.as_slice().len(), 2);
-    for (helper, number) in helpers.as_slice().iter().zip(wanted.iter()) {
-        assert_eq!(rt; *helper, node(rt, *number));
-    }
-    assert_eq!(rt; prober.acked(probe.number), Ok(()));
+    assert!(rt; probe.target == node(rt, target));
+    ask_these(rt, prober, probe.number, &pingable, wanted);
+    assert!(rt; prober.acked(probe.number) == Ok(()));
     assert_picks(rt, prober, &pingable, &[next]);
 }
 
 #[test]
 fn helpers_follow_from_the_seed(rt: HostRuntime) {
-    for (seed, target, wanted, next) in [(7, 3, [5, 4], 4), (1, 5, [2, 4], 2)] {
-        with_prober(
-            rt.alloc(),
-            seed,
-            2,
-            0,
-            |prober| ask_and_go_on(&rt, prober, target, &wanted, next),
-        );
-    }
+    let mut seven = Prober::new(rt.alloc(), 7, 2, 0);
+    ask_and_go_on(&rt, &mut seven, 3, &[5, 4], 4);
+    let mut one = Prober::new(rt.alloc(), 1, 2, 0);
+    ask_and_go_on(&rt, &mut one, 5, &[2, 4], 2);
+}
+
+/// Whether a probe was lost, and there is nobody to ask.
+fn asks_nobody(lost: Result<Lost, DetectorError>) -> bool {
+    matches!(lost, Ok(Lost::NoHelper))
 }
 
 /// Probes the only other member, and has nobody to ask.
@@ -234,68 +217,53 @@ fn probe_alone(rt: &impl Abort, prober: &mut Prober) {
         target,
         waiting: None,
     };
-    assert_eq!(rt;
-        pick(rt, prober, &pingable),
-        Ok(Some(Probe { number: 1, target }))
-    );
-    assert_eq!(rt; pick(rt, prober, &pingable), Err(DetectorError::Busy));
-    assert_eq!(rt; prober.target_of(1), Some(target));
-    assert_eq!(rt; prober.running(), Some(running));
-    assert!(rt; matches!(prober.lost(1, &pingable), Ok(Lost::NoHelper)));
-    assert_eq!(rt; prober.acked(1), Err(DetectorError::StaleProbe));
-    assert_eq!(rt; prober.running(), None);
+    assert!(rt; pick(rt, prober, &pingable) == Ok(Some(Probe { number: 1, target })));
+    assert!(rt; pick(rt, prober, &pingable) == Err(DetectorError::Busy));
+    assert!(rt; prober.target_of(1) == Some(target) && prober.running() == Some(running));
+    assert!(rt; asks_nobody(prober.lost(1, &pingable)));
+    assert!(rt; prober.acked(1) == Err(DetectorError::StaleProbe) && prober.running().is_none());
 }
 
 #[test]
 fn a_probe_with_nobody_to_ask_ends(rt: HostRuntime) {
-    for helpers in [3, 0] {
-        with_prober(rt.alloc(), 1, helpers, 0, |prober| probe_alone(&rt, prober));
-    }
+    let mut prober = Prober::new(rt.alloc(), 1, 3, 0);
+    probe_alone(&rt, &mut prober);
+    let mut without_helpers = Prober::new(rt.alloc(), 1, 0, 0);
+    probe_alone(&rt, &mut without_helpers);
 }
 
 /// Loses a probe where nobody may be asked, though others could be.
 fn ask_nobody(rt: &impl Abort, prober: &mut Prober) {
     let pingable = four(rt);
     let probe = begin(rt, prober, &pingable);
-    assert!(rt;
-        matches!(
-            lose(rt, prober, probe.number, &pingable),
-            Ok(Lost::NoHelper)
-        )
-    );
-    assert_eq!(rt; prober.running(), None);
+    assert!(rt; asks_nobody(lose(rt, prober, probe.number, &pingable)));
+    assert!(rt; prober.running().is_none());
 }
 
 #[test]
 fn no_helper_is_asked_where_none_may_be(rt: HostRuntime) {
-    with_prober(rt.alloc(), 1, 0, 0, |prober| ask_nobody(&rt, prober));
+    let mut prober = Prober::new(rt.alloc(), 1, 0, 0);
+    ask_nobody(&rt, &mut prober);
 }
 
 /// Has no number left.
 fn find_no_number(rt: &impl Abort, prober: &mut Prober) {
-    assert_eq!(rt; pick(rt, prober, &[node(rt, 2)]), Err(DetectorError::Spent));
+    assert!(rt; pick(rt, prober, &[node(rt, 2)]) == Err(DetectorError::Spent));
 }
 
 /// Probes nobody, and then a member under the next number.
 fn go_on_from_seven(rt: &impl Abort, prober: &mut Prober) {
     let target = node(rt, 2);
-    assert_eq!(rt; pick(rt, prober, &[]), Ok(None));
-    assert_eq!(rt;
-        pick(rt, prober, &[target]),
-        Ok(Some(Probe { number: 8, target }))
-    );
+    assert!(rt; pick(rt, prober, &[]) == Ok(None));
+    assert!(rt; pick(rt, prober, &[target]) == Ok(Some(Probe { number: 8, target })));
 }
 
 #[test]
 fn numbers_run_out(rt: HostRuntime) {
-    with_prober(
-        rt.alloc(),
-        1,
-        3,
-        GREATEST_NUMBER,
-        |prober| find_no_number(&rt, prober),
-    );
-    with_prober(rt.alloc(), 1, 3, 7, |prober| go_on_from_seven(&rt, prober));
+    let mut spent = Prober::new(rt.alloc(), 1, 3, GREATEST_NUMBER);
+    find_no_number(&rt, &mut spent);
+    let mut prober = Prober::new(rt.alloc(), 1, 3, 7);
+    go_on_from_seven(&rt, &mut prober);
 }
 
 /// What the helpers' words come to, told in the order of asking until they decide. Each answer is foretold.
@@ -314,7 +282,7 @@ fn hear(
                 .helper_said(number, *helper, *said)
                 .ok()
                 .expect(rt, "a helper");
-            assert_eq!(rt; foretold, Ok(outcome));
+            assert!(rt; foretold == Ok(outcome));
         }
     }
     outcome
@@ -332,11 +300,16 @@ fn decide(rt: &impl Abort, prober: &mut Prober, words: &[Said; 3]) -> Outcome {
     let pingable = four(rt);
     let probe = begin(rt, prober, &pingable);
     let helpers = ask(rt, prober, probe.number, &pingable);
-    assert_eq!(rt; helpers.as_slice().len(), 3);
+    assert!(rt; helpers.as_slice().len() == 3);
     assert!(rt; all_but_the_target(&pingable, probe.target, helpers.as_slice()));
-    let outcome = hear(rt, prober, probe.number, helpers.as_slice(), words);
-    assert_eq!(rt; prober.running(), None);
-    outcome
+    hear(rt, prober, probe.number, helpers.as_slice(), words)
+}
+
+/// Three helpers' words come to this, and no probe runs then.
+fn check_decision(rt: &impl Abort, alloc: Global, words: &[Said; 3], wanted: Outcome) {
+    let mut prober = Prober::new(alloc, 7, 3, 0);
+    assert!(rt; decide(rt, &mut prober, words) == wanted, "after {words:?}");
+    assert!(rt; prober.running().is_none());
 }
 
 #[test]
@@ -363,14 +336,19 @@ fn helpers_decide(rt: HostRuntime) {
             Outcome::Reached,
         ),
     ] {
-        with_prober(
-            rt.alloc(),
-            7,
-            3,
-            0,
-            |prober| assert_eq!(rt; decide(&rt, prober, &words), wanted, "after {words:?}"),
-        );
+        check_decision(&rt, rt.alloc(), &words, wanted);
     }
+}
+
+/// Asks two helpers, of which the lesser is waited for.
+fn ask_two(rt: &impl Abort, prober: &mut Prober, number: u64, pingable: &[Address]) -> Address
+    requires { IsStrictlyIncreasing pingable.now }
+{
+    let helpers = ask(rt, prober, number, pingable);
+    assert!(rt; helpers.as_slice().len() == 2);
+    let waiting = prober.running().and_then(|running| running.waiting);
+    assert!(rt; waiting == helpers.as_slice().iter().copied().min());
+    waiting.expect(rt, "a helper")
 }
 
 /// The helper that is waited for, of two that were asked about the first probe.
@@ -378,92 +356,100 @@ fn wait_for_two(rt: &impl Abort, prober: &mut Prober, pingable: &[Address; 3]) -
     requires { IsStrictlyIncreasing pingable.now }
 {
     let probe = begin(rt, prober, pingable);
-    assert_eq!(rt;
-        prober.would_say(1, node(rt, 2), Said::Failed),
-        Err(DetectorError::NotAsked)
-    );
-    let helpers = ask(rt, prober, probe.number, pingable);
-    assert_eq!(rt; helpers.as_slice().len(), 2);
-    let waiting = prober.running().and_then(|running| running.waiting);
-    assert_eq!(rt; waiting, helpers.as_slice().iter().copied().min());
-    waiting.expect(rt, "a helper")
+    assert!(rt; prober.would_say(1, node(rt, 2), Said::Failed) == Err(DetectorError::NotAsked));
+    ask_two(rt, prober, probe.number, pingable)
+}
+
+/// Whether there is no such probe to be lost.
+fn is_stale(lost: Result<Lost, DetectorError>) -> bool {
+    matches!(lost, Err(DetectorError::StaleProbe))
 }
 
 /// Takes one word of a helper, and no other.
 fn hear_once(rt: &impl Abort, prober: &mut Prober) {
     let pingable = three(rt);
     let helper = wait_for_two(rt, prober, &pingable);
-    assert_eq!(rt; prober.target_of(2), None);
+    assert!(rt; prober.target_of(2).is_none());
     for (number, wanted) in [
         (2, Err(DetectorError::StaleProbe)),
         (1, Ok(Outcome::Waiting)),
         (1, Err(DetectorError::NotAsked)),
     ] {
-        assert_eq!(rt; prober.helper_said(number, helper, Said::Failed), wanted);
+        assert!(rt; prober.helper_said(number, helper, Said::Failed) == wanted);
     }
-    assert!(rt; matches!(prober.lost(1, &pingable), Err(DetectorError::StaleProbe)));
+    assert!(rt; is_stale(prober.lost(1, &pingable)));
 }
 
 #[test]
 fn a_helper_answers_once(rt: HostRuntime) {
-    with_prober(rt.alloc(), 7, 16, 0, |prober| hear_once(&rt, prober));
+    let mut prober = Prober::new(rt.alloc(), 7, 16, 0);
+    hear_once(&rt, &mut prober);
 }
 
-#[test]
-fn timers_run_out_at_their_deadlines(rt: HostRuntime) -> Result<(), Fail> {
-    let mut timers = Timers::new(rt.alloc());
-    start(&rt, &mut timers, 2, Status::Faulty, 20)?;
-    start(&rt, &mut timers, 3, Status::Faulty, 10)?;
-    start(&rt, &mut timers, 4, Status::Faulty, GREATEST_NUMBER + 1)?;
+/// What is due of a timer about this member, once it has run out.
+fn due(rt: &impl Abort, number: u8, next: Status) -> Due {
+    Due {
+        address: node(rt, number),
+        incarnation: Incarnation::new(1).expect(rt, "an incarnation"),
+        next,
+    }
+}
+
+/// Starts three timers, the last beyond the greatest moment, and has each due in its turn.
+fn start_three(rt: &impl Abort, timers: &mut Timers) {
+    for (number, deadline) in [(2, 20), (3, 10), (4, GREATEST_NUMBER + 1)] {
+        start(rt, timers, number, Status::Faulty, deadline);
+    }
     for (now, wanted) in [
         (9, None),
-        (10, Some(3)),
-        (20, Some(2)),
-        (GREATEST_NUMBER, Some(2)),
+        (10, Some(due(rt, 3, Status::Faulty))),
+        (20, Some(due(rt, 2, Status::Faulty))),
+        (GREATEST_NUMBER, Some(due(rt, 2, Status::Faulty))),
     ] {
-        let due = timers.due(moment(&rt, now)).map(|due| due.address);
-        assert_eq!(rt; due, wanted.map(|number| node(&rt, number)), "at {now}");
+        assert!(rt; timers.due(moment(rt, now)) == wanted, "at {now}");
     }
+}
+
+/// Clears two of the three.
+fn clear_two(rt: &impl Abort, timers: &mut Timers) {
     for wanted in [true, false] {
-        assert_eq!(rt; timers.clear(node(&rt, 2)), wanted);
+        assert!(rt; timers.clear(node(rt, 2)) == wanted);
     }
-    assert_eq!(rt;
-        timers.due(moment(&rt, 20)),
-        Some(Due {
-            address: node(&rt, 3),
-            incarnation: Incarnation::new(1).ok_or("an incarnation")?,
-            next: Status::Faulty
-        })
-    );
-    timers.clear(node(&rt, 3));
-    assert_eq!(rt; timers.due(moment(&rt, GREATEST_NUMBER)), None);
-    assert_eq!(rt; timers.len(), 1);
-    Ok(())
+    assert!(rt; timers.due(moment(rt, 20)) == Some(due(rt, 3, Status::Faulty)));
+    timers.clear(node(rt, 3));
+    assert!(rt; timers.due(moment(rt, GREATEST_NUMBER)).is_none() && timers.len() == 1);
 }
 
 #[test]
-fn a_timer_is_replaced(rt: HostRuntime) -> Result<(), Fail> {
-    let address = node(&rt, 2);
-    let incarnation = Incarnation::new(1).ok_or("an incarnation")?;
+fn timers_run_out_at_their_deadlines(rt: HostRuntime) {
     let mut timers = Timers::new(rt.alloc());
+    start_three(&rt, &mut timers);
+    clear_two(&rt, &mut timers);
+}
+
+/// Starts a timer twice.
+fn start_again(rt: &impl Abort, timers: &mut Timers) {
     for (next, before, deadline) in [
         (Status::Faulty, 4_999, 5_000),
         (Status::Tombstone, 86_404_999, 86_405_000),
     ] {
-        start(&rt, &mut timers, 2, next, deadline)?;
-        assert_eq!(rt; timers.len(), 1);
-        let due = Due {
-            address,
-            incarnation,
-            next,
-        };
-        for (now, wanted) in [(before, None), (deadline, Some(due))] {
-            assert_eq!(rt; timers.due(moment(&rt, now)), wanted, "at {now}");
-        }
+        start(rt, timers, 2, next, deadline);
+        assert!(rt; timers.len() == 1 && timers.due(moment(rt, before)).is_none());
+        assert!(rt; timers.due(moment(rt, deadline)) == Some(due(rt, 2, next)));
     }
+}
+
+/// Starts a timer, and clears it.
+fn start_and_clear(rt: &impl Abort, timers: &mut Timers) {
+    start(rt, timers, 2, Status::Faulty, 5_000);
+    timers.clear(node(rt, 2));
+    assert!(rt; timers.due(moment(rt, 5_000)).is_none());
+}
+
+#[test]
+fn a_timer_is_replaced(rt: HostRuntime) {
+    let mut timers = Timers::new(rt.alloc());
+    start_again(&rt, &mut timers);
     let mut cleared = Timers::new(rt.alloc());
-    start(&rt, &mut cleared, 2, Status::Faulty, 5_000)?;
-    cleared.clear(address);
-    assert_eq!(rt; cleared.due(moment(&rt, 5_000)), None);
-    Ok(())
+    start_and_clear(&rt, &mut cleared);
 }

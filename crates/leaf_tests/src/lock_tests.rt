@@ -7,7 +7,6 @@ ghost use Rattle.turn_lock.specs.Passes.{name_of, opening_of, number_of, seen, I
 use std::alloc::{AllocError, Global};
 use std::process::Abort;
 use std::sync::Wait;
-use std::test::Fail;
 use std::thread;
 use std::thread::{Threads, join};
 use std::time::{Clock, Duration};
@@ -52,6 +51,7 @@ fn has<R: Wait>(rt: &R, lock: &Shared, pass: &mut Entrant, number: u64) -> Resul
     Ok(found)
 }
 
+/// Adds a number a thousand times.
 fn add_often<R: Wait>(
     rt: &R,
     lock: &Shared,
@@ -110,34 +110,45 @@ fn try_pair(
 
 /// The same. Where memory was refused, it is asked for once more.
 fn pair(
+    rt: &impl Abort,
     alloc: Global,
     name: u64,
     turns: u32,
-) -> Result<(Shared, Entrant, Entrant, Vec<Entrant>), Fail>
-    ensures passes { IfOk result (λ t. IsOutside t.0 t.1 × IsOutside t.0 t.2) }
-    ensures name { IfOk result (λ t. name_of t.0 ≡ name) }
-    ensures room { IfOk result (λ t. t.3.items ≡ []) }
+) -> (Shared, Entrant, Entrant, Vec<Entrant>)
+    ensures passes { IsOutside result.0 result.1 × IsOutside result.0 result.2 }
+    ensures name { name_of result.0 ≡ name }
+    ensures room { result.3.items ≡ [] }
 {
-    if let Some(made) = try_pair(alloc, name, turns)? {
-        return Ok(made);
+    if let Ok(Some(made)) = try_pair(alloc, name, turns) {
+        return made;
     }
-    Ok(try_pair(alloc, name, turns)?.ok_or("a lock")?)
+    let Ok(Some(made)) = try_pair(alloc, name, turns) else {
+        panic!(rt; "no lock")
+    };
+    made
 }
 
+/// Closes a lock with its two passes.
 fn close_pair(
+    rt: &impl Abort,
     lock: Shared,
     first: Entrant,
     second: Entrant,
     mut room: Vec<Entrant>,
-) -> Result<Tally, Fail>
+) -> Tally
     requires passes { IsOutside lock first × IsOutside lock second }
     requires room { room.items ≡ [] }
 {
-    room.push(first)?;
-    room.push(second)?;
-    Ok(lock.close(room).ok().ok_or("it closes")?)
+    let Ok(()) = room.push(first) else {
+        panic!(rt; "no room")
+    };
+    let Ok(()) = room.push(second) else {
+        panic!(rt; "no room")
+    };
+    lock.close(room).ok().expect(rt, "it closes")
 }
 
+/// Adds a number a thousand times with each pass, in two threads.
 fn add_in_both<R: Threads + Wait + Sync>(
     rt: &R,
     lock: &Shared,
@@ -162,17 +173,16 @@ fn add_in_both<R: Threads + Wait + Sync>(
 }
 
 #[test]
-fn two_threads_add_a_thousand_each(rt: HostRuntime) -> Result<(), Fail> {
-    let (lock, first, second, room) = pair(rt.alloc(), 7, 1000)?;
-    let (first, second) = add_in_both(&rt, &lock, first, second)?;
-    let tally = close_pair(lock, first, second, room)?;
-    assert_eq!(rt;
-        (tally.numbers.len(), tally.count(1), tally.count(2)),
-        (2000, 1000, 1000)
-    );
-    Ok(())
+fn two_threads_add_a_thousand_each(rt: HostRuntime) {
+    let (lock, first, second, room) = pair(&rt, rt.alloc(), 7, 1000);
+    let Ok((first, second)) = add_in_both(&rt, &lock, first, second) else {
+        panic!(rt; "a turn was refused")
+    };
+    let tally = close_pair(&rt, lock, first, second, room);
+    assert!(rt; tally.numbers.len() == 2000 && tally.count(1) == 1000 && tally.count(2) == 1000);
 }
 
+/// Adds a number with each pass, in two threads; whether each reads the number of the other.
 fn meet_in_both<R: Threads + Wait + Clock + Sync>(
     rt: &R,
     lock: &Shared,
@@ -194,10 +204,9 @@ fn meet_in_both<R: Threads + Wait + Clock + Sync>(
 }
 
 #[test]
-fn each_of_two_threads_reads_the_others_entry(rt: HostRuntime) -> Result<(), Fail> {
-    let (lock, first, second, _) = pair(rt.alloc(), 7, 20_000)?;
-    assert_eq!(rt; meet_in_both(&rt, &lock, first, second)?, (true, true));
-    Ok(())
+fn each_of_two_threads_reads_the_others_entry(rt: HostRuntime) {
+    let (lock, first, second, _) = pair(&rt, rt.alloc(), 7, 20_000);
+    assert!(rt; meet_in_both(&rt, &lock, first, second) == Ok((true, true)));
 }
 
 /// Rests inside, and then adds a number.
@@ -210,6 +219,7 @@ fn add_late<R: Clock>(rt: &R, lock: &Shared, mut pass: Entrant, mut tally: Tally
     leave(lock, &mut pass, tally, added);
 }
 
+/// Rests inside with one pass, while the other waits in a second thread; whether the other then reads the number.
 fn wait_for_a_number<R: Threads + Wait + Clock + Sync>(
     rt: &R,
     lock: &Shared,
@@ -233,90 +243,100 @@ fn wait_for_a_number<R: Threads + Wait + Clock + Sync>(
 }
 
 #[test]
-fn a_pass_waits_while_another_rests_inside(rt: HostRuntime) -> Result<(), Fail> {
-    let (lock, first, second, _) = pair(rt.alloc(), 7, 1)?;
-    assert!(rt; wait_for_a_number(&rt, &lock, first, second)?);
-    Ok(())
+fn a_pass_waits_while_another_rests_inside(rt: HostRuntime) {
+    let (lock, first, second, _) = pair(&rt, rt.alloc(), 7, 1);
+    assert!(rt; wait_for_a_number(&rt, &lock, first, second) == Ok(true));
+}
+
+/// A list with room for one number.
+fn small_tally(rt: &impl Abort, alloc: Global) -> Tally {
+    Tally::with_room(alloc, 1).ok().expect(rt, "room")
+}
+
+/// Makes no lock with so many passes and turns, and has the state back.
+fn count_out_of_range(rt: &impl Abort, alloc: Global, passes: u32, turns: u32) {
+    let mut tally = small_tally(rt, alloc);
+    tally.add(5);
+    let Err(NewError::BadCount(tally)) = TurnLock::new(alloc, 7, tally, passes, turns) else {
+        panic!(rt; "{passes} passes of {turns} turns")
+    };
+    assert!(rt; tally.count(5) == 1);
 }
 
 #[test]
-fn counts_out_of_range_hand_the_state_back(rt: HostRuntime) -> Result<(), Fail> {
+fn counts_out_of_range_hand_the_state_back(rt: HostRuntime) {
     for (passes, turns) in [(0, 1), (MOST_PASSES + 1, 1), (1, 0)] {
-        let mut tally = Tally::with_room(rt.alloc(), 1)?;
-        tally.add(5);
-        let Err(NewError::BadCount(tally)) = TurnLock::new(rt.alloc(), 7, tally, passes, turns)
-        else {
-            panic!(rt; "{passes} passes of {turns} turns")
-        };
-        assert_eq!(rt; tally.count(5), 1);
+        count_out_of_range(&rt, rt.alloc(), passes, turns);
     }
-    Ok(())
 }
 
 /// A lock with as many passes and turns as there may be. Where memory was refused, it is asked for once more.
-fn greatest(alloc: Global) -> Result<(Shared, Vec<Entrant>), Fail>
-    ensures { IfOk result (λ r. All (IsOutside r.0) r.1.items) }
+fn greatest(rt: &impl Abort, alloc: Global) -> (Shared, Vec<Entrant>)
+    ensures { All (IsOutside result.0) result.1.items }
 {
-    let made = match TurnLock::new(alloc, 7, Tally::with_room(alloc, 1)?, MOST_PASSES, u32::MAX) {
+    let made = match TurnLock::new(alloc, 7, small_tally(rt, alloc), MOST_PASSES, u32::MAX) {
         Err(NewError::Memory) => {
-            TurnLock::new(alloc, 7, Tally::with_room(alloc, 1)?, MOST_PASSES, u32::MAX)
+            TurnLock::new(alloc, 7, small_tally(rt, alloc), MOST_PASSES, u32::MAX)
         }
         made => made,
     };
-    Ok(made.ok().ok_or("a lock")?)
+    made.ok().expect(rt, "a lock")
 }
 
 #[test]
-fn a_lock_with_the_most_passes_and_turns_closes(rt: HostRuntime) -> Result<(), Fail> {
-    let (lock, passes) = greatest(rt.alloc())?;
-    assert_eq!(rt; passes.len(), 1024);
+fn a_lock_with_the_most_passes_and_turns_closes(rt: HostRuntime) {
+    let (lock, passes) = greatest(&rt, rt.alloc());
+    assert!(rt; passes.len() == 1024);
     assert!(rt; lock.close(passes).is_ok());
-    Ok(())
+}
+
+/// Adds a number three times.
+fn add_thrice<R: Wait>(rt: &R, lock: &Shared, pass: &mut Entrant) -> [Result<(), LockError>; 3]
+    requires { IsOutside lock.now pass.old }
+    ensures { IsOutside lock.now pass.new }
+{
+    let once = add(rt, lock, pass, 1);
+    let twice = add(rt, lock, pass, 1);
+    [once, twice, add(rt, lock, pass, 1)]
 }
 
 #[test]
-fn a_pass_is_spent_after_its_turns(rt: HostRuntime) -> Result<(), Fail> {
-    let (lock, mut first, second, room) = pair(rt.alloc(), 7, 2)?;
-    let once = add(&rt, &lock, &mut first, 1);
-    let twice = add(&rt, &lock, &mut first, 1);
-    let refused = add(&rt, &lock, &mut first, 1);
-    assert_eq!(rt;
-        (once, twice, refused),
-        (Ok(()), Ok(()), Err(LockError::PassSpent))
-    );
-    let tally = close_pair(lock, first, second, room)?;
-    assert_eq!(rt; tally.count(1), 2);
-    Ok(())
+fn a_pass_is_spent_after_its_turns(rt: HostRuntime) {
+    let (lock, mut first, second, room) = pair(&rt, rt.alloc(), 7, 2);
+    let answers = add_thrice(&rt, &lock, &mut first);
+    assert!(rt; answers == [Ok(()), Ok(()), Err(LockError::PassSpent)]);
+    let tally = close_pair(&rt, lock, first, second, room);
+    assert!(rt; tally.count(1) == 2);
 }
 
 #[test]
 #[tactic(auto, unfolding(turn_lock::specs::Passes::IsOutside))]
-fn a_pass_of_another_lock_is_refused(rt: HostRuntime) -> Result<(), Fail> {
-    let (lock, first, second, mut passes) = pair(rt.alloc(), 7, 2)?;
-    let (_other, mut foreign, _, _) = pair(rt.alloc(), 8, 2)?;
+fn a_pass_of_another_lock_is_refused(rt: HostRuntime) {
+    let (lock, first, second, mut passes) = pair(&rt, rt.alloc(), 7, 2);
+    let (_other, mut foreign, _, _) = pair(&rt, rt.alloc(), 8, 2);
     let refused = lock.enter(&rt, &mut foreign).err();
-    assert_eq!(rt; refused, Some(LockError::ForeignPass));
-    passes.push(first)?;
-    passes.push(foreign)?;
-    let Err(
-        CloseRefused {
-            lock,
-            passes,
-            cause,
-        },
-    ) = lock.close(passes)
-    else {
+    assert!(rt; refused == Some(LockError::ForeignPass));
+    let Ok(()) = passes.push(first) else {
+        panic!(rt; "no room")
+    };
+    let Ok(()) = passes.push(foreign) else {
+        panic!(rt; "no room")
+    };
+    let Err(refused) = lock.close(passes) else {
         panic!(rt; "a pass is foreign")
     };
-    assert_eq!(rt; (cause, passes.len()), (CloseError::ForeignPass, 2));
-    Ok(())
+    assert!(rt; refused.cause == CloseError::ForeignPass && refused.passes.len() == 2);
 }
 
 #[test]
-fn a_lock_does_not_close_without_a_pass(rt: HostRuntime) -> Result<(), Fail> {
-    let (lock, mut first, second, mut passes) = pair(rt.alloc(), 7, 2)?;
-    add(&rt, &lock, &mut first, 5)?;
-    passes.push(first)?;
+fn a_lock_does_not_close_without_a_pass(rt: HostRuntime) {
+    let (lock, mut first, second, mut passes) = pair(&rt, rt.alloc(), 7, 2);
+    let Ok(()) = add(&rt, &lock, &mut first, 5) else {
+        panic!(rt; "a turn was refused")
+    };
+    let Ok(()) = passes.push(first) else {
+        panic!(rt; "no room")
+    };
     let Err(
         CloseRefused {
             lock,
@@ -327,9 +347,10 @@ fn a_lock_does_not_close_without_a_pass(rt: HostRuntime) -> Result<(), Fail> {
     else {
         panic!(rt; "a pass is missing")
     };
-    assert_eq!(rt; (cause, passes.len()), (CloseError::MissingPass, 1));
-    passes.push(second)?;
-    let tally = lock.close(passes).ok().ok_or("both passes are there")?;
-    assert_eq!(rt; tally.count(5), 1);
-    Ok(())
+    assert!(rt; cause == CloseError::MissingPass && passes.len() == 1);
+    let Ok(()) = passes.push(second) else {
+        panic!(rt; "no room")
+    };
+    let tally = lock.close(passes).ok().expect(&rt, "both passes are there");
+    assert!(rt; tally.count(5) == 1);
 }

@@ -1,10 +1,12 @@
 //! Messages that a locked node makes and answers, and what it says of its members.
 ghost use Rattle.locked_node.specs.Passes.{Fits};
 
-use crate::shared::{Caller, Shared, change, hear, member, moment, news, tried, with_shared};
+use crate::shared::{
+    Caller, Shared, alone, change, hear, let_go, made, member, moment, news, shared_node,
+};
 use locked_node::{
-    Addresses, ChangeList, Changes, Content, Digest, Incarnation, Kind, Message, News, Received,
-    Sourced, Status, Taken, Text,
+    Address, Change, Changes, Content, Digest, Incarnation, Kind, Message, News, Received, Sourced,
+    Status, Taken,
 };
 use std::alloc::Global;
 use std::process::Abort;
@@ -23,9 +25,18 @@ fn digest_of(rt: &impl Abort, text: &str) -> Digest {
     Digest::parse(text).expect(rt, "a digest")
 }
 
-fn news_of(rt: &impl Abort, checksum: Digest, changes: Vec<Sourced>) -> News {
-    let changes = Changes::from_vec(changes).ok().expect(rt, "changes");
-    News { checksum, changes }
+fn changes(rt: &impl Abort, alloc: Global, given: &[Sourced]) -> Changes {
+    match Changes::from_slice(alloc, given) {
+        Ok(changes) => changes,
+        Err(_) => Changes::from_slice(alloc, given).ok().expect(rt, "changes"),
+    }
+}
+
+fn news_of(rt: &impl Abort, alloc: Global, checksum: &str, given: &[Sourced]) -> News {
+    News {
+        checksum: digest_of(rt, checksum),
+        changes: changes(rt, alloc, given),
+    }
 }
 
 /// A message of 10.0.0.1:1 at 7.
@@ -35,6 +46,31 @@ fn message(rt: &impl Abort, content: Content) -> Message {
         source_incarnation: Incarnation::new(7).expect(rt, "an incarnation"),
         content,
     }
+}
+
+/// What was taken of a message and what is answered; where there was no memory for the answer what was taken, or none where there
+/// was none for that.
+fn answered(rt: &impl Abort, received: Received) -> Result<(Taken, Message), Option<Taken>> {
+    match received {
+        Received::Answer(taken, answer) => Ok((taken, answer)),
+        Received::NoAnswer(taken) => Err(Some(taken)),
+        Received::Stopped(_) => Err(None),
+        Received::Done(_) | Received::NotGossip => panic!(rt; "no question"),
+    }
+}
+
+/// What comes of a message that comes once.
+fn answer_once<R: Wait + Abort>(
+    rt: &R,
+    shared: &Shared,
+    pass: &mut Caller,
+    message: &Message,
+) -> Result<(Taken, Message), Option<Taken>>
+    requires { Fits shared.now pass.old }
+    ensures { Fits shared.now pass.new }
+{
+    let received = shared.receive(rt, pass, message, moment(rt, 0));
+    answered(rt, received.ok().expect(rt, "a turn"))
 }
 
 /// The answer to a message. Where none could be made, the message comes again.
@@ -47,22 +83,12 @@ fn answer<R: Wait + Abort>(
     requires { Fits shared.now pass.old }
     ensures { Fits shared.now pass.new }
 {
-    let now = moment(rt, 0);
-    let first = shared
-        .receive(rt, pass, message, now)
-        .ok()
-        .expect(rt, "a turn");
-    match first {
-        Received::Answer(taken, answer) => Some((taken, answer)),
-        Received::NoAnswer(taken) => match shared.receive(rt, pass, message, now).ok()? {
-            Received::Answer(_, answer) => Some((taken, answer)),
-            _ => None,
+    match answer_once(rt, shared, pass, message) {
+        Ok(both) => Some(both),
+        Err(first) => match answer_once(rt, shared, pass, message) {
+            Ok((second, answer)) => Some((first.unwrap_or(second), answer)),
+            Err(_) => None,
         },
-        Received::Stopped(_) => match shared.receive(rt, pass, message, now).ok()? {
-            Received::Answer(taken, answer) => Some((taken, answer)),
-            _ => None,
-        },
-        Received::Done(_) | Received::NotGossip => None,
     }
 }
 
@@ -83,57 +109,65 @@ fn told(rt: &impl Abort, number: u8, incarnation: u64) -> Sourced {
     }
 }
 
-/// A list of one change.
-fn one_change(rt: &impl Abort, alloc: Global, given: Sourced) -> Vec<Sourced> {
-    let mut changes = Vec::new(alloc);
-    if changes.reserve(1).is_err() {
-        changes.reserve(1).ok().expect(rt, "room");
-    }
-    changes.push(given).ok().expect(rt, "room");
-    changes
-}
-
 /// A join of 10.0.0.1:1, alive at 7.
 fn join(rt: &impl Abort, alloc: Global) -> Message {
-    let changes = one_change(rt, alloc, news(rt, 1, 7, Status::Alive));
+    let own = [news(rt, 1, 7, Status::Alive)];
     message(
         rt,
-        Content::Join(news_of(rt, digest_of(rt, NOBODY), changes)),
+        Content::Join(news_of(rt, alloc, NOBODY, own.as_slice())),
     )
 }
 
 /// Whether it is a Joined of 10.0.0.2:1 with all members.
-fn is_joined(rt: &impl Abort, joined: &Message) -> bool {
+fn is_joined(rt: &impl Abort, joined: Message) -> bool {
     let all = [told(rt, 1, 7), told(rt, 2, 1)];
-    joined.source == member(rt, 2)
+    let is_joined = joined.source == member(rt, 2)
         && joined.content.kind() == Kind::Joined
-        && carried(joined) == all.as_slice()
+        && carried(&joined) == all.as_slice();
+    drop(joined);
+    is_joined
+}
+
+/// Whether a join is answered so, with one change applied.
+fn is_let_in<R: Wait + Abort>(rt: &R, shared: &Shared, pass: &mut Caller, join: &Message) -> bool
+    requires { Fits shared.now pass.old }
+{
+    let wanted = Taken {
+        applied: 1,
+        refuted: 0,
+    };
+    match answer(rt, shared, pass, join) {
+        Some((taken, joined)) => is_joined(rt, joined) && taken == wanted,
+        None => false,
+    }
 }
 
 fn check_join<R: Wait + Abort>(rt: &R, alloc: Global, shared: &Shared, pass: &mut Caller)
     requires { Fits shared.now pass.old }
 {
-    let answered = answer(rt, shared, pass, &join(rt, alloc));
-    let (taken, joined) = answered.expect(rt, "an answer");
-    let wanted = Taken {
-        applied: 1,
-        refuted: 0,
-    };
-    assert!(rt; taken == wanted && is_joined(rt, &joined));
+    let join = join(rt, alloc);
+    assert!(rt; is_let_in(rt, shared, pass, &join));
+    drop(join);
 }
 
 #[test]
 fn a_join_is_answered_by_all_members(rt: HostRuntime) {
     let alloc = rt.alloc();
-    with_shared(&rt, alloc, 2, 1, 4096, |shared, pass| {
-        check_join(&rt, alloc, shared, pass)
-    });
+    let (shared, mut pass) = shared_node(&rt, alloc, 2, 1, 4096);
+    check_join(&rt, alloc, &shared, &mut pass);
+    let_go(shared, pass);
 }
 
 /// A ping of 10.0.0.1:1 without changes.
 fn empty_ping(rt: &impl Abort, alloc: Global, checksum: &str) -> Message {
-    let content = Content::Ping(news_of(rt, digest_of(rt, checksum), Vec::new(alloc)));
-    message(rt, content)
+    message(rt, Content::Ping(news_of(rt, alloc, checksum, &[])))
+}
+
+/// Whether it is an Ack with these changes.
+fn is_ack(message: Message, wanted: &[Sourced]) -> bool {
+    let is_ack = message.content.kind() == Kind::Ack && carried(&message) == wanted;
+    drop(message);
+    is_ack
 }
 
 /// Whether a ping is answered by an Ack with these changes.
@@ -147,10 +181,10 @@ fn is_acked<R: Wait + Abort>(
     requires { Fits shared.now pass.old }
     ensures { Fits shared.now pass.new }
 {
-    let Some((_, ack)) = answer(rt, shared, pass, ping) else {
-        return false;
-    };
-    ack.content.kind() == Kind::Ack && carried(&ack) == wanted
+    match answer(rt, shared, pass, ping) {
+        Some((_, ack)) => is_ack(ack, wanted),
+        None => false,
+    }
 }
 
 /// Checks fifteen answers to a ping, which bring each the birth of 10.0.0.2:1 and no more.
@@ -162,6 +196,33 @@ fn check_fifteen<R: Wait + Abort>(rt: &R, shared: &Shared, pass: &mut Caller, pi
     for _ in 0..15u8 {
         assert!(rt; is_acked(rt, shared, pass, ping, birth.as_slice()));
     }
+}
+
+/// Has fifteen pings answered.
+fn ping_fifteen_times<R: Wait + Abort>(rt: &R, alloc: Global, shared: &Shared, pass: &mut Caller)
+    requires { Fits shared.now pass.old }
+    ensures { Fits shared.now pass.new }
+{
+    let ping = empty_ping(rt, alloc, NOBODY);
+    check_fifteen(rt, shared, pass, &ping);
+    drop(ping);
+}
+
+/// Whether a ping of a sender with this checksum is answered by these changes.
+fn is_told<R: Wait + Abort>(
+    rt: &R,
+    alloc: Global,
+    shared: &Shared,
+    pass: &mut Caller,
+    checksum: &str,
+    wanted: &[Sourced],
+) -> bool
+    requires { Fits shared.now pass.old }
+{
+    let ping = empty_ping(rt, alloc, checksum);
+    let is_acked = is_acked(rt, shared, pass, &ping, wanted);
+    drop(ping);
+    is_acked
 }
 
 /// Checks which members the Ack of the sixteenth ping names, where its sender has this checksum.
@@ -178,127 +239,141 @@ fn check_pings<R: Wait + Abort>(
     let mut given = news(rt, 3, 1, Status::Alive);
     given.source = member(rt, 1);
     hear(rt, shared, pass, &given, 0);
-    check_fifteen(rt, shared, pass, &empty_ping(rt, alloc, NOBODY));
-    let last = empty_ping(rt, alloc, checksum);
-    assert!(rt; is_acked(rt, shared, pass, &last, wanted));
+    ping_fifteen_times(rt, alloc, shared, pass);
+    assert!(rt; is_told(rt, alloc, shared, pass, checksum, wanted));
+}
+
+/// Checks the pings of a new node.
+fn check_synchronising<R: Wait + Abort>(rt: &R, alloc: Global, checksum: &str, wanted: &[Sourced]) {
+    let (shared, mut pass) = shared_node(rt, alloc, 2, 1, 4096);
+    check_pings(rt, alloc, &shared, &mut pass, checksum, wanted);
+    let_go(shared, pass);
 }
 
 #[test]
 fn pings_are_answered_by_news_and_then_by_all(rt: HostRuntime) {
     let alloc = rt.alloc();
     let all = [told(&rt, 2, 1), told(&rt, 3, 1)];
-    for (checksum, wanted) in [(NOBODY, &all[..2]), (BOTH, &all[..0])] {
-        with_shared(&rt, alloc, 2, 1, 4096, |shared, pass| {
-            check_pings(&rt, alloc, shared, pass, checksum, wanted)
-        });
-    }
-}
-
-fn join_message<R: Wait + Abort>(rt: &R, shared: &Shared, pass: &mut Caller) -> Message
-    requires { Fits shared.now pass.old }
-    ensures { Fits shared.now pass.new }
-{
-    let made = tried!(rt, shared.join_message(rt, pass));
-    made.ok().expect(rt, "a message")
-}
-
-fn ping<R: Wait + Abort>(rt: &R, shared: &Shared, pass: &mut Caller) -> Message
-    requires { Fits shared.now pass.old }
-    ensures { Fits shared.now pass.new }
-{
-    let made = tried!(rt, shared.ping_to(rt, pass, member(rt, 2)));
-    made.ok().expect(rt, "a message")
-}
-
-fn ping_req<R: Wait + Abort>(rt: &R, shared: &Shared, pass: &mut Caller) -> Message
-    requires { Fits shared.now pass.old }
-    ensures { Fits shared.now pass.new }
-{
-    let made = tried!(
-        rt,
-        shared.ping_req_to(rt, pass, member(rt, 2), member(rt, 3))
-    );
-    made.ok().expect(rt, "a message")
-}
-
-fn ping_req_ack<R: Wait + Abort>(rt: &R, shared: &Shared, pass: &mut Caller) -> Message
-    requires { Fits shared.now pass.old }
-    ensures { Fits shared.now pass.new }
-{
-    let made = tried!(
-        rt,
-        shared.ping_req_ack_to(rt, pass, member(rt, 2), member(rt, 3), true)
-    );
-    made.ok().expect(rt, "a message")
+    check_synchronising(&rt, alloc, NOBODY, &all[..2]);
+    check_synchronising(&rt, alloc, BOTH, &all[..0]);
 }
 
 /// Whether a message is of this kind, by 10.0.0.1:1.
 fn is_own(rt: &impl Abort, message: Message, kind: Kind) -> bool {
-    message.content.kind() == kind && message.source == member(rt, 1)
+    let is_own = message.content.kind() == kind && message.source == member(rt, 1);
+    drop(message);
+    is_own
+}
+
+/// Whether the node makes a Join of its own.
+fn makes_join<R: Wait + Abort>(rt: &R, shared: &Shared, pass: &mut Caller) -> bool
+    requires { Fits shared.now pass.old }
+    ensures { Fits shared.now pass.new }
+{
+    let message = made!(rt, shared.join_message(rt, pass));
+    is_own(rt, message, Kind::Join)
+}
+
+/// Whether the node makes a Ping of its own.
+fn makes_ping<R: Wait + Abort>(rt: &R, shared: &Shared, pass: &mut Caller) -> bool
+    requires { Fits shared.now pass.old }
+    ensures { Fits shared.now pass.new }
+{
+    let target = member(rt, 2);
+    let message = made!(rt, shared.ping_to(rt, pass, target));
+    is_own(rt, message, Kind::Ping)
+}
+
+/// Whether the node makes a PingReq of its own.
+fn makes_ping_req<R: Wait + Abort>(rt: &R, shared: &Shared, pass: &mut Caller) -> bool
+    requires { Fits shared.now pass.old }
+    ensures { Fits shared.now pass.new }
+{
+    let (helper, target) = (member(rt, 2), member(rt, 3));
+    let message = made!(rt, shared.ping_req_to(rt, pass, helper, target));
+    is_own(rt, message, Kind::PingReq)
+}
+
+/// Whether the node makes a PingReqAck of its own.
+fn makes_ping_req_ack<R: Wait + Abort>(rt: &R, shared: &Shared, pass: &mut Caller) -> bool
+    requires { Fits shared.now pass.old }
+    ensures { Fits shared.now pass.new }
+{
+    let (asker, target) = (member(rt, 2), member(rt, 3));
+    let message = made!(rt, shared.ping_req_ack_to(rt, pass, asker, target, true));
+    is_own(rt, message, Kind::PingReqAck)
 }
 
 fn check_messages<R: Wait + Abort>(rt: &R, shared: &Shared, pass: &mut Caller)
     requires { Fits shared.now pass.old }
 {
-    assert!(rt; is_own(rt, join_message(rt, shared, pass), Kind::Join));
-    assert!(rt; is_own(rt, ping(rt, shared, pass), Kind::Ping));
-    assert!(rt; is_own(rt, ping_req(rt, shared, pass), Kind::PingReq));
-    assert!(rt; is_own(rt, ping_req_ack(rt, shared, pass), Kind::PingReqAck));
+    assert!(rt; makes_join(rt, shared, pass));
+    assert!(rt; makes_ping(rt, shared, pass));
+    assert!(rt; makes_ping_req(rt, shared, pass));
+    assert!(rt; makes_ping_req_ack(rt, shared, pass));
 }
 
 #[test]
 fn makes_messages(rt: HostRuntime) {
-    with_shared(&rt, rt.alloc(), 1, 7, 4096, |shared, pass| {
-        check_messages(&rt, shared, pass)
-    });
+    let (shared, mut pass) = alone(&rt, rt.alloc());
+    check_messages(&rt, &shared, &mut pass);
+    let_go(shared, pass);
 }
 
-fn members<R: Wait + Abort>(rt: &R, shared: &Shared, pass: &mut Caller) -> ChangeList
+/// Whether the node holds these members.
+fn holds<R: Wait + Abort>(rt: &R, shared: &Shared, pass: &mut Caller, wanted: &[Change]) -> bool
     requires { Fits shared.now pass.old }
     ensures { Fits shared.now pass.new }
 {
-    let made = tried!(rt, shared.members(rt, pass));
-    made.ok().expect(rt, "members")
+    let members = made!(rt, shared.members(rt, pass));
+    members.as_slice() == wanted
 }
 
-fn digest_text<R: Wait + Abort>(rt: &R, shared: &Shared, pass: &mut Caller) -> Text
+/// Whether the node's membership is this as a text.
+fn is_written<R: Wait + Abort>(rt: &R, shared: &Shared, pass: &mut Caller, wanted: &str) -> bool
     requires { Fits shared.now pass.old }
     ensures { Fits shared.now pass.new }
 {
-    let made = tried!(rt, shared.digest_text(rt, pass));
-    made.ok().expect(rt, "a text")
+    let text = made!(rt, shared.digest_text(rt, pass));
+    text.as_str() == wanted
 }
 
-fn digest<R: Wait + Abort>(rt: &R, shared: &Shared, pass: &mut Caller) -> Digest
+/// Whether this is the node's digest.
+fn has_digest<R: Wait + Abort>(rt: &R, shared: &Shared, pass: &mut Caller, wanted: &str) -> bool
     requires { Fits shared.now pass.old }
     ensures { Fits shared.now pass.new }
 {
-    let made = tried!(rt, shared.digest(rt, pass));
-    made.ok().expect(rt, "a digest")
+    made!(rt, shared.digest(rt, pass)) == digest_of(rt, wanted)
 }
 
-fn owners<R: Wait + Abort>(rt: &R, shared: &Shared, pass: &mut Caller) -> Addresses
+/// Whether the owners of a key are these.
+fn are_owners<R: Wait + Abort>(
+    rt: &R,
+    shared: &Shared,
+    pass: &mut Caller,
+    wanted: &[Address],
+) -> bool
     requires { Fits shared.now pass.old }
     ensures { Fits shared.now pass.new }
 {
-    let made = tried!(rt, shared.owners(rt, pass, b"key", 9));
-    made.ok().expect(rt, "owners")
+    let owners = made!(rt, shared.owners(rt, pass, b"key", 9));
+    owners.as_slice() == wanted
 }
 
 fn check_held<R: Wait + Abort>(rt: &R, shared: &Shared, pass: &mut Caller)
     requires { Fits shared.now pass.old }
 {
     let own = [change(rt, 1, 7, Status::Alive)];
+    assert!(rt; holds(rt, shared, pass, own.as_slice()));
+    assert!(rt; is_written(rt, shared, pass, "10.0.0.1:1alive7"));
+    assert!(rt; has_digest(rt, shared, pass, ALONE));
     let named = [member(rt, 1)];
-    assert!(rt; members(rt, shared, pass).as_slice() == own.as_slice());
-    assert!(rt; digest_text(rt, shared, pass).as_str() == "10.0.0.1:1alive7");
-    assert!(rt; digest(rt, shared, pass) == digest_of(rt, ALONE));
-    assert!(rt; owners(rt, shared, pass).as_slice() == named.as_slice());
+    assert!(rt; are_owners(rt, shared, pass, named.as_slice()));
 }
 
 #[test]
 fn says_what_it_holds(rt: HostRuntime) {
-    with_shared(&rt, rt.alloc(), 1, 7, 4096, |shared, pass| {
-        check_held(&rt, shared, pass)
-    });
+    let (shared, mut pass) = alone(&rt, rt.alloc());
+    check_held(&rt, &shared, &mut pass);
+    let_go(shared, pass);
 }

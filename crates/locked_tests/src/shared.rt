@@ -1,5 +1,4 @@
 //! Nodes that are shared, and calls of them. Where a growth is refused the node is as before, and the next try goes on.
-ghost use denote.Ref.{Bor, MutBor};
 ghost use Rattle.std.specs.Prelude.{◌≡◌, ◌+◌, []};
 ghost use Rattle.std.specs.List.{All};
 ghost use Rattle.change_core.specs.Address.{address_of};
@@ -7,8 +6,8 @@ ghost use Rattle.turn_lock.specs.Passes.{lock_name};
 ghost use Rattle.locked_node.specs.Passes.{name_of, Fits, IsNew};
 
 use locked_node::{
-    Address, Change, Config, Incarnation, LockedNode, Moment, NodePass, NodeState, Sourced, Status,
-    StopCause, Stopped, SumHash, Taken, Weight,
+    Address, Change, Config, Incarnation, LockError, LockedNode, Moment, NodeError, NodePass,
+    NodeState, Sourced, Status, StopCause, Stopped, SumHash, Taken, Weight,
 };
 use std::alloc::Global;
 use std::process::Abort;
@@ -27,6 +26,32 @@ macro_rules! tried {
 }
 
 pub(crate) use tried;
+
+/// What a call of the node gives; none where it found no memory, and is to be made once more.
+pub(crate) fn given<T: Drop>(
+    rt: &impl Abort,
+    answer: Result<Result<T, NodeError>, LockError>,
+) -> Option<T> {
+    match answer.ok().expect(rt, "a turn") {
+        Ok(value) => Some(value),
+        Err(fault) => {
+            assert!(rt; fault == NodeError::Memory);
+            None
+        }
+    }
+}
+
+/// What a call of the node gives, made once more where it found no memory.
+macro_rules! made {
+    ($rt:expr, $call:expr) => {
+        match crate::shared::given($rt, $call) {
+            Some(value) => value,
+            None => crate::shared::given($rt, $call).expect($rt, "memory"),
+        }
+    };
+}
+
+pub(crate) use made;
 
 pub(crate) type Shared = LockedNode<SumHash>;
 
@@ -115,7 +140,7 @@ fn share(
 }
 
 /// The node 10.0.0.`number`:1 at this incarnation, with one pass.
-fn alone(
+pub(crate) fn shared_node(
     rt: &impl Abort,
     alloc: Global,
     number: u8,
@@ -134,19 +159,17 @@ fn alone(
     (shared, pass)
 }
 
-/// Has the node 10.0.0.`number`:1 at this incarnation go through this, with one pass.
-pub(crate) fn with_shared<F: FnOnce(&Shared, &mut Caller)>(
-    rt: &impl Abort,
-    alloc: Global,
-    number: u8,
-    incarnation: u64,
-    max: usize,
-    body: F,
-)
-    requires { (s : Bor _) (p : MutBor _) → Fits s.now p.now → F.pre body s p }
+/// The node 10.0.0.1:1 at 7, with one pass.
+pub(crate) fn alone(rt: &impl Abort, alloc: Global) -> (Shared, Caller)
+    ensures { Fits result.0 result.1 }
 {
-    let (shared, mut pass) = alone(rt, alloc, number, incarnation, max);
-    body(&shared, &mut pass);
+    shared_node(rt, alloc, 1, 7, 4096)
+}
+
+/// Lets go of a node and its pass.
+pub(crate) fn let_go(shared: Shared, pass: Caller) {
+    drop(pass);
+    drop(shared);
 }
 
 /// The node at 7 with two passes, and the list that they came in, now empty.
@@ -229,7 +252,10 @@ pub(crate) fn status_of<R: Wait + Abort>(
     ensures { Fits shared.now pass.new }
 {
     let held = shared.member(rt, pass, member(rt, number));
-    held.ok().expect(rt, "a turn").map(|entry| entry.status)
+    match held.ok().expect(rt, "a turn") {
+        Some(entry) => Some(entry.status),
+        None => None,
+    }
 }
 
 pub(crate) fn owner<R: Wait + Abort>(

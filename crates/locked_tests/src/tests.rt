@@ -1,13 +1,13 @@
 //! What no clause says: that the calls succeed, and that threads take turns. Worked examples, by one pass or by several.
-ghost use Rattle.std.specs.Prelude.{◌≡◌};
+ghost use Rattle.std.specs.Prelude.{◌≡◌, []};
 ghost use Rattle.std.specs.List.{All};
 ghost use Rattle.change_core.specs.Address.{address_of};
 ghost use Rattle.turn_lock.specs.Passes.{lock_name};
 ghost use Rattle.locked_node.specs.Passes.{Fits};
 
 use crate::shared::{
-    Caller, Shared, Start, change, hear, member, moment, news, node, own, owner, pair, status_of,
-    take, tried, with_shared,
+    Caller, Shared, Start, alone, change, hear, let_go, made, member, moment, news, node, own,
+    owner, pair, shared_node, status_of, take, tried,
 };
 use locked_node::{
     Address, Addresses, Change, CloseError, LockError, LockedNode, NewError, NodeError, NodeState,
@@ -30,8 +30,7 @@ fn view<R: Wait + Abort>(rt: &R, shared: &Shared, pass: &mut Caller) -> View<Sum
     requires { Fits shared.now pass.old }
     ensures { Fits shared.now pass.new }
 {
-    let view = tried!(rt, shared.view(rt, pass));
-    view.ok().expect(rt, "a view")
+    made!(rt, shared.view(rt, pass))
 }
 
 /// Checks which members own two keys.
@@ -44,6 +43,21 @@ fn check_owners<R: Wait + Abort>(rt: &R, shared: &Shared, pass: &mut Caller, own
     assert!(rt; owner(rt, shared, pass, "zzzz1") == Some(member(rt, second)));
 }
 
+/// Has another member own a key.
+fn change_owner<R: Wait + Abort>(rt: &R, shared: &Shared, pass: &mut Caller)
+    requires { Fits shared.now pass.old }
+{
+    check_owners(rt, shared, pass, [1, 2]);
+    hear(rt, shared, pass, &news(rt, 2, 1, Status::Faulty), 0);
+    check_owners(rt, shared, pass, [1, 3]);
+}
+
+/// Checks that a view names the owners of its time.
+fn check_before(rt: &impl Abort, before: &View<SumHash>) {
+    assert!(rt; before.owner(b"zzzz0") == Some(member(rt, 1)));
+    assert!(rt; before.owner(b"zzzz1") == Some(member(rt, 2)));
+}
+
 /// Checks that a view names the owners of its time when another owns a key.
 fn check_view<R: Wait + Abort>(rt: &R, shared: &Shared, pass: &mut Caller)
     requires { Fits shared.now pass.old }
@@ -51,38 +65,45 @@ fn check_view<R: Wait + Abort>(rt: &R, shared: &Shared, pass: &mut Caller)
     hear(rt, shared, pass, &news(rt, 2, 1, Status::Alive), 0);
     hear(rt, shared, pass, &news(rt, 3, 1, Status::Alive), 0);
     let before = view(rt, shared, pass);
-    check_owners(rt, shared, pass, [1, 2]);
-    hear(rt, shared, pass, &news(rt, 2, 1, Status::Faulty), 0);
-    check_owners(rt, shared, pass, [1, 3]);
-    assert!(rt; before.owner(b"zzzz0") == Some(member(rt, 1)));
-    assert!(rt; before.owner(b"zzzz1") == Some(member(rt, 2)));
+    change_owner(rt, shared, pass);
+    check_before(rt, &before);
+    drop(before);
 }
 
 #[test]
 fn a_view_answers_as_the_node_did(rt: HostRuntime) {
-    with_shared(&rt, rt.alloc(), 1, 7, 4096, |shared, pass| {
-        check_view(&rt, shared, pass)
-    });
+    let (shared, mut pass) = alone(&rt, rt.alloc());
+    check_view(&rt, &shared, &mut pass);
+    let_go(shared, pass);
+}
+
+/// What a node is told of itself at an incarnation, and what it takes and refutes of that.
+type Told = (u64, Status, usize, usize);
+
+/// Checks that the node stays alive when it is told so of itself.
+fn check_refuting<R: Wait + Abort>(rt: &R, shared: &Shared, pass: &mut Caller, row: Told)
+    requires { Fits shared.now pass.old }
+    ensures { Fits shared.now pass.new }
+{
+    let (incarnation, status, applied, refuted) = row;
+    let given = news(rt, 1, incarnation, status);
+    assert!(rt; take(rt, shared, pass, &given, 0) == Ok(Taken { applied, refuted }));
+    assert!(rt; own(rt, shared, pass) == change(rt, 1, 8, Status::Alive));
 }
 
 /// Checks that the node stays alive, whatever it is told of itself.
-fn check_refuting<R: Wait + Abort>(rt: &R, shared: &Shared, pass: &mut Caller)
+fn refute<R: Wait + Abort>(rt: &R, shared: &Shared, pass: &mut Caller)
     requires { Fits shared.now pass.old }
 {
-    let rows = [(7, Status::Suspect, 1, 1), (6, Status::Faulty, 0, 0)];
-    for (incarnation, status, applied, refuted) in rows {
-        let given = news(rt, 1, incarnation, status);
-        let answer = take(rt, shared, pass, &given, 0);
-        assert!(rt; answer == Ok(Taken { applied, refuted }));
-        assert!(rt; own(rt, shared, pass) == change(rt, 1, 8, Status::Alive));
-    }
+    check_refuting(rt, shared, pass, (7, Status::Suspect, 1, 1));
+    check_refuting(rt, shared, pass, (6, Status::Faulty, 0, 0));
 }
 
 #[test]
 fn refutes_what_is_wrong_about_itself(rt: HostRuntime) {
-    with_shared(&rt, rt.alloc(), 1, 7, 4096, |shared, pass| {
-        check_refuting(&rt, shared, pass)
-    });
+    let (shared, mut pass) = alone(&rt, rt.alloc());
+    refute(&rt, &shared, &mut pass);
+    let_go(shared, pass);
 }
 
 fn leave<R: Wait + Abort>(rt: &R, shared: &Shared, pass: &mut Caller) -> Result<Change, NodeError>
@@ -99,23 +120,37 @@ fn rejoin<R: Wait + Abort>(rt: &R, shared: &Shared, pass: &mut Caller) -> Result
     tried!(rt, shared.rejoin(rt, pass))
 }
 
-/// Leaves twice, refutes, and comes back twice.
-fn leave_and_come_back<R: Wait + Abort>(rt: &R, shared: &Shared, pass: &mut Caller)
+/// Leaves twice, and refutes.
+fn leave_twice<R: Wait + Abort>(rt: &R, shared: &Shared, pass: &mut Caller)
     requires { Fits shared.now pass.old }
+    ensures { Fits shared.now pass.new }
 {
     assert!(rt; leave(rt, shared, pass) == Ok(change(rt, 1, 7, Status::Leave)));
     assert!(rt; leave(rt, shared, pass) == Err(NodeError::AlreadyLeft));
     hear(rt, shared, pass, &news(rt, 1, 9, Status::Alive), 0);
     assert!(rt; own(rt, shared, pass) == change(rt, 1, 10, Status::Leave));
+}
+
+/// Comes back twice.
+fn rejoin_twice<R: Wait + Abort>(rt: &R, shared: &Shared, pass: &mut Caller)
+    requires { Fits shared.now pass.old }
+{
     assert!(rt; rejoin(rt, shared, pass) == Ok(change(rt, 1, 11, Status::Alive)));
     assert!(rt; rejoin(rt, shared, pass) == Err(NodeError::NotLeft));
 }
 
+fn leave_and_come_back<R: Wait + Abort>(rt: &R, shared: &Shared, pass: &mut Caller)
+    requires { Fits shared.now pass.old }
+{
+    leave_twice(rt, shared, pass);
+    rejoin_twice(rt, shared, pass);
+}
+
 #[test]
 fn leaves_and_comes_back(rt: HostRuntime) {
-    with_shared(&rt, rt.alloc(), 1, 7, 4096, |shared, pass| {
-        leave_and_come_back(&rt, shared, pass)
-    });
+    let (shared, mut pass) = alone(&rt, rt.alloc());
+    leave_and_come_back(&rt, &shared, &mut pass);
+    let_go(shared, pass);
 }
 
 /// What taking 10.0.0.2:1, this change and 10.0.0.3:1 comes to. What was taken before a refused growth is old at the next try.
@@ -135,10 +170,15 @@ fn take_three<R: Wait + Abort>(
     ];
     let now = moment(rt, 0);
     let answer = shared.take(rt, pass, &batch, now).ok().expect(rt, "a turn");
-    if answer.err().map(|stopped| stopped.cause) != Some(StopCause::Memory) {
-        return answer;
+    match answer {
+        Err(
+            Stopped {
+                cause: StopCause::Memory,
+                ..
+            },
+        ) => shared.take(rt, pass, &batch, now).ok().expect(rt, "a turn"),
+        _ => answer,
     }
-    shared.take(rt, pass, &batch, now).ok().expect(rt, "a turn")
 }
 
 /// A batch of three: how many members may be held, the second change, why it stops there, and the member that the
@@ -164,6 +204,13 @@ fn check_stop<R: Wait + Abort>(rt: &R, shared: &Shared, pass: &mut Caller, row: 
     assert!(rt; take(rt, shared, pass, &later, 0) == Ok(ONE));
 }
 
+/// Checks a batch of a new node.
+fn check_batch<R: Wait + Abort>(rt: &R, alloc: Global, row: &Batch) {
+    let (shared, mut pass) = shared_node(rt, alloc, 1, 7, row.max);
+    check_stop(rt, &shared, &mut pass, row);
+    let_go(shared, pass);
+}
+
 #[test]
 fn a_batch_stops_at_what_it_cannot_take(rt: HostRuntime) {
     let rows = [
@@ -181,9 +228,7 @@ fn a_batch_stops_at_what_it_cannot_take(rt: HostRuntime) {
         },
     ];
     for row in &rows {
-        with_shared(&rt, rt.alloc(), 1, 7, row.max, |shared, pass| {
-            check_stop(&rt, shared, pass, row)
-        });
+        check_batch(&rt, rt.alloc(), row);
     }
 }
 
@@ -200,6 +245,20 @@ fn expire<R: Wait + Abort>(
     tried!(rt, shared.expire(rt, pass, now))
 }
 
+/// Checks what runs out at a moment, if anything.
+fn check_expired<R: Wait + Abort>(
+    rt: &R,
+    shared: &Shared,
+    pass: &mut Caller,
+    now: u64,
+    wanted: Option<Change>,
+)
+    requires { Fits shared.now pass.old }
+    ensures { Fits shared.now pass.new }
+{
+    assert!(rt; expire(rt, shared, pass, now) == Ok(wanted));
+}
+
 /// Checks that a suspect entry runs out, and then the faulty one.
 fn run_out<R: Wait + Abort>(rt: &R, shared: &Shared, pass: &mut Caller)
     requires { Fits shared.now pass.old }
@@ -207,23 +266,18 @@ fn run_out<R: Wait + Abort>(rt: &R, shared: &Shared, pass: &mut Caller)
     hear(rt, shared, pass, &news(rt, 2, 1, Status::Suspect), 0);
     let faulty = change(rt, 2, 1, Status::Faulty);
     let tombstone = change(rt, 2, 1, Status::Tombstone);
-    let rows = [
-        (4_999, None),
-        (5_000, Some(faulty)),
-        (4_999, None),
-        (86_404_999, None),
-        (86_405_000, Some(tombstone)),
-    ];
-    for (now, wanted) in rows {
-        assert!(rt; expire(rt, shared, pass, now) == Ok(wanted));
-    }
+    check_expired(rt, shared, pass, 4_999, None);
+    check_expired(rt, shared, pass, 5_000, Some(faulty));
+    check_expired(rt, shared, pass, 4_999, None);
+    check_expired(rt, shared, pass, 86_404_999, None);
+    check_expired(rt, shared, pass, 86_405_000, Some(tombstone));
 }
 
 #[test]
 fn entries_run_out_in_turn(rt: HostRuntime) {
-    with_shared(&rt, rt.alloc(), 1, 7, 4096, |shared, pass| {
-        run_out(&rt, shared, pass)
-    });
+    let (shared, mut pass) = alone(&rt, rt.alloc());
+    run_out(&rt, &shared, &mut pass);
+    let_go(shared, pass);
 }
 
 /// Checks that a suspicion that was answered does not run out.
@@ -232,14 +286,22 @@ fn answer_before<R: Wait + Abort>(rt: &R, shared: &Shared, pass: &mut Caller)
 {
     hear(rt, shared, pass, &news(rt, 2, 1, Status::Suspect), 0);
     hear(rt, shared, pass, &news(rt, 2, 2, Status::Alive), 100);
-    assert!(rt; expire(rt, shared, pass, 5_000) == Ok(None));
+    check_expired(rt, shared, pass, 5_000, None);
 }
 
 #[test]
 fn a_suspicion_that_was_answered_does_not_run_out(rt: HostRuntime) {
-    with_shared(&rt, rt.alloc(), 1, 7, 4096, |shared, pass| {
-        answer_before(&rt, shared, pass)
-    });
+    let (shared, mut pass) = alone(&rt, rt.alloc());
+    answer_before(&rt, &shared, &mut pass);
+    let_go(shared, pass);
+}
+
+/// The node that comes back where the counts were bad.
+fn handed_back(refused: NewError<NodeState<SumHash>>) -> Option<NodeState<SumHash>> {
+    match refused {
+        NewError::BadCount(node) => Some(node),
+        NewError::Memory => None,
+    }
 }
 
 /// Checks that so many passes or turns hand the node back.
@@ -250,10 +312,10 @@ fn check_counts(rt: &impl Abort, alloc: Global, passes: u32, turns: u32) {
         max: 4096,
     };
     let given = node(rt, alloc, &start);
-    let Err(NewError::BadCount(given)) = LockedNode::new(alloc, given, passes, turns) else {
-        panic!(rt; "{passes} passes of {turns} turns")
-    };
+    let refused = LockedNode::new(alloc, given, passes, turns).err();
+    let given = handed_back(refused.expect(rt, "a refusal")).expect(rt, "the node");
     assert!(rt; given.own() == change(rt, 1, 7, Status::Alive));
+    drop(given);
 }
 
 #[test]
@@ -281,6 +343,8 @@ fn check_spent<R: Wait + Abort>(rt: &R, shared: &Shared, first: &mut Caller, sec
 fn a_pass_is_spent_after_its_calls(rt: HostRuntime) {
     let (shared, mut first, mut second, _) = pair(&rt, rt.alloc(), member(&rt, 1), 2);
     check_spent(&rt, &shared, &mut first, &mut second);
+    drop(first);
+    let_go(shared, second);
 }
 
 /// Hears of 10.0.0.2:1.
@@ -298,9 +362,7 @@ fn close_too_soon(rt: &impl Abort, shared: Shared, passes: Vec<Caller>) -> (Shar
     ensures node { result.0 ≡ shared }
     ensures passes { result.1.items ≡ passes.items }
 {
-    let Err(refused) = shared.close(passes) else {
-        panic!(rt; "a pass is missing")
-    };
+    let refused = shared.close(passes).err().expect(rt, "a pass is missing");
     assert!(rt; refused.cause == CloseError::MissingPass && refused.passes.len() == 1);
     (refused.node, refused.passes)
 }
@@ -313,8 +375,9 @@ fn close_whole(rt: &impl Abort, shared: Shared, passes: Vec<Caller>)
         .close(passes)
         .ok()
         .expect(rt, "both passes are there");
-    let held = closed.member(member(rt, 2)).map(|entry| entry.status);
-    assert!(rt; held == Some(Status::Alive));
+    let held = closed.member(member(rt, 2));
+    drop(closed);
+    assert!(rt; matches!(held, Some(entry) if entry.status == Status::Alive));
 }
 
 #[test]
@@ -367,27 +430,65 @@ fn len_by_two<R: Threads + Wait + Sync>(
 fn foreign_pass(rt: &impl Abort, alloc: Global) -> Caller
     ensures { lock_name result ≡ address_of 167772162 1 }
 {
-    let (_node, pass, _, _) = pair(rt, alloc, member(rt, 2), 9);
+    let (shared, pass, other, _) = pair(rt, alloc, member(rt, 2), 9);
+    let_go(shared, other);
     pass
 }
 
 /// Why a node is not closed, and how many passes come back.
-fn close_refused(shared: Shared, passes: Vec<Caller>) -> Option<(CloseError, usize)>
+fn close_refused(rt: &impl Abort, shared: Shared, passes: Vec<Caller>) -> (CloseError, usize)
     requires { All (Fits shared) passes.items }
 {
-    let refused = shared.close(passes).err()?;
-    Some((refused.cause, refused.passes.len()))
+    let refused = shared.close(passes).err().expect(rt, "a refusal");
+    let told = (refused.cause, refused.passes.len());
+    drop(refused);
+    told
+}
+
+/// Both passes, of which the second is none of the node, after each has asked.
+fn check_len<R: Threads + Wait + Abort + Sync>(
+    rt: &R,
+    shared: &Shared,
+    own: Caller,
+    foreign: Caller,
+) -> (Caller, Caller)
+    requires own { Fits shared.now own }
+    requires foreign { Fits shared.now foreign }
+    ensures own { Fits shared.now result.0 }
+    ensures foreign { Fits shared.now result.1 }
+{
+    let (counted, refused) = len_by_two(rt, shared, own, foreign);
+    assert!(rt; counted.0 == Ok(1) && refused.0 == Err(LockError::ForeignPass));
+    (counted.1, refused.1)
+}
+
+/// A list of both passes, in the room that they came in.
+fn both(
+    rt: &impl Abort,
+    shared: &Shared,
+    room: Vec<Caller>,
+    first: Caller,
+    second: Caller,
+) -> Vec<Caller>
+    requires room { room.items ≡ [] }
+    requires first { Fits shared.now first }
+    requires second { Fits shared.now second }
+    ensures { All (Fits shared.now) result.items }
+{
+    let mut passes = room;
+    passes.push(first).ok().expect(rt, "room");
+    passes.push(second).ok().expect(rt, "room");
+    passes
 }
 
 #[test]
 fn a_pass_of_another_node_is_refused(rt: HostRuntime) {
-    let (shared, _, own, mut passes) = pair(&rt, rt.alloc(), member(&rt, 1), 9);
+    let (shared, other, own, room) = pair(&rt, rt.alloc(), member(&rt, 1), 9);
+    drop(other);
     let foreign = foreign_pass(&rt, rt.alloc());
-    let (counted, refused) = len_by_two(&rt, &shared, own, foreign);
-    assert!(rt; counted.0 == Ok(1) && refused.0 == Err(LockError::ForeignPass));
-    passes.push(counted.1).ok().expect(&rt, "room");
-    passes.push(refused.1).ok().expect(&rt, "room");
-    assert!(rt; close_refused(shared, passes) == Some((CloseError::ForeignPass, 2)));
+    let (own, foreign) = check_len(&rt, &shared, own, foreign);
+    let passes = both(&rt, &shared, room, own, foreign);
+    assert!(rt; close_refused(&rt, shared, passes) == (CloseError::ForeignPass, 2));
 }
 
 /// One of twenty changes about 10.0.0.2:1 to 10.0.0.5:1, of each status in turn.
@@ -459,10 +560,9 @@ fn after_twenty<R: Threads + Wait + Abort + Sync>(
     number: u8,
     orders: (&[u8], &[u8]),
 ) -> NodeState<SumHash> {
-    let (shared, first, second, mut passes) = pair(rt, alloc, member(rt, number), 1000);
+    let (shared, first, second, room) = pair(rt, alloc, member(rt, number), 1000);
     let (first, second) = hear_by_two(rt, &shared, first, second, orders);
-    passes.push(first).ok().expect(rt, "room");
-    passes.push(second).ok().expect(rt, "room");
+    let passes = both(rt, &shared, room, first, second);
     shared.close(passes).ok().expect(rt, "it closes")
 }
 
@@ -471,6 +571,11 @@ fn digest_text(rt: &impl Abort, node: &NodeState<SumHash>) -> Text {
         return text;
     }
     node.digest_text().ok().expect(rt, "a text")
+}
+
+/// Whether a node's membership is this as a text.
+fn is_written(rt: &impl Abort, node: &NodeState<SumHash>, text: &str) -> bool {
+    digest_text(rt, node).as_str() == text
 }
 
 fn three_owners(rt: &impl Abort, node: &NodeState<SumHash>, key: &[u8]) -> Addresses {
@@ -493,7 +598,7 @@ fn names(rt: &impl Abort, node: &NodeState<SumHash>, key: &[u8], owners: [u8; 3]
 fn check_twenty(rt: &impl Abort, node: &NodeState<SumHash>) {
     let text =
         "10.0.0.1:1alive7;10.0.0.2:1suspect3;10.0.0.3:1faulty3;10.0.0.4:1leave3;10.0.0.5:1tombstone3;10.0.0.6:1alive7";
-    assert!(rt; digest_text(rt, node).as_str() == text);
+    assert!(rt; is_written(rt, node, text));
     assert!(rt; names(rt, node, b"zzzz1", [2, 6, 1]));
     assert!(rt; names(rt, node, b"zzzz3", [6, 1, 2]));
 }
@@ -507,6 +612,7 @@ fn check_orders<R: Threads + Wait + Abort + Sync>(
 ) {
     let node = after_twenty(rt, alloc, number, orders);
     check_twenty(rt, &node);
+    drop(node);
 }
 
 #[test]

@@ -22,37 +22,44 @@ impl<'a> PointHash for CountingHash<'a> {
     }
 }
 
+/// Hears a change, and counts the hashes of that.
+fn hear_counted<'a>(
+    rt: &impl Abort,
+    node: &mut NodeState<CountingHash<'a>>,
+    calls: &AtomicU64,
+    given: &Sourced,
+    wanted: u64,
+) {
+    let before = calls.load(Ordering::SeqCst);
+    hear(rt, node, given, 0);
+    assert!(rt; calls.load(Ordering::SeqCst) == before.wrapping_add(wanted));
+}
+
 /// Counts the hashes of alterations and of a look-up.
 fn count_alterations<'a>(
     rt: &impl Abort,
     node: &mut NodeState<CountingHash<'a>>,
     calls: &AtomicU64,
 ) {
-    let rows = [
-        (B, 1, Status::Alive, 2),
-        (B, 1, Status::Suspect, 0),
-        (B, 2, Status::Alive, 0),
-        (B, 2, Status::Faulty, 0),
-        (B, 3, Status::Alive, 2),
-        (C, 1, Status::Tombstone, 0),
-    ];
-    for (text, number, status, wanted) in rows {
-        let before = calls.load(Ordering::SeqCst);
-        hear(rt, node, &news(rt, text, number, status), 0);
-        assert_eq!(rt; calls.load(Ordering::SeqCst), before.wrapping_add(wanted));
-    }
+    hear_counted(rt, node, calls, &news(rt, B, 1, Status::Alive), 2);
+    hear_counted(rt, node, calls, &news(rt, B, 1, Status::Suspect), 0);
+    hear_counted(rt, node, calls, &news(rt, B, 2, Status::Alive), 0);
+    hear_counted(rt, node, calls, &news(rt, B, 2, Status::Faulty), 0);
+    hear_counted(rt, node, calls, &news(rt, B, 3, Status::Alive), 2);
+    hear_counted(rt, node, calls, &news(rt, C, 1, Status::Tombstone), 0);
     let before = calls.load(Ordering::SeqCst);
     owner(node, "key");
-    assert_eq!(rt; calls.load(Ordering::SeqCst), before.wrapping_add(1));
+    assert!(rt; calls.load(Ordering::SeqCst) == before.wrapping_add(1));
 }
 
 /// Counts the hashes of a view.
 fn count_view<'a>(rt: &impl Abort, node: &mut NodeState<CountingHash<'a>>, calls: &AtomicU64) {
     let before = calls.load(Ordering::SeqCst);
     let view = view(node).ok().expect(rt, "a view");
-    assert_eq!(rt; calls.load(Ordering::SeqCst), before);
+    assert!(rt; calls.load(Ordering::SeqCst) == before);
     view_owner(&view, "key");
-    assert_eq!(rt; calls.load(Ordering::SeqCst), before.wrapping_add(1));
+    drop(view);
+    assert!(rt; calls.load(Ordering::SeqCst) == before.wrapping_add(1));
 }
 
 /// Counts both.
@@ -64,8 +71,10 @@ fn count<'a>(rt: &impl Abort, node: &mut NodeState<CountingHash<'a>>, calls: &At
 #[test]
 fn an_alteration_hashes_no_more_than_its_points(rt: HostRuntime) {
     let calls = AtomicU64::new(0);
-    let mut node = node(&rt, rt.alloc(), CountingHash { calls: &calls }, A, 7, 4096);
+    let hash = CountingHash { calls: &calls };
+    let mut node = configured(&rt, rt.alloc(), &config(4096), hash, A, 7);
     count(&rt, &mut node, &calls);
+    drop(node);
 }
 
 /// The configuration of a node with weight 2.
@@ -87,28 +96,23 @@ fn weighing_three(rt: &impl Abort, number: u64, status: Status) -> Sourced {
 fn count_weights<'a>(rt: &impl Abort, node: &mut NodeState<CountingHash<'a>>, calls: &AtomicU64) {
     let born = calls.load(Ordering::SeqCst);
     assert!(rt; born == 4 || born == 8);
-    let rows = [
-        (news(rt, A, 7, Status::Suspect), 0),
-        (weighing_three(rt, 1, Status::Alive), 6),
-        (weighing_three(rt, 1, Status::Suspect), 6),
-        (weighing_three(rt, 2, Status::Alive), 6),
-        (weighing_three(rt, 2, Status::Suspect), 6),
-    ];
-    for (given, wanted) in rows {
-        hear(rt, node, &given, 0);
-        assert_eq!(rt; calls.load(Ordering::SeqCst), born.wrapping_add(wanted));
-    }
+    hear_counted(rt, node, calls, &news(rt, A, 7, Status::Suspect), 0);
+    hear_counted(rt, node, calls, &weighing_three(rt, 1, Status::Alive), 6);
+    hear_counted(rt, node, calls, &weighing_three(rt, 1, Status::Suspect), 0);
+    hear_counted(rt, node, calls, &weighing_three(rt, 2, Status::Alive), 0);
+    hear_counted(rt, node, calls, &weighing_three(rt, 2, Status::Suspect), 0);
     let faulty = weighing_three(rt, 2, Status::Faulty).change;
     assert!(rt; expire(node, moment(rt, 5_000)) == Ok(Some(faulty)));
-    assert_eq!(rt; calls.load(Ordering::SeqCst), born.wrapping_add(6));
+    assert!(rt; calls.load(Ordering::SeqCst) == born.wrapping_add(6));
 }
 
 #[test]
 fn a_weight_makes_as_many_points(rt: HostRuntime) {
     let calls = AtomicU64::new(0);
     let hash = CountingHash { calls: &calls };
-    let mut node = configured(&rt, rt.alloc(), heavy(&rt), hash, A, 7);
+    let mut node = configured(&rt, rt.alloc(), &heavy(&rt), hash, A, 7);
     count_weights(&rt, &mut node, &calls);
+    drop(node);
 }
 
 /// Keeps its weight where it refutes, and where it leaves.
@@ -128,5 +132,7 @@ fn keep_weight(rt: &impl Abort, node: &mut NodeState<SumHash>) {
 
 #[test]
 fn a_node_keeps_its_weight(rt: HostRuntime) {
-    with_config(&rt, rt.alloc(), heavy(&rt), |node| keep_weight(&rt, node));
+    let mut node = configured(&rt, rt.alloc(), &heavy(&rt), SumHash, A, 7);
+    keep_weight(&rt, &mut node);
+    drop(node);
 }

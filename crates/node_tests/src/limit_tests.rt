@@ -5,7 +5,7 @@ use hash_ring::SumHash;
 use node_core::{ConfigField, NodeError, NodeState, StopCause, Taken};
 use std::alloc::Global;
 use std::process::Abort;
-use wire_json::Changes;
+use wire_json::{Changes, Message};
 
 /// Why no node is made with so many points for each unit of weight.
 fn refusal(rt: &impl Abort, alloc: Global, replicas: u32) -> Option<NodeError> {
@@ -26,8 +26,10 @@ fn no_node_of_a_bad_configuration(rt: HostRuntime) {
 
 /// Room for so many changes.
 fn room(rt: &impl Abort, alloc: Global, count: usize) -> Vec<Sourced> {
-    let made = Vec::with_capacity(alloc, count).or_else(|_| Vec::with_capacity(alloc, count));
-    made.ok().expect(rt, "room")
+    if let Ok(room) = Vec::with_capacity(alloc, count) {
+        return room;
+    }
+    Vec::with_capacity(alloc, count).ok().expect(rt, "room")
 }
 
 /// Changes about 4,096 addresses from 11.0.0.0 on.
@@ -47,16 +49,16 @@ fn strangers(rt: &impl Abort, alloc: Global) -> Changes {
 fn take_strangers(rt: &impl Abort, alloc: Global, node: &mut NodeState<SumHash>) {
     let answer = take_batch(node, &strangers(rt, alloc), moment(rt, 0));
     assert!(rt; stopped(answer, 4_095, StopCause::Full));
-    assert_eq!(rt; held(node, address(rt, A)).1, 4_096);
+    assert!(rt; held(node, address(rt, A)).1 == 4_096);
 }
 
 #[test]
 fn stops_at_the_last_of_as_many_as_may_be(rt: HostRuntime) {
     let mut small = config(4096);
     small.replicas = 1;
-    with_config(&rt, rt.alloc(), small, |node| {
-        take_strangers(&rt, rt.alloc(), node)
-    });
+    let mut node = configured(&rt, rt.alloc(), &small, SumHash, A, 7);
+    take_strangers(&rt, rt.alloc(), &mut node);
+    drop(node);
 }
 
 /// Takes the greatest incarnation, and leaves; there is none to refute by, and none to come back with.
@@ -75,48 +77,71 @@ fn reach_the_greatest(rt: &impl Abort, node: &mut NodeState<SumHash>) {
 
 #[test]
 fn no_incarnation_follows_the_greatest(rt: HostRuntime) {
-    with_node(
-        &rt,
-        rt.alloc(),
-        A,
-        7,
-        4096,
-        |node| reach_the_greatest(&rt, node),
-    );
+    let mut node = first_node(&rt, rt.alloc());
+    reach_the_greatest(&rt, &mut node);
+    drop(node);
 }
 
 /// Hears of a suspicion at the greatest moment.
 fn suspect_at_the_greatest(rt: &impl Abort, node: &mut NodeState<SumHash>) {
     hear(rt, node, &news(rt, B, 1, Status::Suspect), LIMIT);
-    assert!(rt; expire(node, moment(rt, LIMIT)) == Ok(None));
+    check_expired(rt, node, LIMIT, None);
 }
 
 #[test]
 fn nothing_runs_out_past_the_greatest_moment(rt: HostRuntime) {
-    with_node(&rt, rt.alloc(), A, 7, 4096, |node| {
-        suspect_at_the_greatest(&rt, node)
-    });
+    let mut node = first_node(&rt, rt.alloc());
+    suspect_at_the_greatest(&rt, &mut node);
+    drop(node);
+}
+
+/// Whether two nodes hold the same members.
+fn list_alike(rt: &impl Abort, first: &NodeState<SumHash>, second: &NodeState<SumHash>) {
+    let listed = members(first).ok().expect(rt, "members");
+    let wanted = members(second).ok().expect(rt, "members");
+    assert!(rt; listed.as_slice() == wanted.as_slice());
+}
+
+/// Whether two nodes name the same owners of a key.
+fn name_alike(rt: &impl Abort, first: &NodeState<SumHash>, second: &NodeState<SumHash>, key: &str) {
+    let named = owners(first, key, 9).ok().expect(rt, "owners");
+    let wanted = owners(second, key, 9).ok().expect(rt, "owners");
+    assert!(rt; named.as_slice() == wanted.as_slice());
 }
 
 /// Whether two nodes hold the same members, and name the same owners.
 fn hold_alike(rt: &impl Abort, first: &NodeState<SumHash>, second: &NodeState<SumHash>) {
-    let listed = members(first).ok().expect(rt, "members");
-    let wanted = members(second).ok().expect(rt, "members");
-    assert!(rt; listed.as_slice() == wanted.as_slice());
+    list_alike(rt, first, second);
     for key in ["zzzz0", "zzzz1", "zzzz2", "zzzz3"] {
-        let named = owners(first, key, 9).ok().expect(rt, "owners");
-        let wanted = owners(second, key, 9).ok().expect(rt, "owners");
-        assert!(rt; named.as_slice() == wanted.as_slice());
+        name_alike(rt, first, second, key);
     }
+}
+
+/// Whether two messages carry the same changes.
+fn carry_alike(ping: Message, wanted: Message) -> bool {
+    let is_alike = carried(&ping) == carried(&wanted);
+    drop(ping);
+    drop(wanted);
+    is_alike
+}
+
+/// Whether two nodes pass on the same changes to a node.
+fn ping_alike(
+    rt: &impl Abort,
+    first: &mut NodeState<SumHash>,
+    second: &mut NodeState<SumHash>,
+    receiver: Address,
+) {
+    let ping = ping_to(first, receiver).ok().expect(rt, "a ping");
+    let wanted = ping_to(second, receiver).ok().expect(rt, "a ping");
+    assert!(rt; carry_alike(ping, wanted));
 }
 
 /// Whether two nodes pass on the same changes, as often.
 fn tell_alike(rt: &impl Abort, first: &mut NodeState<SumHash>, second: &mut NodeState<SumHash>) {
     let receiver = address(rt, "10.0.0.9:1");
     for _ in 0..16u8 {
-        let ping = ping_to(first, receiver).ok().expect(rt, "a ping");
-        let wanted = ping_to(second, receiver).ok().expect(rt, "a ping");
-        assert!(rt; carried(&ping) == carried(&wanted));
+        ping_alike(rt, first, second, receiver);
     }
 }
 
@@ -127,6 +152,21 @@ fn run_out_alike(rt: &impl Abort, first: &mut NodeState<SumHash>, second: &mut N
     }
 }
 
+/// Hears these, and compares itself with the first.
+fn compare(
+    rt: &impl Abort,
+    first: &mut NodeState<SumHash>,
+    second: &mut NodeState<SumHash>,
+    given: &[Sourced],
+) {
+    for sourced in given {
+        hear(rt, second, sourced, 0);
+    }
+    hold_alike(rt, first, second);
+    tell_alike(rt, first, second);
+    run_out_alike(rt, first, second);
+}
+
 /// Takes a batch, as far as memory lets it, and compares itself with a new node that takes as many of it.
 fn stop_where_memory_does(rt: &impl Abort, alloc: Global, first: &mut NodeState<SumHash>) {
     let given = [
@@ -135,20 +175,20 @@ fn stop_where_memory_does(rt: &impl Abort, alloc: Global, first: &mut NodeState<
         news(rt, B, 2, Status::Suspect),
     ];
     let answer = try_batch(first, &changes(rt, alloc, &given), moment(rt, 0));
-    let taken = answer.err().map_or(3, |stopped| stopped.taken);
+    let taken = match answer {
+        Ok(_) => 3,
+        Err(stopped) => stopped.taken,
+    };
     assert!(rt; answer.is_ok() || taken < 3 && stopped(answer, taken, StopCause::Memory));
-    let mut second = node(rt, alloc, SumHash, A, 7, 4096);
-    for sourced in given.iter().take(taken) {
-        hear(rt, &mut second, sourced, 0);
-    }
-    hold_alike(rt, first, &second);
-    tell_alike(rt, first, &mut second);
-    run_out_alike(rt, first, &mut second);
+    let heard = given.get(..taken).expect(rt, "no more than were given");
+    let mut second = first_node(rt, alloc);
+    compare(rt, first, &mut second, heard);
+    drop(second);
 }
 
 #[test]
 fn a_refused_growth_leaves_the_changes_before_it(rt: HostRuntime) {
-    with_node(&rt, rt.alloc(), A, 7, 4096, |node| {
-        stop_where_memory_does(&rt, rt.alloc(), node)
-    });
+    let mut node = first_node(&rt, rt.alloc());
+    stop_where_memory_does(&rt, rt.alloc(), &mut node);
+    drop(node);
 }

@@ -29,18 +29,11 @@ fn meet(rt: &impl Abort, node: &mut NodeState<SumHash>, others: usize) {
     }
 }
 
-/// Has the node 10.0.0.1:1 at 7 go through this, with so many others that are alive at 1.
-fn with_others<F: FnMut(&mut NodeState<SumHash>)>(
-    rt: &impl Abort,
-    alloc: Global,
-    others: usize,
-    mut body: F,
-)
-    requires { F.IsAlwaysCallable body }
-{
+/// The node 10.0.0.1:1 at 7, with so many others that are alive at 1.
+fn node_among(rt: &impl Abort, alloc: Global, others: usize) -> NodeState<SumHash> {
     let mut node = node(rt, alloc, SumHash, TEXTS[0], 7, 4096);
     meet(rt, &mut node, others);
-    body(&mut node);
+    node
 }
 
 /// A probe that begins; no other may.
@@ -81,7 +74,7 @@ fn ask_three(rt: &impl Abort, node: &mut NodeState<SumHash>) -> (Address, NodeLo
     let target = begin(rt, node).target;
     let now = moment(rt, 0);
     let asking = lost(node, 1, now).ok().expect(rt, "helpers to ask");
-    assert_eq!(rt; helpers_of(&asking).len(), 3);
+    assert!(rt; helpers_of(&asking).len() == 3);
     let again = lost(node, 1, now).err();
     assert!(rt; again == Some(NodeError::StaleProbe));
     let unasked = helper_said(node, 1, target, Said::Reached, now).err();
@@ -93,38 +86,44 @@ fn ask_three(rt: &impl Abort, node: &mut NodeState<SumHash>) -> (Address, NodeLo
 fn decide(rt: &impl Abort, node: &mut NodeState<SumHash>, words: &[Said]) -> NodeOutcome {
     let (target, asking) = ask_three(rt, node);
     let outcome = listen(rt, node, helpers_of(&asking), words);
-    let entry = held(node, target).2;
-    let is_suspect = entry.map(|entry| entry.status) == Some(Status::Suspect);
+    drop(asking);
+    let is_suspect = matches!(
+        held(node, target).2,
+        Some(entry) if entry.status == Status::Suspect
+    );
     assert!(rt; is_suspect == matches!(outcome, NodeOutcome::Suspect(_)));
     assert!(rt; running(node).is_none());
+    outcome
+}
+
+/// The same of a new node.
+fn decided(rt: &impl Abort, alloc: Global, words: &[Said]) -> NodeOutcome {
+    let mut node = node_among(rt, alloc, 4);
+    let outcome = decide(rt, &mut node, words);
+    drop(node);
     outcome
 }
 
 #[test]
 fn helpers_decide(rt: HostRuntime) {
     let failed = Said::Failed;
-    with_others(&rt, rt.alloc(), 4, |node| {
-        let outcome = decide(&rt, node, &[failed, failed, failed]);
-        assert!(rt; outcome == NodeOutcome::Inconclusive);
-    });
-    with_others(&rt, rt.alloc(), 4, |node| {
-        let outcome = decide(&rt, node, &[Said::NotReached, failed, failed]);
-        assert!(rt; matches!(outcome, NodeOutcome::Suspect(Some(_))));
-    });
-    with_others(&rt, rt.alloc(), 4, |node| {
-        let outcome = decide(&rt, node, &[Said::Reached]);
-        assert!(rt; outcome == NodeOutcome::Reached);
-    });
+    let silent = decided(&rt, rt.alloc(), &[failed, failed, failed]);
+    assert!(rt; silent == NodeOutcome::Inconclusive);
+    let missed = decided(&rt, rt.alloc(), &[Said::NotReached, failed, failed]);
+    assert!(rt; matches!(missed, NodeOutcome::Suspect(Some(_))));
+    let reached = decided(&rt, rt.alloc(), &[Said::Reached]);
+    assert!(rt; reached == NodeOutcome::Reached);
 }
 
 /// The change that a target is suspect by.
 fn suspected(node: &mut NodeState<SumHash>, now: Moment) -> Option<Change> {
     let lost = lost(node, 1, now);
-    if let Ok(NodeLost::Suspect(change)) = &lost {
-        *change
-    } else {
-        None
-    }
+    let suspected = match &lost {
+        Ok(NodeLost::Suspect(change)) => *change,
+        _ => None,
+    };
+    drop(lost);
+    suspected
 }
 
 /// Probes the only other member, which is lost.
@@ -146,30 +145,40 @@ fn lose_the_other(rt: &impl Abort, node: &mut NodeState<SumHash>) {
 
 #[test]
 fn a_lone_target_is_suspect_at_once(rt: HostRuntime) {
-    with_others(&rt, rt.alloc(), 1, |node| lose_the_other(&rt, node));
+    let mut node = node_among(&rt, rt.alloc(), 1);
+    lose_the_other(&rt, &mut node);
+    drop(node);
 }
 
 #[test]
 fn nobody_is_probed_by_a_node_alone(rt: HostRuntime) {
-    with_others(&rt, rt.alloc(), 0, |node| {
-        assert!(rt; probe(node).ok() == Some(None));
-    });
+    let mut node = node_among(&rt, rt.alloc(), 0);
+    let begun = probe(&mut node);
+    drop(node);
+    assert!(rt; begun == Ok(None));
+}
+
+/// Ends a probe, which has this number, by its own ack.
+fn end_probe(rt: &impl Abort, node: &mut NodeState<SumHash>, number: u64) {
+    let probe = begin(rt, node);
+    assert!(rt; probe.number == number);
+    let next = number.wrapping_add(1);
+    assert!(rt; acked(node, next) == Err(NodeError::StaleProbe));
+    assert!(rt; acked(node, number).is_ok() && running(node).is_none());
 }
 
 /// Ends three probes, each by its own ack.
 fn end_three(rt: &impl Abort, node: &mut NodeState<SumHash>) {
     for number in 1..4 {
-        let probe = begin(rt, node);
-        assert_eq!(rt; probe.number, number);
-        assert!(rt; acked(node, number + 1).err() == Some(NodeError::StaleProbe));
-        assert!(rt; acked(node, number).is_ok());
-        assert!(rt; running(node).is_none());
+        end_probe(rt, node, number);
     }
 }
 
 #[test]
 fn an_ack_ends_a_probe(rt: HostRuntime) {
-    with_others(&rt, rt.alloc(), 2, |node| end_three(&rt, node));
+    let mut node = node_among(&rt, rt.alloc(), 2);
+    end_three(&rt, &mut node);
+    drop(node);
 }
 
 /// What node 10.0.0.1:1 sends to 10.0.0.2:1, of 10.0.0.3:1 where it is of another.
@@ -201,7 +210,10 @@ fn sends(rt: &impl Abort, node: &mut NodeState<SumHash>, sent: Sent, changes: &[
     let receiver = address(rt, TEXTS[1]);
     let target = address(rt, TEXTS[2]);
     let made = message(node, sent, receiver, target);
-    carried(&made.ok().expect(rt, "a message")) == changes
+    let message = made.ok().expect(rt, "a message");
+    let sends = carried(&message) == changes;
+    drop(message);
+    sends
 }
 
 /// Sends its birth sixteen times, and then no more.
@@ -218,7 +230,9 @@ fn send_birth(rt: &impl Abort, node: &mut NodeState<SumHash>) {
 
 #[test]
 fn messages_carry_the_birth_as_often_as_the_limit_says(rt: HostRuntime) {
-    with_others(&rt, rt.alloc(), 0, |node| send_birth(&rt, node));
+    let mut node = node_among(&rt, rt.alloc(), 0);
+    send_birth(&rt, &mut node);
+    drop(node);
 }
 
 /// Whether two members own two keys.
@@ -229,7 +243,9 @@ fn are_owners(rt: &impl Abort, node: &NodeState<SumHash>, first: &str, second: &
 
 /// Checks a view of three members.
 fn check_view(rt: &impl Abort, view: &View<SumHash>) {
-    let [a, b, c] = [TEXTS[0], TEXTS[1], TEXTS[2]].map(|text| address(rt, text));
+    let a = address(rt, TEXTS[0]);
+    let b = address(rt, TEXTS[1]);
+    let c = address(rt, TEXTS[2]);
     assert!(rt; view_owner(view, "zzzz1") == Some(b) && view_own(view) == a);
     let named = view_owners(view, "zzzz1", 9).ok().expect(rt, "owners");
     assert!(rt; named.as_slice() == [b, c, a].as_slice());
@@ -243,35 +259,45 @@ fn change_after_view(rt: &impl Abort, node: &mut NodeState<SumHash>) {
     told(rt, node, TEXTS[1], 1, Status::Faulty);
     assert!(rt; are_owners(rt, node, TEXTS[0], TEXTS[2]));
     check_view(rt, &before);
+    drop(before);
 }
 
 #[test]
 fn a_view_stays_as_it_was(rt: HostRuntime) {
-    with_others(&rt, rt.alloc(), 2, |node| change_after_view(&rt, node));
+    let mut node = node_among(&rt, rt.alloc(), 2);
+    change_after_view(&rt, &mut node);
+    drop(node);
 }
 
 /// Has a view, and another while nothing changed. That one is not asked for again, so where it took memory the test fails
 /// once that is refused.
 fn view_again(rt: &impl Abort, node: &mut NodeState<SumHash>) {
-    check_view(rt, &view(node).ok().expect(rt, "a view"));
-    check_view(rt, &node.view().ok().expect(rt, "the same view"));
+    let first = view(node).ok().expect(rt, "a view");
+    check_view(rt, &first);
+    drop(first);
+    let again = node.view().ok().expect(rt, "the same view");
+    check_view(rt, &again);
+    drop(again);
 }
 
 #[test]
 fn a_view_of_the_same_ring_takes_no_memory(rt: HostRuntime) {
-    with_others(&rt, rt.alloc(), 2, |node| view_again(&rt, node));
+    let mut node = node_among(&rt, rt.alloc(), 2);
+    view_again(&rt, &mut node);
+    drop(node);
 }
 
 /// Looks up owners, members and the text.
 fn look_up(rt: &impl Abort, node: &NodeState<SumHash>) {
     assert!(rt; names(rt, node, "zzzz2", &[TEXTS[2], TEXTS[0]]));
     let held = members(node).ok().expect(rt, "members");
-    assert_eq!(rt; held.as_slice().len(), 3);
-    let text = digest_text(node).ok().expect(rt, "a text");
-    assert!(rt; text.as_str() == "10.0.0.1:1alive7;10.0.0.2:1alive1;10.0.0.3:1alive1");
+    assert!(rt; held.as_slice().len() == 3);
+    assert!(rt; has_text(node, "10.0.0.1:1alive7;10.0.0.2:1alive1;10.0.0.3:1alive1"));
 }
 
 #[test]
 fn look_ups_answer(rt: HostRuntime) {
-    with_others(&rt, rt.alloc(), 2, |node| look_up(&rt, node));
+    let node = node_among(&rt, rt.alloc(), 2);
+    look_up(&rt, &node);
+    drop(node);
 }

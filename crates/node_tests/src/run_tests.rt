@@ -10,7 +10,7 @@ use std::process::Abort;
 use wire_json::{Content, Kind, Message, News};
 
 /// What a reply tells, of the calls in these runs.
-#[derive(Clone, Copy, Debug, PartialEq, Eq)]
+#[derive(Clone, Copy, PartialEq, Eq)]
 enum Told {
     Taken(Result<Taken, Stopped>),
     /// What was taken of a message, the answer's kind, and how many changes it carries.
@@ -44,7 +44,7 @@ fn read(reply: &Reply) -> Told {
 /// Whether a call was refused memory.
 fn is_refused(told: Told) -> bool {
     match told {
-        Told::Taken(answer) => answer.err().map(|stopped| stopped.cause) == Some(StopCause::Memory),
+        Told::Taken(Err(stopped)) => stopped.cause == StopCause::Memory,
         Told::Own(answer) => answer == Err(NodeError::Memory),
         Told::Expired(answer) => answer == Err(NodeError::Memory),
         Told::NoAnswer => true,
@@ -68,6 +68,21 @@ fn finish(
     }
 }
 
+/// Whether these replies tell this; none where a call was refused memory.
+fn tell(replies: &[Reply], wanted: &[Told]) -> Option<bool> {
+    for reply in replies {
+        if is_refused(read(reply)) {
+            return None;
+        }
+    }
+    for (reply, wanted) in replies.iter().zip(wanted.iter()) {
+        if read(reply) != *wanted {
+            return Some(false);
+        }
+    }
+    Some(replies.len() == wanted.len())
+}
+
 /// Whether a new node with this many members at most answers these calls so.
 fn answers(
     rt: &impl Abort,
@@ -78,23 +93,17 @@ fn answers(
 ) -> Option<bool> {
     let start = node(rt, alloc, SumHash, A, 7, max);
     let finished = finish(rt, alloc, start, events);
-    let replies = finished.replies.as_slice();
-    for reply in replies {
-        if is_refused(read(reply)) {
-            return None;
-        }
-    }
-    let is_each = replies
-        .iter()
-        .zip(wanted.iter())
-        .all(|(reply, wanted)| read(reply) == *wanted);
-    Some(is_each && replies.len() == wanted.len())
+    let answer = tell(finished.replies.as_slice(), wanted);
+    drop(finished);
+    answer
 }
 
 /// Checks what a node answers to these calls; where one was refused memory, a new node makes them all.
 fn check(rt: &impl Abort, alloc: Global, max: usize, events: &[Event], wanted: &[Told]) {
-    let first = answers(rt, alloc, max, events, wanted);
-    let answer = first.or_else(|| answers(rt, alloc, max, events, wanted));
+    let answer = match answers(rt, alloc, max, events, wanted) {
+        Some(is_so) => Some(is_so),
+        None => answers(rt, alloc, max, events, wanted),
+    };
     assert!(rt; answer == Some(true));
 }
 
@@ -211,15 +220,17 @@ fn join(rt: &impl Abort, alloc: Global) -> Message {
     }
 }
 
+/// A Joined with two changes, after so many were applied.
+fn joined(applied: usize) -> Told {
+    let taken = Taken {
+        applied,
+        refuted: 0,
+    };
+    Told::Answered(taken, Kind::Joined, 2)
+}
+
 #[test]
 fn a_run_lets_a_node_join_once(rt: HostRuntime) {
-    let joined = |applied| {
-        let taken = Taken {
-            applied,
-            refuted: 0,
-        };
-        Told::Answered(taken, Kind::Joined, 2)
-    };
     let events = [
         Event::Receive(join(&rt, rt.alloc()), moment(&rt, 0)),
         Event::Receive(join(&rt, rt.alloc()), moment(&rt, 1)),

@@ -63,21 +63,21 @@ pub(crate) fn config(max_members: usize) -> Config {
     config
 }
 
-/// Asks again where a growth was refused.
-fn again<T: Drop, F: FnMut() -> Result<T, NodeError>>(mut ask: F) -> Result<T, NodeError>
-    requires { F.IsAlwaysCallable ask }
-{
-    match ask() {
-        Err(NodeError::Memory) => ask(),
-        answer => answer,
-    }
+/// What a call of a node answers, made once more where a growth was refused.
+macro_rules! again {
+    ($call:expr) => {
+        match $call {
+            Err(NodeError::Memory) => $call,
+            answer => answer,
+        }
+    };
 }
 
 /// A node of this configuration at moment 0.
 pub(crate) fn configured<H: PointHash>(
     rt: &impl Abort,
     alloc: Global,
-    config: Config,
+    config: &Config,
     hash: H,
     text: &str,
     number: u64,
@@ -85,8 +85,12 @@ pub(crate) fn configured<H: PointHash>(
     let own = address(rt, text);
     let born = incarnation(rt, number);
     let start = moment(rt, 0);
-    let made = again(|| NodeState::new(alloc, config, hash, own, born, 1, start));
-    made.ok().expect(rt, "a node")
+    let first = NodeState::new(alloc, *config, hash, own, born, 1, start);
+    if let Some(node) = first.ok() {
+        return node;
+    }
+    let again = NodeState::new(alloc, *config, hash, own, born, 1, start);
+    again.ok().expect(rt, "a node")
 }
 
 /// A node with this many members at most.
@@ -98,35 +102,12 @@ pub(crate) fn node<H: PointHash>(
     number: u64,
     max: usize,
 ) -> NodeState<H> {
-    configured(rt, alloc, config(max), hash, text, number)
+    configured(rt, alloc, &config(max), hash, text, number)
 }
 
-/// Has a new node of this configuration, 10.0.0.1:1 at 7, go through this.
-pub(crate) fn with_config<F: FnMut(&mut NodeState<SumHash>)>(
-    rt: &impl Abort,
-    alloc: Global,
-    config: Config,
-    mut body: F,
-)
-    requires { F.IsAlwaysCallable body }
-{
-    let mut node = configured(rt, alloc, config, SumHash, A, 7);
-    body(&mut node);
-}
-
-/// Has a new node at this incarnation go through this.
-pub(crate) fn with_node<F: FnMut(&mut NodeState<SumHash>)>(
-    rt: &impl Abort,
-    alloc: Global,
-    text: &str,
-    number: u64,
-    max: usize,
-    mut body: F,
-)
-    requires { F.IsAlwaysCallable body }
-{
-    let mut node = node(rt, alloc, SumHash, text, number, max);
-    body(&mut node);
+/// 10.0.0.1:1 at 7, with 4,096 members at most.
+pub(crate) fn first_node(rt: &impl Abort, alloc: Global) -> NodeState<SumHash> {
+    node(rt, alloc, SumHash, A, 7, 4096)
 }
 
 /// What a node holds of itself and of another, and of how many.
@@ -183,13 +164,25 @@ pub(crate) fn expire<H: PointHash>(
     node: &mut NodeState<H>,
     moment: Moment,
 ) -> Result<Option<Change>, NodeError> {
-    again(|| node.expire(moment))
+    again!(node.expire(moment))
+}
+
+/// Checks what runs out at a moment, if anything.
+pub(crate) fn check_expired(
+    rt: &impl Abort,
+    node: &mut NodeState<SumHash>,
+    now: u64,
+    wanted: Option<Change>,
+) {
+    assert!(rt; expire(node, moment(rt, now)) == Ok(wanted));
 }
 
 /// A list of these changes.
 pub(crate) fn changes(rt: &impl Abort, alloc: Global, given: &[Sourced]) -> Changes {
-    let made = Changes::from_slice(alloc, given).or_else(|_| Changes::from_slice(alloc, given));
-    made.ok().expect(rt, "changes")
+    if let Ok(changes) = Changes::from_slice(alloc, given) {
+        return changes;
+    }
+    Changes::from_slice(alloc, given).ok().expect(rt, "changes")
 }
 
 /// Takes changes as one batch.
@@ -224,11 +217,11 @@ pub(crate) fn stopped(answer: Result<Taken, Stopped>, taken: usize, cause: StopC
 }
 
 pub(crate) fn leave(node: &mut NodeState<SumHash>) -> Result<Change, NodeError> {
-    again(|| node.leave())
+    again!(node.leave())
 }
 
 pub(crate) fn rejoin(node: &mut NodeState<SumHash>) -> Result<Change, NodeError> {
-    again(|| node.rejoin())
+    again!(node.rejoin())
 }
 
 pub(crate) fn own<H: PointHash>(node: &NodeState<H>) -> Change {
@@ -240,7 +233,7 @@ pub(crate) fn owner<H: PointHash>(node: &NodeState<H>, key: &str) -> Option<Addr
 }
 
 pub(crate) fn view<H: PointHash>(node: &mut NodeState<H>) -> Result<View<H>, NodeError> {
-    again(|| node.view())
+    again!(node.view())
 }
 
 pub(crate) fn view_owner<H: PointHash>(view: &View<H>, key: &str) -> Option<Address> {
@@ -255,6 +248,18 @@ fn try_receive<H: PointHash>(
     node.receive(message, moment)
 }
 
+/// What was taken of a message, and the answer.
+fn try_answer<H: PointHash>(
+    node: &mut NodeState<H>,
+    message: &Message,
+    moment: Moment,
+) -> Option<(Taken, Message)> {
+    match try_receive(node, message, moment) {
+        Received::Answer(taken, answer) => Some((taken, answer)),
+        _ => None,
+    }
+}
+
 /// What was taken of a message, and the answer. Where a growth was refused the message comes again.
 pub(crate) fn answer<H: PointHash>(
     node: &mut NodeState<H>,
@@ -263,14 +268,11 @@ pub(crate) fn answer<H: PointHash>(
 ) -> Option<(Taken, Message)> {
     match try_receive(node, message, moment) {
         Received::Answer(taken, answer) => Some((taken, answer)),
-        Received::NoAnswer(taken) => match try_receive(node, message, moment) {
-            Received::Answer(_, answer) => Some((taken, answer)),
-            _ => None,
-        },
-        Received::Stopped(_) => match try_receive(node, message, moment) {
-            Received::Answer(taken, answer) => Some((taken, answer)),
-            _ => None,
-        },
+        Received::NoAnswer(taken) => {
+            let (_, answer) = try_answer(node, message, moment)?;
+            Some((taken, answer))
+        }
+        Received::Stopped(_) => try_answer(node, message, moment),
         Received::Done(_) | Received::NotGossip => None,
     }
 }
@@ -287,18 +289,20 @@ pub(crate) fn carried(message: &Message) -> &[Sourced] {
 }
 
 pub(crate) fn digest<H: PointHash>(node: &NodeState<H>) -> Result<Digest, NodeError> {
-    again(|| node.digest())
+    again!(node.digest())
 }
 
 /// The node's text for its digest.
 pub(crate) fn digest_text(node: &NodeState<SumHash>) -> Result<Text, NodeError> {
-    again(|| node.digest_text())
+    again!(node.digest_text())
 }
 
 /// Whether a node has this text.
 pub(crate) fn has_text(node: &NodeState<SumHash>, text: &str) -> bool {
-    let said = digest_text(node).ok();
-    said.is_some_and(|said| said.as_str() == text)
+    match digest_text(node) {
+        Ok(said) => said.as_str() == text,
+        Err(_) => false,
+    }
 }
 
 pub(crate) fn owners<H: PointHash>(
@@ -306,11 +310,11 @@ pub(crate) fn owners<H: PointHash>(
     key: &str,
     n: usize,
 ) -> Result<Addresses, NodeError> {
-    again(|| node.owners(key.as_bytes(), n))
+    again!(node.owners(key.as_bytes(), n))
 }
 
 pub(crate) fn probe(node: &mut NodeState<SumHash>) -> Result<Option<Probe>, NodeError> {
-    again(|| node.probe())
+    again!(node.probe())
 }
 
 pub(crate) fn acked(node: &mut NodeState<SumHash>, number: u64) -> Result<(), NodeError> {
@@ -322,7 +326,7 @@ pub(crate) fn lost(
     number: u64,
     moment: Moment,
 ) -> Result<NodeLost, NodeError> {
-    again(|| node.lost(number, moment))
+    again!(node.lost(number, moment))
 }
 
 pub(crate) fn helper_said(
@@ -332,7 +336,7 @@ pub(crate) fn helper_said(
     said: Said,
     moment: Moment,
 ) -> Result<NodeOutcome, NodeError> {
-    again(|| node.helper_said(number, helper, said, moment))
+    again!(node.helper_said(number, helper, said, moment))
 }
 
 pub(crate) fn running(node: &NodeState<SumHash>) -> Option<Running> {
@@ -340,14 +344,14 @@ pub(crate) fn running(node: &NodeState<SumHash>) -> Option<Running> {
 }
 
 pub(crate) fn join_message(node: &NodeState<SumHash>) -> Result<Message, NodeError> {
-    again(|| node.join_message())
+    again!(node.join_message())
 }
 
 pub(crate) fn ping_to(
     node: &mut NodeState<SumHash>,
     target: Address,
 ) -> Result<Message, NodeError> {
-    again(|| node.ping_to(target))
+    again!(node.ping_to(target))
 }
 
 pub(crate) fn ping_req_to(
@@ -355,7 +359,7 @@ pub(crate) fn ping_req_to(
     helper: Address,
     target: Address,
 ) -> Result<Message, NodeError> {
-    again(|| node.ping_req_to(helper, target))
+    again!(node.ping_req_to(helper, target))
 }
 
 pub(crate) fn ping_req_ack_to(
@@ -364,11 +368,11 @@ pub(crate) fn ping_req_ack_to(
     target: Address,
     reached: bool,
 ) -> Result<Message, NodeError> {
-    again(|| node.ping_req_ack_to(source, target, reached))
+    again!(node.ping_req_ack_to(source, target, reached))
 }
 
 pub(crate) fn members(node: &NodeState<SumHash>) -> Result<ChangeList, NodeError> {
-    again(|| node.members())
+    again!(node.members())
 }
 
 pub(crate) fn view_owners<H: PointHash>(
@@ -376,11 +380,21 @@ pub(crate) fn view_owners<H: PointHash>(
     key: &str,
     count: usize,
 ) -> Result<Addresses, NodeError> {
-    again(|| view.owners(key.as_bytes(), count))
+    again!(view.owners(key.as_bytes(), count))
 }
 
 pub(crate) fn view_own<H: PointHash>(view: &View<H>) -> Address {
     view.own()
+}
+
+/// Whether these come first among those that are named, in this order.
+fn are_named(rt: &impl Abort, named: &[Address], texts: &[&str]) -> bool {
+    for (place, text) in texts.iter().enumerate() {
+        if named.get(place) != Some(&address(rt, text)) {
+            return false;
+        }
+    }
+    true
 }
 
 /// Whether a node names these owners of a key, in this order.
@@ -390,13 +404,8 @@ pub(crate) fn names<H: PointHash>(
     key: &str,
     texts: &[&str],
 ) -> bool {
-    let Ok(named) = owners(node, key, texts.len()) else {
-        return false;
-    };
-    for (place, text) in texts.iter().enumerate() {
-        if named.as_slice().get(place) != Some(&address(rt, text)) {
-            return false;
-        }
+    match owners(node, key, texts.len()) {
+        Ok(named) => are_named(rt, named.as_slice(), texts),
+        Err(_) => false,
     }
-    true
 }

@@ -10,24 +10,30 @@ use wire_json::{Content, Kind, Message, News};
 /// The SHA-256 of the empty text: the digest of no members.
 const NOBODY: &str = "e3b0c44298fc1c149afbf4c8996fb92427ae41e4649b934ca495991b7852b855";
 
+/// What is said of a node at an incarnation, how much of that it applies and refutes, and at which it is alive then.
+type Rumour = (u64, Status, usize, usize, u64);
+
+/// Stays alive when it is told so of itself.
+fn stay_alive(rt: &impl Abort, node: &mut NodeState<SumHash>, rumour: Rumour) {
+    let (number, status, applied, refuted, held) = rumour;
+    let answer = take(rt, node, &news(rt, A, number, status), 0);
+    assert!(rt; answer == Ok(Taken { applied, refuted }));
+    assert!(rt; own(node) == change(rt, A, held, Status::Alive));
+}
+
 /// Stays alive, whatever it is told of itself.
 fn refute(rt: &impl Abort, node: &mut NodeState<SumHash>) {
-    let rows = [
-        (7, Status::Suspect, 1, 1, 8),
-        (6, Status::Faulty, 0, 0, 8),
-        (9, Status::Alive, 1, 0, 9),
-        (9, Status::Tombstone, 1, 1, 10),
-    ];
-    for (number, status, applied, refuted, held) in rows {
-        let answer = take(rt, node, &news(rt, A, number, status), 0);
-        assert!(rt; answer == Ok(Taken { applied, refuted }));
-        assert!(rt; own(node) == change(rt, A, held, Status::Alive));
-    }
+    stay_alive(rt, node, (7, Status::Suspect, 1, 1, 8));
+    stay_alive(rt, node, (6, Status::Faulty, 0, 0, 8));
+    stay_alive(rt, node, (9, Status::Alive, 1, 0, 9));
+    stay_alive(rt, node, (9, Status::Tombstone, 1, 1, 10));
 }
 
 #[test]
 fn refutes_what_is_wrong_about_itself(rt: HostRuntime) {
-    with_node(&rt, rt.alloc(), A, 7, 4096, |node| refute(&rt, node));
+    let mut node = first_node(&rt, rt.alloc());
+    refute(&rt, &mut node);
+    drop(node);
 }
 
 /// Leaves twice, refutes, and comes back twice.
@@ -47,14 +53,9 @@ fn leave_and_come_back(rt: &impl Abort, node: &mut NodeState<SumHash>) {
 
 #[test]
 fn leaves_and_comes_back(rt: HostRuntime) {
-    with_node(
-        &rt,
-        rt.alloc(),
-        A,
-        7,
-        4096,
-        |node| leave_and_come_back(&rt, node),
-    );
+    let mut node = first_node(&rt, rt.alloc());
+    leave_and_come_back(&rt, &mut node);
+    drop(node);
 }
 
 /// Takes the first of three changes; the second leaves no incarnation to refute it by.
@@ -72,14 +73,9 @@ fn exhaust(rt: &impl Abort, alloc: Global, node: &mut NodeState<SumHash>) {
 
 #[test]
 fn stops_where_incarnations_run_out(rt: HostRuntime) {
-    with_node(
-        &rt,
-        rt.alloc(),
-        A,
-        7,
-        4096,
-        |node| exhaust(&rt, rt.alloc(), node),
-    );
+    let mut node = first_node(&rt, rt.alloc());
+    exhaust(&rt, rt.alloc(), &mut node);
+    drop(node);
 }
 
 /// Is full with the first of two changes, and goes on about the members that it has.
@@ -97,7 +93,9 @@ fn fill(rt: &impl Abort, alloc: Global, node: &mut NodeState<SumHash>) {
 
 #[test]
 fn stops_where_it_is_full(rt: HostRuntime) {
-    with_node(&rt, rt.alloc(), A, 7, 2, |node| fill(&rt, rt.alloc(), node));
+    let mut node = node(&rt, rt.alloc(), SumHash, A, 7, 2);
+    fill(&rt, rt.alloc(), &mut node);
+    drop(node);
 }
 
 /// A suspect entry runs out, and then the faulty one.
@@ -105,30 +103,29 @@ fn run_out(rt: &impl Abort, node: &mut NodeState<SumHash>) {
     hear(rt, node, &news(rt, B, 1, Status::Suspect), 0);
     let faulty = change(rt, B, 1, Status::Faulty);
     let tombstone = change(rt, B, 1, Status::Tombstone);
-    let rows = [
-        (4_999, None),
-        (5_000, Some(faulty)),
-        (4_999, None),
-        (86_404_999, None),
-        (86_405_000, Some(tombstone)),
-        (LIMIT, None),
-    ];
-    for (now, wanted) in rows {
-        assert!(rt; expire(node, moment(rt, now)) == Ok(wanted));
-    }
+    check_expired(rt, node, 4_999, None);
+    check_expired(rt, node, 5_000, Some(faulty));
+    check_expired(rt, node, 4_999, None);
+    check_expired(rt, node, 86_404_999, None);
+    check_expired(rt, node, 86_405_000, Some(tombstone));
+    check_expired(rt, node, LIMIT, None);
 }
 
 /// A suspicion that was answered does not run out.
 fn answer_before(rt: &impl Abort, node: &mut NodeState<SumHash>) {
     hear(rt, node, &news(rt, B, 1, Status::Suspect), 0);
     hear(rt, node, &news(rt, B, 2, Status::Alive), 100);
-    assert!(rt; expire(node, moment(rt, 5_000)) == Ok(None));
+    check_expired(rt, node, 5_000, None);
 }
 
 #[test]
 fn entries_run_out_in_turn(rt: HostRuntime) {
-    with_node(&rt, rt.alloc(), A, 7, 4096, |node| run_out(&rt, node));
-    with_node(&rt, rt.alloc(), A, 7, 4096, |node| answer_before(&rt, node));
+    let mut one = first_node(&rt, rt.alloc());
+    run_out(&rt, &mut one);
+    drop(one);
+    let mut other = first_node(&rt, rt.alloc());
+    answer_before(&rt, &mut other);
+    drop(other);
 }
 
 /// The i-th of twenty changes: about 10.0.0.2 to 10.0.0.5, with each incarnation and status in turn.
@@ -175,17 +172,13 @@ fn agree(rt: &impl Abort, first: &mut NodeState<SumHash>, last: &mut NodeState<S
     says_all(rt, last);
 }
 
-/// Has a second node agree with the first.
-fn agrees_with_another(rt: &impl Abort, alloc: Global, first: &mut NodeState<SumHash>) {
-    let mut last = node(rt, alloc, SumHash, "10.0.0.6:1", 7, 4096);
-    agree(rt, first, &mut last);
-}
-
 #[test]
 fn the_same_changes_in_two_orders_agree(rt: HostRuntime) {
-    with_node(&rt, rt.alloc(), A, 7, 4096, |node| {
-        agrees_with_another(&rt, rt.alloc(), node)
-    });
+    let mut first = first_node(&rt, rt.alloc());
+    let mut last = node(&rt, rt.alloc(), SumHash, "10.0.0.6:1", 7, 4096);
+    agree(&rt, &mut first, &mut last);
+    drop(first);
+    drop(last);
 }
 
 /// A message of A at 7 with these changes.
@@ -208,6 +201,33 @@ fn message(
     }
 }
 
+/// What an answer is to be: its kind, and the changes that it carries.
+type Wanted<'a> = (Kind, &'a [Sourced]);
+
+/// Whether an answer is of this kind, by 10.0.0.2:1, with these changes.
+fn is_answer(rt: &impl Abort, answer: Message, wanted: Wanted<'_>) -> bool {
+    let (kind, changes) = wanted;
+    let is_answer = answer.source == address(rt, B)
+        && answer.content.kind() == kind
+        && carried(&answer) == changes;
+    drop(answer);
+    is_answer
+}
+
+/// Answers a message so: what it took of that.
+fn answer_so(
+    rt: &impl Abort,
+    node: &mut NodeState<SumHash>,
+    given: Message,
+    wanted: Wanted<'_>,
+) -> Taken {
+    let answered = answer(node, &given, moment(rt, 0));
+    drop(given);
+    let (taken, answer) = answered.expect(rt, "an answer");
+    assert!(rt; is_answer(rt, answer, wanted));
+    taken
+}
+
 /// Is pinged, and answers by these changes.
 fn answer_by(
     rt: &impl Abort,
@@ -217,9 +237,7 @@ fn answer_by(
     wanted: &[Sourced],
 ) {
     let ping = message(rt, alloc, Kind::Ping, checksum, &[]);
-    let answered = answer(node, &ping, moment(rt, 0));
-    let (_, ack) = answered.expect(rt, "an answer");
-    assert!(rt; ack.content.kind() == Kind::Ack && carried(&ack) == wanted);
+    answer_so(rt, node, ping, (Kind::Ack, wanted));
 }
 
 /// Answers fifteen pings by its birth, and the next by all members, or by nothing where the sender knows its digest.
@@ -240,9 +258,9 @@ fn synchronise(rt: &impl Abort, alloc: Global, node: &mut NodeState<SumHash>, kn
 #[test]
 fn synchronises_where_it_has_nothing_to_say(rt: HostRuntime) {
     for known in [false, true] {
-        with_node(&rt, rt.alloc(), B, 1, 4096, |node| {
-            synchronise(&rt, rt.alloc(), node, known)
-        });
+        let mut node = node(&rt, rt.alloc(), SumHash, B, 1, 4096);
+        synchronise(&rt, rt.alloc(), &mut node, known);
+        drop(node);
     }
 }
 
@@ -250,29 +268,22 @@ fn synchronises_where_it_has_nothing_to_say(rt: HostRuntime) {
 fn let_join(rt: &impl Abort, alloc: Global, node: &mut NodeState<SumHash>) {
     let nobody = Digest::parse(NOBODY).expect(rt, "a digest");
     let birth = [news(rt, A, 7, Status::Alive)];
-    let join = message(rt, alloc, Kind::Join, nobody, &birth);
-    let answered = answer(node, &join, moment(rt, 0));
-    let (taken, joined) = answered.expect(rt, "an answer");
-    let applied = Taken {
-        applied: 1,
-        refuted: 0,
-    };
-    assert!(rt; taken == applied && joined.content.kind() == Kind::Joined);
     let all = [
         said(rt, B, 1, &birth[0].change),
         news(rt, B, 1, Status::Alive),
     ];
-    assert!(rt; joined.source == address(rt, B) && carried(&joined) == all.as_slice());
+    let join = message(rt, alloc, Kind::Join, nobody, &birth);
+    let taken = answer_so(rt, node, join, (Kind::Joined, all.as_slice()));
+    let applied = Taken {
+        applied: 1,
+        refuted: 0,
+    };
+    assert!(rt; taken == applied);
 }
 
 #[test]
 fn a_join_is_answered_by_all_members(rt: HostRuntime) {
-    with_node(
-        &rt,
-        rt.alloc(),
-        B,
-        1,
-        4096,
-        |node| let_join(&rt, rt.alloc(), node),
-    );
+    let mut node = node(&rt, rt.alloc(), SumHash, B, 1, 4096);
+    let_join(&rt, rt.alloc(), &mut node);
+    drop(node);
 }

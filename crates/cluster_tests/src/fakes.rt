@@ -7,7 +7,7 @@ use std::sync::atomic::{AtomicU64, Ordering};
 use wire_json::{Changes, Content, Keys, Message, News, Text};
 
 /// How a fake answers.
-#[derive(Clone, Copy, Debug, PartialEq, Eq)]
+#[derive(Clone, Copy, PartialEq, Eq)]
 pub(crate) enum Mood {
     /// As it should.
     Willing,
@@ -109,6 +109,14 @@ impl Link for Fake {
     }
 }
 
+/// This text as an answer, if there is memory for it.
+pub(crate) fn worded(alloc: Global, words: &str) -> Result<Text, HandlerFault> {
+    match Text::new(alloc, words) {
+        Ok(text) => Ok(text),
+        Err(_) => Err(HandlerFault::Memory),
+    }
+}
+
 /// A handler that answers by the body of the request, where it is willing.
 #[derive(Drop)]
 pub(crate) struct Echo {
@@ -126,7 +134,7 @@ impl Handler for Echo {
         body: &Text,
     ) -> Result<Text, HandlerFault> {
         match self.mood {
-            Mood::Willing => Text::new(alloc, body.as_str()).map_err(|_| HandlerFault::Memory),
+            Mood::Willing => worded(alloc, body.as_str()),
             Mood::Failing | Mood::Broken => Err(HandlerFault::Failed),
             Mood::Starved => Err(HandlerFault::Memory),
         }

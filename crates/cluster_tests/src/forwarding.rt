@@ -3,7 +3,7 @@ ghost use Rattle.locked_node.specs.Passes.{Fits};
 
 use crate::fakes::{Counting, Mood};
 use crate::messages::{keys, member, text};
-use crate::shared::{Caller, Shared, among, leave, with_node};
+use crate::shared::{Caller, Shared, among, begun, leave, let_go};
 use change_core::{Address, Moment};
 use cluster_core::{Clock, ClusterError, Link, LinkError, handle_or_forward};
 use std::alloc::Global;
@@ -34,7 +34,7 @@ impl Clock for Still {
 }
 
 /// One sending: when, to whom, and from whom.
-#[derive(Clone, Copy, Debug, PartialEq, Eq)]
+#[derive(Clone, Copy, PartialEq, Eq)]
 pub(crate) struct Sending {
     moment: u64,
     to: Address,
@@ -208,9 +208,10 @@ fn leave_and_request<R: Wait + Abort>(
 
 /// What a request comes to at a node among so many others.
 fn first_request<R: Wait + Abort>(rt: &R, alloc: Global, others: u8, asked: &Asked) -> Came {
-    with_node(rt, alloc, &among(others), |shared, pass| {
-        leave_and_request(rt, alloc, shared, pass, asked)
-    })
+    let (shared, mut pass) = begun(rt, alloc, &among(others));
+    let came = leave_and_request(rt, alloc, &shared, &mut pass, asked);
+    let_go(shared, pass);
+    came
 }
 
 /// The same; where there was no memory, but for that of a link or a handler that never has any, what it comes to at another
@@ -223,10 +224,24 @@ fn request<R: Wait + Abort>(rt: &R, alloc: Global, others: u8, asked: &Asked) ->
     first
 }
 
+/// A sending to 10.0.0.2:1 at this moment.
+fn sent_at(rt: &impl Abort, moment: u64) -> Sending {
+    Sending {
+        moment,
+        to: member(rt, 2),
+        from: member(rt, 1),
+    }
+}
+
 /// Checks that the sendings went to 10.0.0.2:1 in their moments.
 fn check_sendings(rt: &impl Abort, sendings: &[Sending], moments: [u64; 4]) {
-    let (to, from) = (member(rt, 2), member(rt, 1));
-    let wanted = moments.map(|moment| Sending { moment, to, from });
+    let [first, second, third, fourth] = moments;
+    let wanted = [
+        sent_at(rt, first),
+        sent_at(rt, second),
+        sent_at(rt, third),
+        sent_at(rt, fourth),
+    ];
     assert!(rt; sendings == wanted.as_slice());
 }
 

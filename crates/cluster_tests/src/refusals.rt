@@ -9,7 +9,7 @@ use crate::messages::{content, member, message, news, request};
 use crate::nodes::state;
 use crate::rounds::{End, Joining, join_hosts, round_in};
 use crate::serving::serve;
-use crate::shared::{Caller, Shared, among, status, with_node};
+use crate::shared::{Caller, Shared, among, begun, let_go, status};
 use change_core::{Digest, Status};
 use cluster_core::ClusterError;
 use locked_node::LockedNode;
@@ -45,7 +45,8 @@ fn share_two(rt: &(impl Env + Abort), alloc: Global) -> (Shared, Vec<Caller>)
 #[test]
 fn a_node_is_shared_or_refused_memory(rt: HostRuntime) {
     let (shared, passes) = share_two(&rt, rt.alloc());
-    assert!(&rt; shared.close(passes).is_ok());
+    let closed = shared.close(passes).ok().expect(&rt, "it closes");
+    drop(closed);
 }
 
 /// The digest of what a node holds.
@@ -112,9 +113,9 @@ fn a_round_that_is_refused_memory_alters_nothing(rt: HostRuntime) {
             end,
             calls,
         };
-        with_node(&rt, alloc, &among(row.others), |shared, pass| {
-            check_round(&rt, alloc, shared, pass, &row)
-        });
+        let (shared, mut pass) = begun(&rt, alloc, &among(row.others));
+        check_round(&rt, alloc, &shared, &mut pass, &row);
+        let_go(shared, pass);
     }
 }
 
@@ -141,9 +142,9 @@ fn check_join<R: Wait + Env + Abort>(rt: &R, alloc: Global, shared: &Shared, pas
 #[test]
 fn a_join_that_is_refused_memory_alters_nothing(rt: HostRuntime) {
     let alloc = rt.alloc();
-    with_node(&rt, alloc, &among(0), |shared, pass| {
-        check_join(&rt, alloc, shared, pass)
-    });
+    let (shared, mut pass) = begun(&rt, alloc, &among(0));
+    check_join(&rt, alloc, &shared, &mut pass);
+    let_go(shared, pass);
 }
 
 /// How often the link and the handler were asked.
@@ -196,9 +197,9 @@ const REQUESTS: [(u8, (usize, u64)); 2] = [(1, (1, 0)), (0, (0, 1))];
 fn a_request_that_is_refused_memory_asks_once(rt: HostRuntime) {
     let alloc = rt.alloc();
     for (others, wanted) in REQUESTS {
-        with_node(&rt, alloc, &among(others), |shared, pass| {
-            check_request(&rt, alloc, shared, pass, wanted)
-        });
+        let (shared, mut pass) = begun(&rt, alloc, &among(others));
+        check_request(&rt, alloc, &shared, &mut pass, wanted);
+        let_go(shared, pass);
     }
 }
 
@@ -252,6 +253,7 @@ fn check_message<R: Wait + Env + Abort>(
         assert!(rt; served.1 == (0, 0) || served.1 == wanted);
         served = serve_in(rt, alloc, shared, pass, &given);
     }
+    drop(given);
     assert!(rt; served == (None, wanted));
     let is_told = status(rt, shared, pass, 5) == Some(Status::Alive);
     assert!(rt; is_told == (kind != Kind::Forward));
@@ -269,8 +271,8 @@ const MESSAGES: [(Kind, (u64, u64)); 4] = [
 fn a_message_that_is_refused_memory_is_answered_when_it_comes_again(rt: HostRuntime) {
     let alloc = rt.alloc();
     for (kind, wanted) in MESSAGES {
-        with_node(&rt, alloc, &among(0), |shared, pass| {
-            check_message(&rt, alloc, shared, pass, kind, wanted)
-        });
+        let (shared, mut pass) = begun(&rt, alloc, &among(0));
+        check_message(&rt, alloc, &shared, &mut pass, kind, wanted);
+        let_go(shared, pass);
     }
 }

@@ -7,7 +7,7 @@ ghost use Rattle.locked_node.specs.Passes.{Fits};
 use crate::fakes::{Fake, Mood};
 use crate::messages::{member, moment, news};
 use crate::nodes::state;
-use crate::shared::{Caller, Shared, Start, among, status, with_node};
+use crate::shared::{Caller, Shared, Start, among, begun, let_go, status};
 use change_core::{Address, Moment, Status};
 use cluster_core::{ClusterError, Link, LinkError, Round, gossip_round, join};
 use detector_core::Running;
@@ -21,7 +21,7 @@ use turn_lock::LockError;
 use wire_json::Message;
 
 /// How a round ended, without whom it was about.
-#[derive(Clone, Copy, Debug, PartialEq, Eq)]
+#[derive(Clone, Copy, PartialEq, Eq)]
 pub(crate) enum End {
     Idle,
     Reached,
@@ -39,7 +39,7 @@ fn end_of(round: Round) -> End {
 }
 
 /// How a round ended, how often its link was asked, and how often that failed.
-#[derive(Clone, Copy, Debug, PartialEq, Eq)]
+#[derive(Clone, Copy, PartialEq, Eq)]
 pub(crate) struct Ended {
     pub(crate) end: Result<End, ClusterError>,
     pub(crate) calls: u64,
@@ -75,7 +75,10 @@ pub(crate) fn round_in<R: Wait + Abort>(
     let mut link = Fake::turning(moods.0, moods.1);
     let round = round_by(rt, alloc, shared, pass, &mut link);
     Ended {
-        end: round.map(end_of),
+        end: match round {
+            Ok(round) => Ok(end_of(round)),
+            Err(error) => Err(error),
+        },
         calls: link.calls,
         failures: link.failures(),
     }
@@ -99,9 +102,10 @@ fn came_to(end: Result<End, ClusterError>, calls: u64, failures: u64) -> Ended {
 
 /// How the first round of a new node ends.
 fn first_round<R: Wait + Abort>(rt: &R, alloc: Global, row: &Row) -> Ended {
-    with_node(rt, alloc, &among(row.others), |shared, pass| {
-        round_in(rt, alloc, shared, pass, (row.mood, row.mood))
-    })
+    let (shared, mut pass) = begun(rt, alloc, &among(row.others));
+    let came = round_in(rt, alloc, &shared, &mut pass, (row.mood, row.mood));
+    let_go(shared, pass);
+    came
 }
 
 /// Checks how a round ends; where it was refused memory before it came so far, how that of another node does.
@@ -144,9 +148,9 @@ fn end_within<R: Wait + Abort>(rt: &R, alloc: Global, turns: u32) -> Result<End,
         others: 3,
     };
     let moods = (Mood::Broken, Mood::Broken);
-    let ended = with_node(rt, alloc, &start, |shared, pass| {
-        round_in(rt, alloc, shared, pass, moods)
-    });
+    let (shared, mut pass) = begun(rt, alloc, &start);
+    let ended = round_in(rt, alloc, &shared, &mut pass, moods);
+    let_go(shared, pass);
     ended.end
 }
 
@@ -201,9 +205,10 @@ fn check_all_failed<R: Wait + Abort>(
 }
 
 fn all_failed<R: Wait + Abort>(rt: &R, alloc: Global) -> bool {
-    with_node(rt, alloc, &among(3), |shared, pass| {
-        check_all_failed(rt, alloc, shared, pass)
-    })
+    let (shared, mut pass) = begun(rt, alloc, &among(3));
+    let came = check_all_failed(rt, alloc, &shared, &mut pass);
+    let_go(shared, pass);
+    came
 }
 
 #[test]
@@ -232,9 +237,10 @@ fn check_suspected<R: Wait + Abort>(
 }
 
 fn suspected<R: Wait + Abort>(rt: &R, alloc: Global) -> bool {
-    with_node(rt, alloc, &among(1), |shared, pass| {
-        check_suspected(rt, alloc, shared, pass)
-    })
+    let (shared, mut pass) = begun(rt, alloc, &among(1));
+    let came = check_suspected(rt, alloc, &shared, &mut pass);
+    let_go(shared, pass);
+    came
 }
 
 #[test]
@@ -279,9 +285,10 @@ fn check_pinged_anew<R: Wait + Abort>(
 }
 
 fn pinged_anew<R: Wait + Abort>(rt: &R, alloc: Global) -> bool {
-    with_node(rt, alloc, &among(1), |shared, pass| {
-        check_pinged_anew(rt, alloc, shared, pass)
-    })
+    let (shared, mut pass) = begun(rt, alloc, &among(1));
+    let came = check_pinged_anew(rt, alloc, &shared, &mut pass);
+    let_go(shared, pass);
+    came
 }
 
 #[test]
@@ -315,9 +322,10 @@ fn check_given_up<R: Wait + Abort>(
 }
 
 fn given_up<R: Wait + Abort>(rt: &R, alloc: Global) -> bool {
-    with_node(rt, alloc, &among(3), |shared, pass| {
-        check_given_up(rt, alloc, shared, pass)
-    })
+    let (shared, mut pass) = begun(rt, alloc, &among(3));
+    let came = check_given_up(rt, alloc, &shared, &mut pass);
+    let_go(shared, pass);
+    came
 }
 
 #[test]
@@ -410,6 +418,7 @@ fn close_with(rt: &impl Abort, shared: Shared, passes: Vec<Caller>)
         .ok()
         .expect(rt, "both passes are there");
     assert!(rt; closed.running() == unasked(rt));
+    drop(closed);
 }
 
 fn leaves_a_probe<R: Wait + Abort>(rt: &R, alloc: Global) -> bool {
@@ -508,9 +517,10 @@ fn first_join<R: Wait + Abort>(
     alloc: Global,
     row: &Joining,
 ) -> (Result<u32, ClusterError>, u64) {
-    with_node(rt, alloc, &among(0), |shared, pass| {
-        join_hosts(rt, alloc, shared, pass, row)
-    })
+    let (shared, mut pass) = begun(rt, alloc, &among(0));
+    let came = join_hosts(rt, alloc, &shared, &mut pass, row);
+    let_go(shared, pass);
+    came
 }
 
 /// Checks what a join comes to; where it was refused memory, but for that of a link which never has any, what that of another
@@ -564,8 +574,11 @@ fn check_meeting<R: Wait + Abort>(
     }
     assert!(rt; joined == Ok(1) && held == Some(Status::Alive));
     let heard = link.node.member(member(rt, 1));
-    let heard = heard.map(|entry| (entry.incarnation.number(), entry.status));
-    assert!(rt; heard == Some((7, Status::Alive)));
+    let is_heard = match heard {
+        Some(entry) => entry.incarnation.number() == 7 && entry.status == Status::Alive,
+        None => false,
+    };
+    assert!(rt; is_heard);
     let round = gossip_round(rt, alloc, shared, pass, link, now);
     if round == Err(ClusterError::Memory) {
         return false;
@@ -579,9 +592,11 @@ fn meets<R: Wait + Abort>(rt: &R, alloc: Global) -> bool {
         node: state(rt, alloc, 2, 4096),
         failures: 0,
     };
-    with_node(rt, alloc, &among(0), |shared, pass| {
-        check_meeting(rt, alloc, shared, pass, &mut link)
-    })
+    let (shared, mut pass) = begun(rt, alloc, &among(0));
+    let met = check_meeting(rt, alloc, &shared, &mut pass, &mut link);
+    let_go(shared, pass);
+    drop(link);
+    met
 }
 
 #[test]

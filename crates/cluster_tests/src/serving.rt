@@ -3,7 +3,7 @@ ghost use Rattle.locked_node.specs.Passes.{Fits};
 
 use crate::fakes::{Counting, Fake, Mood};
 use crate::messages::{content, member, message, moment, news, request, text};
-use crate::shared::{Caller, Shared, Start, among, leave, status, with_node};
+use crate::shared::{Caller, Shared, Start, among, begun, leave, let_go, status};
 use change_core::{Address, Sourced, Status};
 use cluster_core::serve_one;
 use std::alloc::Global;
@@ -19,26 +19,56 @@ type Moods = (Mood, Mood);
 
 const WILLING: Moods = (Mood::Willing, Mood::Willing);
 
+/// What an answer is.
+#[derive(Clone, Copy, PartialEq, Eq)]
+enum Said {
+    Joined,
+    Ack,
+    /// Whether this target was reached.
+    Word(Address, bool),
+    /// A Reply of the text `body`.
+    Body,
+    NotOwner,
+    Refused(Reason),
+    Other,
+}
+
+fn kind_of(content: &Content) -> Said {
+    match content {
+        Content::Joined(_) => Said::Joined,
+        Content::Ack(_) => Said::Ack,
+        Content::PingReqAck(_, target, reached) => Said::Word(*target, *reached),
+        Content::Reply(text) if text.as_str() == "body" => Said::Body,
+        Content::NotOwner => Said::NotOwner,
+        Content::Refused(reason) => Said::Refused(*reason),
+        _ => Said::Other,
+    }
+}
+
 /// What is answered to a message, and how often the link and the handler were asked.
-#[derive(Drop)]
+#[derive(Clone, Copy, PartialEq, Eq)]
 pub(crate) struct Answer {
-    content: Content,
+    said: Said,
     pub(crate) sent: u64,
     pub(crate) handled: u64,
+}
+
+/// An answer for which neither the link nor the handler was asked.
+fn own(said: Said) -> Answer {
+    Answer {
+        said,
+        sent: 0,
+        handled: 0,
+    }
 }
 
 impl Answer {
     /// Why the message was refused, if it was.
     pub(crate) fn reason(&self) -> Option<Reason> {
-        match &self.content {
-            Content::Refused(reason) => Some(*reason),
+        match self.said {
+            Said::Refused(reason) => Some(reason),
             _ => None,
         }
-    }
-
-    /// Whether neither the link nor the handler was asked.
-    fn is_own(&self) -> bool {
-        self.sent == 0 && self.handled == 0
     }
 
     /// Whether it lacks memory, other than that of a link or a handler that never has any.
@@ -47,6 +77,26 @@ impl Answer {
         let of_handler = moods.1 == Mood::Starved && self.handled != 0;
         self.reason() == Some(Reason::Memory) && !of_link && !of_handler
     }
+}
+
+/// What is answered to a message, by way of this link and this handler.
+fn serve_by<R: Wait + Abort>(
+    rt: &R,
+    alloc: Global,
+    shared: &Shared,
+    pass: &mut Caller,
+    by: (&mut Fake, &Counting),
+    given: &Message,
+) -> Content
+    requires { Fits shared.now pass.old }
+    ensures { Fits shared.now pass.new }
+{
+    let now = moment(rt, 0);
+    let (link, handler) = by;
+    let answer = serve_one(rt, alloc, shared, pass, link, handler, now, given);
+    let answer = answer.ok().expect(rt, "a turn");
+    assert!(rt; answer.source == member(rt, 1));
+    answer.content
 }
 
 /// What is answered to a message.
@@ -63,12 +113,11 @@ pub(crate) fn serve<R: Wait + Abort>(
 {
     let mut link = Fake::new(moods.0);
     let handler = Counting::new(moods.1);
-    let now = moment(rt, 0);
-    let answer = serve_one(rt, alloc, shared, pass, &mut link, &handler, now, given);
-    let answer = answer.ok().expect(rt, "a turn");
-    assert!(rt; answer.source == member(rt, 1));
+    let content = serve_by(rt, alloc, shared, pass, (&mut link, &handler), given);
+    let said = kind_of(&content);
+    drop(content);
     Answer {
-        content: answer.content,
+        said,
         sent: link.calls,
         handled: handler.calls(),
     }
@@ -94,22 +143,21 @@ fn ask<R: Wait + Abort>(
     first
 }
 
-/// Why a message of 10.0.0.2:1 is refused, if it is, with neither the link nor the handler asked.
-fn refusal<R: Wait + Abort>(
+/// What is answered to a message of 10.0.0.2:1 by a willing link and handler.
+fn answer_to<R: Wait + Abort>(
     rt: &R,
     alloc: Global,
     shared: &Shared,
     pass: &mut Caller,
-    moods: Moods,
     content: Content,
-) -> Option<Reason>
+) -> Answer
     requires { Fits shared.now pass.old }
     ensures { Fits shared.now pass.new }
 {
     let given = message(rt, 2, content);
-    let answer = ask(rt, alloc, shared, pass, moods, &given);
-    assert!(rt; answer.is_own());
-    answer.reason()
+    let answer = ask(rt, alloc, shared, pass, WILLING, &given);
+    drop(given);
+    answer
 }
 
 /// The changes that a Joined or an Ack carries.
@@ -120,27 +168,87 @@ fn carried(content: &Content) -> &[Sourced] {
     }
 }
 
+/// What is answered to a message with neither the link nor the handler asked.
+fn serve_own<R: Wait + Abort>(
+    rt: &R,
+    alloc: Global,
+    shared: &Shared,
+    pass: &mut Caller,
+    given: &Message,
+) -> Content
+    requires { Fits shared.now pass.old }
+    ensures { Fits shared.now pass.new }
+{
+    let mut link = Fake::new(Mood::Willing);
+    let handler = Counting::new(Mood::Willing);
+    let content = serve_by(rt, alloc, shared, pass, (&mut link, &handler), given);
+    assert!(rt; link.calls == 0 && handler.calls() == 0);
+    content
+}
+
+/// Whether an answer is this, with these changes; none where there was no memory.
+fn brings(content: Content, wanted: &Said, changes: &[Sourced]) -> Option<bool> {
+    let said = kind_of(&content);
+    let is_so = said == *wanted && carried(&content) == changes;
+    drop(content);
+    if said == Said::Refused(Reason::Memory) {
+        None
+    } else {
+        Some(is_so)
+    }
+}
+
+/// Whether a message is answered so; where there was no memory, when it comes again.
+fn is_answered<R: Wait + Abort>(
+    rt: &R,
+    alloc: Global,
+    shared: &Shared,
+    pass: &mut Caller,
+    given: &Message,
+    wanted: (Said, &[Sourced]),
+) -> bool
+    requires { Fits shared.now pass.old }
+{
+    let (said, changes) = wanted;
+    let first = brings(serve_own(rt, alloc, shared, pass, given), &said, changes);
+    match first {
+        Some(is_so) => is_so,
+        None => {
+            let again = serve_own(rt, alloc, shared, pass, given);
+            brings(again, &said, changes) == Some(true)
+        }
+    }
+}
+
 /// Checks that a join is answered by all members, as this node says them.
 fn check_join<R: Wait + Abort>(rt: &R, alloc: Global, shared: &Shared, pass: &mut Caller)
     requires { Fits shared.now pass.old }
 {
     let other = news(rt, 2, 5, Status::Alive);
-    let given = message(rt, 2, Content::Join(content(rt, alloc, &[other])));
-    let answer = ask(rt, alloc, shared, pass, WILLING, &given);
-    let joined = &answer.content;
     let own = news(rt, 1, 7, Status::Alive);
     let mut told = own;
     told.change = other.change;
-    assert!(rt; matches!(joined, Content::Joined(_)) && answer.is_own());
-    assert!(rt; carried(joined) == [own, told].as_slice());
+    let all = [own, told];
+    let given = message(rt, 2, Content::Join(content(rt, alloc, &[other])));
+    assert!(rt;
+        is_answered(
+            rt,
+            alloc,
+            shared,
+            pass,
+            &given,
+            (Said::Joined, all.as_slice())
+        )
+    );
+    drop(given);
 }
 
 #[test]
 fn a_join_is_answered_by_all_members(rt: HostRuntime) {
     let alloc = rt.alloc();
-    with_node(&rt, alloc, &among(0), |shared, pass| {
-        check_join(&rt, alloc, shared, pass)
-    });
+    let (shared, mut pass) = begun(&rt, alloc, &among(0));
+    check_join(&rt, alloc, &shared, &mut pass);
+    let_go(shared, pass);
 }
 
 /// Checks that a ping is answered by an Ack with what its sender has not said.
@@ -148,20 +256,18 @@ fn check_ping<R: Wait + Abort>(rt: &R, alloc: Global, shared: &Shared, pass: &mu
     requires { Fits shared.now pass.old }
 {
     let other = news(rt, 2, 5, Status::Alive);
+    let own = [news(rt, 1, 7, Status::Alive)];
     let given = message(rt, 2, Content::Ping(content(rt, alloc, &[other])));
-    let answer = ask(rt, alloc, shared, pass, WILLING, &given);
-    let ack = &answer.content;
-    let own = news(rt, 1, 7, Status::Alive);
-    assert!(rt; matches!(ack, Content::Ack(_)) && answer.is_own());
-    assert!(rt; carried(ack) == [own].as_slice());
+    assert!(rt; is_answered(rt, alloc, shared, pass, &given, (Said::Ack, own.as_slice())));
+    drop(given);
 }
 
 #[test]
 fn a_ping_is_answered_by_an_ack(rt: HostRuntime) {
     let alloc = rt.alloc();
-    with_node(&rt, alloc, &among(0), |shared, pass| {
-        check_ping(&rt, alloc, shared, pass)
-    });
+    let (shared, mut pass) = begun(&rt, alloc, &among(0));
+    check_ping(&rt, alloc, &shared, &mut pass);
+    let_go(shared, pass);
 }
 
 /// A change that stops its taking, and how that is refused.
@@ -188,6 +294,22 @@ const STOPS: [Stop; 2] = [
     },
 ];
 
+/// Checks that a message is refused so, with neither the link nor the handler asked.
+fn check_refused<R: Wait + Abort>(
+    rt: &R,
+    alloc: Global,
+    shared: &Shared,
+    pass: &mut Caller,
+    content: Content,
+    reason: Reason,
+)
+    requires { Fits shared.now pass.old }
+    ensures { Fits shared.now pass.new }
+{
+    let answer = answer_to(rt, alloc, shared, pass, content);
+    assert!(rt; answer == own(Said::Refused(reason)));
+}
+
 /// Checks how messages with this change are refused.
 fn check_stop<R: Wait + Abort>(
     rt: &R,
@@ -198,14 +320,14 @@ fn check_stop<R: Wait + Abort>(
 )
     requires { Fits shared.now pass.old }
 {
-    let wanted = Some(stop.reason);
+    let reason = stop.reason;
     let told = [news(rt, stop.number, stop.incarnation, stop.status)];
     let join = Content::Join(content(rt, alloc, &told));
-    assert!(rt; refusal(rt, alloc, shared, pass, WILLING, join) == wanted);
+    check_refused(rt, alloc, shared, pass, join, reason);
     let ping = Content::Ping(content(rt, alloc, &told));
-    assert!(rt; refusal(rt, alloc, shared, pass, WILLING, ping) == wanted);
+    check_refused(rt, alloc, shared, pass, ping, reason);
     let asked = Content::PingReq(content(rt, alloc, &told), member(rt, 3));
-    assert!(rt; refusal(rt, alloc, shared, pass, WILLING, asked) == wanted);
+    check_refused(rt, alloc, shared, pass, asked, reason);
 }
 
 #[test]
@@ -217,9 +339,9 @@ fn a_taking_that_stops_is_refused_by_its_cause(rt: HostRuntime) {
         others: 0,
     };
     for row in &STOPS {
-        with_node(&rt, alloc, &start, |shared, pass| {
-            check_stop(&rt, alloc, shared, pass, row)
-        });
+        let (shared, mut pass) = begun(&rt, alloc, &start);
+        check_stop(&rt, alloc, &shared, &mut pass, row);
+        let_go(shared, pass);
     }
 }
 
@@ -231,15 +353,6 @@ struct Sought {
     mood: Mood,
     reached: Option<bool>,
     calls: u64,
-}
-
-/// What a PingReqAck says of the target, or that there was no memory; else none.
-fn word_in(content: &Content, target: Address) -> Option<Option<bool>> {
-    match content {
-        Content::PingReqAck(_, about, reached) if *about == target => Some(Some(*reached)),
-        Content::Refused(Reason::Memory) => Some(None),
-        _ => None,
-    }
 }
 
 /// Checks what is said of the target of a PingReq.
@@ -255,10 +368,17 @@ fn check_target<R: Wait + Abort>(
     let target = member(rt, row.target);
     let told = content(rt, alloc, &[news(rt, 3, 1, Status::Alive)]);
     let given = message(rt, 2, Content::PingReq(told, target));
-    let moods = (row.mood, Mood::Willing);
-    let answer = ask(rt, alloc, shared, pass, moods, &given);
-    assert!(rt; word_in(&answer.content, target) == Some(row.reached));
-    assert!(rt; answer.sent == row.calls && answer.handled == 0);
+    let answer = ask(rt, alloc, shared, pass, (row.mood, Mood::Willing), &given);
+    drop(given);
+    let wanted = Answer {
+        said: match row.reached {
+            Some(reached) => Said::Word(target, reached),
+            None => Said::Refused(Reason::Memory),
+        },
+        sent: row.calls,
+        handled: 0,
+    };
+    assert!(rt; answer == wanted);
 }
 
 const TARGETS: [(u8, Mood, Option<bool>, u64); 5] = [
@@ -279,19 +399,39 @@ fn a_ping_req_tells_whether_its_target_was_reached(rt: HostRuntime) {
             reached,
             calls,
         };
-        with_node(&rt, alloc, &among(0), |shared, pass| {
-            check_target(&rt, alloc, shared, pass, &row)
-        });
+        let (shared, mut pass) = begun(&rt, alloc, &among(0));
+        check_target(&rt, alloc, &shared, &mut pass, &row);
+        let_go(shared, pass);
     }
 }
 
 const ONE: (&str, &str) = ("zzzz1", "zzzz1");
 
-/// Whether an answer is a Reply of this text.
-fn is_reply(content: &Content, wanted: &str) -> bool {
-    match content {
-        Content::Reply(body) => body.as_str() == wanted,
-        _ => false,
+/// Checks what is answered to a request for these keys, with the body `body`.
+fn check_request<R: Wait + Abort>(
+    rt: &R,
+    alloc: Global,
+    shared: &Shared,
+    pass: &mut Caller,
+    keys: (&str, &str),
+    handler: Mood,
+    wanted: Answer,
+)
+    requires { Fits shared.now pass.old }
+    ensures { Fits shared.now pass.new }
+{
+    let given = request(rt, alloc, keys, "body");
+    let answer = ask(rt, alloc, shared, pass, (Mood::Willing, handler), &given);
+    drop(given);
+    assert!(rt; answer == wanted);
+}
+
+/// An answer for which the handler was asked once.
+fn handled(said: Said) -> Answer {
+    Answer {
+        said,
+        sent: 0,
+        handled: 1,
     }
 }
 
@@ -299,46 +439,38 @@ fn is_reply(content: &Content, wanted: &str) -> bool {
 fn check_here<R: Wait + Abort>(rt: &R, alloc: Global, shared: &Shared, pass: &mut Caller)
     requires { Fits shared.now pass.old }
 {
-    let given = request(rt, alloc, ONE, "body");
-    let reply = ask(rt, alloc, shared, pass, WILLING, &given);
-    assert!(rt; is_reply(&reply.content, "body"));
-    assert!(rt; reply.sent == 0 && reply.handled == 1);
-    let failing = (Mood::Willing, Mood::Failing);
-    let failed = ask(rt, alloc, shared, pass, failing, &given);
-    assert!(rt; failed.reason() == Some(Reason::Failed));
-    assert!(rt; failed.sent == 0 && failed.handled == 1);
-    let starved = (Mood::Willing, Mood::Starved);
-    let refused = ask(rt, alloc, shared, pass, starved, &given);
-    assert!(rt; refused.reason() == Some(Reason::Memory));
-    assert!(rt; refused.sent == 0 && refused.handled == 1);
+    let reply = handled(Said::Body);
+    check_request(rt, alloc, shared, pass, ONE, Mood::Willing, reply);
+    let failed = handled(Said::Refused(Reason::Failed));
+    check_request(rt, alloc, shared, pass, ONE, Mood::Failing, failed);
+    let refused = handled(Said::Refused(Reason::Memory));
+    check_request(rt, alloc, shared, pass, ONE, Mood::Starved, refused);
 }
 
 #[test]
 fn a_request_is_handled_by_the_owner_of_its_keys(rt: HostRuntime) {
     let alloc = rt.alloc();
-    with_node(&rt, alloc, &among(0), |shared, pass| {
-        check_here(&rt, alloc, shared, pass)
-    });
+    let (shared, mut pass) = begun(&rt, alloc, &among(0));
+    check_here(&rt, alloc, &shared, &mut pass);
+    let_go(shared, pass);
 }
 
 /// Checks what is answered to requests that another node owns, or two.
 fn check_elsewhere<R: Wait + Abort>(rt: &R, alloc: Global, shared: &Shared, pass: &mut Caller)
     requires { Fits shared.now pass.old }
 {
-    let given = request(rt, alloc, ONE, "body");
-    let answer = ask(rt, alloc, shared, pass, WILLING, &given);
-    assert!(rt; matches!(&answer.content, Content::NotOwner) && answer.is_own());
-    let split = request(rt, alloc, ("zzzz0", "zzzz1"), "body");
-    let answer = ask(rt, alloc, shared, pass, WILLING, &split);
-    assert!(rt; answer.reason() == Some(Reason::Diverged) && answer.is_own());
+    let mood = Mood::Willing;
+    check_request(rt, alloc, shared, pass, ONE, mood, own(Said::NotOwner));
+    let split = own(Said::Refused(Reason::Diverged));
+    check_request(rt, alloc, shared, pass, ("zzzz0", "zzzz1"), mood, split);
 }
 
 #[test]
 fn a_request_for_others_is_not_handled(rt: HostRuntime) {
     let alloc = rt.alloc();
-    with_node(&rt, alloc, &among(1), |shared, pass| {
-        check_elsewhere(&rt, alloc, shared, pass)
-    });
+    let (shared, mut pass) = begun(&rt, alloc, &among(1));
+    check_elsewhere(&rt, alloc, &shared, &mut pass);
+    let_go(shared, pass);
 }
 
 /// Checks what is answered to a request where nobody serves.
@@ -346,33 +478,31 @@ fn check_nobody<R: Wait + Abort>(rt: &R, alloc: Global, shared: &Shared, pass: &
     requires { Fits shared.now pass.old }
 {
     leave(rt, shared, pass);
-    let given = request(rt, alloc, ONE, "body");
-    let answer = ask(rt, alloc, shared, pass, WILLING, &given);
-    assert!(rt; answer.reason() == Some(Reason::Nobody) && answer.is_own());
+    let nobody = own(Said::Refused(Reason::Nobody));
+    check_request(rt, alloc, shared, pass, ONE, Mood::Willing, nobody);
 }
 
 #[test]
 fn a_request_to_nobody_is_refused(rt: HostRuntime) {
     let alloc = rt.alloc();
-    with_node(&rt, alloc, &among(0), |shared, pass| {
-        check_nobody(&rt, alloc, shared, pass)
-    });
+    let (shared, mut pass) = begun(&rt, alloc, &among(0));
+    check_nobody(&rt, alloc, &shared, &mut pass);
+    let_go(shared, pass);
 }
 
-const UNEXPECTED: Option<Reason> = Some(Reason::Unexpected);
+const UNEXPECTED: Reason = Reason::Unexpected;
 
 /// Checks that answers with news are refused, and nothing of them is taken.
 fn check_news<R: Wait + Abort>(rt: &R, alloc: Global, shared: &Shared, pass: &mut Caller)
     requires { Fits shared.now pass.old }
-    ensures { Fits shared.now pass.new }
 {
     let told = [news(rt, 2, 1, Status::Alive)];
     let joined = Content::Joined(content(rt, alloc, &told));
-    assert!(rt; refusal(rt, alloc, shared, pass, WILLING, joined) == UNEXPECTED);
+    check_refused(rt, alloc, shared, pass, joined, UNEXPECTED);
     let ack = Content::Ack(content(rt, alloc, &told));
-    assert!(rt; refusal(rt, alloc, shared, pass, WILLING, ack) == UNEXPECTED);
+    check_refused(rt, alloc, shared, pass, ack, UNEXPECTED);
     let word = Content::PingReqAck(content(rt, alloc, &told), member(rt, 3), true);
-    assert!(rt; refusal(rt, alloc, shared, pass, WILLING, word) == UNEXPECTED);
+    check_refused(rt, alloc, shared, pass, word, UNEXPECTED);
     assert!(rt; status(rt, shared, pass, 2).is_none());
 }
 
@@ -381,35 +511,49 @@ fn check_answers<R: Wait + Abort>(rt: &R, alloc: Global, shared: &Shared, pass: 
     requires { Fits shared.now pass.old }
 {
     let reply = Content::Reply(text(rt, alloc, "body"));
-    assert!(rt; refusal(rt, alloc, shared, pass, WILLING, reply) == UNEXPECTED);
-    let other = Content::NotOwner;
-    assert!(rt; refusal(rt, alloc, shared, pass, WILLING, other) == UNEXPECTED);
+    check_refused(rt, alloc, shared, pass, reply, UNEXPECTED);
+    check_refused(rt, alloc, shared, pass, Content::NotOwner, UNEXPECTED);
     let refused = Content::Refused(Reason::Full);
-    assert!(rt; refusal(rt, alloc, shared, pass, WILLING, refused) == UNEXPECTED);
+    check_refused(rt, alloc, shared, pass, refused, UNEXPECTED);
 }
 
 #[test]
 fn answers_are_unexpected(rt: HostRuntime) {
     let alloc = rt.alloc();
-    with_node(&rt, alloc, &among(0), |shared, pass| {
-        check_news(&rt, alloc, shared, pass)
-    });
-    with_node(&rt, alloc, &among(0), |shared, pass| {
-        check_answers(&rt, alloc, shared, pass)
-    });
+    let (shared, mut pass) = begun(&rt, alloc, &among(0));
+    check_news(&rt, alloc, &shared, &mut pass);
+    let_go(shared, pass);
+    let (shared, mut pass) = begun(&rt, alloc, &among(0));
+    check_answers(&rt, alloc, &shared, &mut pass);
+    let_go(shared, pass);
+}
+
+/// Whether a message is refused since the pass is spent.
+fn is_refused<R: Wait + Abort>(
+    rt: &R,
+    alloc: Global,
+    shared: &Shared,
+    pass: &mut Caller,
+    given: &Message,
+) -> bool
+    requires { Fits shared.now pass.old }
+{
+    let mut link = Fake::new(Mood::Willing);
+    let handler = Counting::new(Mood::Willing);
+    let now = moment(rt, 0);
+    let answer = serve_one(rt, alloc, shared, pass, &mut link, &handler, now, given);
+    assert!(rt; link.calls == 0);
+    answer.err() == Some(LockError::PassSpent)
 }
 
 /// Whether a request is refused since the pass is spent.
 fn is_spent<R: Wait + Abort>(rt: &R, alloc: Global, shared: &Shared, pass: &mut Caller) -> bool
     requires { Fits shared.now pass.old }
 {
-    let mut link = Fake::new(Mood::Willing);
-    let handler = Counting::new(Mood::Willing);
-    let now = moment(rt, 0);
     let given = request(rt, alloc, ONE, "body");
-    let answer = serve_one(rt, alloc, shared, pass, &mut link, &handler, now, &given);
-    assert!(rt; link.calls == 0);
-    matches!(&answer, Err(LockError::PassSpent))
+    let is_refused = is_refused(rt, alloc, shared, pass, &given);
+    drop(given);
+    is_refused
 }
 
 #[test]
@@ -421,9 +565,9 @@ fn a_spent_pass_is_refused(rt: HostRuntime) {
             turns,
             others: 0,
         };
-        let spent = with_node(&rt, alloc, &start, |shared, pass| {
-            is_spent(&rt, alloc, shared, pass)
-        });
+        let (shared, mut pass) = begun(&rt, alloc, &start);
+        let spent = is_spent(&rt, alloc, &shared, &mut pass);
+        let_go(shared, pass);
         assert!(rt; spent == wanted);
     }
 }

@@ -1,5 +1,4 @@
 //! Nodes that are shared. Where a growth is refused it is tried once more.
-ghost use denote.Ref.{Bor, MutBor};
 ghost use Rattle.std.specs.List.{All};
 ghost use Rattle.locked_node.specs.Passes.{Fits, IsNew};
 
@@ -82,18 +81,19 @@ fn meet<R: Wait + Abort>(rt: &R, shared: &Shared, pass: &mut Caller, others: u8)
     }
 }
 
-/// Has the node 10.0.0.1:1 at 7 go through this, with one pass.
-pub(crate) fn with_node<R: Wait + Abort, B, F: FnOnce(&Shared, &mut Caller) -> B>(
-    rt: &R,
-    alloc: Global,
-    start: &Start,
-    body: F,
-) -> B
-    requires { (s : Bor _) (p : MutBor _) → Fits s.now p.now → F.pre body s p }
+/// The node 10.0.0.1:1 at 7, with one pass.
+pub(crate) fn begun<R: Wait + Abort>(rt: &R, alloc: Global, start: &Start) -> (Shared, Caller)
+    ensures { Fits result.0 result.1 }
 {
     let (shared, mut pass) = alone(rt, alloc, start);
     meet(rt, &shared, &mut pass, start.others);
-    body(&shared, &mut pass)
+    (shared, pass)
+}
+
+/// Lets go of a node and its pass.
+pub(crate) fn let_go(shared: Shared, pass: Caller) {
+    drop(pass);
+    drop(shared);
 }
 
 /// The status that a node holds a member in.
@@ -107,7 +107,10 @@ pub(crate) fn status<R: Wait + Abort>(
     ensures { Fits shared.now pass.new }
 {
     let held = shared.member(rt, pass, member(rt, number));
-    held.ok().expect(rt, "a turn").map(|entry| entry.status)
+    match held.ok().expect(rt, "a turn") {
+        Some(entry) => Some(entry.status),
+        None => None,
+    }
 }
 
 /// Has the node leave, which is not refused.

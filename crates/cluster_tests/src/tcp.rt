@@ -124,19 +124,32 @@ fn try_call<
     let peer = peer.ok()?;
     let mut link = TcpLink::with_limits(rt, limits);
     let answer = link.call(rt, alloc, to, message);
-    let is_refused = matches!(&answer, Err(LinkError::Memory));
-    if is_refused {
+    let failures = link.failures();
+    drop(link);
+    if matches!(&answer, Err(LinkError::Memory)) {
         knock(rt, to);
     }
-    let line = peer.join(rt)?;
-    if is_refused {
-        return None;
+    called_so(answer, failures, peer.join(rt))
+}
+
+/// What a call came to; none where a growth was refused.
+fn called_so(
+    answer: Result<Message, LinkError>,
+    failures: u64,
+    line: Option<Vec<u8>>,
+) -> Option<Called> {
+    let is_refused = matches!(&answer, Err(LinkError::Memory));
+    match line {
+        Some(line) if !is_refused => Some(Called {
+            answer,
+            failures,
+            line,
+        }),
+        _ => {
+            drop(answer);
+            None
+        }
     }
-    Some(Called {
-        answer,
-        failures: link.failures(),
-        line,
-    })
 }
 
 /// The same; where a growth was refused, of another peer.
@@ -168,10 +181,25 @@ fn line_of(rt: &impl Abort, alloc: Global, message: &Message) -> Vec<u8> {
 fn ack_line(rt: &impl Abort, alloc: Global) -> Vec<u8> {
     let ack = message(rt, 3, Content::Ack(content(rt, alloc, &[])));
     let mut line = line_of(rt, alloc, &ack);
+    drop(ack);
     if line.push(b'\n').is_err() {
         line.push(b'\n').ok().expect(rt, "room");
     }
     line
+}
+
+/// Whether an answer is an Ack of this node.
+fn is_ack(answer: &Result<Message, LinkError>, from: Address) -> bool {
+    match answer {
+        Ok(message) => matches!(&message.content, Content::Ack(_)) && message.source == from,
+        Err(_) => false,
+    }
+}
+
+/// Checks that a peer has read this message, and has answered by an Ack of its own.
+fn check_called(rt: &impl Abort, alloc: Global, called: &Called, ping: &Message) {
+    assert!(rt; is_ack(&called.answer, member(rt, 3)) && called.failures == 0);
+    assert!(rt; called.line.as_slice() == line_of(rt, alloc, ping).as_slice());
 }
 
 #[test]
@@ -180,10 +208,33 @@ fn a_line_goes_out_and_a_line_comes_back(rt: HostRuntime) {
     let line = ack_line(&rt, alloc);
     let ping = ping(&rt, alloc);
     let called = call(&rt, alloc, patient(), &ping, AT_ONCE, line.as_slice());
-    let answer = called.answer.ok().expect(&rt, "an answer");
-    assert!(&rt; answer.source == member(&rt, 3) && matches!(&answer.content, Content::Ack(_)));
-    assert!(&rt; called.failures == 0);
-    assert!(&rt; called.line.as_slice() == line_of(&rt, alloc, &ping).as_slice());
+    check_called(&rt, alloc, &called, &ping);
+    drop(called);
+    drop(ping);
+}
+
+/// Why a call came to no answer, if it did not, and how often its link has failed.
+type Came = (Option<LinkError>, u64);
+
+fn outcome(called: Called) -> Came {
+    (called.answer.err(), called.failures)
+}
+
+/// What a ping comes to.
+fn ping_outcome<
+    R: Net<Listener = TcpListener, Stream = TcpStream>
+        + Threads
+        + Wait
+        + Clock
+        + Copy
+        + Send
+        + Abort
+        + 'static,
+>(rt: &R, alloc: Global, limits: Limits, drip: Drip, bytes: &[u8]) -> Came {
+    let ping = ping(rt, alloc);
+    let came = outcome(call(rt, alloc, limits, &ping, drip, bytes));
+    drop(ping);
+    came
 }
 
 #[test]
@@ -198,29 +249,23 @@ fn what_is_no_answer_is_a_fault(rt: HostRuntime) {
             0,
         ),
     ];
-    let limits = patient();
-    let ping = ping(&rt, rt.alloc());
     for (text, fault, counted) in rows {
-        let text = text.as_bytes();
-        let called = call(&rt, rt.alloc(), limits, &ping, AT_ONCE, text);
-        assert!(&rt; called.answer.err() == Some(fault) && called.failures == counted);
+        let came = ping_outcome(&rt, rt.alloc(), patient(), AT_ONCE, text.as_bytes());
+        assert!(&rt; came == (Some(fault), counted));
     }
 }
 
 #[test]
 fn an_answer_may_be_cut_anywhere(rt: HostRuntime) {
     let alloc: Global = rt.alloc();
-    let limits = patient();
-    let ping = ping(&rt, alloc);
     let mut line = ack_line(&rt, alloc);
     let _newline = line.pop();
-    let whole = call(&rt, alloc, limits, &ping, AT_ONCE, line.as_slice());
-    assert!(&rt; whole.answer.is_ok() && whole.failures == 0);
+    let whole = ping_outcome(&rt, alloc, patient(), AT_ONCE, line.as_slice());
+    assert!(&rt; whole == (None, 0));
     for _ in 1..line.len() {
         let _last = line.pop();
-        let called = call(&rt, alloc, limits, &ping, AT_ONCE, line.as_slice());
-        let fault = LinkError::Wire(WireError::BadJson);
-        assert!(&rt; called.answer.err() == Some(fault) && called.failures == 0);
+        let came = ping_outcome(&rt, alloc, patient(), AT_ONCE, line.as_slice());
+        assert!(&rt; came == (Some(LinkError::Wire(WireError::BadJson)), 0));
     }
 }
 
@@ -236,9 +281,8 @@ fn slowly() -> Drip {
 fn a_peer_that_drips_is_left_at_the_limit(rt: HostRuntime) {
     let alloc: Global = rt.alloc();
     let line = ack_line(&rt, alloc);
-    let ping = ping(&rt, alloc);
-    let called = call(&rt, alloc, short_pings(), &ping, slowly(), line.as_slice());
-    assert!(&rt; called.answer.err() == Some(LinkError::Io) && called.failures == 1);
+    let came = ping_outcome(&rt, alloc, short_pings(), slowly(), line.as_slice());
+    assert!(&rt; came == (Some(LinkError::Io), 1));
 }
 
 #[test]
@@ -255,7 +299,8 @@ fn a_helper_has_longer_than_a_pinged_node(rt: HostRuntime) {
         slowly(),
         line.as_slice(),
     );
-    assert!(&rt; called.answer.is_ok() && called.failures == 0);
+    assert!(&rt; outcome(called) == (None, 0));
+    drop(request);
 }
 
 /// So many letters.
@@ -274,7 +319,8 @@ fn an_answer_may_be_too_long(rt: HostRuntime) {
     let request = message(&rt, 9, Content::NotOwner);
     let called = call(&rt, alloc, patient(), &request, AT_ONCE, endless.as_slice());
     let too_long = LinkError::Wire(WireError::LineTooLong);
-    assert!(&rt; called.answer.err() == Some(too_long) && called.failures == 0);
+    assert!(&rt; outcome(called) == (Some(too_long), 0));
+    drop(request);
 }
 
 /// The address of a port where nobody listens.
@@ -319,11 +365,25 @@ fn check_failing<R: Net<Listener = TcpListener, Stream = TcpStream> + Wait + Clo
         let fault = fault(rt, alloc, &mut link, to, &ping);
         assert!(rt; fault == Some(LinkError::Io) && link.failures() == failures);
     }
+    drop(ping);
 }
 
 #[test]
 fn nobody_listens(rt: HostRuntime) {
     check_failing(&rt, rt.alloc(), nobody_at(&rt));
+}
+
+/// Checks that a link that is spent asks nobody.
+fn check_spent<R: Net<Listener = TcpListener, Stream = TcpStream> + Wait + Clock + Abort>(
+    rt: &R,
+    alloc: Global,
+    to: Address,
+) {
+    let mut link = TcpLink::new(rt).after_failures(u64::MAX);
+    let ping = ping(rt, alloc);
+    let fault = link.call(rt, alloc, to, &ping).err();
+    drop(ping);
+    assert!(rt; fault == Some(LinkError::Spent) && link.failures() == u64::MAX);
 }
 
 /// Whether the first that connects where a spent link was to send is one that knocks.
@@ -334,9 +394,7 @@ fn sends_nothing<R: Net<Listener = TcpListener, Stream = TcpStream> + Wait + Clo
     let listener = TcpListener::bind(rt, "127.0.0.1:0").ok()?;
     let port = listener.local_addr().ok()?.port();
     let to = Address::new(0x7f00_0001, port)?;
-    let mut link = TcpLink::new(rt).after_failures(u64::MAX);
-    let answer = link.call(rt, alloc, to, &ping(rt, alloc));
-    assert!(rt; matches!(&answer, Err(LinkError::Spent)) && link.failures() == u64::MAX);
+    check_spent(rt, alloc, to);
     let wait = Duration::from_secs(10);
     let mut knocks = TcpStream::connect_timeout(rt, &socket_address(to), wait).ok()?;
     knocks.write_all(b"knock\n").ok()?;
@@ -347,7 +405,10 @@ fn sends_nothing<R: Net<Listener = TcpListener, Stream = TcpStream> + Wait + Clo
 #[test]
 fn a_spent_link_sends_nothing(rt: HostRuntime) {
     let alloc: Global = rt.alloc();
-    let is_first = sends_nothing(&rt, alloc).or_else(|| sends_nothing(&rt, alloc));
+    let is_first = match sends_nothing(&rt, alloc) {
+        Some(is_first) => Some(is_first),
+        None => sends_nothing(&rt, alloc),
+    };
     assert!(&rt; is_first == Some(true));
 }
 
@@ -359,6 +420,7 @@ fn a_message_too_long_is_not_sent(rt: HostRuntime) {
     let request = request(&rt, alloc, ("a", "b"), body);
     let mut link = TcpLink::new(&rt);
     let fault = fault(&rt, alloc, &mut link, nobody_at(&rt), &request);
+    drop(request);
     assert!(&rt; fault == Some(LinkError::Wire(WireError::LineTooLong)));
     assert!(&rt; link.failures() == 0);
 }

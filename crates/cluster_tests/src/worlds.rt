@@ -114,7 +114,7 @@ impl World {
 
     /// Puts a node back, and notes what it says of itself.
     fn come_back(&mut self, node: NodeState<SumHash>) -> bool {
-        self.say(node.own()) && self.nodes.push(node).is_ok()
+        self.say(node.own()) && self.nodes.push(node).ok().is_some()
     }
 
     /// Notes what a member says of itself.
@@ -148,7 +148,7 @@ impl World {
     /// Holds a message back.
     fn hold(&mut self, alloc: Global, to: Address, message: &Message) -> bool {
         match encode(alloc, message) {
-            Ok(line) => self.held.push(Held { to, line }).is_ok(),
+            Ok(line) => self.held.push(Held { to, line }).ok().is_some(),
             Err(_) => false,
         }
     }
@@ -196,8 +196,7 @@ fn serve_by<R: Wait, L: Link>(
 ) -> Option<(NodeState<SumHash>, Message)> {
     let (shared, mut pass, passes) = lock(alloc, node)?;
     let answer = serve_one(rt, alloc, &shared, &mut pass, link, &WILLING, now, message);
-    let node = unlock(shared, pass, passes)?;
-    Some((node, answer.ok()?))
+    unlock(shared, pass, passes).zip(answer.ok())
 }
 
 /// What the node of an address answers, if it is there, by way of this link.
@@ -213,10 +212,10 @@ fn answer_near<R: Wait>(
     let mut nobody = Fake::new(Mood::Broken);
     let (node, answer) = serve_by(rt, alloc, node, &mut nobody, now, message)?;
     if world.come_back(node) {
-        Some(answer)
-    } else {
-        None
+        return Some(answer);
     }
+    drop(answer);
+    None
 }
 
 /// How a helper reaches a target: one message in four is lost.
@@ -278,10 +277,10 @@ fn answer_far<R: Wait>(
         world.happened.refuted = true;
     }
     if world.come_back(node) {
-        Some(answer)
-    } else {
-        None
+        return Some(answer);
     }
+    drop(answer);
+    None
 }
 
 /// What comes of a message: it is lost, held back, answered in vain, answered twice, or answered.
@@ -302,12 +301,12 @@ fn deliver<R: Wait>(
             None
         }
         2 => {
-            let _unheard = answer_far(rt, alloc, world, to, message);
+            drop(answer_far(rt, alloc, world, to, message));
             world.happened.unheard = true;
             None
         }
         3 => {
-            let _first = answer_far(rt, alloc, world, to, message);
+            drop(answer_far(rt, alloc, world, to, message));
             world.happened.repeated = true;
             answer_far(rt, alloc, world, to, message)
         }
@@ -379,8 +378,12 @@ fn round_by<R: Wait>(
     };
     let round = gossip_round(rt, alloc, &shared, &mut pass, &mut link, now);
     let is_ended = note_round(world, round);
-    let node = unlock(shared, pass, passes)?;
-    if is_ended { Some(node) } else { None }
+    let node = unlock(shared, pass, passes);
+    if is_ended {
+        return node;
+    }
+    drop(node);
+    None
 }
 
 /// A join of a node with all three addresses, its own among them, and the node after it.
@@ -417,17 +420,22 @@ fn all(rt: &impl Abort) -> [Address; 3] {
     [member(rt, 1), member(rt, 2), member(rt, 3)]
 }
 
+/// Has a message that was held back come.
+fn deliver_held<R: Wait>(rt: &R, alloc: Global, world: &mut World, to: Address, line: &[u8]) {
+    if let Ok(message) = decode(alloc, line) {
+        drop(answer_far(rt, alloc, world, to, &message));
+        drop(message);
+        world.happened.late = true;
+    }
+}
+
 /// One message that was held back comes, perhaps.
 fn release<R: Wait>(rt: &R, alloc: Global, world: &mut World) {
     if world.dice.next_u32() % 2 == 0 {
         return;
     }
-    let Some(held) = world.held.pop() else {
-        return;
-    };
-    if let Ok(message) = decode(alloc, held.line.as_slice()) {
-        let _answer = answer_far(rt, alloc, world, held.to, &message);
-        world.happened.late = true;
+    if let Some(held) = world.held.pop() {
+        deliver_held(rt, alloc, world, held.to, held.line.as_slice());
     }
 }
 
@@ -475,6 +483,39 @@ fn has_buried(world: &World, node: &NodeState<SumHash>) -> bool {
     false
 }
 
+/// The node after it started anew and joined; none where a growth was refused.
+fn start_anew<R: Wait + Abort>(
+    rt: &R,
+    alloc: Global,
+    number: u8,
+    old: NodeState<SumHash>,
+    world: &mut World,
+) -> Option<NodeState<SumHash>> {
+    let node = restarted(rt, alloc, number, &old, world);
+    drop(old);
+    if world.say(node.own()) {
+        return join_by(rt, alloc, node, world, &all(rt));
+    }
+    drop(node);
+    None
+}
+
+/// The node after it left or came back; none where that was refused.
+fn turned(world: &mut World, node: NodeState<SumHash>) -> Option<NodeState<SumHash>> {
+    let mut node = node;
+    if turn_round(world, &mut node) {
+        return Some(node);
+    }
+    drop(node);
+    None
+}
+
+/// Puts a node back after its step. Whether all three are there.
+fn end_step(world: &mut World, node: NodeState<SumHash>) -> bool {
+    world.happened.buried = world.happened.buried || has_buried(world, &node);
+    world.come_back(node) && world.nodes.len() == 3
+}
+
 /// One step of a node: it starts anew and joins, leaves or comes back, or makes a round.
 fn step<R: Wait + Abort>(rt: &R, alloc: Global, world: &mut World, number: u8) -> bool {
     let later = world.now.number().wrapping_add(200);
@@ -484,28 +525,12 @@ fn step<R: Wait + Abort>(rt: &R, alloc: Global, world: &mut World, number: u8) -
         return false;
     };
     let after = match world.dice.next_u32() % 64 {
-        0 => {
-            let node = restarted(rt, alloc, number, &node, world);
-            if !world.say(node.own()) {
-                return false;
-            }
-            join_by(rt, alloc, node, world, &all(rt))
-        }
-        1 => {
-            let mut node = node;
-            if turn_round(world, &mut node) {
-                Some(node)
-            } else {
-                None
-            }
-        }
+        0 => start_anew(rt, alloc, number, node, world),
+        1 => turned(world, node),
         _ => round_by(rt, alloc, node, world),
     };
     match after {
-        Some(node) => {
-            world.happened.buried = world.happened.buried || has_buried(world, &node);
-            world.come_back(node) && world.nodes.len() == 3
-        }
+        Some(node) => end_step(world, node),
         None => false,
     }
 }
@@ -542,17 +567,42 @@ fn are_founded(world: &World) -> bool {
     true
 }
 
+/// The answer to a message, if there is one.
+fn answered(received: Received) -> Option<Message> {
+    match received {
+        Received::Answer(_, answer) => Some(answer),
+        _ => None,
+    }
+}
+
+/// How many changes of an answer altered an entry; none where that was not taken.
+fn applied(received: Received) -> Option<usize> {
+    match received {
+        Received::Done(taken) => Some(taken.applied),
+        _ => None,
+    }
+}
+
+/// What a node makes of a message; none where there is no such node.
+fn receive(world: &mut World, at: usize, message: &Message) -> Option<Received> {
+    let now = world.now;
+    Some(world.nodes.get_mut(at)?.receive(message, now))
+}
+
+/// All that a node holds, as it answers a join of another; none where a growth was refused.
+fn joined_by(world: &mut World, from: usize, to: usize) -> Option<Message> {
+    let join = world.nodes.get(to)?.join_message().ok()?;
+    let joined = receive(world, from, &join);
+    drop(join);
+    answered(joined?)
+}
+
 /// Has a node take all that another holds: how many changes altered an entry; none where a growth was refused.
 fn synchronise(world: &mut World, from: usize, to: usize) -> Option<usize> {
-    let now = world.now;
-    let join = world.nodes.get(to)?.join_message().ok()?;
-    let Received::Answer(_, joined) = world.nodes.get_mut(from)?.receive(&join, now) else {
-        return None;
-    };
-    let Received::Done(taken) = world.nodes.get_mut(to)?.receive(&joined, now) else {
-        return None;
-    };
-    Some(taken.applied)
+    let joined = joined_by(world, from, to)?;
+    let received = receive(world, to, &joined);
+    drop(joined);
+    applied(received?)
 }
 
 /// Synchronises each two nodes once: whether that altered anything.
@@ -599,30 +649,47 @@ fn begin(rt: &impl Abort, alloc: Global, seed: u64) -> Option<World> {
     Some(world)
 }
 
-/// So many steps of a world, then synchronisations until nothing is altered; none where a growth was refused.
-fn run<R: Wait + Abort>(rt: &R, alloc: Global, seed: u64, steps: u32) -> Option<()> {
-    let mut world = begin(rt, alloc, seed)?;
+/// Makes so many steps, after each of which nobody holds what was not said; none where a growth was refused.
+fn play<R: Wait + Abort>(
+    rt: &R,
+    alloc: Global,
+    world: &mut World,
+    seed: u64,
+    steps: u32,
+) -> Option<()> {
     for at in 0..steps {
         let number = (at % 3) as u8 + 1;
-        if !step(rt, alloc, &mut world, number) {
+        if !step(rt, alloc, world, number) {
             return None;
         }
-        if !are_founded(&world) {
+        if !are_founded(world) {
             panic!(rt; "seed {seed}, step {at}: an entry that nobody said");
         }
     }
     if world.happened != EVERYTHING {
         panic!(rt; "seed {seed}: too little happened");
     }
+    Some(())
+}
+
+/// Synchronises until nothing is altered, and checks that all hold the same; none where a growth was refused.
+fn come_to_agree(rt: &impl Abort, world: &mut World, seed: u64) -> Option<()> {
     for _ in 0..9 {
-        if !mingle(&mut world)? {
+        if !mingle(world)? {
             break;
         }
     }
-    if !agree(&world)? {
+    if !agree(world)? {
         panic!(rt; "seed {seed}: the digests differ");
     }
     Some(())
+}
+
+/// So many steps of a world, then synchronisations until nothing is altered; none where a growth was refused.
+fn run<R: Wait + Abort>(rt: &R, alloc: Global, seed: u64, steps: u32) -> Option<()> {
+    let mut world = begin(rt, alloc, seed)?;
+    play(rt, alloc, &mut world, seed, steps)?;
+    come_to_agree(rt, &mut world, seed)
 }
 
 #[test]

@@ -1,6 +1,6 @@
 ghost use Rattle.std.specs.Prelude.{◌%◌, ◌^◌, sum};
 
-use crate::views::{A, B, C, Views, address, keys, moment, view, with_views};
+use crate::views::{A, B, C, Views, address, keys, moment, view, views_of};
 use change_core::Status;
 use forward_core::{Attempt, Decision, ForwardError, MOST_SENDS, Route, route_keys};
 use hash_ring::{PointHash, SumHash};
@@ -23,21 +23,27 @@ fn check_route(
 ) {
     let first = texts.first().copied().unwrap_or("");
     let keys = keys(rt, alloc, texts);
-    assert_eq!(rt; route_keys(view, &keys), wanted, "of {first}");
+    let route = route_keys(view, &keys);
+    drop(keys);
+    assert!(rt; route == wanted, "of {first}");
+}
+
+/// The route to this member.
+fn route_to(rt: &impl Abort, text: &str) -> Result<Route, ForwardError> {
+    Ok(Route::To(address(rt, text)))
 }
 
 /// Checks the keys of each view.
 fn check_routes(rt: &impl Abort, alloc: Global, views: &Views) {
     let (three, two, none) = (&views.three, &views.two, &views.none);
-    let to = |text: &str| Ok(Route::To(address(rt, text)));
     let rows: [(&View<SumHash>, &[&str], Result<Route, ForwardError>); 8] = [
         (three, &["zzzz0"], Ok(Route::Here)),
-        (three, &["zzzz1"], to(B)),
-        (three, &["zzzz1", "zzzz1", "zzzz1"], to(B)),
+        (three, &["zzzz1"], route_to(rt, B)),
+        (three, &["zzzz1", "zzzz1", "zzzz1"], route_to(rt, B)),
         (three, &["zzzz1", "zzzz2"], Err(ForwardError::Diverged)),
         (three, &["zzzz0", "", "zzzz1"], Err(ForwardError::Diverged)),
         (two, &["zzzz0", ""], Ok(Route::Here)),
-        (two, &["zzzz1", "zzzz2"], to(C)),
+        (two, &["zzzz1", "zzzz2"], route_to(rt, C)),
         (none, &["zzzz1", "zzzz2"], Ok(Route::Nobody)),
     ];
     for (view, texts, wanted) in &rows {
@@ -47,9 +53,9 @@ fn check_routes(rt: &impl Abort, alloc: Global, views: &Views) {
 
 #[test]
 fn one_owner_of_all_keys(rt: HostRuntime) {
-    with_views(&rt, rt.alloc(), Status::Suspect, |views| {
-        check_routes(&rt, rt.alloc(), views)
-    });
+    let views = views_of(&rt, rt.alloc(), Status::Suspect);
+    check_routes(&rt, rt.alloc(), &views);
+    drop(views);
 }
 
 /// A call of an attempt, and what it is to answer.
@@ -66,21 +72,43 @@ fn to(rt: &impl Abort, text: &str) -> Result<Decision, ForwardError> {
     Ok(Decision::Send(address(rt, text)))
 }
 
+/// Checks what `ready` answers, and that no more than a `Send` counts a send.
+fn check_ready(
+    rt: &impl Abort,
+    attempt: &mut Attempt,
+    view: &View<SumHash>,
+    now: u64,
+    wanted: Result<Decision, ForwardError>,
+) {
+    let sends = u32::from(matches!(wanted, Ok(Decision::Send(_))));
+    let sends = attempt.sends().wrapping_add(sends);
+    let answer = attempt.ready(view, moment(rt, now));
+    assert!(rt;
+        answer == wanted && attempt.sends() == sends,
+        "ready at {now}"
+    );
+}
+
+/// Checks what `failed` answers, and that it counts no send.
+fn check_failed(
+    rt: &impl Abort,
+    attempt: &mut Attempt,
+    now: u64,
+    wanted: Result<(), ForwardError>,
+) {
+    let sends = attempt.sends();
+    let answer = attempt.failed(moment(rt, now));
+    assert!(rt;
+        answer == wanted && attempt.sends() == sends,
+        "failed at {now}"
+    );
+}
+
 /// Makes a call, and checks its answer, and that a refused `ready`, a `Wait` and a `Here` count no send.
 fn check_call(rt: &impl Abort, attempt: &mut Attempt, call: &Call) {
-    let before = attempt.sends();
     match call {
-        Call::Ready(view, now, wanted) => {
-            let answer = attempt.ready(*view, moment(rt, *now));
-            assert_eq!(rt; answer, *wanted, "ready at {now}");
-            let one = matches!(wanted, Ok(Decision::Send(_)));
-            assert_eq!(rt; attempt.sends(), before.wrapping_add(u32::from(one)));
-        }
-        Call::Failed(now, wanted) => {
-            let answer = attempt.failed(moment(rt, *now));
-            assert_eq!(rt; answer, *wanted, "failed at {now}");
-            assert_eq!(rt; attempt.sends(), before);
-        }
+        Call::Ready(view, now, wanted) => check_ready(rt, attempt, *view, *now, *wanted),
+        Call::Failed(now, wanted) => check_failed(rt, attempt, *now, *wanted),
     }
 }
 
@@ -99,7 +127,9 @@ fn check_calls(rt: &impl Abort, attempt: Attempt, calls: &[Call]) -> Attempt {
 fn attempt_of(rt: &impl Abort, alloc: Global, texts: &[&str], calls: &[Call]) -> (u32, usize) {
     let attempt = Attempt::start(keys(rt, alloc, texts));
     let attempt = check_calls(rt, attempt, calls);
-    (attempt.sends(), attempt.keys().len())
+    let counts = (attempt.sends(), attempt.keys().len());
+    drop(attempt);
+    counts
 }
 
 /// Checks an attempt that fails each time.
@@ -126,9 +156,9 @@ fn check_failing(rt: &impl Abort, alloc: Global, views: &Views) {
 
 #[test]
 fn an_attempt_is_sent_four_times(rt: HostRuntime) {
-    with_views(&rt, rt.alloc(), Status::Alive, |views| {
-        check_failing(&rt, rt.alloc(), views)
-    });
+    let views = views_of(&rt, rt.alloc(), Status::Alive);
+    check_failing(&rt, rt.alloc(), &views);
+    drop(views);
 }
 
 /// Checks an attempt whose owner changes.
@@ -162,10 +192,10 @@ fn check_here(rt: &impl Abort, alloc: Global, views: &Views) {
 
 #[test]
 fn the_owner_is_looked_up_each_time(rt: HostRuntime) {
-    with_views(&rt, rt.alloc(), Status::Alive, |views| {
-        check_owners(&rt, rt.alloc(), views);
-        check_here(&rt, rt.alloc(), views)
-    });
+    let views = views_of(&rt, rt.alloc(), Status::Alive);
+    check_owners(&rt, rt.alloc(), &views);
+    check_here(&rt, rt.alloc(), &views);
+    drop(views);
 }
 
 /// Checks an attempt at two keys, of one owner or of two.
@@ -186,9 +216,9 @@ fn check_two_keys(rt: &impl Abort, alloc: Global, views: &Views) {
 
 #[test]
 fn an_attempt_waits_for_one_owner(rt: HostRuntime) {
-    with_views(&rt, rt.alloc(), Status::Alive, |views| {
-        check_two_keys(&rt, rt.alloc(), views)
-    });
+    let views = views_of(&rt, rt.alloc(), Status::Alive);
+    check_two_keys(&rt, rt.alloc(), &views);
+    drop(views);
 }
 
 /// A sum of bytes that counts how often it is asked for.
@@ -221,8 +251,10 @@ fn count_routing<'a>(
     for (texts, wanted, hashes) in &rows {
         let keys = keys(rt, alloc, texts.as_slice());
         let before = calls.load(Ordering::SeqCst);
-        assert_eq!(rt; route_keys(view, &keys), *wanted);
-        assert_eq!(rt; calls.load(Ordering::SeqCst), before.wrapping_add(*hashes));
+        let route = route_keys(view, &keys);
+        let counted = calls.load(Ordering::SeqCst);
+        drop(keys);
+        assert!(rt; route == *wanted && counted == before.wrapping_add(*hashes));
     }
 }
 
@@ -235,8 +267,9 @@ fn count_attempt<'a>(
 ) {
     let before = calls.load(Ordering::SeqCst);
     for wanted in [to(rt, C), Err(ForwardError::InFlight)] {
-        assert_eq!(rt; attempt.ready(view, moment(rt, 0)), wanted);
-        assert_eq!(rt; calls.load(Ordering::SeqCst), before.wrapping_add(3));
+        let answer = attempt.ready(view, moment(rt, 0));
+        let counted = calls.load(Ordering::SeqCst);
+        assert!(rt; answer == wanted && counted == before.wrapping_add(3));
     }
 }
 
@@ -245,6 +278,7 @@ fn count<'a>(rt: &impl Abort, alloc: Global, view: &View<CountingHash<'a>>, call
     count_routing(rt, alloc, view, calls);
     let mut attempt = Attempt::start(keys(rt, alloc, &["zzzz1", "zzzz2", "zzzy3"]));
     count_attempt(rt, &mut attempt, view, calls);
+    drop(attempt);
 }
 
 #[test]
@@ -254,4 +288,5 @@ fn each_key_is_hashed_once(rt: HostRuntime) {
     let two = [(B, Status::Faulty), (C, Status::Alive)];
     let view = view(&rt, rt.alloc(), hash, A, &two);
     count(&rt, rt.alloc(), &view, &calls);
+    drop(view);
 }

@@ -97,7 +97,9 @@ pub(crate) fn view<H: PointHash>(
     members: &[(&str, Status)],
 ) -> View<H> {
     let mut node = node(rt, alloc, hash, own);
-    view_with(rt, &mut node, members)
+    let view = view_with(rt, &mut node, members);
+    drop(node);
+    view
 }
 
 fn leave(node: &mut NodeState<SumHash>) -> Result<Change, NodeError> {
@@ -116,7 +118,9 @@ fn view_after_leave(rt: &impl Abort, node: &mut NodeState<SumHash>) -> View<SumH
 /// The view of a node that has left, and knows nobody else.
 fn left(rt: &impl Abort, alloc: Global) -> View<SumHash> {
     let mut node = node(rt, alloc, SumHash, A);
-    view_after_leave(rt, &mut node)
+    let view = view_after_leave(rt, &mut node);
+    drop(node);
+    view
 }
 
 /// The views of three nodes and of one that has left, by the sum of bytes.
@@ -133,7 +137,7 @@ pub(crate) struct Views {
 }
 
 /// The views, the first with C of this status.
-fn make_views(rt: &impl Abort, alloc: Global, status: Status) -> Views {
+pub(crate) fn views_of(rt: &impl Abort, alloc: Global, status: Status) -> Views {
     let faulty = Status::Faulty;
     let alive = Status::Alive;
     Views {
@@ -142,19 +146,6 @@ fn make_views(rt: &impl Abort, alloc: Global, status: Status) -> Views {
         at_c: view(rt, alloc, SumHash, C, &[(B, faulty), (A, alive)]),
         none: left(rt, alloc),
     }
-}
-
-/// Has the views go through this, the first with C of this status.
-pub(crate) fn with_views<F: FnMut(&Views)>(
-    rt: &impl Abort,
-    alloc: Global,
-    status: Status,
-    mut body: F,
-)
-    requires { F.IsAlwaysCallable body }
-{
-    let views = make_views(rt, alloc, status);
-    body(&views);
 }
 
 fn text(rt: &impl Abort, alloc: Global, text: &str) -> Text {

@@ -67,6 +67,21 @@ fn ask<R: Wait + Abort>(
     asked
 }
 
+/// Checks what is asked once and again where there was no memory: that it comes to this end, with these bytes written. How often the
+/// peer was asked.
+fn check<R: Wait + Abort>(
+    rt: &R,
+    alloc: Global,
+    question: Question,
+    mood: Mood,
+    wanted: Result<(), AskFault>,
+    text: &str,
+) -> u32 {
+    let (ended, out, calls) = ask(rt, alloc, question, mood, ALL);
+    assert!(rt; ended == wanted && out.as_slice() == text.as_bytes());
+    calls
+}
+
 #[test]
 fn ask_writes_the_reply_alone(rt: HostRuntime) {
     let rows = [
@@ -92,8 +107,7 @@ fn ask_writes_the_reply_alone(rt: HostRuntime) {
         (Mood::Starved, Err(AskFault::NoMemory), ""),
     ];
     for (mood, wanted, text) in rows {
-        let (ended, out, calls) = ask(&rt, rt.alloc(), Question::Ask, mood, ALL);
-        assert!(&rt; ended == wanted && out.as_slice() == text.as_bytes());
+        let calls = check(&rt, rt.alloc(), Question::Ask, mood, wanted, text);
         assert!(&rt; calls <= 1);
     }
 }
@@ -126,8 +140,7 @@ fn shows<R: Wait + Abort>(
     wanted: Result<(), AskFault>,
     text: &str,
 ) {
-    let (ended, out, calls) = ask(rt, alloc, Question::Members(lines), mood, ALL);
-    assert!(rt; ended == wanted && out.as_slice() == text.as_bytes());
+    let calls = check(rt, alloc, Question::Members(lines), mood, wanted, text);
     assert!(rt; calls == 1);
 }
 
@@ -177,20 +190,19 @@ fn the_owner_is_asked_twice_at_most(rt: HostRuntime) {
     ];
     for (held, declined, wanted, text, asked) in rows {
         let mood = holds(&rt, held, Word::Mine(declined));
-        let (ended, out, calls) = ask(&rt, rt.alloc(), Question::AskAny("k"), mood, ALL);
-        assert!(&rt; ended == wanted && out.as_slice() == text.as_bytes());
+        let calls = check(&rt, rt.alloc(), Question::AskAny("k"), mood, wanted, text);
         assert!(&rt; calls == asked);
     }
     let mood = holds(&rt, Held::Two, Word::Mine(0));
-    let (ended, out, _) = ask(&rt, rt.alloc(), Question::AskAny("b"), mood, ALL);
-    assert!(&rt; ended.is_ok() && out.as_slice() == b"mine 10.0.0.1:1\n".as_slice());
+    let by_b = Question::AskAny("b");
+    check(&rt, rt.alloc(), by_b, mood, Ok(()), "mine 10.0.0.1:1\n");
 }
 
 #[test]
 fn the_second_try_asks_the_owner_by_the_second_membership(rt: HostRuntime) {
     let mood = Mood::Learns(digest(&rt, OF_ALONE), digest(&rt, OF_TWO));
-    let (ended, out, calls) = ask(&rt, rt.alloc(), Question::AskAny("k"), mood, ALL);
-    assert!(&rt; ended.is_ok() && out.as_slice() == b"mine 10.0.0.2:1\n".as_slice());
+    let by_k = Question::AskAny("k");
+    let calls = check(&rt, rt.alloc(), by_k, mood, Ok(()), "mine 10.0.0.2:1\n");
     assert!(&rt; calls == 4);
 }
 
@@ -210,10 +222,23 @@ fn no_request_is_sent_twice_but_to_another_owner(rt: HostRuntime) {
         ),
     ];
     for (mood, fault, asked) in rows {
-        let (ended, out, calls) = ask(&rt, rt.alloc(), Question::AskAny("k"), mood, ALL);
-        assert!(&rt; ended == Err(fault) && out.is_empty());
+        let calls = check(&rt, rt.alloc(), Question::AskAny("k"), mood, Err(fault), "");
         assert!(&rt; calls == asked);
     }
+}
+
+/// Checks that a writer with this room fails with a front of the text.
+fn check_front<R: Wait + Abort>(
+    rt: &R,
+    alloc: Global,
+    question: Question,
+    mood: Mood,
+    text: &str,
+    room: usize,
+) {
+    let (ended, out, _) = ask(rt, alloc, question, mood, room);
+    assert!(rt; ended == Err(AskFault::CannotWrite));
+    assert!(rt; Some(out.as_slice()) == text.as_bytes().get(..room));
 }
 
 #[test]
@@ -227,9 +252,7 @@ fn a_writer_that_fails_has_a_front(rt: HostRuntime) {
     ];
     for (question, mood, text) in rows {
         for room in 0..text.len() {
-            let (ended, out, _) = ask(&rt, rt.alloc(), question, mood, room);
-            assert!(&rt; ended == Err(AskFault::CannotWrite));
-            assert!(&rt; Some(out.as_slice()) == text.as_bytes().get(..room));
+            check_front(&rt, rt.alloc(), question, mood, text, room);
         }
     }
 }

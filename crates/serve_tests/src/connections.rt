@@ -30,21 +30,30 @@ pub(crate) fn node_of_two(
     suspect_ms: u64,
     status: Status,
 ) -> Option<NodeState<SumHash>> {
-    let mut node = node(alloc, suspect_ms)?;
     let (other, first) = (local(29_170)?, Incarnation::new(1)?);
+    let (weight, now) = (Weight::new(1)?, Moment::new(0)?);
     let change = Change {
         address: other,
         incarnation: first,
         status,
-        weight: Weight::new(1)?,
+        weight,
     };
     let given = [Sourced {
         change,
         source: other,
         source_incarnation: first,
     }];
-    node.take(&given, Moment::new(0)?).ok()?;
+    let mut node = node(alloc, suspect_ms)?;
+    node.take(&given, now).ok()?;
     Some(node)
+}
+
+/// A node that was told nothing, or that 127.0.0.1:29170 is this; none where there is no memory for it.
+fn node_told(alloc: Global, suspect_ms: u64, told: Option<Status>) -> Option<NodeState<SumHash>> {
+    match told {
+        Some(status) => node_of_two(alloc, suspect_ms, status),
+        None => node(alloc, suspect_ms),
+    }
 }
 
 /// Whether a node of a server has an entry that is due at this moment, or at the last one at which it was called, where that is later;
@@ -68,22 +77,25 @@ pub(crate) fn is_due<R: Wait>(
 type Served = (u64, usize, Option<bool>);
 
 /// The millisecond at which a server with the standard waits has served a peer of this manner, how many bytes of its answer that has
-/// taken, and whether its node then has an entry that is due; none where there was no memory.
+/// taken, and whether its node, which was told so at 0, then has an entry that is due; none where there was no memory.
 fn serve<R: Net<Listener = TcpListener, Stream = TcpStream> + Wait>(
     rt: &R,
     alloc: Global,
-    node: Option<NodeState<SumHash>>,
+    suspect_ms: u64,
+    told: Option<Status>,
     manner: Manner,
 ) -> Option<Served> {
+    let own = local(29_177)?;
     let listener = TcpListener::bind(rt, "127.0.0.1:0").ok()?;
-    let Ok((node, mut pass, _others)) = share(alloc, node?, 0) else {
+    let node = node_told(alloc, suspect_ms, told)?;
+    let Ok((node, mut pass, _others)) = share(alloc, node, 0) else {
         return None;
     };
     let peer = Peer::new(manner);
     let (town, links) = (Town { rt, peer: &peer }, Town { rt, peer: &peer });
     let mut link = TcpLink::with_limits(links, Limits::standard());
     let (watch, waits) = (Watch::start(&town), Waits::standard());
-    let server = Server::new(node, local(29_177)?, watch, waits, listener, 1);
+    let server = Server::new(node, own, watch, waits, listener, 1);
     let stream = Wire { peer: &peer };
     serve_connection(&server, &mut pass, &town, alloc, &mut link, stream);
     let is_due = is_due(rt, &server, &mut pass, 0);
@@ -96,7 +108,7 @@ fn serve_alone<R: Net<Listener = TcpListener, Stream = TcpStream> + Wait>(
     alloc: Global,
     manner: Manner,
 ) -> Option<Served> {
-    serve(rt, alloc, node(alloc, 5_000), manner)
+    serve(rt, alloc, 5_000, None, manner)
 }
 
 /// A line of 64 letters that is no message.
@@ -155,8 +167,7 @@ fn is_due_behind<R: Net<Listener = TcpListener, Stream = TcpStream> + Wait>(
         by,
         ..SILENT
     };
-    let node = node_of_two(alloc, 400, Status::Suspect);
-    let (_over, _taken, is_due) = serve(rt, alloc, node, asking)?;
+    let (_over, _taken, is_due) = serve(rt, alloc, 400, Some(Status::Suspect), asking)?;
     is_due
 }
 

@@ -22,18 +22,20 @@ enum Question {
 
 /// The message that asks this; none where there is no memory for it.
 fn message(alloc: Global, question: Question) -> Option<Message> {
+    let (source, target) = (Address::new(0x0a00_0009, 1)?, Address::new(0x0a00_0002, 1)?);
+    let source_incarnation = Incarnation::new(1)?;
     let news = News {
         checksum: Digest::new([0; 32]),
         changes: Changes::from_slice(alloc, &[]).ok()?,
     };
     let content = match question {
         Question::Ping => Content::Ping(news),
-        Question::PingReq => Content::PingReq(news, Address::new(0x0a00_0002, 1)?),
+        Question::PingReq => Content::PingReq(news, target),
         Question::Join => Content::Join(news),
     };
     Some(Message {
-        source: Address::new(0x0a00_0009, 1)?,
-        source_incarnation: Incarnation::new(1)?,
+        source,
+        source_incarnation,
         content,
     })
 }
@@ -55,6 +57,7 @@ fn call_once<R: Wait>(rt: &R, alloc: Global, question: Question, manner: Manner)
     let peer = Peer::new(manner);
     let mut link = TcpLink::new(Town { rt, peer: &peer });
     let fault = link.call(rt, alloc, to, &message).err();
+    drop(message);
     if fault == Some(LinkError::Memory) {
         return None;
     }

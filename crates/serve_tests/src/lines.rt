@@ -1,6 +1,6 @@
 //! What a server makes of peers that do not ask as they should.
 use crate::plans::{Plan, plan_at};
-use crate::shared::{Counting, Question, Running, answers, connect, end, spend, start, turn};
+use crate::shared::{Counting, Question, Running, answers, connect, ends_so, spend, start, turn};
 use serve_core::Host;
 use std::alloc::Global;
 use std::io::{ErrorKind, Read, Write};
@@ -146,10 +146,7 @@ fn counts_all<R: Net<Listener = TcpListener, Stream = TcpStream> + Host>(
         return false;
     };
     let is_served = makes_all(rt, alloc, &server, rows);
-    match end(rt, server, is_served) {
-        Some(ended) => ended.is(Ok(()), WRITTEN),
-        None => false,
-    }
+    ends_so(rt, server, is_served, Ok(()), WRITTEN)
 }
 
 /// What is answered to what is no message.
@@ -245,10 +242,7 @@ fn cuts_all<R: Net<Listener = TcpListener, Stream = TcpStream> + Host>(
     };
     let net = Counting::new(rt);
     let are_cut = leaves_all(&net, alloc, &server, talks) && spend(&net, &server, SPARE);
-    match end(rt, server, are_cut) {
-        Some(ended) => ended.is(Ok(()), WRITTEN),
-        None => false,
-    }
+    ends_so(rt, server, are_cut, Ok(()), WRITTEN)
 }
 
 #[test]
@@ -322,10 +316,7 @@ fn serves_late<R: Net<Listener = TcpListener, Stream = TcpStream> + Host>(
     let is_answered = answers(&net, alloc, &server, Question::Ask, ECHO)
         && answers_late(&net, alloc, &server)
         && spend(&net, &server, SPARE);
-    match end(rt, server, is_answered) {
-        Some(ended) => ended.is(Ok(()), WRITTEN),
-        None => false,
-    }
+    ends_so(rt, server, is_answered, Ok(()), WRITTEN)
 }
 
 #[test]

@@ -1,6 +1,6 @@
 //! Two servers, of which the second joins the first.
 use crate::plans::{Plan, plan_at};
-use crate::shared::{Question, Running, TRIES, answers, asked, end, start, stop, turn};
+use crate::shared::{Question, Running, TRIES, answers, asked, ends_so, start, stop, turn};
 use serve_core::Host;
 use std::alloc::Global;
 use std::net::{Net, TcpListener, TcpStream};
@@ -50,13 +50,9 @@ fn joins<R: Net<Listener = TcpListener, Stream = TcpStream> + Host>(rt: &R, allo
     };
     let are_joined = answers(rt, alloc, &second, Question::Members, BOTH)
         && answers(rt, alloc, &first, Question::Members, BOTH);
-    let (first, second) = (end(rt, first, are_joined), end(rt, second, are_joined));
-    match (first, second) {
-        (Some(first), Some(second)) => {
-            first.is(Ok(()), FIRST_WRITTEN) && second.is(Ok(()), SECOND_WRITTEN)
-        }
-        _ => false,
-    }
+    let has_first_ended = ends_so(rt, first, are_joined, Ok(()), FIRST_WRITTEN);
+    let has_second_ended = ends_so(rt, second, are_joined, Ok(()), SECOND_WRITTEN);
+    has_first_ended && has_second_ended
 }
 
 #[test]
@@ -126,6 +122,18 @@ fn tells<R: Net<Listener = TcpListener, Stream = TcpStream> + Host>(
     false
 }
 
+/// Whether a server that is stopped has served, with this text written.
+fn stops_so<R: Net<Listener = TcpListener, Stream = TcpStream> + Host>(
+    rt: &R,
+    server: Running,
+    text: &str,
+) -> bool {
+    match stop(rt, server) {
+        Some(ended) => ended.is(Ok(()), text),
+        None => false,
+    }
+}
+
 /// Whether the rounds of the server that stays use up the requests of the other one, and it then tells that it has lost it. Both are
 /// stopped.
 fn loses<R: Net<Listener = TcpListener, Stream = TcpStream> + Host>(
@@ -136,15 +144,9 @@ fn loses<R: Net<Listener = TcpListener, Stream = TcpStream> + Host>(
     fronts: [&str; 2],
 ) -> bool {
     let is_used_up = is_ended_by(rt, &ending.0, &staying.0);
-    let has_served = match stop(rt, ending.0) {
-        Some(ended) => is_used_up && ended.is(Ok(()), ending.1),
-        None => false,
-    };
+    let has_served = stops_so(rt, ending.0, ending.1) && is_used_up;
     let is_lost = has_served && tells(rt, alloc, &staying.0, fronts);
-    match stop(rt, staying.0) {
-        Some(ended) => is_lost && ended.is(Ok(()), staying.1),
-        None => false,
-    }
+    stops_so(rt, staying.0, staying.1) && is_lost
 }
 
 /// Two servers, of which the first or the second has few requests and seldom makes a round, and the other one often.

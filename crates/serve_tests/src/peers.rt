@@ -151,6 +151,9 @@ impl Link for Peer {
             return Err(LinkError::Spent);
         }
         self.calls = self.calls.wrapping_add(1);
+        let Some(source_incarnation) = Incarnation::new(7) else {
+            return Err(LinkError::Memory);
+        };
         let content = match (self.mood, &message.content) {
             (Mood::Says(text), _) => reply(alloc, text),
             (Mood::NotOwner, _) => Some(Content::NotOwner),
@@ -173,14 +176,14 @@ impl Link for Peer {
             }
             (Mood::Holds(_, _, word), _) => worded(alloc, word, to, self.calls),
         };
-        let (Some(content), Some(source_incarnation)) = (content, Incarnation::new(7)) else {
-            return Err(LinkError::Memory);
-        };
-        Ok(Message {
-            source: to,
-            source_incarnation,
-            content,
-        })
+        match content {
+            Some(content) => Ok(Message {
+                source: to,
+                source_incarnation,
+                content,
+            }),
+            None => Err(LinkError::Memory),
+        }
     }
 }
 

@@ -107,14 +107,15 @@ fn rounds<R: Net<Listener = TcpListener, Stream = TcpStream> + Wait>(
     rt: &R,
     alloc: Global,
 ) -> Option<(u32, u32, Option<bool>, Option<bool>)> {
+    let own = local(29_177)?;
     let listener = TcpListener::bind(rt, "127.0.0.1:0").ok()?;
-    let Ok((node, mut pass, _others)) = share(alloc, node_of_two(alloc, SUSPECT, Status::Alive)?, 0)
-    else {
+    let node = node_of_two(alloc, SUSPECT, Status::Alive)?;
+    let Ok((node, mut pass, _others)) = share(alloc, node, 0) else {
         return None;
     };
     let looks = Looks { seen: Cell::new(0) };
     let (watch, waits) = (Watch::start(&looks), Waits::standard());
-    let server = Server::new(node, local(29_177)?, watch, waits, listener, 1);
+    let server = Server::new(node, own, watch, waits, listener, 1);
     let desert = Desert {
         rt,
         looks: &looks,

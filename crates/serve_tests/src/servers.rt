@@ -2,7 +2,7 @@
 use crate::peers::Page;
 use crate::plans::{ALL, Plan, plan_at};
 use crate::shared::{
-    Counting, Ended, Question, Running, answers, answers_by, asked, connect, end, spend, start,
+    Counting, Ended, Question, Running, answers, answers_by, asked, connect, ends_so, spend, start,
     stop, turn,
 };
 use crate::tells::Lines;
@@ -34,10 +34,13 @@ fn echoes_twice<R: Net<Listener = TcpListener, Stream = TcpStream> + Host>(
     let line = "127.0.0.1:39171 hi\n";
     let is_served = answers_by(rt, alloc, &server, Question::AskRun, line, FEW_TRIES)
         && answers_by(rt, alloc, &server, Question::AskRun, line, FEW_TRIES);
-    match end(rt, server, is_served) {
-        Some(ended) => ended.is(Ok(()), "serving 127.0.0.1:39171\ndone\n"),
-        None => false,
-    }
+    ends_so(
+        rt,
+        server,
+        is_served,
+        Ok(()),
+        "serving 127.0.0.1:39171\ndone\n",
+    )
 }
 
 #[test]
@@ -116,10 +119,13 @@ fn serves_commands<R: Net<Listener = TcpListener, Stream = TcpStream> + Host>(
     };
     let is_served = answers(rt, alloc, &server, Question::Members, ALONE_FOLDED)
         && all_finish(rt, alloc, server.address);
-    match end(rt, server, is_served) {
-        Some(ended) => ended.is(Ok(()), "serving 127.0.0.1:29172\ndone\n"),
-        None => false,
-    }
+    ends_so(
+        rt,
+        server,
+        is_served,
+        Ok(()),
+        "serving 127.0.0.1:29172\ndone\n",
+    )
 }
 
 #[test]
@@ -142,10 +148,7 @@ fn ends_with_one<R: Net<Listener = TcpListener, Stream = TcpStream> + Host>(
         return false;
     };
     let is_served = answers(rt, alloc, &server, Question::Ask, "127.0.0.1:29173 hi\n");
-    match end(rt, server, is_served) {
-        Some(ended) => ended.is(outcome, text),
-        None => false,
-    }
+    ends_so(rt, server, is_served, outcome, text)
 }
 
 #[test]
@@ -222,6 +225,20 @@ fn what_is_refused_to_a_server_is_its_fault(rt: HostRuntime) {
     drop(turn);
 }
 
+/// So many peers that are silent; none where one was not connected or there was no memory.
+fn silent_peers<R: Net<Listener = TcpListener, Stream = TcpStream>>(
+    rt: &R,
+    alloc: Global,
+    to: Address,
+    count: u32,
+) -> Option<Vec<TcpStream>> {
+    let mut silent = Vec::new(alloc);
+    for _ in 0..count {
+        silent.push(connect(rt, to)?).ok()?;
+    }
+    Some(silent)
+}
+
 /// Whether a server answers another peer while so many are silent, whose lines it waits for; they hang up then.
 fn answers_beside<R: Net<Listener = TcpListener, Stream = TcpStream> + Wait + Clock>(
     rt: &R,
@@ -230,15 +247,9 @@ fn answers_beside<R: Net<Listener = TcpListener, Stream = TcpStream> + Wait + Cl
     count: u32,
     text: &str,
 ) -> bool {
-    let mut silent = Vec::new(alloc);
-    for _ in 0..count {
-        let Some(peer) = connect(rt, server.address) else {
-            return false;
-        };
-        if silent.push(peer).is_err() {
-            return false;
-        }
-    }
+    let Some(silent) = silent_peers(rt, alloc, server.address, count) else {
+        return false;
+    };
     let answer = asked(rt, alloc, server.address, Question::Ask);
     drop(silent);
     match answer {
@@ -266,10 +277,13 @@ fn serves_beside<R: Net<Listener = TcpListener, Stream = TcpStream> + Host>(
     let is_served = answers(&net, alloc, &server, Question::Ask, line)
         && answers_beside(&net, alloc, &server, count, line)
         && spend(&net, &server, plan.requests);
-    match end(rt, server, is_served) {
-        Some(ended) => ended.is(Ok(()), "serving 127.0.0.1:29178\ndone\n"),
-        None => false,
-    }
+    ends_so(
+        rt,
+        server,
+        is_served,
+        Ok(()),
+        "serving 127.0.0.1:29178\ndone\n",
+    )
 }
 
 #[test]
@@ -294,10 +308,7 @@ fn ends_early<R: Net<Listener = TcpListener, Stream = TcpStream> + Host>(
     let Some(server) = start(rt, alloc, plan) else {
         return false;
     };
-    match end(rt, server, true) {
-        Some(ended) => ended.is(Err(fault), text),
-        None => false,
-    }
+    ends_so(rt, server, true, Err(fault), text)
 }
 
 #[test]

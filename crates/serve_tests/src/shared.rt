@@ -195,7 +195,7 @@ pub(crate) fn stop<R: Net<Listener = TcpListener, Stream = TcpStream> + Host>(
 }
 
 /// How a server ended by itself, where it had what it was to have; else it is stopped, and there is none.
-pub(crate) fn end<R: Net<Listener = TcpListener, Stream = TcpStream> + Host>(
+fn end<R: Net<Listener = TcpListener, Stream = TcpStream> + Host>(
     rt: &R,
     server: Running,
     is_served: bool,
@@ -203,6 +203,20 @@ pub(crate) fn end<R: Net<Listener = TcpListener, Stream = TcpStream> + Host>(
     let has_ended = is_served && ends(rt, &server);
     let ended = stop(rt, server);
     if has_ended { ended } else { None }
+}
+
+/// Whether a server ended so, with this text written, by itself where it had what it was to have; else it is stopped.
+pub(crate) fn ends_so<R: Net<Listener = TcpListener, Stream = TcpStream> + Host>(
+    rt: &R,
+    server: Running,
+    is_served: bool,
+    outcome: Result<(), ServeFault>,
+    text: &str,
+) -> bool {
+    match end(rt, server, is_served) {
+        Some(ended) => ended.is(outcome, text),
+        None => false,
+    }
 }
 
 /// The network, which counts the connections that were made over it.

@@ -152,7 +152,8 @@ fn ask<R: Wait>(
     cluster.ask(rt, alloc, to, message)
 }
 
-/// Has the request `1` asked in a thread of its own, and the request `2` once that one is held: the answers to both.
+/// Has the request `1` asked in a thread of its own, and the request `2` once that one is held: the answers to both;
+/// none where a growth was refused.
 fn ask_both<R: Threads + Wait + Abort + Copy + Send + 'static>(
     rt: &R,
     clock: &HostRuntime,
@@ -470,7 +471,8 @@ fn word_on<R: Wait + Abort>(
     word_in(answer, target)
 }
 
-/// A worker asks another node of the cluster, and none that is not there.
+/// Whether a worker asks another node of the cluster, and none that is not there: false also where a question found no memory, none
+/// where the cluster did.
 fn worker_asks<R: Threads + Wait + Abort + Copy + Send + 'static>(
     rt: &R,
     alloc: Global,
@@ -490,7 +492,7 @@ fn a_worker_asks_the_other_nodes(rt: HostRuntime) {
     assert!(&rt; done || worker_asks(&rt, alloc) == Some(true));
 }
 
-/// Checks that a link that is spent asks nobody.
+/// Checks that a link that is spent asks nobody; none where a growth was refused.
 fn check_spent<R: Wait + Abort>(rt: &R, alloc: Global, cluster: &Cluster<SumHash>) -> Option<()> {
     let mut link = cluster.link().ok()?.after_failures(u64::MAX);
     let ping = ping(rt, alloc, 9, Status::Alive);
@@ -536,7 +538,11 @@ fn a_cluster_may_be_empty(rt: HostRuntime) {
 
 /// Tells 10.0.0.1:1 by a worker that 10.0.0.2:1, where nobody is, is suspect, and makes its rounds before and at the end of the
 /// suspicion. False where a growth was refused.
-fn wait_for_end<R: Wait + Abort>(rt: &R, alloc: Global, cluster: &mut Cluster<SumHash>) -> bool
+fn suspect_to_the_end<R: Wait + Abort>(
+    rt: &R,
+    alloc: Global,
+    cluster: &mut Cluster<SumHash>,
+) -> bool
     requires { IsWhole cluster.old }
     ensures { IsWhole cluster.new }
 {
@@ -568,7 +574,7 @@ fn faults_in_time<R: Threads + Wait + Abort + Copy + Send + 'static>(
     alloc: Global,
 ) -> Option<()> {
     let mut cluster = start(rt, alloc, &[1], 1, WILLING)?;
-    let is_over = wait_for_end(rt, alloc, &mut cluster);
+    let is_over = suspect_to_the_end(rt, alloc, &mut cluster);
     let nodes = cluster.stop(rt, alloc).ok()?;
     if !is_over {
         return None;

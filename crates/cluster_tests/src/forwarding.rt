@@ -3,7 +3,7 @@ ghost use Rattle.locked_node.specs.Passes.{Fits};
 
 use crate::fakes::{Counting, Mood};
 use crate::messages::{keys, member, text};
-use crate::shared::{Caller, Shared, among, begun, leave, let_go};
+use crate::shared::{Caller, Shared, among, leave, let_go, met};
 use change_core::{Address, Moment};
 use cluster_core::{Clock, ClusterError, Link, LinkError, handle_or_forward};
 use std::alloc::Global;
@@ -208,7 +208,7 @@ fn leave_and_request<R: Wait + Abort>(
 
 /// What a request comes to at a node among so many others.
 fn first_request<R: Wait + Abort>(rt: &R, alloc: Global, others: u8, asked: &Asked) -> Came {
-    let (shared, mut pass) = begun(rt, alloc, &among(others));
+    let (shared, mut pass) = met(rt, alloc, &among(others));
     let came = leave_and_request(rt, alloc, &shared, &mut pass, asked);
     let_go(shared, pass);
     came

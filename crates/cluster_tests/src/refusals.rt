@@ -9,7 +9,7 @@ use crate::messages::{content, member, message, news, request};
 use crate::nodes::state;
 use crate::rounds::{End, Joining, join_hosts, round_in};
 use crate::serving::serve;
-use crate::shared::{Caller, Shared, among, begun, let_go, status};
+use crate::shared::{Caller, Shared, among, let_go, met, status};
 use change_core::{Digest, Status};
 use cluster_core::ClusterError;
 use locked_node::LockedNode;
@@ -113,7 +113,7 @@ fn a_round_that_is_refused_memory_alters_nothing(rt: HostRuntime) {
             end,
             calls,
         };
-        let (shared, mut pass) = begun(&rt, alloc, &among(row.others));
+        let (shared, mut pass) = met(&rt, alloc, &among(row.others));
         check_round(&rt, alloc, &shared, &mut pass, &row);
         let_go(shared, pass);
     }
@@ -142,7 +142,7 @@ fn check_join<R: Wait + Env + Abort>(rt: &R, alloc: Global, shared: &Shared, pas
 #[test]
 fn a_join_that_is_refused_memory_alters_nothing(rt: HostRuntime) {
     let alloc = rt.alloc();
-    let (shared, mut pass) = begun(&rt, alloc, &among(0));
+    let (shared, mut pass) = met(&rt, alloc, &among(0));
     check_join(&rt, alloc, &shared, &mut pass);
     let_go(shared, pass);
 }
@@ -197,7 +197,7 @@ const REQUESTS: [(u8, (usize, u64)); 2] = [(1, (1, 0)), (0, (0, 1))];
 fn a_request_that_is_refused_memory_asks_once(rt: HostRuntime) {
     let alloc = rt.alloc();
     for (others, wanted) in REQUESTS {
-        let (shared, mut pass) = begun(&rt, alloc, &among(others));
+        let (shared, mut pass) = met(&rt, alloc, &among(others));
         check_request(&rt, alloc, &shared, &mut pass, wanted);
         let_go(shared, pass);
     }
@@ -271,7 +271,7 @@ const MESSAGES: [(Kind, (u64, u64)); 4] = [
 fn a_message_that_is_refused_memory_is_answered_when_it_comes_again(rt: HostRuntime) {
     let alloc = rt.alloc();
     for (kind, wanted) in MESSAGES {
-        let (shared, mut pass) = begun(&rt, alloc, &among(0));
+        let (shared, mut pass) = met(&rt, alloc, &among(0));
         check_message(&rt, alloc, &shared, &mut pass, kind, wanted);
         let_go(shared, pass);
     }

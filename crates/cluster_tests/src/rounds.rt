@@ -7,7 +7,7 @@ ghost use Rattle.locked_node.specs.Passes.{Fits};
 use crate::fakes::{Fake, Mood};
 use crate::messages::{member, moment, news};
 use crate::nodes::state;
-use crate::shared::{Caller, Shared, Start, among, begun, let_go, status};
+use crate::shared::{Caller, Shared, Start, among, let_go, met, status};
 use change_core::{Address, Moment, Status};
 use cluster_core::{ClusterError, Link, LinkError, Round, gossip_round, join};
 use detector_core::Running;
@@ -102,7 +102,7 @@ fn came_to(end: Result<End, ClusterError>, calls: u64, failures: u64) -> Ended {
 
 /// How the first round of a new node ends.
 fn first_round<R: Wait + Abort>(rt: &R, alloc: Global, row: &Row) -> Ended {
-    let (shared, mut pass) = begun(rt, alloc, &among(row.others));
+    let (shared, mut pass) = met(rt, alloc, &among(row.others));
     let came = round_in(rt, alloc, &shared, &mut pass, (row.mood, row.mood));
     let_go(shared, pass);
     came
@@ -148,7 +148,7 @@ fn end_within<R: Wait + Abort>(rt: &R, alloc: Global, turns: u32) -> Result<End,
         others: 3,
     };
     let moods = (Mood::Broken, Mood::Broken);
-    let (shared, mut pass) = begun(rt, alloc, &start);
+    let (shared, mut pass) = met(rt, alloc, &start);
     let ended = round_in(rt, alloc, &shared, &mut pass, moods);
     let_go(shared, pass);
     ended.end
@@ -205,7 +205,7 @@ fn check_all_failed<R: Wait + Abort>(
 }
 
 fn all_failed<R: Wait + Abort>(rt: &R, alloc: Global) -> bool {
-    let (shared, mut pass) = begun(rt, alloc, &among(3));
+    let (shared, mut pass) = met(rt, alloc, &among(3));
     let came = check_all_failed(rt, alloc, &shared, &mut pass);
     let_go(shared, pass);
     came
@@ -237,7 +237,7 @@ fn check_suspected<R: Wait + Abort>(
 }
 
 fn suspected<R: Wait + Abort>(rt: &R, alloc: Global) -> bool {
-    let (shared, mut pass) = begun(rt, alloc, &among(1));
+    let (shared, mut pass) = met(rt, alloc, &among(1));
     let came = check_suspected(rt, alloc, &shared, &mut pass);
     let_go(shared, pass);
     came
@@ -285,7 +285,7 @@ fn check_pinged_anew<R: Wait + Abort>(
 }
 
 fn pinged_anew<R: Wait + Abort>(rt: &R, alloc: Global) -> bool {
-    let (shared, mut pass) = begun(rt, alloc, &among(1));
+    let (shared, mut pass) = met(rt, alloc, &among(1));
     let came = check_pinged_anew(rt, alloc, &shared, &mut pass);
     let_go(shared, pass);
     came
@@ -322,7 +322,7 @@ fn check_given_up<R: Wait + Abort>(
 }
 
 fn given_up<R: Wait + Abort>(rt: &R, alloc: Global) -> bool {
-    let (shared, mut pass) = begun(rt, alloc, &among(3));
+    let (shared, mut pass) = met(rt, alloc, &among(3));
     let came = check_given_up(rt, alloc, &shared, &mut pass);
     let_go(shared, pass);
     came
@@ -517,7 +517,7 @@ fn first_join<R: Wait + Abort>(
     alloc: Global,
     row: &Joining,
 ) -> (Result<u32, ClusterError>, u64) {
-    let (shared, mut pass) = begun(rt, alloc, &among(0));
+    let (shared, mut pass) = met(rt, alloc, &among(0));
     let came = join_hosts(rt, alloc, &shared, &mut pass, row);
     let_go(shared, pass);
     came
@@ -592,7 +592,7 @@ fn meets<R: Wait + Abort>(rt: &R, alloc: Global) -> bool {
         node: state(rt, alloc, 2, 4096),
         failures: 0,
     };
-    let (shared, mut pass) = begun(rt, alloc, &among(0));
+    let (shared, mut pass) = met(rt, alloc, &among(0));
     let met = check_meeting(rt, alloc, &shared, &mut pass, &mut link);
     let_go(shared, pass);
     drop(link);

@@ -3,7 +3,7 @@ ghost use Rattle.locked_node.specs.Passes.{Fits};
 
 use crate::fakes::{Counting, Fake, Mood};
 use crate::messages::{content, member, message, moment, news, request, text};
-use crate::shared::{Caller, Shared, Start, among, begun, leave, let_go, status};
+use crate::shared::{Caller, Shared, Start, among, leave, let_go, met, status};
 use change_core::{Address, Sourced, Status};
 use cluster_core::serve_one;
 use std::alloc::Global;
@@ -246,7 +246,7 @@ fn check_join<R: Wait + Abort>(rt: &R, alloc: Global, shared: &Shared, pass: &mu
 #[test]
 fn a_join_is_answered_by_all_members(rt: HostRuntime) {
     let alloc = rt.alloc();
-    let (shared, mut pass) = begun(&rt, alloc, &among(0));
+    let (shared, mut pass) = met(&rt, alloc, &among(0));
     check_join(&rt, alloc, &shared, &mut pass);
     let_go(shared, pass);
 }
@@ -265,7 +265,7 @@ fn check_ping<R: Wait + Abort>(rt: &R, alloc: Global, shared: &Shared, pass: &mu
 #[test]
 fn a_ping_is_answered_by_an_ack(rt: HostRuntime) {
     let alloc = rt.alloc();
-    let (shared, mut pass) = begun(&rt, alloc, &among(0));
+    let (shared, mut pass) = met(&rt, alloc, &among(0));
     check_ping(&rt, alloc, &shared, &mut pass);
     let_go(shared, pass);
 }
@@ -339,7 +339,7 @@ fn a_taking_that_stops_is_refused_by_its_cause(rt: HostRuntime) {
         others: 0,
     };
     for row in &STOPS {
-        let (shared, mut pass) = begun(&rt, alloc, &start);
+        let (shared, mut pass) = met(&rt, alloc, &start);
         check_stop(&rt, alloc, &shared, &mut pass, row);
         let_go(shared, pass);
     }
@@ -399,7 +399,7 @@ fn a_ping_req_tells_whether_its_target_was_reached(rt: HostRuntime) {
             reached,
             calls,
         };
-        let (shared, mut pass) = begun(&rt, alloc, &among(0));
+        let (shared, mut pass) = met(&rt, alloc, &among(0));
         check_target(&rt, alloc, &shared, &mut pass, &row);
         let_go(shared, pass);
     }
@@ -450,7 +450,7 @@ fn check_here<R: Wait + Abort>(rt: &R, alloc: Global, shared: &Shared, pass: &mu
 #[test]
 fn a_request_is_handled_by_the_owner_of_its_keys(rt: HostRuntime) {
     let alloc = rt.alloc();
-    let (shared, mut pass) = begun(&rt, alloc, &among(0));
+    let (shared, mut pass) = met(&rt, alloc, &among(0));
     check_here(&rt, alloc, &shared, &mut pass);
     let_go(shared, pass);
 }
@@ -468,7 +468,7 @@ fn check_elsewhere<R: Wait + Abort>(rt: &R, alloc: Global, shared: &Shared, pass
 #[test]
 fn a_request_for_others_is_not_handled(rt: HostRuntime) {
     let alloc = rt.alloc();
-    let (shared, mut pass) = begun(&rt, alloc, &among(1));
+    let (shared, mut pass) = met(&rt, alloc, &among(1));
     check_elsewhere(&rt, alloc, &shared, &mut pass);
     let_go(shared, pass);
 }
@@ -485,7 +485,7 @@ fn check_nobody<R: Wait + Abort>(rt: &R, alloc: Global, shared: &Shared, pass: &
 #[test]
 fn a_request_to_nobody_is_refused(rt: HostRuntime) {
     let alloc = rt.alloc();
-    let (shared, mut pass) = begun(&rt, alloc, &among(0));
+    let (shared, mut pass) = met(&rt, alloc, &among(0));
     check_nobody(&rt, alloc, &shared, &mut pass);
     let_go(shared, pass);
 }
@@ -520,10 +520,10 @@ fn check_answers<R: Wait + Abort>(rt: &R, alloc: Global, shared: &Shared, pass: 
 #[test]
 fn answers_are_unexpected(rt: HostRuntime) {
     let alloc = rt.alloc();
-    let (shared, mut pass) = begun(&rt, alloc, &among(0));
+    let (shared, mut pass) = met(&rt, alloc, &among(0));
     check_news(&rt, alloc, &shared, &mut pass);
     let_go(shared, pass);
-    let (shared, mut pass) = begun(&rt, alloc, &among(0));
+    let (shared, mut pass) = met(&rt, alloc, &among(0));
     check_answers(&rt, alloc, &shared, &mut pass);
     let_go(shared, pass);
 }
@@ -565,7 +565,7 @@ fn a_spent_pass_is_refused(rt: HostRuntime) {
             turns,
             others: 0,
         };
-        let (shared, mut pass) = begun(&rt, alloc, &start);
+        let (shared, mut pass) = met(&rt, alloc, &start);
         let spent = is_spent(&rt, alloc, &shared, &mut pass);
         let_go(shared, pass);
         assert!(rt; spent == wanted);

@@ -81,8 +81,8 @@ fn meet<R: Wait + Abort>(rt: &R, shared: &Shared, pass: &mut Caller, others: u8)
     }
 }
 
-/// The node 10.0.0.1:1 at 7, with one pass.
-pub(crate) fn begun<R: Wait + Abort>(rt: &R, alloc: Global, start: &Start) -> (Shared, Caller)
+/// The node 10.0.0.1:1 at 7 once it has heard of its others, with its one pass.
+pub(crate) fn met<R: Wait + Abort>(rt: &R, alloc: Global, start: &Start) -> (Shared, Caller)
     ensures { Fits result.0 result.1 }
 {
     let (shared, mut pass) = alone(rt, alloc, start);

@@ -649,7 +649,8 @@ fn begin(rt: &impl Abort, alloc: Global, seed: u64) -> Option<World> {
     Some(world)
 }
 
-/// Makes so many steps, after each of which nobody holds what was not said; none where a growth was refused.
+/// Makes so many steps, after each of which nobody holds what was not said, and checks that everything happened; none where a growth
+/// was refused.
 fn play<R: Wait + Abort>(
     rt: &R,
     alloc: Global,

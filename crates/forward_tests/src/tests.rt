@@ -72,7 +72,7 @@ fn to(rt: &impl Abort, text: &str) -> Result<Decision, ForwardError> {
     Ok(Decision::Send(address(rt, text)))
 }
 
-/// Checks what `ready` answers, and that no more than a `Send` counts a send.
+/// Checks what `ready` answers, and that a `Send` counts one send, and every other answer none.
 fn check_ready(
     rt: &impl Abort,
     attempt: &mut Attempt,

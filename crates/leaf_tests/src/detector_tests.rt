@@ -434,8 +434,14 @@ fn start_again(rt: &impl Abort, timers: &mut Timers) {
         (Status::Tombstone, 86_404_999, 86_405_000),
     ] {
         start(rt, timers, 2, next, deadline);
-        assert!(rt; timers.len() == 1 && timers.due(moment(rt, before)).is_none());
-        assert!(rt; timers.due(moment(rt, deadline)) == Some(due(rt, 2, next)));
+        assert!(rt;
+            timers.len() == 1 && timers.due(moment(rt, before)).is_none(),
+            "at {before}"
+        );
+        assert!(rt;
+            timers.due(moment(rt, deadline)) == Some(due(rt, 2, next)),
+            "at {deadline}"
+        );
     }
 }
 

@@ -119,8 +119,10 @@ fn pair(
     ensures name { name_of result.0 ≡ name }
     ensures room { result.3.items ≡ [] }
 {
-    if let Ok(Some(made)) = try_pair(alloc, name, turns) {
-        return made;
+    match try_pair(alloc, name, turns) {
+        Ok(Some(made)) => return made,
+        Ok(None) => {}
+        Err(_) => panic!(rt; "no room"),
     }
     let Ok(Some(made)) = try_pair(alloc, name, turns) else {
         panic!(rt; "no lock")

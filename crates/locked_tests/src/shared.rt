@@ -28,7 +28,7 @@ macro_rules! tried {
 pub(crate) use tried;
 
 /// What a call of the node gives; none where it found no memory, and is to be made once more.
-pub(crate) fn given<T: Drop>(
+pub(crate) fn value_of<T: Drop>(
     rt: &impl Abort,
     answer: Result<Result<T, NodeError>, LockError>,
 ) -> Option<T> {
@@ -44,9 +44,9 @@ pub(crate) fn given<T: Drop>(
 /// What a call of the node gives, made once more where it found no memory.
 macro_rules! made {
     ($rt:expr, $call:expr) => {
-        match crate::shared::given($rt, $call) {
+        match crate::shared::value_of($rt, $call) {
             Some(value) => value,
-            None => crate::shared::given($rt, $call).expect($rt, "memory"),
+            None => crate::shared::value_of($rt, $call).expect($rt, "memory"),
         }
     };
 }

@@ -43,7 +43,7 @@ fn check_owners<R: Wait + Abort>(rt: &R, shared: &Shared, pass: &mut Caller, own
     assert!(rt; owner(rt, shared, pass, "zzzz1") == Some(member(rt, second)));
 }
 
-/// Has another member own a key.
+/// Has another member own a key, and checks who owned it before and after.
 fn change_owner<R: Wait + Abort>(rt: &R, shared: &Shared, pass: &mut Caller)
     requires { Fits shared.now pass.old }
 {
@@ -312,8 +312,10 @@ fn check_counts(rt: &impl Abort, alloc: Global, passes: u32, turns: u32) {
         max: 4096,
     };
     let given = node(rt, alloc, &start);
-    let refused = LockedNode::new(alloc, given, passes, turns).err();
-    let given = handed_back(refused.expect(rt, "a refusal")).expect(rt, "the node");
+    let Some(refused) = LockedNode::new(alloc, given, passes, turns).err() else {
+        panic!(rt; "{passes} passes of {turns} turns")
+    };
+    let given = handed_back(refused).expect(rt, "the node");
     assert!(rt; given.own() == change(rt, 1, 7, Status::Alive));
     drop(given);
 }

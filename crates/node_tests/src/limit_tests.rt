@@ -95,21 +95,21 @@ fn nothing_runs_out_past_the_greatest_moment(rt: HostRuntime) {
     drop(node);
 }
 
-/// Whether two nodes hold the same members.
+/// Checks that two nodes hold the same members.
 fn list_alike(rt: &impl Abort, first: &NodeState<SumHash>, second: &NodeState<SumHash>) {
     let listed = members(first).ok().expect(rt, "members");
     let wanted = members(second).ok().expect(rt, "members");
     assert!(rt; listed.as_slice() == wanted.as_slice());
 }
 
-/// Whether two nodes name the same owners of a key.
+/// Checks that two nodes name the same owners of a key.
 fn name_alike(rt: &impl Abort, first: &NodeState<SumHash>, second: &NodeState<SumHash>, key: &str) {
     let named = owners(first, key, 9).ok().expect(rt, "owners");
     let wanted = owners(second, key, 9).ok().expect(rt, "owners");
     assert!(rt; named.as_slice() == wanted.as_slice());
 }
 
-/// Whether two nodes hold the same members, and name the same owners.
+/// Checks that two nodes hold the same members, and name the same owners.
 fn hold_alike(rt: &impl Abort, first: &NodeState<SumHash>, second: &NodeState<SumHash>) {
     list_alike(rt, first, second);
     for key in ["zzzz0", "zzzz1", "zzzz2", "zzzz3"] {
@@ -125,7 +125,7 @@ fn carry_alike(ping: Message, wanted: Message) -> bool {
     is_alike
 }
 
-/// Whether two nodes pass on the same changes to a node.
+/// Checks that two nodes pass on the same changes to a node.
 fn ping_alike(
     rt: &impl Abort,
     first: &mut NodeState<SumHash>,
@@ -137,7 +137,7 @@ fn ping_alike(
     assert!(rt; carry_alike(ping, wanted));
 }
 
-/// Whether two nodes pass on the same changes, as often.
+/// Checks that two nodes pass on the same changes, as often.
 fn tell_alike(rt: &impl Abort, first: &mut NodeState<SumHash>, second: &mut NodeState<SumHash>) {
     let receiver = address(rt, "10.0.0.9:1");
     for _ in 0..16u8 {
@@ -145,7 +145,7 @@ fn tell_alike(rt: &impl Abort, first: &mut NodeState<SumHash>, second: &mut Node
     }
 }
 
-/// Whether the same runs out in two nodes, at the same moments.
+/// Checks that the same runs out in two nodes, at the same moments.
 fn run_out_alike(rt: &impl Abort, first: &mut NodeState<SumHash>, second: &mut NodeState<SumHash>) {
     for now in [4_999, 5_000, 86_404_999, 86_405_000] {
         assert!(rt; expire(first, moment(rt, now)) == expire(second, moment(rt, now)));

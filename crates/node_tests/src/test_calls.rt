@@ -85,9 +85,9 @@ pub(crate) fn configured<H: PointHash>(
     let own = address(rt, text);
     let born = incarnation(rt, number);
     let start = moment(rt, 0);
-    let first = NodeState::new(alloc, *config, hash, own, born, 1, start);
-    if let Some(node) = first.ok() {
-        return node;
+    match NodeState::new(alloc, *config, hash, own, born, 1, start) {
+        Ok(node) => return node,
+        Err(error) => assert!(rt; error == NodeError::Memory),
     }
     let again = NodeState::new(alloc, *config, hash, own, born, 1, start);
     again.ok().expect(rt, "a node")

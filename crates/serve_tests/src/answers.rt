@@ -67,9 +67,8 @@ fn ask<R: Wait + Abort>(
     asked
 }
 
-/// Checks what is asked once and again where there was no memory: that it comes to this end, with these bytes written. How often the
-/// peer was asked.
-fn check<R: Wait + Abort>(
+/// Asks, once more where there was no memory, and checks the end and the bytes written; answers how often the peer was asked.
+fn check_end<R: Wait + Abort>(
     rt: &R,
     alloc: Global,
     question: Question,
@@ -107,7 +106,7 @@ fn ask_writes_the_reply_alone(rt: HostRuntime) {
         (Mood::Starved, Err(AskFault::NoMemory), ""),
     ];
     for (mood, wanted, text) in rows {
-        let calls = check(&rt, rt.alloc(), Question::Ask, mood, wanted, text);
+        let calls = check_end(&rt, rt.alloc(), Question::Ask, mood, wanted, text);
         assert!(&rt; calls <= 1);
     }
 }
@@ -140,7 +139,7 @@ fn shows<R: Wait + Abort>(
     wanted: Result<(), AskFault>,
     text: &str,
 ) {
-    let calls = check(rt, alloc, Question::Members(lines), mood, wanted, text);
+    let calls = check_end(rt, alloc, Question::Members(lines), mood, wanted, text);
     assert!(rt; calls == 1);
 }
 
@@ -190,19 +189,19 @@ fn the_owner_is_asked_twice_at_most(rt: HostRuntime) {
     ];
     for (held, declined, wanted, text, asked) in rows {
         let mood = holds(&rt, held, Word::Mine(declined));
-        let calls = check(&rt, rt.alloc(), Question::AskAny("k"), mood, wanted, text);
+        let calls = check_end(&rt, rt.alloc(), Question::AskAny("k"), mood, wanted, text);
         assert!(&rt; calls == asked);
     }
     let mood = holds(&rt, Held::Two, Word::Mine(0));
     let by_b = Question::AskAny("b");
-    check(&rt, rt.alloc(), by_b, mood, Ok(()), "mine 10.0.0.1:1\n");
+    check_end(&rt, rt.alloc(), by_b, mood, Ok(()), "mine 10.0.0.1:1\n");
 }
 
 #[test]
 fn the_second_try_asks_the_owner_by_the_second_membership(rt: HostRuntime) {
     let mood = Mood::Learns(digest(&rt, OF_ALONE), digest(&rt, OF_TWO));
     let by_k = Question::AskAny("k");
-    let calls = check(&rt, rt.alloc(), by_k, mood, Ok(()), "mine 10.0.0.2:1\n");
+    let calls = check_end(&rt, rt.alloc(), by_k, mood, Ok(()), "mine 10.0.0.2:1\n");
     assert!(&rt; calls == 4);
 }
 
@@ -222,7 +221,7 @@ fn no_request_is_sent_twice_but_to_another_owner(rt: HostRuntime) {
         ),
     ];
     for (mood, fault, asked) in rows {
-        let calls = check(&rt, rt.alloc(), Question::AskAny("k"), mood, Err(fault), "");
+        let calls = check_end(&rt, rt.alloc(), Question::AskAny("k"), mood, Err(fault), "");
         assert!(&rt; calls == asked);
     }
 }

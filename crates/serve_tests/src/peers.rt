@@ -131,6 +131,32 @@ fn worded(alloc: Global, word: Word, asked: Address, calls: u32) -> Option<Conte
     }
 }
 
+/// The content that a mood answers by, if there is memory for it: not that of a Join to one that holds members, and not of a broken
+/// one.
+fn told(
+    alloc: Global,
+    mood: Mood,
+    content: &Content,
+    asked: Address,
+    calls: u32,
+) -> Option<Content> {
+    match (mood, content) {
+        (Mood::Says(text), _) => reply(alloc, text),
+        (Mood::NotOwner, _) => Some(Content::NotOwner),
+        (Mood::Refuses(reason), _) => Some(Content::Refused(reason)),
+        (Mood::Welcomes(checksum), _) => membership(alloc, checksum, &[]),
+        (Mood::Starved | Mood::Broken, _) => None,
+        (Mood::Learns(first, _), Content::Join(_)) if calls == 1 => {
+            joined(alloc, Held::Alone, first, asked, &[])
+        }
+        (Mood::Learns(_, second), Content::Join(_)) => {
+            joined(alloc, Held::Two, second, asked, &[])
+        }
+        (Mood::Learns(_, _), _) => worded(alloc, Word::Mine(2), asked, calls),
+        (Mood::Holds(_, _, word), _) => worded(alloc, word, asked, calls),
+    }
+}
+
 impl Link for Peer {
     ghost may_answer = { λ _ _ _. Unit {0} };
 
@@ -155,26 +181,14 @@ impl Link for Peer {
             return Err(LinkError::Memory);
         };
         let content = match (self.mood, &message.content) {
-            (Mood::Says(text), _) => reply(alloc, text),
-            (Mood::NotOwner, _) => Some(Content::NotOwner),
-            (Mood::Refuses(reason), _) => Some(Content::Refused(reason)),
-            (Mood::Welcomes(checksum), _) => membership(alloc, checksum, &[]),
-            (Mood::Starved, _) => None,
             (Mood::Holds(held, checksum, _), Content::Join(news)) => {
                 joined(alloc, held, checksum, to, news.changes.as_slice())
             }
-            (Mood::Learns(first, _), Content::Join(_)) if self.calls == 1 => {
-                joined(alloc, Held::Alone, first, to, &[])
-            }
-            (Mood::Learns(_, second), Content::Join(_)) => {
-                joined(alloc, Held::Two, second, to, &[])
-            }
-            (Mood::Learns(_, _), _) => worded(alloc, Word::Mine(2), to, self.calls),
             (Mood::Broken | Mood::Holds(_, _, Word::Broken), _) => {
                 self.failures += 1;
                 return Err(LinkError::Io);
             }
-            (Mood::Holds(_, _, word), _) => worded(alloc, word, to, self.calls),
+            (mood, content) => told(alloc, mood, content, to, self.calls),
         };
         match content {
             Some(content) => Ok(Message {

@@ -205,7 +205,8 @@ fn end<R: Net<Listener = TcpListener, Stream = TcpStream> + Host>(
     if has_ended { ended } else { None }
 }
 
-/// Whether a server ended so, with this text written, by itself where it had what it was to have; else it is stopped.
+/// Whether a server ended so, with this text written, by itself where it had what it was to have; else it is stopped,
+/// and that is false.
 pub(crate) fn ends_so<R: Net<Listener = TcpListener, Stream = TcpStream> + Host>(
     rt: &R,
     server: Running,

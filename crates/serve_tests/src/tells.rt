@@ -129,8 +129,8 @@ fn peer(rt: &impl Abort, held: Held, digits: &str) -> Mood {
     Mood::Holds(held, digest(rt, digits), Word::Broken)
 }
 
-/// Checks that telling comes to this end, with this text written. How often the peer was asked.
-fn check<R: Wait + Abort>(
+/// Tells lines, and checks the end and the bytes written; answers how often the peer was asked.
+fn check_end<R: Wait + Abort>(
     rt: &R,
     alloc: Global,
     lines: Lines,
@@ -166,7 +166,7 @@ fn tell_writes_how_many_members_there_are(rt: HostRuntime) {
     ];
     for (lines, held, digits, text) in rows {
         let mood = peer(&rt, held, digits);
-        let calls = check(&rt, rt.alloc(), lines, mood, Ok(()), text);
+        let calls = check_end(&rt, rt.alloc(), lines, mood, Ok(()), text);
         assert!(&rt; calls == 1);
     }
     let mood = peer(&rt, Held::Told, OF_TWO);
@@ -201,7 +201,7 @@ fn nobody_is_asked_where_a_line_is_at_fault(rt: HostRuntime) {
         ),
     ];
     for (lines, fault) in rows {
-        let calls = check(&rt, rt.alloc(), lines, Mood::Broken, Err(fault), "");
+        let calls = check_end(&rt, rt.alloc(), lines, Mood::Broken, Err(fault), "");
         assert!(&rt; calls == 0);
     }
 }
@@ -219,7 +219,7 @@ fn what_a_node_answers_to_changes_is_told(rt: HostRuntime) {
     for (mood, fault) in rows {
         let lines = Lines::new(FIRST, 1, SECOND);
         let wanted = Err(TellFault::Asked(fault));
-        let calls = check(&rt, rt.alloc(), lines, mood, wanted, "");
+        let calls = check_end(&rt, rt.alloc(), lines, mood, wanted, "");
         assert!(&rt; calls <= 1);
     }
 }

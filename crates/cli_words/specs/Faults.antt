@@ -24,6 +24,19 @@ IsWordsFault NoMemory = Unit {0}
 IsWordsFault (Subcommand f) = ⊥
 IsWordsFault (Cluster f) = ⊥
 
+-- why words are refused: as usage only where they are not whole, and as a bad address only where an address among them is one; a
+-- growth may always be refused
+abbrev pub IsRefusalOf : Type 0 → Type 0 → Fault → Type 0
+IsRefusalOf whole bad (Usage e) = ¬ whole
+IsRefusalOf whole bad BadAddress = bad
+IsRefusalOf whole bad NoMemory = Unit {0}
+IsRefusalOf whole bad (Subcommand f) = ⊥
+IsRefusalOf whole bad (Cluster f) = ⊥
+
+-- the words are refused as usage, or a growth was
+abbrev pub IsUsageFault : Fault → Type 0
+IsUsageFault = IsRefusalOf ⊥ ⊥
+
 -- refused words end with 2, an address among them, and all else with 1
 abbrev pub status_of : Fault → ℕ
 status_of (Usage e) = 2

@@ -1,11 +1,9 @@
 -- Which word of the command line each part of a command is.
-use Rattle.std.specs.Prelude.{◌≡◌, ◌⊎◌, ℕ, Bool, true, false, List, [], Option, Some, None, Ok, map, option_map, codes}
+use Rattle.std.specs.Prelude.{◌≡◌, ◌⊎◌, ℕ, Bool, true, false, List, [], Option, Some, None, Ok, map, codes}
 use Rattle.std.specs.Str.Parse.{ParsesUnsigned}
 use Rattle.std.specs.declared.num.ParseIntError.{ParseIntError}
-use Rattle.clap.specs.Matches.{first_value, matched_of, one_text, raw_values, subcommand_name_of}
-use Rattle.clap.specs.Words.{rows_of, subcommand_rows_of}
+use Rattle.clap.specs.Words.{Row, Text, all_of, first_of, found_of, one_of, rows_of}
 use Rattle.clap.specs.declared.parser.matches.ArgMatches.{ArgMatches}
-use Rattle.clap.specs.declared.parser.matches.Found.{Found}
 use Rattle.change_core.specs.Address.{address_text}
 use Rattle.cli_core.specs.declared.words.OwnerWords.{OwnerWords}
 use Rattle.cli_core.specs.declared.words.SimWords.{SimWords}
@@ -19,98 +17,98 @@ use Rattle.serve_core.specs.declared.words.ServeWords.{ServeWords}
 use Rattle.cli_words.specs.declared.words.Words.{Words}
 use Rattle.cli_words.specs.declared.words.Words.TheVariants.{Lines, Cluster}
 
+-- what a parse holds of the words: a row for each name that it found
+abbrev pub rows_in : ArgMatches → List Row
+rows_in matches = rows_of (found_of matches)
+
 -- the word of this name is there, and it is this number, as a `u64` is read
-pub record IsNumberAt (found : Found) (name : List ℕ) (n : ℕ) : Type 0 where
-  pub text : List ℕ
-  pub given : one_text found name ≡ Some text
+pub record IsNumberAt (rows : List Row) (name : Text) (n : ℕ) : Type 0 where
+  pub text : Text
+  pub given : one_of name rows ≡ Some text
   pub reads : ParsesUnsigned {E = ParseIntError} 64 10 text (Ok n)
 
--- whether the flag of this name is set
-pub record IsFlagAt (found : Found) (name : List ℕ) (is_set : Bool) : Type 0 where
-  pub absent : one_text found name ≡ None → is_set ≡ false
-  pub set : one_text found name ≡ Some (codes "true") → is_set ≡ true
-  pub unset : one_text found name ≡ Some (codes "false") → is_set ≡ false
+-- whether the flag of this name is set; nothing is said of a text that is neither true nor false
+pub record IsFlagAt (rows : List Row) (name : Text) (is_set : Bool) : Type 0 where
+  pub absent : one_of name rows ≡ None → is_set ≡ false
+  pub set : one_of name rows ≡ Some (codes "true") → is_set ≡ true
+  pub unset : one_of name rows ≡ Some (codes "false") → is_set ≡ false
 
 -- the word of this name is the text of this address
-abbrev pub IsAddressAt : Found → List ℕ → ℕ → Type 0
-IsAddressAt found name a = first_value found name ≡ Some (address_text a)
+abbrev pub IsAddressAt : List Row → Text → ℕ → Type 0
+IsAddressAt rows name a = first_of name rows ≡ Some (address_text a)
 
 -- the words of this name are these addresses, in their order; none is there where there is no such word
-abbrev pub AreAddressesAt : Found → List ℕ → List ℕ → Type 0
-AreAddressesAt found name addresses =
-    (option_map raw_values (matched_of found name) ≡ Some (map address_text addresses))
-    ⊎ ((matched_of found name ≡ None) × (addresses ≡ []))
+abbrev pub AreAddressesAt : List Row → Text → List ℕ → Type 0
+AreAddressesAt rows name addresses =
+    (all_of name rows ≡ Some (map address_text addresses)) ⊎ ((all_of name rows ≡ None) × (addresses ≡ []))
 
 -- how many owners, of which key, by which points and hash: each is the word that bears its name
-pub record IsOwnedAt (found : Found) (words : OwnerWords) : Type 0 where
-  pub count : IsNumberAt found (codes "n") words.count
-  pub replicas : IsNumberAt found (codes "replicas") words.replicas
-  pub sum : IsFlagAt found (codes "sum") words.sum
-  pub key : first_value found (codes "key") ≡ Some words.key.now
+pub record IsOwnedAt (rows : List Row) (words : OwnerWords) : Type 0 where
+  pub count : IsNumberAt rows (codes "n") words.count
+  pub replicas : IsNumberAt rows (codes "replicas") words.replicas
+  pub sum : IsFlagAt rows (codes "sum") words.sum
+  pub key : first_of (codes "key") rows ≡ Some words.key.now
 
 -- so are the points and the hash of a script's nodes
-pub record IsScriptAt (found : Found) (words : SimWords) : Type 0 where
-  pub replicas : IsNumberAt found (codes "replicas") words.replicas
-  pub sum : IsFlagAt found (codes "sum") words.sum
+pub record IsScriptAt (rows : List Row) (words : SimWords) : Type 0 where
+  pub replicas : IsNumberAt rows (codes "replicas") words.replicas
+  pub sum : IsFlagAt rows (codes "sum") words.sum
 
 -- the options and the numbers of a server are those of the words that bear their names
-pub record AreNumbersAt (found : Found) (words : ServeWords) : Type 0 where
-  pub incarnation : IsNumberAt found (codes "incarnation") words.incarnation
-  pub requests : IsNumberAt found (codes "requests") words.requests
-  pub workers : IsNumberAt found (codes "workers") words.workers
-  pub period : IsNumberAt found (codes "period") words.period
-  pub replicas : IsNumberAt found (codes "replicas") words.replicas
-  pub weight : IsNumberAt found (codes "weight") words.weight
-  pub sum : IsFlagAt found (codes "sum") words.sum
+pub record AreNumbersAt (rows : List Row) (words : ServeWords) : Type 0 where
+  pub incarnation : IsNumberAt rows (codes "incarnation") words.incarnation
+  pub requests : IsNumberAt rows (codes "requests") words.requests
+  pub workers : IsNumberAt rows (codes "workers") words.workers
+  pub period : IsNumberAt rows (codes "period") words.period
+  pub replicas : IsNumberAt rows (codes "replicas") words.replicas
+  pub weight : IsNumberAt rows (codes "weight") words.weight
+  pub sum : IsFlagAt rows (codes "sum") words.sum
 
 -- its address and its hosts are, too
-pub record IsServedAt (found : Found) (words : ServeWords) : Type 0 where
-  pub address : IsAddressAt found (codes "address") words.address
-  pub hosts : AreAddressesAt found (codes "host") words.hosts.items
-  pub numbers : AreNumbersAt found words
+pub record IsServedAt (rows : List Row) (words : ServeWords) : Type 0 where
+  pub address : IsAddressAt rows (codes "address") words.address
+  pub hosts : AreAddressesAt rows (codes "host") words.hosts.items
+  pub numbers : AreNumbersAt rows words
 
 -- the node that is asked, the key and the request are the words that bear their names
-pub record IsAskedAt (found : Found) (a : ℕ) (k b : List ℕ) : Type 0 where
-  pub address : IsAddressAt found (codes "address") a
-  pub key : first_value found (codes "key") ≡ Some k
-  pub body : first_value found (codes "body") ≡ Some b
+pub record IsAskedAt (rows : List Row) (a : ℕ) (k b : Text) : Type 0 where
+  pub address : IsAddressAt rows (codes "address") a
+  pub key : first_of (codes "key") rows ≡ Some k
+  pub body : first_of (codes "body") rows ≡ Some b
 
 -- so they are where the owner is asked, and the points and the hash
-pub record IsAnyAskedAt (found : Found) (words : AskAnyWords) : Type 0 where
-  pub asked : IsAskedAt found words.host words.key.now words.body.now
-  pub replicas : IsNumberAt found (codes "replicas") words.replicas
-  pub sum : IsFlagAt found (codes "sum") words.sum
+pub record IsAnyAskedAt (rows : List Row) (words : AskAnyWords) : Type 0 where
+  pub asked : IsAskedAt rows words.host words.key.now words.body.now
+  pub replicas : IsNumberAt rows (codes "replicas") words.replicas
+  pub sum : IsFlagAt rows (codes "sum") words.sum
 
 -- the node whose members are written, and whether as lines, are the words that bear their names
-pub record AreMembersAt (found : Found) (words : MembersWords) : Type 0 where
-  pub host : IsAddressAt found (codes "host") words.host
-  pub lines : IsFlagAt found (codes "lines") words.lines
+pub record AreMembersAt (rows : List Row) (words : MembersWords) : Type 0 where
+  pub host : IsAddressAt rows (codes "host") words.host
+  pub lines : IsFlagAt rows (codes "lines") words.lines
 
 -- what a subcommand of this name does with lines, by the words behind it
-abbrev pub AreLinesOf : List ℕ → Found → Subcommand → Type 0
-AreLinesOf name found Fold = name ≡ codes "fold"
-AreLinesOf name found (Hash text) = (name ≡ codes "hash") × (first_value found (codes "text") ≡ Some text.now)
-AreLinesOf name found (Owner words) = (name ≡ codes "owner") × IsOwnedAt found words
-AreLinesOf name found (Sim words) = (name ≡ codes "sim") × IsScriptAt found words
+abbrev pub AreLinesOf : Text → List Row → Subcommand → Type 0
+AreLinesOf name rows Fold = name ≡ codes "fold"
+AreLinesOf name rows (Hash text) = (name ≡ codes "hash") × (first_of (codes "text") rows ≡ Some text.now)
+AreLinesOf name rows (Owner words) = (name ≡ codes "owner") × IsOwnedAt rows words
+AreLinesOf name rows (Sim words) = (name ≡ codes "sim") × IsScriptAt rows words
 
 -- what a subcommand of this name does with nodes, by the words behind it
-abbrev pub IsCommandOf : List ℕ → Found → ClusterCommand → Type 0
-IsCommandOf name found (Serve words) = (name ≡ codes "serve") × IsServedAt found words
-IsCommandOf name found (Ask words) =
-    (name ≡ codes "ask") × (IsFlagAt found (codes "any") false × IsAskedAt found words.address words.key.now words.body.now)
-IsCommandOf name found (AskAny words) = (name ≡ codes "ask") × (IsFlagAt found (codes "any") true × IsAnyAskedAt found words)
-IsCommandOf name found (Members words) = (name ≡ codes "members") × AreMembersAt found words
-IsCommandOf name found (Tell host) = (name ≡ codes "tell") × IsAddressAt found (codes "host") host
+abbrev pub IsCommandOf : Text → List Row → ClusterCommand → Type 0
+IsCommandOf name rows (Serve words) = (name ≡ codes "serve") × IsServedAt rows words
+IsCommandOf name rows (Ask words) =
+    (name ≡ codes "ask") × (IsFlagAt rows (codes "any") false × IsAskedAt rows words.address words.key.now words.body.now)
+IsCommandOf name rows (AskAny words) = (name ≡ codes "ask") × (IsFlagAt rows (codes "any") true × IsAnyAskedAt rows words)
+IsCommandOf name rows (Members words) = (name ≡ codes "members") × AreMembersAt rows words
+IsCommandOf name rows (Tell host) = (name ≡ codes "tell") × IsAddressAt rows (codes "host") host
 
 -- what a subcommand of this name does, by the words behind it
-abbrev pub AreWordsOf : List ℕ → Found → Words → Type 0
-AreWordsOf name found (Lines subcommand) = AreLinesOf name found subcommand
-AreWordsOf name found (Cluster command) = IsCommandOf name found command
+abbrev pub AreWordsOf : Text → List Row → Words → Type 0
+AreWordsOf name rows (Lines subcommand) = AreLinesOf name rows subcommand
+AreWordsOf name rows (Cluster command) = IsCommandOf name rows command
 
--- the words name a subcommand, which does this by the words behind it
-pub record Names (matches : ArgMatches) (words : Words) : Type 0 where
-  pub name : List ℕ
-  pub found : Found
-  pub named : subcommand_name_of matches ≡ Some name
-  pub rows : option_map (λ p. p.1) (subcommand_rows_of matches) ≡ Some (rows_of found)
-  pub are : AreWordsOf name found words
+-- what the words ask for, by the subcommand that they name and the words behind it; with none they ask for `fold`
+abbrev pub AreAskedBy : Option (Text × List Row) → Words → Type 0
+AreAskedBy None words = words ≡ Lines Fold
+AreAskedBy (Some named) words = AreWordsOf named.0 named.1 words

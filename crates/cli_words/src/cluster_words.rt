@@ -1,9 +1,13 @@
 //! The words of the commands that speak to nodes.
-ghost use Rattle.std.specs.Prelude.{◌≡◌, ◌≢◌, ℕ, map, codes, IfErr, IfOk, IfSome};
-ghost use Rattle.clap.specs.Matches.{found_of};
-ghost use Rattle.change_core.specs.Address.{IsAddress, address_text};
-ghost use Rattle.cli_words.specs.Faults.{IsWordsFault};
+ghost use Rattle.std.specs.Prelude.{◌≡◌, ◌<◌, ◌^◌, length, map, codes, IfErr, IfOk, IfSome, IsSome, MatchOption};
+ghost use Rattle.std.specs.List.{Any};
+ghost use Rattle.clap.specs.Words.{first_of};
+ghost use Rattle.change_core.specs.Address.{address_text};
+ghost use Rattle.cli_words.specs.Faults.{IsRefusalOf};
+ghost use Rattle.cli_words.specs.Whole.{HasAnyAsked, HasAsked, HasBadAddress, HasNumbers, HasServed, IsNoAddress, IsNoAddressAmong, IsNoAddressAt};
+ghost use Rattle.cli_words.specs.Whole.{IsOfNodes, IsWhole};
 ghost use Rattle.cli_words.specs.Words.{AreAddressesAt, AreMembersAt, AreNumbersAt, IsAddressAt, IsAnyAskedAt, IsAskedAt, IsCommandOf, IsServedAt};
+ghost use Rattle.cli_words.specs.Words.{rows_in};
 
 use crate::commands::{
     ADDRESS, ANY, BODY, HOST, INCARNATION, KEY, LINES, PERIOD, REQUESTS, SUM, WEIGHT, WORKERS,
@@ -19,15 +23,15 @@ use std::alloc::Global;
 /// An address by its one text. Any other text is `BadAddress`.
 fn address_of(text: &str) -> Result<Address, Fault>
     ensures ok { IfOk result (λ a. text.now ≡ address_text a) }
-    ensures fault { IfErr result (λ f. (f ≡ Fault.BadAddress) × ((a : ℕ) → IsAddress a → text.now ≢ address_text a)) }
+    ensures fault { IfErr result (λ f. (f ≡ Fault.BadAddress) × IsNoAddress text.now) }
 {
     Address::parse(text).map_err(|_| Fault::BadAddress)
 }
 
 /// The address that a word is.
 fn address_at(alloc: Global, matches: &ArgMatches<'_>, id: &str) -> Result<Address, Fault>
-    ensures ok { IfOk result (IsAddressAt (found_of matches.now) id.now) }
-    ensures fault { IfErr result IsWordsFault }
+    ensures ok { IfOk result (IsAddressAt (rows_in matches.now) id.now) }
+    ensures fault { IfErr result (IsRefusalOf (IsSome (first_of id.now (rows_in matches.now))) (IsNoAddressAt (rows_in matches.now) id.now)) }
 {
     match matches.get_str(id) {
         Some(text) => address_of(text),
@@ -38,7 +42,7 @@ fn address_at(alloc: Global, matches: &ArgMatches<'_>, id: &str) -> Result<Addre
 /// The addresses that these texts are, in their order. The first text that is none is `BadAddress`.
 fn addresses_of(alloc: Global, texts: &[&str]) -> Result<Vec<Address>, Fault>
     ensures ok { IfOk result (λ hosts. map (λ s. s.now) texts.now ≡ map address_text hosts.items) }
-    ensures fault { IfErr result IsWordsFault }
+    ensures fault { IfErr result (IsRefusalOf (Unit {0}) (Any IsNoAddress (map (λ s. s.now) texts.now))) }
 {
     let mut addresses = Vec::with_capacity(alloc, texts.len())?;
     for text in texts {
@@ -50,8 +54,8 @@ fn addresses_of(alloc: Global, texts: &[&str]) -> Result<Vec<Address>, Fault>
 
 /// The hosts that a node asks to let it join.
 fn hosts_at(alloc: Global, matches: &ArgMatches<'_>) -> Result<Vec<Address>, Fault>
-    ensures ok { IfOk result (λ hosts. AreAddressesAt (found_of matches.now) (codes "host") hosts.items) }
-    ensures fault { IfErr result IsWordsFault }
+    ensures ok { IfOk result (λ hosts. AreAddressesAt (rows_in matches.now) (codes "host") hosts.items) }
+    ensures fault { IfErr result (IsRefusalOf (Unit {0}) (IsNoAddressAmong (rows_in matches.now) (codes "host"))) }
 {
     match matches.get_strs(HOST) {
         Some(texts) => addresses_of(alloc, texts),
@@ -59,7 +63,7 @@ fn hosts_at(alloc: Global, matches: &ArgMatches<'_>) -> Result<Vec<Address>, Fau
     }
 }
 
-/// The words of `serve` with these addresses, if each number is in its range, and so is the number of hosts.
+/// The words of `serve` with these addresses, exactly where each number is in its range, and so is the number of hosts.
 fn serve_words_at(
     matches: &ArgMatches<'_>,
     address: Address,
@@ -67,7 +71,8 @@ fn serve_words_at(
 ) -> Option<ServeWords>
     ensures address { IfSome result (λ words. words.address ≡ address) }
     ensures hosts { IfSome result (λ words. words.hosts ≡ hosts) }
-    ensures numbers { IfSome result (AreNumbersAt (found_of matches.now)) }
+    ensures numbers { IfSome result (AreNumbersAt (rows_in matches.now)) }
+    ensures taken { HasNumbers (rows_in matches.now) → length hosts.items < 2 ^ 32 → IsSome result }
 {
     let incarnation = Incarnation::new(number(matches, INCARNATION, 0, GREATEST_NUMBER)?)?;
     let requests = number(matches, REQUESTS, 1, MOST_REQUESTS)?;
@@ -94,8 +99,8 @@ fn serve_words_at(
 
 /// The words of `serve`.
 fn serve_words(alloc: Global, matches: &ArgMatches<'_>) -> Result<ServeWords, Fault>
-    ensures served { IfOk result (IsServedAt (found_of matches.now)) }
-    ensures fault { IfErr result IsWordsFault }
+    ensures served { IfOk result (IsServedAt (rows_in matches.now)) }
+    ensures fault { IfErr result (IsRefusalOf (HasServed (rows_in matches.now)) (HasBadAddress (rows_in matches.now))) }
 {
     let address = address_at(alloc, matches, ADDRESS)?;
     let hosts = hosts_at(alloc, matches)?;
@@ -107,8 +112,8 @@ fn serve_words(alloc: Global, matches: &ArgMatches<'_>) -> Result<ServeWords, Fa
 
 /// The words of `ask`.
 fn ask_words<'a>(alloc: Global, matches: &ArgMatches<'a>) -> Result<AskWords<'a>, Fault>
-    ensures asked { IfOk result (λ words. IsAskedAt (found_of matches.now) words.address words.key.now words.body.now) }
-    ensures fault { IfErr result IsWordsFault }
+    ensures asked { IfOk result (λ words. IsAskedAt (rows_in matches.now) words.address words.key.now words.body.now) }
+    ensures fault { IfErr result (IsRefusalOf (HasAsked (rows_in matches.now)) (HasBadAddress (rows_in matches.now))) }
 {
     let address = address_at(alloc, matches, ADDRESS)?;
     let (Some(key), Some(body)) = (matches.get_str(KEY), matches.get_str(BODY)) else {
@@ -119,8 +124,8 @@ fn ask_words<'a>(alloc: Global, matches: &ArgMatches<'a>) -> Result<AskWords<'a>
 
 /// The words of `ask --any`.
 fn ask_any_words<'a>(alloc: Global, matches: &ArgMatches<'a>) -> Result<AskAnyWords<'a>, Fault>
-    ensures asked { IfOk result (IsAnyAskedAt (found_of matches.now)) }
-    ensures fault { IfErr result IsWordsFault }
+    ensures asked { IfOk result (IsAnyAskedAt (rows_in matches.now)) }
+    ensures fault { IfErr result (IsRefusalOf (HasAnyAsked (rows_in matches.now)) (HasBadAddress (rows_in matches.now))) }
 {
     let AskWords { address, key, body } = ask_words(alloc, matches)?;
     let Some(replicas) = replicas(matches) else {
@@ -137,8 +142,8 @@ fn ask_any_words<'a>(alloc: Global, matches: &ArgMatches<'a>) -> Result<AskAnyWo
 
 /// The words of `members`.
 fn members_words(alloc: Global, matches: &ArgMatches<'_>) -> Result<MembersWords, Fault>
-    ensures members { IfOk result (AreMembersAt (found_of matches.now)) }
-    ensures fault { IfErr result IsWordsFault }
+    ensures members { IfOk result (AreMembersAt (rows_in matches.now)) }
+    ensures fault { IfErr result (IsRefusalOf (IsSome (first_of (codes "host") (rows_in matches.now))) (HasBadAddress (rows_in matches.now))) }
 {
     let host = address_at(alloc, matches, HOST)?;
     Ok(MembersWords {
@@ -147,14 +152,17 @@ fn members_words(alloc: Global, matches: &ArgMatches<'_>) -> Result<MembersWords
     })
 }
 
-/// What the subcommand of this name is to do with nodes, if it is one that speaks to nodes.
+/// What the subcommand of this name is to do with nodes, and `None` exactly where no subcommand of the name speaks to nodes. It refuses
+/// words as `clap` does only where one is absent or not in its range, or there are 2^32 hosts, and by `BadAddress` only where one that is
+/// to be an address is none.
 pub fn cluster_command_of<'a>(
     alloc: Global,
     name: &str,
     matches: &ArgMatches<'a>,
 ) -> Result<Option<ClusterCommand<'a>>, Fault>
-    ensures command { IfOk result (λ found. IfSome found (IsCommandOf name.now (found_of matches.now))) }
-    ensures fault { IfErr result IsWordsFault }
+    ensures command { IfOk result (λ found. MatchOption found (¬ IsOfNodes name.now) (IsCommandOf name.now (rows_in matches.now))) }
+    ensures other { ¬ IsOfNodes name.now → result ≡ Ok None }
+    ensures fault { IfErr result (IsRefusalOf (IsWhole name.now (rows_in matches.now)) (HasBadAddress (rows_in matches.now))) }
 {
     let command = match name {
         "serve" => ClusterCommand::Serve(serve_words(alloc, matches)?),

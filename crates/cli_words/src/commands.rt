@@ -1,4 +1,8 @@
 //! The command line, as `clap` reads it.
+ghost use Rattle.std.specs.Prelude.{◌≡◌, IfOk, codes};
+ghost use Rattle.clap.specs.Words.{app_of, rule_of};
+ghost use Rattle.cli_words.specs.CommandLine as line;
+ghost use Rattle.cli_words.specs.CommandLine.{leaf, ringpop_app};
 
 use change_core::{GREATEST_NUMBER, GREATEST_WEIGHT, MOST_MEMBERS};
 use clap::builder::{ValueParser, ValueRange};
@@ -94,7 +98,9 @@ fn option<'a>(
     default: &'a str,
     least: u64,
     most: u64,
-) -> Arg<'a> {
+) -> Arg<'a>
+    ensures { rule_of result ≡ line.option name.entry.now default.entry.now least most }
+{
     Arg::new(alloc, name)
         .long(name)
         .value_name(value)
@@ -103,20 +109,26 @@ fn option<'a>(
 }
 
 /// A word that has to be given: a text, which may be empty.
-fn word<'a>(alloc: Global, name: &'a str, value: &'a str, help: &'a str) -> Arg<'a> {
+fn word<'a>(alloc: Global, name: &'a str, value: &'a str, help: &'a str) -> Arg<'a>
+    ensures { rule_of result ≡ line.word name.entry.now }
+{
     Arg::new(alloc, name)
         .required(true)
         .value_name(value)
         .help(help)
 }
 
-fn fold_command<'a>(alloc: Global) -> Command<'a> {
+fn fold_command<'a>(alloc: Global) -> Command<'a>
+    ensures { app_of result ≡ leaf line.fold_words }
+{
     Command::new(alloc, "fold").about(
         "Reads change lines; prints the members that they come to, and their digest",
     )
 }
 
-fn hash_command<'a>(alloc: Global) -> Result<Command<'a>, AllocError> {
+fn hash_command<'a>(alloc: Global) -> Result<Command<'a>, AllocError>
+    ensures { IfOk result (λ c. app_of c ≡ leaf line.hash_words) }
+{
     let text = word(alloc, TEXT, "TEXT", "The text, which may be empty");
     Command::new(alloc, "hash")
         .about(
@@ -126,21 +138,27 @@ fn hash_command<'a>(alloc: Global) -> Result<Command<'a>, AllocError> {
 }
 
 /// How many points a server has for each unit of its weight.
-fn replicas_option<'a>(alloc: Global) -> Arg<'a> {
+fn replicas_option<'a>(alloc: Global) -> Arg<'a>
+    ensures { rule_of result ≡ line.replicas }
+{
     option(alloc, REPLICAS, "R", "100", 1, u64::from(MOST_REPLICAS)).help(
         "Points on the ring of a member, for each unit of its weight: 1 to 1000",
     )
 }
 
 /// Whether the hash is the sum of the bytes.
-fn sum_flag<'a>(alloc: Global) -> Arg<'a> {
+fn sum_flag<'a>(alloc: Global) -> Arg<'a>
+    ensures { rule_of result ≡ line.sum }
+{
     Arg::new(alloc, SUM)
         .long(SUM)
         .action(ArgAction::SetTrue)
         .help("Hash by the sum of the bytes in place of SHA-256 (to follow an example by hand)")
 }
 
-fn owner_command<'a>(alloc: Global) -> Result<Command<'a>, AllocError> {
+fn owner_command<'a>(alloc: Global) -> Result<Command<'a>, AllocError>
+    ensures { IfOk result (λ c. app_of c ≡ leaf line.owner_words) }
+{
     let count = option(alloc, COUNT, "N", "1", 0, MOST_MEMBERS as u64).help(
         "How many owners to print, the first first: 0 to 4096",
     );
@@ -153,7 +171,9 @@ fn owner_command<'a>(alloc: Global) -> Result<Command<'a>, AllocError> {
         .arg(key)
 }
 
-fn sim_command<'a>(alloc: Global) -> Result<Command<'a>, AllocError> {
+fn sim_command<'a>(alloc: Global) -> Result<Command<'a>, AllocError>
+    ensures { IfOk result (λ c. app_of c ≡ leaf line.sim_words) }
+{
     Command::new(alloc, "sim")
         .about("Reads a script of nodes in one process, a command a line; answers each with a line")
         .after_help(BELOW_SIM)
@@ -162,21 +182,27 @@ fn sim_command<'a>(alloc: Global) -> Result<Command<'a>, AllocError> {
 }
 
 /// How many connections are served at a time.
-fn workers_option<'a>(alloc: Global) -> Arg<'a> {
+fn workers_option<'a>(alloc: Global) -> Arg<'a>
+    ensures { rule_of result ≡ line.workers }
+{
     option(alloc, WORKERS, "W", "2", 1, u64::from(MOST_WORKERS)).help(
         "How many connections are served at a time: 1 to 16",
     )
 }
 
 /// How many milliseconds lie between two rounds of gossip.
-fn period_option<'a>(alloc: Global) -> Arg<'a> {
+fn period_option<'a>(alloc: Global) -> Arg<'a>
+    ensures { rule_of result ≡ line.period }
+{
     option(alloc, PERIOD, "MS", "0", 0, GREATEST_NUMBER).help(
         "Milliseconds between two rounds of gossip: 0, which makes none, to 9007199254740991",
     )
 }
 
 /// A node's weight.
-fn weight_option<'a>(alloc: Global) -> Arg<'a> {
+fn weight_option<'a>(alloc: Global) -> Arg<'a>
+    ensures { rule_of result ≡ line.weight }
+{
     option(alloc, WEIGHT, "W", "1", 1, u64::from(GREATEST_WEIGHT)).help(
         "The node's weight, its share of the keys: 1 to 8",
     )
@@ -190,25 +216,33 @@ fn number_word<'a>(
     help: &'a str,
     least: u64,
     most: u64,
-) -> Arg<'a> {
+) -> Arg<'a>
+    ensures { rule_of result ≡ line.number_word name.entry.now least most }
+{
     word(alloc, name, value, help).value_parser(ValueParser::unsigned(least, most))
 }
 
 /// A node's first incarnation.
-fn incarnation_word<'a>(alloc: Global) -> Arg<'a> {
+fn incarnation_word<'a>(alloc: Global) -> Arg<'a>
+    ensures { rule_of result ≡ line.incarnation }
+{
     let help =
         "The node's first incarnation, and its seed: 0 to 9007199254740991; greater than any that it had before";
     number_word(alloc, INCARNATION, "INCARNATION", help, 0, GREATEST_NUMBER)
 }
 
 /// How many connections are served.
-fn requests_word<'a>(alloc: Global) -> Arg<'a> {
+fn requests_word<'a>(alloc: Global) -> Arg<'a>
+    ensures { rule_of result ≡ line.requests }
+{
     let help = "How many connections are served, those of gossip too: 1 to 1000000";
     number_word(alloc, REQUESTS, "REQUESTS", help, 1, MOST_REQUESTS)
 }
 
 /// The nodes that are asked to let the node join.
-fn hosts_word<'a>(alloc: Global) -> Arg<'a> {
+fn hosts_word<'a>(alloc: Global) -> Arg<'a>
+    ensures { rule_of result ≡ line.hosts }
+{
     Arg::new(alloc, HOST)
         .num_args(ValueRange::from(0..))
         .action(ArgAction::Append)
@@ -216,7 +250,9 @@ fn hosts_word<'a>(alloc: Global) -> Arg<'a> {
         .help("Running nodes that are asked to let this one join; none for the first of a cluster")
 }
 
-fn serve_command<'a>(alloc: Global) -> Result<Command<'a>, AllocError> {
+fn serve_command<'a>(alloc: Global) -> Result<Command<'a>, AllocError>
+    ensures { IfOk result (λ c. app_of c ≡ leaf line.serve_words) }
+{
     let address = word(
         alloc,
         ADDRESS,
@@ -238,11 +274,19 @@ fn serve_command<'a>(alloc: Global) -> Result<Command<'a>, AllocError> {
         .arg(hosts_word(alloc))
 }
 
-fn ask_command<'a>(alloc: Global) -> Result<Command<'a>, AllocError> {
-    let any = Arg::new(alloc, ANY)
+/// Whether the owner of the key is asked, whichever node that is.
+fn any_flag<'a>(alloc: Global) -> Arg<'a>
+    ensures { rule_of result ≡ line.flag (codes "any") }
+{
+    Arg::new(alloc, ANY)
         .long(ANY)
         .action(ArgAction::SetTrue)
-        .help("Take ADDRESS for any node of the cluster, and ask the owner of the key");
+        .help("Take ADDRESS for any node of the cluster, and ask the owner of the key")
+}
+
+fn ask_command<'a>(alloc: Global) -> Result<Command<'a>, AllocError>
+    ensures { IfOk result (λ c. app_of c ≡ leaf line.ask_words) }
+{
     let address = word(
         alloc,
         ADDRESS,
@@ -258,7 +302,7 @@ fn ask_command<'a>(alloc: Global) -> Result<Command<'a>, AllocError> {
     );
     Command::new(alloc, "ask")
         .about("Sends a request to a running node; prints its reply")
-        .arg(any)?
+        .arg(any_flag(alloc))?
         .arg(replicas_option(alloc).requires_arg(ANY)?)?
         .arg(sum_flag(alloc).requires_arg(ANY)?)?
         .arg(address)?
@@ -267,7 +311,9 @@ fn ask_command<'a>(alloc: Global) -> Result<Command<'a>, AllocError> {
 }
 
 /// A running node.
-fn host_word<'a>(alloc: Global) -> Arg<'a> {
+fn host_word<'a>(alloc: Global) -> Arg<'a>
+    ensures { rule_of result ≡ line.word (codes "host") }
+{
     word(
         alloc,
         HOST,
@@ -276,7 +322,9 @@ fn host_word<'a>(alloc: Global) -> Arg<'a> {
     )
 }
 
-fn members_command<'a>(alloc: Global) -> Result<Command<'a>, AllocError> {
+fn members_command<'a>(alloc: Global) -> Result<Command<'a>, AllocError>
+    ensures { IfOk result (λ c. app_of c ≡ leaf line.members_words) }
+{
     let lines = Arg::new(alloc, LINES)
         .long(LINES)
         .action(ArgAction::SetTrue)
@@ -287,7 +335,9 @@ fn members_command<'a>(alloc: Global) -> Result<Command<'a>, AllocError> {
         .arg(host_word(alloc))
 }
 
-fn tell_command<'a>(alloc: Global) -> Result<Command<'a>, AllocError> {
+fn tell_command<'a>(alloc: Global) -> Result<Command<'a>, AllocError>
+    ensures { IfOk result (λ c. app_of c ≡ leaf line.tell_words) }
+{
     Command::new(alloc, "tell")
         .about(
             "Reads at most 4096 change lines; tells them to a running node, and prints how many members it then holds",
@@ -295,8 +345,10 @@ fn tell_command<'a>(alloc: Global) -> Result<Command<'a>, AllocError> {
         .arg(host_word(alloc))
 }
 
-/// The subcommands and their words.
-pub fn ringpop_command<'a>(alloc: Global) -> Result<Command<'a>, AllocError> {
+/// The subcommands and their words, as the table of the command line has them.
+pub fn ringpop_command<'a>(alloc: Global) -> Result<Command<'a>, AllocError>
+    ensures { IfOk result (λ c. app_of c ≡ ringpop_app) }
+{
     Command::new(alloc, "ringpop")
         .bin_name("ringpop")?
         .version("0.1.0")

@@ -1,10 +1,12 @@
 //! The words of the command line.
-ghost use Rattle.std.specs.Prelude.{◌≡◌, ◌≢◌, ◌≤◌, length, codes, Ok, None, IfOk, IfErr, IfSome};
-ghost use Rattle.clap.specs.Matches.{found_of, subcommand_name_of};
+ghost use Rattle.std.specs.Prelude.{◌≡◌, ◌≤◌, ℕ, length, map, codes, IfErr, IfOk, IfSome, IsSome, IsSomeAnd, true};
 ghost use Rattle.clap.specs.Values.{kind_of};
+ghost use Rattle.clap.specs.Words.{subcommand_of, subcommand_rows_of, takes};
 ghost use Rattle.hash_ring.specs.Points.{IsReplicas};
-ghost use Rattle.cli_words.specs.Faults.{IsWordsFault};
-ghost use Rattle.cli_words.specs.Words.{AreLinesOf, AreWordsOf, IsFlagAt, IsNumberAt, IsOwnedAt, IsScriptAt, Names};
+ghost use Rattle.cli_words.specs.CommandLine.{ringpop_app};
+ghost use Rattle.cli_words.specs.Faults.{IsRefusalOf, IsUsageFault, IsWordsFault};
+ghost use Rattle.cli_words.specs.Whole.{HasBadAddress, HasNumber, HasOwned, IsOfLines, IsRefusalBy, IsWhole};
+ghost use Rattle.cli_words.specs.Words.{AreAskedBy, AreLinesOf, AreWordsOf, IsFlagAt, IsNumberAt, IsOwnedAt, IsScriptAt, rows_in};
 
 use crate::cluster_words::cluster_command_of;
 use crate::commands::{COUNT, KEY, REPLICAS, SUM, TEXT, ringpop_command};
@@ -27,10 +29,11 @@ pub enum Words<'a> {
     Cluster(ClusterCommand<'a>),
 }
 
-/// A number, if it is there and in this range.
+/// The number that the word of this name is, exactly where it is there, is a number and lies in this range.
 pub fn number(matches: &ArgMatches<'_>, id: &str, least: u64, most: u64) -> Option<u64>
     ensures range { IfSome result (λ n. (least ≤ n) × (n ≤ most)) }
-    ensures given { IfSome result (IsNumberAt (found_of matches.now) id.now) }
+    ensures given { IfSome result (IsNumberAt (rows_in matches.now) id.now) }
+    ensures taken { (n : ℕ) → IsNumberAt (rows_in matches.now) id.now n → least ≤ n → n ≤ most → result ≡ Some n }
 {
     let given = matches.get_one::<u64>(id)?;
     (least <= given && given <= most).then_some(given)
@@ -38,23 +41,25 @@ pub fn number(matches: &ArgMatches<'_>, id: &str, least: u64, most: u64) -> Opti
 
 /// Whether a flag is set.
 pub fn flag(matches: &ArgMatches<'_>, id: &str) -> bool
-    ensures { IsFlagAt (found_of matches.now) id.now result }
+    ensures { IsFlagAt (rows_in matches.now) id.now result }
 {
     matches.get_flag(id)
 }
 
-/// How many points a server has for each unit of its weight, if that is there and in its range.
+/// How many points a server has for each unit of its weight, exactly where that is there and in its range.
 pub fn replicas(matches: &ArgMatches<'_>) -> Option<u32>
     ensures range { IfSome result IsReplicas }
-    ensures given { IfSome result (IsNumberAt (found_of matches.now) (codes "replicas")) }
+    ensures given { IfSome result (IsNumberAt (rows_in matches.now) (codes "replicas")) }
+    ensures taken { (n : ℕ) → IsNumberAt (rows_in matches.now) (codes "replicas") n → IsReplicas n → result ≡ Some n }
 {
     let replicas = number(matches, REPLICAS, 1, u64::from(MOST_REPLICAS))?;
     Some(replicas as u32)
 }
 
-/// The words of `owner`, if the key is there and each number is in its range.
+/// The words of `owner`, exactly where the key is there and each number in its range.
 fn owner_words<'a>(matches: &ArgMatches<'a>) -> Option<OwnerWords<'a>>
-    ensures { IfSome result (IsOwnedAt (found_of matches.now)) }
+    ensures owned { IfSome result (IsOwnedAt (rows_in matches.now)) }
+    ensures taken { HasOwned (rows_in matches.now) → IsSome result }
 {
     let count = number(matches, COUNT, 0, MOST_MEMBERS as u64)?;
     let replicas = replicas(matches)?;
@@ -67,9 +72,10 @@ fn owner_words<'a>(matches: &ArgMatches<'a>) -> Option<OwnerWords<'a>>
     })
 }
 
-/// The words of `sim`, if the number is in its range.
+/// The words of `sim`, exactly where the number is there and in its range.
 fn sim_words(matches: &ArgMatches<'_>) -> Option<SimWords>
-    ensures { IfSome result (IsScriptAt (found_of matches.now)) }
+    ensures script { IfSome result (IsScriptAt (rows_in matches.now)) }
+    ensures taken { HasNumber (rows_in matches.now) (codes "replicas") IsReplicas → IsSome result }
 {
     let replicas = replicas(matches)?;
     Some(SimWords {
@@ -80,7 +86,8 @@ fn sim_words(matches: &ArgMatches<'_>) -> Option<SimWords>
 
 /// The lines that the subcommand of this name is to read and write, if each word is there and in its range, and it is one of lines.
 fn lines_of<'a>(name: &str, matches: &ArgMatches<'a>) -> Option<Subcommand<'a>>
-    ensures { IfSome result (AreLinesOf name.now (found_of matches.now)) }
+    ensures lines { IfSome result (AreLinesOf name.now (rows_in matches.now)) }
+    ensures taken { IsOfLines name.now → IsWhole name.now (rows_in matches.now) → IsSome result }
 {
     match name {
         "fold" => Some(Subcommand::Fold),
@@ -100,10 +107,11 @@ fn lines_of<'a>(name: &str, matches: &ArgMatches<'a>) -> Option<Subcommand<'a>>
     }
 }
 
-/// What the subcommand of this name is to do.
+/// What the subcommand of this name is to do. It refuses words as `clap` does only where there is no such subcommand, or one of its
+/// words is absent or not in its range, or there are 2^32 hosts, and by `BadAddress` only where a word that is to be an address is none.
 fn words_at<'a>(alloc: Global, name: &str, matches: &ArgMatches<'a>) -> Result<Words<'a>, Fault>
-    ensures words { IfOk result (AreWordsOf name.now (found_of matches.now)) }
-    ensures fault { IfErr result IsWordsFault }
+    ensures words { IfOk result (AreWordsOf name.now (rows_in matches.now)) }
+    ensures fault { IfErr result (IsRefusalOf (IsWhole name.now (rows_in matches.now)) (HasBadAddress (rows_in matches.now))) }
 {
     if let Some(command) = cluster_command_of(alloc, name, matches)? {
         return Ok(Words::Cluster(command));
@@ -114,11 +122,11 @@ fn words_at<'a>(alloc: Global, name: &str, matches: &ArgMatches<'a>) -> Result<W
     }
 }
 
-/// What the words that `clap` took ask for.
+/// What the words that `clap` took ask for, by the subcommand that they name; `words_at` says when they are refused.
 fn words_of<'a>(alloc: Global, matches: &ArgMatches<'a>) -> Result<Words<'a>, Fault>
-    ensures alone { subcommand_name_of matches.now ≡ None → result ≡ Ok (Words.Lines Subcommand.Fold) }
-    ensures named { subcommand_name_of matches.now ≢ None → IfOk result (Names matches.now) }
-    ensures fault { IfErr result IsWordsFault }
+    ensures alone { subcommand_rows_of matches.now ≡ None → result ≡ Ok (Words.Lines Subcommand.Fold) }
+    ensures asked { IfOk result (AreAskedBy (subcommand_rows_of matches.now)) }
+    ensures fault { IfErr result (IsRefusalBy (subcommand_rows_of matches.now)) }
 {
     match matches.subcommand() {
         Some((name, inner)) => words_at(alloc, name, inner),
@@ -126,11 +134,15 @@ fn words_of<'a>(alloc: Global, matches: &ArgMatches<'a>) -> Result<Words<'a>, Fa
     }
 }
 
-/// Reads the words, of which the first is the program's name. With no other they ask for `fold`. What `clap` refuses, a
-/// call for help among it, is a `Fault::Usage`; then the first address that is none is `Fault::BadAddress`. Each number in the
-/// words is in its range.
+/// Reads the words, of which the first is the program's name. With no other they ask for `fold`; else for what the subcommand does that
+/// `clap`'s definitions find in them by the table of the command line, `ringpop_app`, with the words behind it. What `clap` refuses, a
+/// call for help among it, is a `Fault::Usage`; then the first address that is none is `Fault::BadAddress`. Each number in the words is
+/// in its range.
 pub fn read_words<'a, S: AsStr>(alloc: Global, words: &'a [S]) -> Result<Words<'a>, Fault>
     ensures alone { length words.now ≤ 1 → result ≡ Ok (Words.Lines Subcommand.Fold) }
+    ensures asked { 2 ≤ length words.now → IfOk result (AreAskedBy (subcommand_of ringpop_app (map S.text words.now))) }
+    ensures taken { takes ringpop_app (map S.text words.now) ≡ true → IfErr result (IsRefusalBy (subcommand_of ringpop_app (map S.text words.now))) }
+    ensures address { result ≡ Err Fault.BadAddress → IsSomeAnd (subcommand_of ringpop_app (map S.text words.now)) (λ p. HasBadAddress p.1) }
     ensures fault { IfErr result IsWordsFault }
 {
     if words.len() < 2 {
@@ -142,14 +154,14 @@ pub fn read_words<'a, S: AsStr>(alloc: Global, words: &'a [S]) -> Result<Words<'
 
 /// The refusal of words in which one is absent or not in its range. `clap` has tested them, so that none is refused so.
 pub fn absent(alloc: Global) -> Fault
-    ensures { IsWordsFault result }
+    ensures { IsUsageFault result }
 {
     refusal(alloc, "a word is absent or not in its range")
 }
 
 /// A refusal of the words in the form of `clap`'s, or a want of memory.
 fn refusal(alloc: Global, text: &str) -> Fault
-    ensures { IsWordsFault result }
+    ensures { IsUsageFault result }
 {
     match invalid(alloc, text) {
         Ok(error) => Fault::from(error),
@@ -166,7 +178,7 @@ fn invalid(alloc: Global, text: &str) -> Result<clap::Error, AllocError>
 
 /// The refusal of words that are not UTF-8, in the form of `clap`'s.
 pub fn words_not_text(alloc: Global) -> Fault
-    ensures { IsWordsFault result }
+    ensures { IsUsageFault result }
 {
     refusal(alloc, "the words are not UTF-8")
 }

@@ -1,7 +1,8 @@
 //! The members of a cluster and the owners of its keys, from a command line.
 #![tactic(auto)]
 
-use cli_words::{Fault, read_words, words_not_text, words_run};
+use cli_run::words_run;
+use cli_words::{Fault, read_words, words_not_text};
 use serve_core::Host;
 use std::alloc::{Alloc, Global};
 use std::env::Env;

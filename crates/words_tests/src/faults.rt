@@ -127,8 +127,8 @@ const CLUSTER_FAULTS: [(ClusterFault, &str); 16] = [
 
 #[test]
 fn tells_why_a_node_did_not_answer(rt: HostRuntime) {
-    for (fault, text) in CLUSTER_FAULTS {
-        tells(&rt, rt.alloc(), &Fault::from(fault), text);
+    for (fault, text) in &CLUSTER_FAULTS {
+        tells(&rt, rt.alloc(), &Fault::from(*fault), *text);
     }
 }
 
@@ -140,7 +140,7 @@ fn tells_what_the_machine_refused(rt: HostRuntime) {
         &Fault::NoMemory,
         "ringpop: out of memory\n",
     );
-    for (fault, text) in FAULTS {
-        tells(&rt, rt.alloc(), &Fault::from(fault), text);
+    for (fault, text) in &FAULTS {
+        tells(&rt, rt.alloc(), &Fault::from(*fault), *text);
     }
 }

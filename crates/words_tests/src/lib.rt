@@ -1,4 +1,4 @@
-//! The tests of `cli_words`.
+//! The tests of `cli_words` and `cli_run`.
 #![tactic(auto)]
 
 #[cfg(test)]
@@ -7,3 +7,5 @@ mod faults;
 mod reads;
 #[cfg(test)]
 mod refusals;
+#[cfg(test)]
+mod runs;

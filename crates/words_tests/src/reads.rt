@@ -1,6 +1,5 @@
 //! What words ask for.
-ghost use Rattle.std.specs.Prelude.{◌≡◌, ◌≤◌, ◌<◌, ◌^◌, vec_len};
-ghost use Rattle.change_core.specs.Numbers.{most_members};
+ghost use Rattle.std.specs.Prelude.{◌≡◌, ◌<◌, ◌^◌, vec_len};
 ghost use Rattle.hash_ring.specs.Points.{IsReplicas};
 
 use change_core::{Address, GREATEST_NUMBER, Incarnation, Weight};
@@ -18,65 +17,84 @@ pub fn read<'a>(alloc: Global, words: &'a [&'a str]) -> Result<Words<'a>, Fault>
     }
 }
 
-/// The words of `owner` for so many owners, with so many points of a server.
-fn of_key(count: usize, replicas: u32, sum: bool, key: &str) -> Subcommand<'_>
-    requires few { count ≤ most_members }
-    requires range { IsReplicas replicas }
-{
-    Subcommand::Owner(OwnerWords {
-        count,
-        replicas,
-        sum,
-        key,
-    })
-}
+/// Words, and the subcommand that they ask for.
+const READ: [(&[&str], Subcommand<'static>); 11] = [
+    (
+        &["ringpop", "sim"],
+        Subcommand::Sim(SimWords {
+            replicas: 100,
+            sum: false,
+        }),
+    ),
+    (
+        &["ringpop", "sim", "--sum", "--replicas", "2"],
+        Subcommand::Sim(SimWords {
+            replicas: 2,
+            sum: true,
+        }),
+    ),
+    (&[], Subcommand::Fold),
+    (&["ringpop"], Subcommand::Fold),
+    (&["ringpop", "fold"], Subcommand::Fold),
+    (&["ringpop", "hash", ""], Subcommand::Hash("")),
+    (&["ringpop", "hash", "abc"], Subcommand::Hash("abc")),
+    (
+        &["ringpop", "owner", "k"],
+        Subcommand::Owner(OwnerWords {
+            count: 1,
+            replicas: 100,
+            sum: false,
+            key: "k",
+        }),
+    ),
+    (
+        &["ringpop", "owner", "--n", "0", "k"],
+        Subcommand::Owner(OwnerWords {
+            count: 0,
+            replicas: 100,
+            sum: false,
+            key: "k",
+        }),
+    ),
+    (
+        &["ringpop", "owner", "--n=4096", "--replicas", "1", "k"],
+        Subcommand::Owner(OwnerWords {
+            count: 4096,
+            replicas: 1,
+            sum: false,
+            key: "k",
+        }),
+    ),
+    (
+        &[
+            "ringpop",
+            "owner",
+            "--n",
+            "3",
+            "--replicas=1000",
+            "--sum",
+            "--",
+            "-k",
+        ],
+        Subcommand::Owner(OwnerWords {
+            count: 3,
+            replicas: 1000,
+            sum: true,
+            key: "-k",
+        }),
+    ),
+];
 
-/// The words of `sim` with so many points of a server.
-fn of_script(replicas: u32, sum: bool) -> Subcommand<'static>
-    requires { IsReplicas replicas }
-{
-    Subcommand::Sim(SimWords { replicas, sum })
+/// That the words ask for this subcommand.
+fn asks_for(rt: &impl Abort, alloc: Global, words: &[&str], wanted: &Subcommand<'_>) {
+    let words = read(alloc, words);
+    assert!(rt; matches!(&words, Ok(Words::Lines(words)) if words == wanted));
 }
 
 #[test]
 fn reads_the_words(rt: HostRuntime) {
-    let cases: [(&[&str], Subcommand<'_>); 11] = [
-        (&["ringpop", "sim"], of_script(100, false)),
-        (
-            &["ringpop", "sim", "--sum", "--replicas", "2"],
-            of_script(2, true),
-        ),
-        (&[], Subcommand::Fold),
-        (&["ringpop"], Subcommand::Fold),
-        (&["ringpop", "fold"], Subcommand::Fold),
-        (&["ringpop", "hash", ""], Subcommand::Hash("")),
-        (&["ringpop", "hash", "abc"], Subcommand::Hash("abc")),
-        (&["ringpop", "owner", "k"], of_key(1, 100, false, "k")),
-        (
-            &["ringpop", "owner", "--n", "0", "k"],
-            of_key(0, 100, false, "k"),
-        ),
-        (
-            &["ringpop", "owner", "--n=4096", "--replicas", "1", "k"],
-            of_key(4096, 1, false, "k"),
-        ),
-        (
-            &[
-                "ringpop",
-                "owner",
-                "--n",
-                "3",
-                "--replicas=1000",
-                "--sum",
-                "--",
-                "-k",
-            ],
-            of_key(3, 1000, true, "-k"),
-        ),
-    ];
-    for (words, wanted) in cases {
-        let words = read(rt.alloc(), words);
-        assert!(rt; matches!(&words, Ok(Words::Lines(words)) if *words == wanted));
+    for (words, wanted) in &READ {
+        asks_for(&rt, rt.alloc(), *words, wanted);
     }
 }
 

@@ -100,13 +100,18 @@ const REFUSED_SERVERS: [(&[&str], &str); 19] = [
     ),
 ];
 
+/// That these words are refused, and the refusal begins with this text.
+fn is_refused(rt: &impl Abort, alloc: Global, words: &[&str], text: &str) {
+    let Err(fault) = read(alloc, words) else {
+        panic!(rt; "not refused: {text}")
+    };
+    begins(rt, alloc, &fault, text);
+}
+
 #[test]
 fn refuses_the_words_of_a_server(rt: HostRuntime) {
-    for (words, text) in REFUSED_SERVERS {
-        let Err(fault) = read(rt.alloc(), words) else {
-            panic!(rt; "not refused: {text}")
-        };
-        begins(&rt, rt.alloc(), &fault, text);
+    for (words, text) in &REFUSED_SERVERS {
+        is_refused(&rt, rt.alloc(), *words, *text);
     }
 }
 
@@ -216,11 +221,8 @@ const REFUSED_WORDS: [(&[&str], &str); 28] = [
 
 #[test]
 fn refuses_words(rt: HostRuntime) {
-    for (words, text) in REFUSED_WORDS {
-        let Err(fault) = read(rt.alloc(), words) else {
-            panic!(rt; "not refused: {text}")
-        };
-        begins(&rt, rt.alloc(), &fault, text);
+    for (words, text) in &REFUSED_WORDS {
+        is_refused(&rt, rt.alloc(), *words, *text);
     }
 }
 

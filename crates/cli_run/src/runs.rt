@@ -1,10 +1,9 @@
 //! What the words ask for, run over any reader and writer.
 ghost use Rattle.std.specs.Prelude.{IfErr, OnOk};
-ghost use Rattle.cli_words.specs.Runs.{WordsFail, WordsFinish, WordsRead};
+ghost use Rattle.cli_run.specs.Runs.{WordsFail, WordsFinish, WordsRead};
 
-use crate::faults::Fault;
-use crate::words::Words;
 use cli_core::subcommand_run;
+use cli_words::{Fault, Words};
 use serve_core::{Host, cluster_command_run};
 use std::alloc::Global;
 use std::io::{Read, Write};

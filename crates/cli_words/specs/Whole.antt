@@ -1,0 +1,87 @@
+-- Which words each subcommand has to have, and why words are refused.
+use Rattle.std.specs.Prelude.{◌≡◌, ◌≢◌, ◌⊎◌, ◌<◌, ◌≤◌, ◌^◌, ℕ, true, List, Option, IfSome, IsSome, IsSomeAnd, codes, length}
+use Rattle.std.specs.List.{Any}
+use Rattle.clap.specs.Words.{Row, Text, all_of, first_of}
+use Rattle.change_core.specs.Address.{IsAddress, address_text}
+use Rattle.change_core.specs.Numbers.{IsWeight, greatest_number, most_members}
+use Rattle.hash_ring.specs.Points.{IsReplicas}
+use Rattle.cluster_links.specs.Clusters.{IsCrew}
+use Rattle.serve_core.specs.Words.{IsRequests}
+use Rattle.cli_words.specs.Faults.{IsRefusalOf}
+use Rattle.cli_words.specs.Words.{IsFlagAt, IsNumberAt}
+use Rattle.cli_words.specs.declared.faults.Fault.{Fault}
+
+-- the word of this name is there, and it is one of these numbers
+abbrev pub HasNumber : List Row → Text → (ℕ → Type 0) → Type 0
+HasNumber rows name IsIn = (n : ℕ) × IsNumberAt rows name n × IsIn n
+
+-- each word of `owner` is there, and each number in its range
+pub record HasOwned (rows : List Row) : Type 0 where
+  pub count : HasNumber rows (codes "n") (λ n. n ≤ most_members)
+  pub replicas : HasNumber rows (codes "replicas") IsReplicas
+  pub key : IsSome (first_of (codes "key") rows)
+
+-- so is each number of `serve`
+pub record HasNumbers (rows : List Row) : Type 0 where
+  pub incarnation : HasNumber rows (codes "incarnation") (λ n. n ≤ greatest_number)
+  pub requests : HasNumber rows (codes "requests") IsRequests
+  pub workers : HasNumber rows (codes "workers") IsCrew
+  pub period : HasNumber rows (codes "period") (λ n. n ≤ greatest_number)
+  pub replicas : HasNumber rows (codes "replicas") IsReplicas
+  pub weight : HasNumber rows (codes "weight") IsWeight
+
+-- and its address is there, and its hosts are fewer than 2^32
+pub record HasServed (rows : List Row) : Type 0 where
+  pub address : IsSome (first_of (codes "address") rows)
+  pub few : IfSome (all_of (codes "host") rows) (λ hosts. length hosts < 2 ^ 32)
+  pub numbers : HasNumbers rows
+
+-- each word of `ask` is there
+pub record HasAsked (rows : List Row) : Type 0 where
+  pub address : IsSome (first_of (codes "address") rows)
+  pub key : IsSome (first_of (codes "key") rows)
+  pub body : IsSome (first_of (codes "body") rows)
+
+-- and, where the owner is asked, the points
+abbrev pub HasAnyAsked : List Row → Type 0
+HasAnyAsked rows = HasAsked rows × HasNumber rows (codes "replicas") IsReplicas
+
+-- the names of the subcommands that write lines, which all but `hash` read, and of those that speak to nodes
+abbrev pub IsOfLines : Text → Type 0
+IsOfLines name = (name ≡ codes "fold") ⊎ ((name ≡ codes "hash") ⊎ ((name ≡ codes "owner") ⊎ (name ≡ codes "sim")))
+
+abbrev pub IsOfNodes : Text → Type 0
+IsOfNodes name = (name ≡ codes "serve") ⊎ ((name ≡ codes "ask") ⊎ ((name ≡ codes "members") ⊎ (name ≡ codes "tell")))
+
+-- there is a subcommand of this name, each of its words is there and in its range, and its hosts are fewer than 2^32
+pub record IsWhole (name : Text) (rows : List Row) : Type 0 where
+  pub known : IsOfLines name ⊎ IsOfNodes name
+  pub hash : name ≡ codes "hash" → IsSome (first_of (codes "text") rows)
+  pub owner : name ≡ codes "owner" → HasOwned rows
+  pub sim : name ≡ codes "sim" → HasNumber rows (codes "replicas") IsReplicas
+  pub serve : name ≡ codes "serve" → HasServed rows
+  pub ask : name ≡ codes "ask" → HasAsked rows
+  pub any : name ≡ codes "ask" → IsFlagAt rows (codes "any") true → HasNumber rows (codes "replicas") IsReplicas
+  pub members : name ≡ codes "members" → IsSome (first_of (codes "host") rows)
+  pub tell : name ≡ codes "tell" → IsSome (first_of (codes "host") rows)
+
+-- the text of no address
+abbrev pub IsNoAddress : Text → Type 0
+IsNoAddress text = (a : ℕ) → IsAddress a → text ≢ address_text a
+
+-- the word of this name is there, and is one; or one of the words of this name is
+abbrev pub IsNoAddressAt : List Row → Text → Type 0
+IsNoAddressAt rows name = IsSomeAnd (first_of name rows) IsNoAddress
+
+abbrev pub IsNoAddressAmong : List Row → Text → Type 0
+IsNoAddressAmong rows name = IsSomeAnd (all_of name rows) (Any IsNoAddress)
+
+-- a word that is to be an address is none
+abbrev pub HasBadAddress : List Row → Type 0
+HasBadAddress rows =
+    IsNoAddressAt rows (codes "address") ⊎ (IsNoAddressAt rows (codes "host") ⊎ IsNoAddressAmong rows (codes "host"))
+
+-- why the words are refused, where they name this subcommand with these words behind it
+abbrev pub IsRefusalBy : Option (Text × List Row) → Fault → Type 0
+IsRefusalBy named =
+    IsRefusalOf (IfSome named (λ p. IsWhole p.0 p.1)) (IsSomeAnd named (λ p. HasBadAddress p.1))

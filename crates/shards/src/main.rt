@@ -10,29 +10,41 @@ use anyhow::{Context, bail};
 use change_core::{Address, Incarnation, Moment};
 use cluster_links::Cluster;
 use hash_ring::Sha256Hash;
-use node_core::{Config, NodeState, Received};
+use node_core::{Config, NodeState, Received, View};
 use std::alloc::Global;
 use std::sync::Wait;
 use trips::Trips;
-use wire_json::{Content, Keys, Message, Text};
+use wire_json::{Content, Keys, Message, Text, WireError};
 
 /// Where the nodes are.
 const ADDRESSES: [&str; 3] = ["10.0.0.1:7946", "10.0.0.2:7946", "10.0.0.3:7946"];
 
 type Node = NodeState<Sha256Hash>;
 
-/// The nodes, at their first incarnation, each of which has joined the first one and heard from it of all members. A node
-/// that starts anew begins with a greater incarnation; each node of a service has a seed of its own, where here it is 1.
+/// A node at this address, at its first incarnation. A node that starts anew begins with a greater one; each node of a service
+/// has a seed of its own, where here it is 1.
+fn new_node(alloc: Global, address: &str, first: Incarnation, now: Moment) -> anyhow::Result<Node> {
+    let own = Address::parse(address)?;
+    Ok(NodeState::new(alloc, Config::standard(), Sha256Hash, own, first, 1, now)?)
+}
+
+/// Lets a node join the host, and hear from it of all members.
+fn join(host: &mut Node, node: &mut Node, now: Moment) -> anyhow::Result<()> {
+    let message = node.join_message()?;
+    let Received::Answer(_, joined) = host.receive(&message, now) else {
+        bail!("{} was not let in", message.source);
+    };
+    node.receive(&joined, now);
+    Ok(())
+}
+
+/// The nodes, each of which has joined the first one.
 fn start(alloc: Global, first: Incarnation, now: Moment) -> anyhow::Result<Vec<Node>> {
     let mut nodes: Vec<Node> = Vec::with_capacity(alloc, ADDRESSES.len())?;
     for address in ADDRESSES {
-        let own = Address::parse(address)?;
-        let mut node = NodeState::new(alloc, Config::standard(), Sha256Hash, own, first, 1, now)?;
+        let mut node = new_node(alloc, address, first, now)?;
         if let Some(host) = nodes.first_mut() {
-            let Received::Answer(_, joined) = host.receive(&node.join_message()?, now) else {
-                bail!("{own} was not let in");
-            };
-            node.receive(&joined, now);
+            join(host, &mut node, now)?;
         }
         nodes.push(node)?;
     }
@@ -58,9 +70,31 @@ fn gossip<R: Wait>(
 }
 
 /// What a request carries: the rider as its one key, and no body.
-fn forward(alloc: Global, rider: &str) -> anyhow::Result<Content> {
+fn forward(alloc: Global, rider: &str) -> Result<Content, WireError> {
     let keys = Keys::new(alloc, Text::new(alloc, rider)?)?;
     Ok(Content::Forward(keys, Text::new(alloc, "")?))
+}
+
+/// Asks the node that owns the rider to count a trip, and prints its answer.
+fn count_trip<R: Print + Wait>(
+    rt: &R,
+    alloc: Global,
+    cluster: &Cluster<Sha256Hash>,
+    view: &View<Sha256Hash>,
+    first: Incarnation,
+    rider: &str,
+) -> anyhow::Result<()> {
+    let owner = view.owner(rider.as_bytes()).context("nobody serves")?;
+    let request = Message {
+        source: view.own(),
+        source_incarnation: first,
+        content: forward(alloc, rider)?,
+    };
+    let Content::Reply(trips) = cluster.ask(rt, alloc, owner, &request)?.content else {
+        bail!("{owner} did not count the trip");
+    };
+    println!(rt; "{rider}: trip {}, counted by {owner}", trips.as_str())?;
+    Ok(())
 }
 
 fn main(rt: HostRuntime) -> anyhow::Result<()> {
@@ -76,16 +110,7 @@ fn main(rt: HostRuntime) -> anyhow::Result<()> {
     gossip(&rt, alloc, &mut cluster, now)?;
     for line in rt.lines(alloc) {
         let rider = line?;
-        let owner = view.owner(rider.as_bytes()).context("nobody serves")?;
-        let request = Message {
-            source: view.own(),
-            source_incarnation: first,
-            content: forward(alloc, rider.as_str())?,
-        };
-        let Content::Reply(trips) = cluster.ask(&rt, alloc, owner, &request)?.content else {
-            bail!("{owner} did not count the trip");
-        };
-        println!(rt; "{rider}: trip {}, counted by {owner}", trips.as_str())?;
+        count_trip(&rt, alloc, &cluster, &view, first, rider.as_str())?;
     }
     let stopped = cluster.stop(&rt, alloc);
     for node in &stopped.ok().context("the cluster was not stopped")? {

@@ -201,24 +201,34 @@ impl Many {
         }
     }
 
+    /// What a line says before the two numbers of its address and behind them, or all of it.
+    fn parts(&self) -> (&'static str, Option<&'static str>) {
+        match self.form {
+            Form::Change => (
+                r#"{"address":"10.0."#,
+                Some(
+                    r#":1","incarnationNumber":1,"source":"10.0.0.1:1","sourceIncarnationNumber":1,"status":"alive"}"#,
+                ),
+            ),
+            Form::Node => ("node 10.0.", Some(":1 1")),
+            Form::Again if self.left == 0 => ("node 10.0.0.1:1 1", None),
+            Form::Again => ("node 10.0.", Some(":1 1")),
+            _ if self.begun() == 1 => ("node 10.0.0.1:1 1", None),
+            Form::Ping => ("send 10.0.0.1:1 10.0.0.2:1", None),
+            Form::Delivery if self.left == 0 => ("deliver 1", None),
+            Form::Delivery => ("send 10.0.0.1:1 10.0.0.1:1", None),
+            Form::Take => ("take 10.0.0.1:1 10.0.", Some(":2 1 alive")),
+        }
+    }
+
     fn next_line(&mut self) -> io::Result<()> {
         self.left = self.left.saturating_sub(1);
         self.place = 0;
         self.line = Page::new(PAGE);
         let (high, low) = (self.left / 256, self.left % 256);
-        match self.form {
-            Form::Change => writeln!(
-                self.line,
-                "{{\"address\":\"10.0.{high}.{low}:1\",\"incarnationNumber\":1,\"source\":\"10.0.0.1:1\",\"sourceIncarnationNumber\":1,\"status\":\"alive\"}}"
-            ),
-            Form::Node => writeln!(self.line, "node 10.0.{high}.{low}:1 1"),
-            Form::Again if self.left == 0 => writeln!(self.line, "node 10.0.0.1:1 1"),
-            Form::Again => writeln!(self.line, "node 10.0.{high}.{low}:1 1"),
-            _ if self.begun() == 1 => writeln!(self.line, "node 10.0.0.1:1 1"),
-            Form::Ping => writeln!(self.line, "send 10.0.0.1:1 10.0.0.2:1"),
-            Form::Delivery if self.left == 0 => writeln!(self.line, "deliver 1"),
-            Form::Delivery => writeln!(self.line, "send 10.0.0.1:1 10.0.0.1:1"),
-            Form::Take => writeln!(self.line, "take 10.0.0.1:1 10.0.{high}.{low}:2 1 alive"),
+        match self.parts() {
+            (front, Some(back)) => writeln!(self.line, "{front}{high}.{low}{back}"),
+            (whole, None) => writeln!(self.line, "{whole}"),
         }
     }
 }

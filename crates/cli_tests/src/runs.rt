@@ -39,13 +39,26 @@ pub fn is_placed(fault: RunFault, reader: &impl Place) -> bool {
     }
 }
 
+/// Whether a run wrote as much of a text as the page takes, and was stopped where that is not the whole.
+pub fn is_stopped(ended: Result<(), RunFault>, page: &Page, whole: &str, room: usize) -> bool {
+    let wanted = if room < whole.len() {
+        Err(RunFault::CannotWrite)
+    } else {
+        Ok(())
+    };
+    ended == wanted && page.text().len() == room && whole.starts_with(page.text())
+}
+
+/// Whether a fault is told so, on a page that is empty.
+fn is_told(fault: RunFault, page: &mut Page, text: &str) -> bool {
+    write!(page, "{fault}").is_ok() && page.text() == text
+}
+
 /// That a run wrote nothing, and ended with a fault of this text.
 pub fn is_refused(rt: &impl Abort, ended: Result<(), RunFault>, page: &mut Page, text: &str) {
     let Err(fault) = ended else {
         panic!(rt; "not refused: {text}")
     };
-    assert_eq!(rt; page.text(), "");
-    let written = write!(page, "{fault}").is_ok();
-    assert!(rt; written);
-    assert_eq!(rt; page.text(), text);
+    assert!(rt; page.text() == "", "{text}");
+    assert!(rt; is_told(fault, page, text), "{text}");
 }

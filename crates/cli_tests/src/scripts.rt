@@ -120,8 +120,7 @@ fn sim<R: Read + Place + Copy>(
     let empty = *page;
     let ended = sim_run(alloc, &SMALL, &mut first, page);
     if let Some(number) = refused_at(ended) {
-        assert_eq!(rt; number, first.begun());
-        assert_eq!(rt; page.lines().saturating_add(1), number);
+        assert!(rt; number == first.begun() && page.lines().saturating_add(1) == number);
     } else if !page.found_no_memory() {
         return ended;
     }
@@ -129,27 +128,27 @@ fn sim<R: Read + Place + Copy>(
     sim_run(alloc, &SMALL, &mut second, page)
 }
 
+/// That a script ends with these answers.
+fn answers(rt: &impl Abort, alloc: Global, lines: &[&str], text: &str) {
+    let mut page = Page::new(ALL);
+    let ended = sim(rt, alloc, Lines::new(lines, ALL), &mut page);
+    assert!(rt;
+        ended.is_ok() && page.text() == text,
+        "{text} came: {}",
+        page.text()
+    );
+}
+
 #[test]
 fn answers_scripts(rt: HostRuntime) {
-    let cases: [(&[&str], &str); 3] = [
-        (&SUSPICION, SUSPICION_ANSWERED),
-        (&LOSSES, LOSSES_ANSWERED),
-        (&EXHAUSTED, EXHAUSTED_ANSWERED),
-    ];
-    for (lines, text) in cases {
-        let mut page = Page::new(ALL);
-        let ended = sim(&rt, rt.alloc(), Lines::new(lines, ALL), &mut page);
-        assert!(rt; ended.is_ok());
-        assert_eq!(rt; page.text(), text);
-    }
+    answers(&rt, rt.alloc(), &SUSPICION, SUSPICION_ANSWERED);
+    answers(&rt, rt.alloc(), &LOSSES, LOSSES_ANSWERED);
+    answers(&rt, rt.alloc(), &EXHAUSTED, EXHAUSTED_ANSWERED);
 }
 
 #[test]
 fn answers_late_nodes_keys_and_weights(rt: HostRuntime) {
-    let mut page = Page::new(ALL);
-    let ended = sim(&rt, rt.alloc(), Lines::new(&OTHERS, ALL), &mut page);
-    assert!(rt; ended.is_ok());
-    assert_eq!(rt; page.text(), OTHERS_ANSWERED);
+    answers(&rt, rt.alloc(), &OTHERS, OTHERS_ANSWERED);
 }
 
 /// That a script ended with a fault of this text, or with none where that is empty.
@@ -158,7 +157,7 @@ fn tells(rt: &impl Abort, ended: Result<(), SimFault>, text: &str) {
     if let Err(fault) = ended {
         let _ = write!(page, "{fault}");
     }
-    assert_eq!(rt; page.text(), text);
+    assert!(rt; page.text() == text, "{text} came: {}", page.text());
 }
 
 /// That a script is refused with this text after these answers.
@@ -171,7 +170,7 @@ fn refuses<R: Read + Place + Copy>(
 ) {
     let mut page = Page::new(ALL);
     let ended = sim(rt, alloc, script, &mut page);
-    assert_eq!(rt; page.text(), answers);
+    assert!(rt; page.text() == answers, "{text} came: {}", page.text());
     tells(rt, ended, text);
 }
 
@@ -179,7 +178,7 @@ fn refuses<R: Read + Place + Copy>(
 fn refuses_in_the_end(rt: &impl Abort, alloc: Global, script: Many, answer: &str, text: &str) {
     let mut page = Page::of_last_line();
     let ended = sim(rt, alloc, script, &mut page);
-    assert_eq!(rt; page.text(), answer);
+    assert!(rt; page.text() == answer, "{text} came: {}", page.text());
     tells(rt, ended, text);
 }
 
@@ -222,20 +221,16 @@ const AT_FAULT: [(&[&str], &str, &str); 9] = [
 
 #[test]
 fn refuses_lines_at_fault(rt: HostRuntime) {
-    for (lines, answers, text) in AT_FAULT {
-        refuses(&rt, rt.alloc(), Lines::new(lines, ALL), answers, text);
+    for (lines, answers, text) in &AT_FAULT {
+        refuses(&rt, rt.alloc(), Lines::new(*lines, ALL), *answers, *text);
     }
 }
 
 #[test]
 fn refuses_too_many_nodes(rt: HostRuntime) {
-    let cases = [
-        (Form::Node, "line 65: too many nodes"),
-        (Form::Again, "line 65: node exists"),
-    ];
-    for (form, text) in cases {
-        refuses_in_the_end(&rt, rt.alloc(), Many::new(form, 65), "ok\n", text);
-    }
+    let (new, again) = (Many::new(Form::Node, 65), Many::new(Form::Again, 65));
+    refuses_in_the_end(&rt, rt.alloc(), new, "ok\n", "line 65: too many nodes");
+    refuses_in_the_end(&rt, rt.alloc(), again, "ok\n", "line 65: node exists");
 }
 
 #[test]
@@ -260,13 +255,9 @@ fn refuses_an_answer_too_many(rt: HostRuntime) {
 
 #[test]
 fn refuses_too_long_a_line(rt: HostRuntime) {
-    let cases = [
-        (1_048_577, "line 1: line too long"),
-        (1_048_576, "line 1: bad command"),
-    ];
-    for (left, text) in cases {
-        refuses(&rt, rt.alloc(), Long { left }, "", text);
-    }
+    let (longer, longest) = (Long { left: 1_048_577 }, Long { left: 1_048_576 });
+    refuses(&rt, rt.alloc(), longer, "", "line 1: line too long");
+    refuses(&rt, rt.alloc(), longest, "", "line 1: bad command");
 }
 
 /// Lines that are no commands.
@@ -308,14 +299,10 @@ const NO_COMMANDS: [&str; 33] = [
 
 #[test]
 fn refuses_what_is_no_command(rt: HostRuntime) {
-    for line in NO_COMMANDS {
-        refuses(
-            &rt,
-            rt.alloc(),
-            Lines::new(&[line], ALL),
-            "",
-            "line 1: bad command",
-        );
+    for line in &NO_COMMANDS {
+        let lines = [*line];
+        let script = Lines::new(&lines, ALL);
+        refuses(&rt, rt.alloc(), script, "", "line 1: bad command");
     }
 }
 
@@ -328,35 +315,44 @@ const SHORT: [&str; 3] = [
 
 const SHORT_ANSWERED: &str = "ok\n10.0.0.1:1alive7\n10.0.0.1:1leave7\n";
 
+/// The line that is read when the reader fails after so many bytes, and how many bytes are answered by then.
+fn failed_after(left: usize) -> (u64, usize) {
+    match left {
+        0..18 => (1, 0),
+        18..37 => (2, 3),
+        37..54 => (3, 20),
+        _ => (4, 37),
+    }
+}
+
+/// Whether a page holds so many bytes of the answers.
+fn is_answered(page: &Page, written: usize) -> bool {
+    Some(page.as_slice()) == SHORT_ANSWERED.as_bytes().get(..written)
+}
+
 #[test]
 fn answers_whole_lines_before_a_failed_read(rt: HostRuntime) {
-    let whole = SHORT_ANSWERED.as_bytes();
     for left in 0..=54 {
         let mut page = Page::new(ALL);
         let ended = sim(&rt, rt.alloc(), Lines::new(&SHORT, left), &mut page);
-        let (number, written) = match left {
-            0..18 => (1, 0),
-            18..37 => (2, 3),
-            37..54 => (3, 20),
-            _ => (4, 37),
-        };
-        assert_eq!(rt;
-            ended,
-            Err(SimFault::AtLine(number, ScriptFault::ReadFailed)),
+        let (number, written) = failed_after(left);
+        let fault = SimFault::AtLine(number, ScriptFault::ReadFailed);
+        assert!(rt;
+            ended == Err(fault) && is_answered(&page, written),
             "left {left}"
         );
-        assert_eq!(rt; Some(page.as_slice()), whole.get(..written), "left {left}");
     }
 }
 
 #[test]
 fn writes_what_the_writer_takes_of_answers(rt: HostRuntime) {
-    let whole = SHORT_ANSWERED.as_bytes();
-    for room in 0..whole.len() {
+    for room in 0..SHORT_ANSWERED.len() {
         let mut page = Page::new(room);
         let ended = sim(&rt, rt.alloc(), Lines::new(&SHORT, ALL), &mut page);
-        assert_eq!(rt; ended, Err(SimFault::CannotWrite), "room {room}");
-        assert_eq!(rt; Some(page.as_slice()), whole.get(..room), "room {room}");
+        assert!(rt;
+            ended == Err(SimFault::CannotWrite) && is_answered(&page, room),
+            "room {room}"
+        );
     }
 }
 
@@ -364,8 +360,7 @@ fn writes_what_the_writer_takes_of_answers(rt: HostRuntime) {
 fn tells_of_an_answer_that_was_not_flushed(rt: HostRuntime) {
     let mut page = Page::without_flush();
     let ended = sim(&rt, rt.alloc(), Lines::new(&SHORT, ALL), &mut page);
-    assert_eq!(rt; ended, Err(SimFault::CannotWrite));
-    assert_eq!(rt; page.text(), "ok\n");
+    assert!(rt; ended == Err(SimFault::CannotWrite) && page.text() == "ok\n");
 }
 
 /// Each line is typed once the answer to the one before it is shown.
@@ -380,6 +375,5 @@ fn shows_each_answer_before_it_reads_on(rt: HostRuntime) {
         script = Typed::new(&SHORT, &shown);
         ended = sim_run(rt.alloc(), &SMALL, &mut script, &mut screen);
     }
-    assert!(rt; ended.is_ok());
-    assert_eq!(rt; screen.text(), SHORT_ANSWERED);
+    assert!(rt; ended.is_ok() && screen.text() == SHORT_ANSWERED);
 }

@@ -16,7 +16,7 @@ use std::process::Abort;
 use std::sync::atomic::{AtomicU64, Ordering};
 use std::sync::{Arc, Wait};
 use std::thread;
-use std::thread::Threads;
+use std::thread::{JoinHandle, Threads};
 use std::time::Duration;
 use wire_json::{Content, Keys, Message, Reason, Text};
 
@@ -59,22 +59,66 @@ where
     }
 }
 
-/// Whether there was no memory for an answer.
-fn is_starved(answer: &Result<Message, LinkError>) -> bool {
-    match answer {
-        Ok(message) => matches!(&message.content, Content::Refused(Reason::Memory)),
-        Err(fault) => *fault == LinkError::Memory,
+/// The nodes of a cluster that is stopped; none where a growth was refused.
+fn stop<R: Threads + Wait>(
+    rt: &R,
+    alloc: Global,
+    cluster: Cluster<SumHash>,
+) -> Option<Vec<NodeState<SumHash>>>
+    requires { IsWhole cluster }
+{
+    cluster.stop(rt, alloc).ok()
+}
+
+/// What comes back for a message.
+#[derive(Clone, Copy, PartialEq, Eq)]
+enum Heard {
+    /// An Ack of this node.
+    Ack(Address),
+    /// Whether this target was reached.
+    Word(Address, bool),
+    /// A Reply of the text `one`.
+    One,
+    /// A Reply of the text `two`.
+    Two,
+    /// That there was no memory for an answer.
+    Starved,
+    /// Another answer.
+    Other,
+    /// No answer.
+    Fault(LinkError),
+}
+
+impl Heard {
+    /// Whether there was no memory.
+    fn lacks_memory(&self) -> bool {
+        matches!(self, Heard::Starved | Heard::Fault(LinkError::Memory))
+    }
+
+    fn is_answer(&self) -> bool {
+        !matches!(self, Heard::Fault(_))
     }
 }
 
-/// Whether an answer is a Reply of this text.
-fn is_reply(answer: &Result<Message, LinkError>, wanted: &str) -> bool {
+fn heard_in(message: &Message) -> Heard {
+    match &message.content {
+        Content::Ack(_) => Heard::Ack(message.source),
+        Content::PingReqAck(_, target, reached) => Heard::Word(*target, *reached),
+        Content::Reply(text) if text.as_str() == "one" => Heard::One,
+        Content::Reply(text) if text.as_str() == "two" => Heard::Two,
+        Content::Refused(Reason::Memory) => Heard::Starved,
+        _ => Heard::Other,
+    }
+}
+
+fn hear(answer: Result<Message, LinkError>) -> Heard {
     match answer {
-        Ok(message) => match &message.content {
-            Content::Reply(text) => text.as_str() == wanted,
-            _ => false,
-        },
-        Err(_) => false,
+        Ok(message) => {
+            let heard = heard_in(&message);
+            drop(message);
+            heard
+        }
+        Err(fault) => Heard::Fault(fault),
     }
 }
 
@@ -99,11 +143,8 @@ impl Handler for Holding {
     ) -> Result<Text, HandlerFault> {
         if body.as_str() == "1" {
             self.stage.store(1, Ordering::SeqCst);
-            for _ in 0..10_000 {
-                if self.handled.load(Ordering::SeqCst) == 1 {
-                    return worded(alloc, "one");
-                }
-                thread::sleep(&self.clock, Duration::from_millis(1));
+            if wait_for(&self.clock, &self.handled) {
+                return worded(alloc, "one");
             }
             return Err(HandlerFault::Failed);
         }
@@ -112,14 +153,57 @@ impl Handler for Holding {
     }
 }
 
-/// Waits until the request `1` is held or answered.
-fn wait_for(clock: &HostRuntime, stage: &AtomicU64) {
+/// Waits until this is not 0, for ten seconds at most. Whether it then was not.
+fn wait_for(clock: &HostRuntime, stage: &AtomicU64) -> bool {
     for _ in 0..10_000 {
         if stage.load(Ordering::SeqCst) != 0 {
-            break;
+            return true;
         }
         thread::sleep(clock, Duration::from_millis(1));
     }
+    false
+}
+
+/// A link to a cluster; none where a growth was refused.
+fn link_to(cluster: &Cluster<SumHash>) -> Option<ChannelLink> {
+    cluster.link().ok()
+}
+
+/// What comes back over a link for a message.
+fn call_once<R: Wait>(
+    rt: &R,
+    alloc: Global,
+    link: &mut ChannelLink,
+    to: Address,
+    message: &Message,
+) -> Heard {
+    hear(link.call(rt, alloc, to, message))
+}
+
+/// What a cluster answers.
+fn ask_once<R: Wait>(
+    rt: &R,
+    alloc: Global,
+    cluster: &Cluster<SumHash>,
+    to: Address,
+    message: &Message,
+) -> Heard {
+    hear(cluster.ask(rt, alloc, to, message))
+}
+
+/// The same; where there was no memory, what it answers then.
+fn ask<R: Wait>(
+    rt: &R,
+    alloc: Global,
+    cluster: &Cluster<SumHash>,
+    to: Address,
+    message: &Message,
+) -> Heard {
+    let first = ask_once(rt, alloc, cluster, to, message);
+    if first.lacks_memory() {
+        return ask_once(rt, alloc, cluster, to, message);
+    }
+    first
 }
 
 /// Asks by a link, and notes that there is an answer.
@@ -128,51 +212,39 @@ fn ask_by<R: Wait>(
     alloc: Global,
     mut link: ChannelLink,
     to: Address,
-    message: &Message,
-    stage: &AtomicU64,
-) -> Result<Message, LinkError> {
-    let answer = link.call(rt, alloc, to, message);
+    message: Message,
+    stage: Arc<AtomicU64, Global>,
+) -> Heard {
+    let heard = call_once(rt, alloc, &mut link, to, &message);
     stage.store(2, Ordering::SeqCst);
-    answer
+    drop(link);
+    drop(message);
+    drop(stage);
+    heard
 }
 
-/// Asks a cluster; where there was no memory, once more.
-fn ask<R: Wait>(
+/// Has the request `1` asked in a thread of its own; none where a growth was refused.
+fn ask_first<R: Threads + Wait + Abort + Copy + Send + 'static>(
     rt: &R,
-    alloc: Global,
-    cluster: &Cluster<SumHash>,
-    to: Address,
-    message: &Message,
-) -> Result<Message, LinkError> {
-    let answer = cluster.ask(rt, alloc, to, message);
-    if !is_starved(&answer) {
-        return answer;
-    }
-    drop(answer);
-    cluster.ask(rt, alloc, to, message)
-}
-
-/// Has the request `1` asked in a thread of its own, and the request `2` once that one is held: the answers to both;
-/// none where a growth was refused.
-fn ask_both<R: Threads + Wait + Abort + Copy + Send + 'static>(
-    rt: &R,
-    clock: &HostRuntime,
     alloc: Global,
     cluster: &Cluster<SumHash>,
     stage: &Arc<AtomicU64, Global>,
-) -> Option<(Result<Message, LinkError>, Result<Message, LinkError>)> {
-    let to = member(rt, 1);
-    let link = cluster.link().ok()?;
-    let theirs = Arc::try_clone(stage).ok()?;
+) -> Option<JoinHandle<Heard>> {
+    let (runtime, to) = (*rt, member(rt, 1));
+    let (theirs, link) = Arc::try_clone(stage).ok().zip(link_to(cluster))?;
     let first = request(rt, alloc, ONE, "1");
-    let runtime = *rt;
-    let caller = thread::spawn(rt, move || {
-        ask_by(&runtime, alloc, link, to, &first, &*theirs)
-    });
-    let caller = caller.ok()?;
-    wait_for(clock, &**stage);
-    let second = ask(rt, alloc, cluster, to, &request(rt, alloc, ONE, "2"));
-    Some((caller.join(rt), second))
+    thread::spawn(rt, move || {
+        ask_by(&runtime, alloc, link, to, first, theirs)
+    })
+    .ok()
+}
+
+/// What a cluster answers to the request `2`.
+fn ask_second<R: Wait + Abort>(rt: &R, alloc: Global, cluster: &Cluster<SumHash>) -> Heard {
+    let second = request(rt, alloc, ONE, "2");
+    let heard = ask(rt, alloc, cluster, member(rt, 1), &second);
+    drop(second);
+    heard
 }
 
 /// Checks that the request `2` is answered while the request `1` is held, and then that one; none where a growth was refused.
@@ -183,43 +255,61 @@ fn check_both<R: Threads + Wait + Abort + Copy + Send + 'static>(
     cluster: &Cluster<SumHash>,
     stage: &Arc<AtomicU64, Global>,
 ) -> Option<()> {
-    let (first, second) = ask_both(rt, clock, alloc, cluster, stage)?;
-    let is_refused = is_starved(&first) || is_starved(&second);
-    let are_replies = is_reply(&second, "two") && is_reply(&first, "one");
-    drop(first);
-    drop(second);
-    if is_refused {
+    let caller = ask_first(rt, alloc, cluster, stage)?;
+    assert!(rt; wait_for(clock, &**stage));
+    let second = ask_second(rt, alloc, cluster);
+    let first = caller.join(rt);
+    if first.lacks_memory() || second.lacks_memory() {
         return None;
     }
-    assert!(rt; are_replies);
+    assert!(rt; second == Heard::Two && first == Heard::One);
     Some(())
 }
 
 /// Checks that these nodes came back, in this order.
 fn check_nodes(rt: &impl Abort, nodes: &[NodeState<SumHash>], numbers: &[u8]) {
-    assert!(rt; nodes.len() == numbers.len());
-    for (node, number) in nodes.iter().zip(numbers) {
+    let mut nodes = nodes.iter();
+    for number in numbers {
+        let node = nodes.next().expect(rt, "a node");
         assert!(rt; node.own().address == member(rt, *number));
     }
+    assert!(rt; nodes.next().is_none());
 }
 
-/// A cluster of one node and two workers answers a request while another is held; none where a growth was refused.
+/// A cluster of one node and two workers with such a handler; none where a growth was refused.
+fn start_holding<R: Threads + Wait + Abort + Copy + Send + 'static>(
+    rt: &R,
+    clock: HostRuntime,
+    alloc: Global,
+    stage: &Arc<AtomicU64, Global>,
+) -> Option<Cluster<SumHash>>
+    ensures { IfSome result IsWhole }
+{
+    let stage = Arc::try_clone(stage).ok()?;
+    let handler = Holding {
+        clock,
+        stage,
+        handled: AtomicU64::new(0),
+    };
+    start(rt, alloc, &[1], 2, handler)
+}
+
+/// It answers a request while another is held; none where a growth was refused.
 fn holds_up_no_other<R: Threads + Wait + Abort + Copy + Send + 'static>(
     rt: &R,
     clock: HostRuntime,
     alloc: Global,
 ) -> Option<()> {
     let stage = Arc::new(alloc, AtomicU64::new(0)).ok()?;
-    let theirs = Arc::try_clone(&stage).ok()?;
-    let handler = Holding {
-        clock,
-        stage: theirs,
-        handled: AtomicU64::new(0),
+    let Some(cluster) = start_holding(rt, clock, alloc, &stage) else {
+        drop(stage);
+        return None;
     };
-    let cluster = start(rt, alloc, &[1], 2, handler)?;
     let done = check_both(rt, &clock, alloc, &cluster, &stage);
-    let nodes = cluster.stop(rt, alloc).ok()?;
+    drop(stage);
+    let nodes = stop(rt, alloc, cluster)?;
     check_nodes(rt, nodes.as_slice(), &[1]);
+    drop(nodes);
     done
 }
 
@@ -230,34 +320,56 @@ fn a_slow_request_holds_up_no_other(rt: HostRuntime) {
     assert!(&rt; done.is_some() || holds_up_no_other(&rt, rt, alloc).is_some());
 }
 
-/// Checks that so many workers serve nobody, and the nodes come back.
-fn check_bad_count<R: Threads + Wait + Abort + Copy + Send + 'static>(
-    rt: &R,
-    alloc: Global,
-    workers: u32,
-) {
-    let nodes = states(rt, alloc, &[3, 1]);
-    let Err(StartError::BadCount(nodes)) = Cluster::start(rt, alloc, nodes, workers, WILLING) else {
-        panic!(rt; "another answer")
-    };
-    check_nodes(rt, nodes.as_slice(), &[3, 1]);
+/// Why a cluster is not started.
+#[derive(Clone, Copy, PartialEq, Eq)]
+enum Cause {
+    BadCount,
+    SameAddress,
 }
 
-/// Checks that nodes of which two have one address come back.
-fn check_twins<R: Threads + Wait + Abort + Copy + Send + 'static>(rt: &R, alloc: Global) {
-    let nodes = states(rt, alloc, &[2, 1, 2]);
-    let Err(StartError::SameAddress(nodes)) = Cluster::start(rt, alloc, nodes, 16, WILLING) else {
-        panic!(rt; "another answer")
-    };
-    check_nodes(rt, nodes.as_slice(), &[2, 1, 2]);
+/// The nodes that came back, and why; none where the cluster was started, or its nodes were given up.
+fn nodes_back(
+    answer: Result<Cluster<SumHash>, StartError<SumHash>>,
+) -> Option<(Cause, Vec<NodeState<SumHash>>)> {
+    match answer {
+        Err(StartError::BadCount(nodes)) => Some((Cause::BadCount, nodes)),
+        Err(StartError::SameAddress(nodes)) => Some((Cause::SameAddress, nodes)),
+        _ => None,
+    }
+}
+
+/// The nodes that so many workers do not serve, and why.
+fn not_started<R: Threads + Wait + Copy + Send + 'static>(
+    rt: &R,
+    alloc: Global,
+    nodes: Vec<NodeState<SumHash>>,
+    workers: u32,
+) -> Option<(Cause, Vec<NodeState<SumHash>>)> {
+    nodes_back(Cluster::start(rt, alloc, nodes, workers, WILLING))
+}
+
+/// Checks that so many workers do not serve these nodes, for this cause, and the nodes come back.
+fn check_not_started<R: Threads + Wait + Abort + Copy + Send + 'static>(
+    rt: &R,
+    alloc: Global,
+    numbers: &[u8],
+    workers: u32,
+    wanted: Cause,
+) {
+    let nodes = states(rt, alloc, numbers);
+    let back = not_started(rt, alloc, nodes, workers);
+    let (cause, nodes) = back.expect(rt, "nodes that come back");
+    assert!(rt; cause == wanted);
+    check_nodes(rt, nodes.as_slice(), numbers);
+    drop(nodes);
 }
 
 #[test]
 fn no_cluster_of_too_many_or_equal_nodes(rt: HostRuntime) {
     let alloc: Global = rt.alloc();
-    check_bad_count(&rt, alloc, 0);
-    check_bad_count(&rt, alloc, 17);
-    check_twins(&rt, alloc);
+    check_not_started(&rt, alloc, &[3, 1], 0, Cause::BadCount);
+    check_not_started(&rt, alloc, &[3, 1], 17, Cause::BadCount);
+    check_not_started(&rt, alloc, &[2, 1, 2], 16, Cause::SameAddress);
 }
 
 /// A ping that tells of 10.0.0.`number`:1, which it holds so.
@@ -273,48 +385,30 @@ fn call<R: Wait>(
     link: &mut ChannelLink,
     to: Address,
     message: &Message,
-) -> Result<Message, LinkError> {
-    let answer = link.call(rt, alloc, to, message);
-    if !is_starved(&answer) {
-        return answer;
+) -> Heard {
+    let first = call_once(rt, alloc, link, to, message);
+    if first.lacks_memory() {
+        return call_once(rt, alloc, link, to, message);
     }
-    drop(answer);
-    link.call(rt, alloc, to, message)
+    first
 }
 
 /// What comes back over a link from 10.0.0.`number`:1 for a ping that tells of 10.0.0.9:1.
-fn pinged<R: Wait + Abort>(
-    rt: &R,
-    alloc: Global,
-    link: &mut ChannelLink,
-    number: u8,
-) -> Result<Message, LinkError> {
+fn pinged<R: Wait + Abort>(rt: &R, alloc: Global, link: &mut ChannelLink, number: u8) -> Heard {
     let ping = ping(rt, alloc, 9, Status::Alive);
-    let answer = call(rt, alloc, link, member(rt, number), &ping);
+    let heard = call(rt, alloc, link, member(rt, number), &ping);
     drop(ping);
-    answer
-}
-
-/// Whether an answer is an Ack of this node.
-fn is_ack(answer: Result<Message, LinkError>, from: Address) -> bool {
-    match answer {
-        Ok(message) => {
-            let is_ack = matches!(&message.content, Content::Ack(_)) && message.source == from;
-            drop(message);
-            is_ack
-        }
-        Err(_) => false,
-    }
+    heard
 }
 
 /// Checks that a node of the cluster answers a ping by an Ack of its own.
 fn check_ack<R: Wait + Abort>(rt: &R, alloc: Global, link: &mut ChannelLink, number: u8) {
-    assert!(rt; is_ack(pinged(rt, alloc, link, number), member(rt, number)));
+    assert!(rt; pinged(rt, alloc, link, number) == Heard::Ack(member(rt, number)));
 }
 
 /// Checks that nobody answers at an address any more, or ever did.
 fn check_closed<R: Wait + Abort>(rt: &R, alloc: Global, link: &mut ChannelLink, number: u8) {
-    assert!(rt; pinged(rt, alloc, link, number).err() == Some(LinkError::Closed));
+    assert!(rt; pinged(rt, alloc, link, number) == Heard::Fault(LinkError::Closed));
 }
 
 /// Checks whom a link reaches.
@@ -328,10 +422,10 @@ fn check_link<R: Wait + Abort>(rt: &R, alloc: Global, link: &mut ChannelLink) {
 /// Checks what the cluster answers at an address without a node, and tells one node of the other.
 fn check_ask<R: Wait + Abort>(rt: &R, alloc: Global, cluster: &Cluster<SumHash>) {
     let ping = ping(rt, alloc, 2, Status::Alive);
-    let nobody = ask(rt, alloc, cluster, member(rt, 3), &ping).err();
-    let told = ask(rt, alloc, cluster, member(rt, 1), &ping).err();
+    let nobody = ask(rt, alloc, cluster, member(rt, 3), &ping);
+    let told = ask(rt, alloc, cluster, member(rt, 1), &ping);
     drop(ping);
-    assert!(rt; nobody == Some(LinkError::Closed) && told.is_none());
+    assert!(rt; nobody == Heard::Fault(LinkError::Closed) && told.is_answer());
 }
 
 /// A round of a node at a moment.
@@ -397,23 +491,20 @@ fn reach<R: Wait + Abort>(
     requires { IsWhole cluster.old }
     ensures { IsWhole cluster.new }
 {
-    let mut link = cluster.link().ok()?;
+    let mut link = link_to(cluster)?;
     check_link(rt, alloc, &mut link);
     check_ask(rt, alloc, cluster);
     let are_reached = check_rounds(rt, alloc, cluster, 1, 2)
         && check_rounds(rt, alloc, cluster, 2, 1);
-    if are_reached { Some(link) } else { None }
+    if are_reached {
+        return Some(link);
+    }
+    drop(link);
+    None
 }
 
-/// Checks that the nodes came back, one of which has heard of the other, and that the link reaches nobody any more.
-fn check_stopped<R: Wait + Abort>(
-    rt: &R,
-    alloc: Global,
-    nodes: &[NodeState<SumHash>],
-    link: &mut ChannelLink,
-) {
-    check_nodes(rt, nodes, &[2, 1]);
-    assert!(rt; has_heard(nodes.first(), member(rt, 1)));
+/// Checks that a link reaches nobody any more.
+fn check_cut_off<R: Wait + Abort>(rt: &R, alloc: Global, link: &mut ChannelLink) {
     check_closed(rt, alloc, link, 1);
     assert!(rt; link.failures() == 2);
 }
@@ -425,8 +516,12 @@ fn reach_each_other<R: Threads + Wait + Abort + Copy + Send + 'static>(
 ) -> Option<()> {
     let mut cluster = start(rt, alloc, &[2, 1], 1, WILLING)?;
     let link = reach(rt, alloc, &mut cluster);
-    let nodes = cluster.stop(rt, alloc).ok()?;
-    check_stopped(rt, alloc, nodes.as_slice(), &mut link?);
+    let (nodes, mut link) = stop(rt, alloc, cluster).zip(link)?;
+    check_nodes(rt, nodes.as_slice(), &[2, 1]);
+    assert!(rt; has_heard(nodes.first(), member(rt, 1)));
+    drop(nodes);
+    check_cut_off(rt, alloc, &mut link);
+    drop(link);
     Some(())
 }
 
@@ -437,38 +532,19 @@ fn nodes_of_a_cluster_reach_each_other(rt: HostRuntime) {
     assert!(&rt; done.is_some() || reach_each_other(&rt, alloc).is_some());
 }
 
-/// Whether this target was reached, as a PingReqAck says; none where it says nothing of that.
-fn reached_in(content: &Content, target: Address) -> Option<bool> {
-    match content {
-        Content::PingReqAck(_, about, reached) if *about == target => Some(*reached),
-        _ => None,
-    }
-}
-
-/// Whether this target was reached, as an answer says; none where it says nothing of that.
-fn word_in(answer: Result<Message, LinkError>, target: Address) -> Option<bool> {
-    match answer {
-        Ok(message) => {
-            let word = reached_in(&message.content, target);
-            drop(message);
-            word
-        }
-        Err(_) => None,
-    }
-}
-
-/// Whether 10.0.0.`number`:1 was reached, as a worker of 10.0.0.1:1 says; none where it says nothing of that.
-fn word_on<R: Wait + Abort>(
+/// Whether a worker of 10.0.0.1:1 says that 10.0.0.`number`:1 was reached, or that it was not, as is wanted.
+fn tells_of<R: Wait + Abort>(
     rt: &R,
     alloc: Global,
     cluster: &Cluster<SumHash>,
     number: u8,
-) -> Option<bool> {
+    reached: bool,
+) -> bool {
     let target = member(rt, number);
     let asked = message(rt, 9, Content::PingReq(content(rt, alloc, &[]), target));
-    let answer = ask(rt, alloc, cluster, member(rt, 1), &asked);
+    let heard = ask(rt, alloc, cluster, member(rt, 1), &asked);
     drop(asked);
-    word_in(answer, target)
+    heard == Heard::Word(target, reached)
 }
 
 /// Whether a worker asks another node of the cluster, and none that is not there: false also where a question found no memory, none
@@ -478,11 +554,11 @@ fn worker_asks<R: Threads + Wait + Abort + Copy + Send + 'static>(
     alloc: Global,
 ) -> Option<bool> {
     let cluster = start(rt, alloc, &[2, 1], 1, WILLING)?;
-    let reached = word_on(rt, alloc, &cluster, 2);
-    let missed = word_on(rt, alloc, &cluster, 3);
-    let nodes = cluster.stop(rt, alloc).ok()?;
+    let tells_reached = tells_of(rt, alloc, &cluster, 2, true);
+    let tells_missed = tells_of(rt, alloc, &cluster, 3, false);
+    let nodes = stop(rt, alloc, cluster)?;
     drop(nodes);
-    Some(reached == Some(true) && missed == Some(false))
+    Some(tells_reached && tells_missed)
 }
 
 #[test]
@@ -494,11 +570,13 @@ fn a_worker_asks_the_other_nodes(rt: HostRuntime) {
 
 /// Checks that a link that is spent asks nobody; none where a growth was refused.
 fn check_spent<R: Wait + Abort>(rt: &R, alloc: Global, cluster: &Cluster<SumHash>) -> Option<()> {
-    let mut link = cluster.link().ok()?.after_failures(u64::MAX);
+    let mut link = link_to(cluster)?.after_failures(u64::MAX);
     let ping = ping(rt, alloc, 9, Status::Alive);
-    let fault = link.call(rt, alloc, member(rt, 1), &ping).err();
+    let heard = call_once(rt, alloc, &mut link, member(rt, 1), &ping);
     drop(ping);
-    assert!(rt; fault == Some(LinkError::Spent) && link.failures() == u64::MAX);
+    let failures = link.failures();
+    drop(link);
+    assert!(rt; heard == Heard::Fault(LinkError::Spent) && failures == u64::MAX);
     Some(())
 }
 
@@ -509,9 +587,10 @@ fn tells_nothing<R: Threads + Wait + Abort + Copy + Send + 'static>(
 ) -> Option<()> {
     let cluster = start(rt, alloc, &[1], 1, WILLING)?;
     let done = check_spent(rt, alloc, &cluster);
-    let nodes = cluster.stop(rt, alloc).ok()?;
+    let nodes = stop(rt, alloc, cluster)?;
     check_nodes(rt, nodes.as_slice(), &[1]);
     assert!(rt; !has_heard(nodes.first(), member(rt, 9)));
+    drop(nodes);
     done
 }
 
@@ -522,18 +601,23 @@ fn a_spent_link_asks_nobody(rt: HostRuntime) {
     assert!(&rt; done.is_some() || tells_nothing(&rt, alloc).is_some());
 }
 
-/// A cluster of nobody.
-fn starts_empty<R: Threads + Wait + Abort + Copy + Send + 'static>(rt: &R, alloc: Global) -> bool {
-    let Some(cluster) = start(rt, alloc, &[], 1, WILLING) else {
-        return false;
-    };
-    matches!(cluster.stop(rt, alloc), Ok(nodes) if nodes.is_empty())
+/// How many nodes come back from a cluster of nobody; none where a growth was refused.
+fn count_empty<R: Threads + Wait + Abort + Copy + Send + 'static>(
+    rt: &R,
+    alloc: Global,
+) -> Option<usize> {
+    let cluster = start(rt, alloc, &[], 1, WILLING)?;
+    let nodes = stop(rt, alloc, cluster)?;
+    let count = nodes.len();
+    drop(nodes);
+    Some(count)
 }
 
 #[test]
 fn a_cluster_may_be_empty(rt: HostRuntime) {
     let alloc: Global = rt.alloc();
-    assert!(&rt; starts_empty(&rt, alloc) || starts_empty(&rt, alloc));
+    let done = count_empty(&rt, alloc) == Some(0);
+    assert!(&rt; done || count_empty(&rt, alloc) == Some(0));
 }
 
 /// Tells 10.0.0.1:1 by a worker that 10.0.0.2:1, where nobody is, is suspect, and makes its rounds before and at the end of the
@@ -547,9 +631,9 @@ fn suspect_to_the_end<R: Wait + Abort>(
     ensures { IsWhole cluster.new }
 {
     let told = ping(rt, alloc, 2, Status::Suspect);
-    let fault = ask(rt, alloc, cluster, member(rt, 1), &told).err();
+    let heard = ask(rt, alloc, cluster, member(rt, 1), &told);
     drop(told);
-    assert!(rt; fault.is_none());
+    assert!(rt; heard.is_answer());
     let before = round(rt, alloc, cluster, 1, 4_999);
     let after = round(rt, alloc, cluster, 1, 5_000);
     if is_hindered(before) || is_hindered(after) {
@@ -575,11 +659,13 @@ fn faults_in_time<R: Threads + Wait + Abort + Copy + Send + 'static>(
 ) -> Option<()> {
     let mut cluster = start(rt, alloc, &[1], 1, WILLING)?;
     let is_over = suspect_to_the_end(rt, alloc, &mut cluster);
-    let nodes = cluster.stop(rt, alloc).ok()?;
+    let nodes = stop(rt, alloc, cluster)?;
+    let is_faulty = holds_faulty(rt, nodes.as_slice());
+    drop(nodes);
     if !is_over {
         return None;
     }
-    assert!(rt; holds_faulty(rt, nodes.as_slice()));
+    assert!(rt; is_faulty);
     Some(())
 }
 

@@ -63,6 +63,19 @@ fn fit_answer(alloc: Global, from: Address, asked: &Message) -> Option<Message> 
     })
 }
 
+/// The answer of a peer in this mood; none where there is no memory for it, or it never answers.
+fn answer_in(mood: Mood, alloc: Global, from: Address, asked: &Message) -> Option<Message> {
+    match mood {
+        Mood::Willing => fit_answer(alloc, from, asked),
+        Mood::Failing => Some(Message {
+            source: from,
+            source_incarnation: asked.source_incarnation,
+            content: Content::NotOwner,
+        }),
+        Mood::Broken | Mood::Starved => None,
+    }
+}
+
 impl Link for Fake {
     ghost may_answer = { λ _ _ _. Unit {0} };
 
@@ -88,23 +101,13 @@ impl Link for Fake {
             self.later
         };
         self.calls = self.calls.wrapping_add(1);
-        match mood {
-            Mood::Willing => {
-                let Some(answer) = fit_answer(alloc, to, message) else {
-                    return Err(LinkError::Memory);
-                };
-                Ok(answer)
-            }
-            Mood::Failing => Ok(Message {
-                source: to,
-                source_incarnation: message.source_incarnation,
-                content: Content::NotOwner,
-            }),
-            Mood::Broken => {
-                self.failures += 1;
-                Err(LinkError::Io)
-            }
-            Mood::Starved => Err(LinkError::Memory),
+        if mood == Mood::Broken {
+            self.failures += 1;
+            return Err(LinkError::Io);
+        }
+        match answer_in(mood, alloc, to, message) {
+            Some(answer) => Ok(answer),
+            None => Err(LinkError::Memory),
         }
     }
 }

@@ -53,6 +53,20 @@ struct Noted<'a> {
     failures: u64,
 }
 
+/// What a peer answers where it goes wrong in this mood; none where it never answers.
+fn wrong_content(mood: Mood) -> Option<Content> {
+    match mood {
+        Mood::Willing | Mood::Failing => Some(Content::NotOwner),
+        Mood::Broken | Mood::Starved => None,
+    }
+}
+
+/// A Reply `x`, if there is memory for it.
+fn reply(alloc: Global) -> Option<Content> {
+    let body = Text::new(alloc, "x").ok()?;
+    Some(Content::Reply(body))
+}
+
 impl<'a> Link for Noted<'a> {
     ghost may_answer = { λ _ _ _. Unit {0} };
 
@@ -81,26 +95,24 @@ impl<'a> Link for Noted<'a> {
             return Err(LinkError::Memory);
         }
         self.clock.now.fetch_add(self.takes, Ordering::SeqCst);
-        let content = if self.sendings.len() <= self.wrong {
-            match self.mood {
-                Mood::Willing | Mood::Failing => Content::NotOwner,
-                Mood::Broken => {
-                    self.failures += 1;
-                    return Err(LinkError::Io);
-                }
-                Mood::Starved => return Err(LinkError::Memory),
-            }
+        let is_wrong = self.sendings.len() <= self.wrong;
+        if is_wrong && self.mood == Mood::Broken {
+            self.failures += 1;
+            return Err(LinkError::Io);
+        }
+        let content = if is_wrong {
+            wrong_content(self.mood)
         } else {
-            match Text::new(alloc, "x") {
-                Ok(body) => Content::Reply(body),
-                Err(_) => return Err(LinkError::Memory),
-            }
+            reply(alloc)
         };
-        Ok(Message {
-            source: to,
-            source_incarnation: message.source_incarnation,
-            content,
-        })
+        match content {
+            Some(content) => Ok(Message {
+                source: to,
+                source_incarnation: message.source_incarnation,
+                content,
+            }),
+            None => Err(LinkError::Memory),
+        }
     }
 }
 
@@ -219,6 +231,7 @@ fn first_request<R: Wait + Abort>(rt: &R, alloc: Global, others: u8, asked: &Ask
 fn request<R: Wait + Abort>(rt: &R, alloc: Global, others: u8, asked: &Asked) -> Came {
     let first = first_request(rt, alloc, others, asked);
     if first.lacks_memory(asked) {
+        drop(first);
         return first_request(rt, alloc, others, asked);
     }
     first
@@ -247,7 +260,7 @@ fn check_sendings(rt: &impl Abort, sendings: &[Sending], moments: [u64; 4]) {
 
 #[test]
 fn a_request_is_sent_four_times_and_given_up(rt: HostRuntime) {
-    for mood in [Mood::Broken, Mood::Failing] {
+    for &mood in &[Mood::Broken, Mood::Failing] {
         let came = request(&rt, rt.alloc(), 1, &plain(mood, 9));
         assert!(&rt; came.answer.err() == Some(ClusterError::RetriesSpent));
         assert!(&rt; came.handled == 0);
@@ -261,6 +274,7 @@ fn a_failure_is_noted_when_it_is_known(rt: HostRuntime) {
     asked.takes = 100;
     let came = request(&rt, rt.alloc(), 1, &asked);
     check_sendings(&rt, came.sendings.as_slice(), [0, 3_100, 9_200, 21_300]);
+    drop(came);
 }
 
 /// Whether a text is this one.
@@ -277,6 +291,7 @@ fn the_owner_answers_a_request(rt: HostRuntime) {
         let came = request(&rt, rt.alloc(), 1, &plain(Mood::Broken, wrong));
         assert!(&rt; is_text(&came.answer, "x") && came.sendings.len() == wrong + 1);
         assert!(&rt; came.handled == 0);
+        drop(came);
     }
 }
 
@@ -288,7 +303,7 @@ const HANDLERS: [(Mood, Option<ClusterError>); 3] = [
 
 #[test]
 fn a_request_is_handled_here(rt: HostRuntime) {
-    for (mood, wanted) in HANDLERS {
+    for &(mood, wanted) in &HANDLERS {
         let mut asked = plain(Mood::Broken, 9);
         asked.handler = mood;
         let came = request(&rt, rt.alloc(), 0, &asked);
@@ -304,6 +319,7 @@ fn keys_of_two_owners_are_not_sent(rt: HostRuntime) {
     asked.keys = ("zzzz0", "zzzz1");
     let came = request(&rt, rt.alloc(), 1, &asked);
     assert!(&rt; came.is_untried(ClusterError::Diverged));
+    drop(came);
 }
 
 #[test]
@@ -312,6 +328,7 @@ fn a_request_that_nobody_owns_is_not_sent(rt: HostRuntime) {
     asked.has_left = true;
     let came = request(&rt, rt.alloc(), 0, &asked);
     assert!(&rt; came.is_untried(ClusterError::Nobody));
+    drop(came);
 }
 
 #[test]

@@ -84,11 +84,14 @@ fn answer_within<R: Clock + Abort>(
     answer(&mut Timed::new(Interrupted { left }, deadline), call)
 }
 
+/// Each call, and what it comes to in the end.
+const CALLS: [(Call, usize); 3] = [(Call::Read, 4), (Call::Write, 4), (Call::Flush, 0)];
+
 #[test]
 fn what_is_interrupted_is_tried_again(rt: HostRuntime) {
     let hour = Duration::from_secs(3_600);
-    for left in [0, 1, 2, 1_000] {
-        for (call, wanted) in [(Call::Read, 4), (Call::Write, 4), (Call::Flush, 0)] {
+    for &left in &[0, 1, 2, 1_000] {
+        for &(call, wanted) in &CALLS {
             let answer = answer_within(&rt, hour, left, call);
             assert!(&rt; answer.ok() == Some(wanted));
         }
@@ -98,7 +101,7 @@ fn what_is_interrupted_is_tried_again(rt: HostRuntime) {
 #[test]
 fn what_is_always_interrupted_ends_at_its_deadline(rt: HostRuntime) {
     let limit = Duration::from_millis(20);
-    for call in [Call::Read, Call::Write, Call::Flush] {
+    for &(call, _) in &CALLS {
         let start = Instant::now(&rt).ok().expect(&rt, "a clock");
         let fault = answer_within(&rt, limit, u64::MAX, call).err();
         let fault = fault.expect(&rt, "a fault");

@@ -1,16 +1,11 @@
 //! Members, news and messages of 10.0.0.1:1 and its like. Where a growth is refused it is tried once more.
-ghost use Rattle.std.specs.Prelude.{◌≡◌, ◌+◌};
-ghost use Rattle.change_core.specs.Address.{address_of};
-
 use change_core::{Address, Change, Digest, Incarnation, Moment, Sourced, Status, Weight};
 use std::alloc::Global;
 use std::process::Abort;
 use wire_json::{Changes, Content, Keys, Message, News, Text};
 
 /// The member 10.0.0.`number`:1.
-pub(crate) fn member(rt: &impl Abort, number: u8) -> Address
-    ensures { result ≡ address_of (167772160 + number) 1 }
-{
+pub(crate) fn member(rt: &impl Abort, number: u8) -> Address {
     Address::new(0x0a00_0000 + u32::from(number), 1).expect(rt, "an address")
 }
 

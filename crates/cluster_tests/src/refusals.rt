@@ -9,15 +9,13 @@ use crate::messages::{content, member, message, news, request};
 use crate::nodes::state;
 use crate::rounds::{End, Joining, join_hosts, round_in};
 use crate::serving::serve;
-use crate::shared::{Caller, Shared, among, let_go, met, status};
+use crate::shared::{Caller, Shared, Unshared, among, let_go, met, status, try_share};
 use change_core::{Digest, Status};
 use cluster_core::ClusterError;
-use locked_node::LockedNode;
 use std::alloc::Global;
 use std::env::Env;
 use std::process::Abort;
 use std::sync::Wait;
-use turn_lock::NewError;
 use wire_json::{Content, Kind, Message, Reason};
 
 /// Checks that an allocation is to fail, as the environment says where `scripts/fail-alloc` runs a test: else memory was refused where
@@ -31,12 +29,12 @@ fn check_refused(rt: &(impl Env + Abort)) {
 fn share_two(rt: &(impl Env + Abort), alloc: Global) -> (Shared, Vec<Caller>)
     ensures { All (Fits result.0) result.1.items }
 {
-    match LockedNode::new(alloc, state(rt, alloc, 1, 4096), 2, 99) {
+    match try_share(alloc, state(rt, alloc, 1, 4096), 2, 99) {
         Ok(made) => return made,
-        Err(NewError::Memory) => check_refused(rt),
-        Err(NewError::BadCount(_)) => panic!(rt; "two passes of 99 calls"),
+        Err(cause) => assert!(rt; cause == Unshared::Memory, "two passes of 99 calls"),
     }
-    let Ok(made) = LockedNode::new(alloc, state(rt, alloc, 1, 4096), 2, 99) else {
+    check_refused(rt);
+    let Ok(made) = try_share(alloc, state(rt, alloc, 1, 4096), 2, 99) else {
         panic!(rt; "a locked node")
     };
     made
@@ -106,7 +104,7 @@ const ROUNDS: [(u8, Mood, End, u64); 4] = [
 #[test]
 fn a_round_that_is_refused_memory_alters_nothing(rt: HostRuntime) {
     let alloc = rt.alloc();
-    for (others, mood, end, calls) in ROUNDS {
+    for &(others, mood, end, calls) in &ROUNDS {
         let row = Row {
             others,
             mood,
@@ -170,6 +168,7 @@ fn request_again<R: Wait + Env + Abort>(
     }
     check_refused(rt);
     let calls = calls_of(&came);
+    drop(came);
     assert!(rt; calls == (0, 0) || calls == wanted);
     try_request(rt, alloc, shared, pass, &asked)
 }
@@ -187,6 +186,7 @@ fn check_request<R: Wait + Env + Abort>(
     let before = digest_of(rt, shared, pass);
     let came = request_again(rt, alloc, shared, pass, wanted);
     assert!(rt; came.answer.is_ok() && calls_of(&came) == wanted);
+    drop(came);
     assert!(rt; digest_of(rt, shared, pass) == before);
 }
 
@@ -196,7 +196,7 @@ const REQUESTS: [(u8, (usize, u64)); 2] = [(1, (1, 0)), (0, (0, 1))];
 #[test]
 fn a_request_that_is_refused_memory_asks_once(rt: HostRuntime) {
     let alloc = rt.alloc();
-    for (others, wanted) in REQUESTS {
+    for &(others, wanted) in &REQUESTS {
         let (shared, mut pass) = met(&rt, alloc, &among(others));
         check_request(&rt, alloc, &shared, &mut pass, wanted);
         let_go(shared, pass);
@@ -270,7 +270,7 @@ const MESSAGES: [(Kind, (u64, u64)); 4] = [
 #[test]
 fn a_message_that_is_refused_memory_is_answered_when_it_comes_again(rt: HostRuntime) {
     let alloc = rt.alloc();
-    for (kind, wanted) in MESSAGES {
+    for &(kind, wanted) in &MESSAGES {
         let (shared, mut pass) = met(&rt, alloc, &among(0));
         check_message(&rt, alloc, &shared, &mut pass, kind, wanted);
         let_go(shared, pass);

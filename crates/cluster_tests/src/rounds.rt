@@ -7,12 +7,11 @@ ghost use Rattle.locked_node.specs.Passes.{Fits};
 use crate::fakes::{Fake, Mood};
 use crate::messages::{member, moment, news};
 use crate::nodes::state;
-use crate::shared::{Caller, Shared, Start, among, let_go, met, status};
+use crate::shared::{Caller, Shared, Start, among, let_go, met, status, try_share};
 use change_core::{Address, Moment, Status};
 use cluster_core::{ClusterError, Link, LinkError, Round, gossip_round, join};
 use detector_core::Running;
 use hash_ring::SumHash;
-use locked_node::LockedNode;
 use node_core::{NodeError, NodeState, Received, StopCause};
 use std::alloc::Global;
 use std::process::Abort;
@@ -100,19 +99,20 @@ fn came_to(end: Result<End, ClusterError>, calls: u64, failures: u64) -> Ended {
     }
 }
 
-/// How the first round of a new node ends.
-fn first_round<R: Wait + Abort>(rt: &R, alloc: Global, row: &Row) -> Ended {
-    let (shared, mut pass) = met(rt, alloc, &among(row.others));
-    let came = round_in(rt, alloc, &shared, &mut pass, (row.mood, row.mood));
+/// How the first round of a node that so starts ends, with all others in one mood.
+fn first_round<R: Wait + Abort>(rt: &R, alloc: Global, start: &Start, mood: Mood) -> Ended {
+    let (shared, mut pass) = met(rt, alloc, start);
+    let came = round_in(rt, alloc, &shared, &mut pass, (mood, mood));
     let_go(shared, pass);
     came
 }
 
 /// Checks how a round ends; where it was refused memory before it came so far, how that of another node does.
 fn check_end<R: Wait + Abort>(rt: &R, alloc: Global, row: &Row) {
-    let mut found = first_round(rt, alloc, row);
+    let start = among(row.others);
+    let mut found = first_round(rt, alloc, &start, row.mood);
     if found != row.wanted && found.end == Err(ClusterError::Memory) {
-        found = first_round(rt, alloc, row);
+        found = first_round(rt, alloc, &start, row.mood);
     }
     assert!(rt; found == row.wanted);
 }
@@ -130,7 +130,7 @@ const ROUNDS: [(u8, Mood, Result<End, ClusterError>, u64, u64); 7] = [
 
 #[test]
 fn a_round_ends_by_what_the_peers_answer(rt: HostRuntime) {
-    for (others, mood, end, calls, failures) in ROUNDS {
+    for &(others, mood, end, calls, failures) in &ROUNDS {
         let row = Row {
             others,
             mood,
@@ -147,21 +147,20 @@ fn end_within<R: Wait + Abort>(rt: &R, alloc: Global, turns: u32) -> Result<End,
         turns,
         others: 3,
     };
-    let moods = (Mood::Broken, Mood::Broken);
-    let (shared, mut pass) = met(rt, alloc, &start);
-    let ended = round_in(rt, alloc, &shared, &mut pass, moods);
-    let_go(shared, pass);
-    ended.end
+    first_round(rt, alloc, &start, Mood::Broken).end
 }
+
+/// How many calls the pass may make, and how the round then ends.
+const CALLS: [(u32, Result<End, ClusterError>); 2] = [
+    (10, Err(ClusterError::PassSpent)),
+    (11, Ok(End::Inconclusive)),
+];
 
 /// Eight calls: expire, probe, a ping, lost, and for each of two helpers a ping-req and that it failed. A second `lost` would be
 /// a ninth.
 #[test]
 fn a_probe_is_lost_once(rt: HostRuntime) {
-    for (turns, wanted) in [
-        (10, Err(ClusterError::PassSpent)),
-        (11, Ok(End::Inconclusive)),
-    ] {
+    for &(turns, wanted) in &CALLS {
         let mut found = end_within(&rt, rt.alloc(), turns);
         if found != wanted {
             found = end_within(&rt, rt.alloc(), turns);
@@ -204,19 +203,6 @@ fn check_all_failed<R: Wait + Abort>(
     true
 }
 
-fn all_failed<R: Wait + Abort>(rt: &R, alloc: Global) -> bool {
-    let (shared, mut pass) = met(rt, alloc, &among(3));
-    let came = check_all_failed(rt, alloc, &shared, &mut pass);
-    let_go(shared, pass);
-    came
-}
-
-#[test]
-fn helpers_that_all_failed_leave_the_target_alive(rt: HostRuntime) {
-    let alloc = rt.alloc();
-    assert!(&rt; all_failed(&rt, alloc) || all_failed(&rt, alloc));
-}
-
 /// Checks that a target without helpers is suspect at once.
 fn check_suspected<R: Wait + Abort>(
     rt: &R,
@@ -234,19 +220,6 @@ fn check_suspected<R: Wait + Abort>(
     assert!(rt; round == Ok(Round::Suspected(member(rt, 2))) && link.failures() == 1);
     assert!(rt; status(rt, shared, pass, 2) == Some(Status::Suspect));
     true
-}
-
-fn suspected<R: Wait + Abort>(rt: &R, alloc: Global) -> bool {
-    let (shared, mut pass) = met(rt, alloc, &among(1));
-    let came = check_suspected(rt, alloc, &shared, &mut pass);
-    let_go(shared, pass);
-    came
-}
-
-#[test]
-fn a_suspected_target_is_held_so(rt: HostRuntime) {
-    let alloc = rt.alloc();
-    assert!(&rt; suspected(&rt, alloc) || suspected(&rt, alloc));
 }
 
 /// Whether a probe can't begin since another runs.
@@ -284,19 +257,6 @@ fn check_pinged_anew<R: Wait + Abort>(
     true
 }
 
-fn pinged_anew<R: Wait + Abort>(rt: &R, alloc: Global) -> bool {
-    let (shared, mut pass) = met(rt, alloc, &among(1));
-    let came = check_pinged_anew(rt, alloc, &shared, &mut pass);
-    let_go(shared, pass);
-    came
-}
-
-#[test]
-fn a_probe_of_which_nobody_was_asked_is_pinged_anew(rt: HostRuntime) {
-    let alloc = rt.alloc();
-    assert!(&rt; pinged_anew(&rt, alloc) || pinged_anew(&rt, alloc));
-}
-
 /// Checks that the next round asks nobody whom a probe waits for.
 fn check_given_up<R: Wait + Abort>(
     rt: &R,
@@ -321,17 +281,62 @@ fn check_given_up<R: Wait + Abort>(
     true
 }
 
-fn given_up<R: Wait + Abort>(rt: &R, alloc: Global) -> bool {
-    let (shared, mut pass) = met(rt, alloc, &among(3));
-    let came = check_given_up(rt, alloc, &shared, &mut pass);
+/// What is checked of a new node.
+#[derive(Clone, Copy)]
+enum Scene {
+    AllFailed,
+    Suspected,
+    PingedAnew,
+    GivenUp,
+}
+
+fn check_scene<R: Wait + Abort>(
+    rt: &R,
+    alloc: Global,
+    shared: &Shared,
+    pass: &mut Caller,
+    scene: Scene,
+) -> bool
+    requires { Fits shared.now pass.old }
+{
+    match scene {
+        Scene::AllFailed => check_all_failed(rt, alloc, shared, pass),
+        Scene::Suspected => check_suspected(rt, alloc, shared, pass),
+        Scene::PingedAnew => check_pinged_anew(rt, alloc, shared, pass),
+        Scene::GivenUp => check_given_up(rt, alloc, shared, pass),
+    }
+}
+
+/// Checks this of a new node among so many others.
+fn plays<R: Wait + Abort>(rt: &R, alloc: Global, others: u8, scene: Scene) -> bool {
+    let (shared, mut pass) = met(rt, alloc, &among(others));
+    let came = check_scene(rt, alloc, &shared, &mut pass, scene);
     let_go(shared, pass);
     came
 }
 
 #[test]
+fn helpers_that_all_failed_leave_the_target_alive(rt: HostRuntime) {
+    let (alloc, scene) = (rt.alloc(), Scene::AllFailed);
+    assert!(&rt; plays(&rt, alloc, 3, scene) || plays(&rt, alloc, 3, scene));
+}
+
+#[test]
+fn a_suspected_target_is_held_so(rt: HostRuntime) {
+    let (alloc, scene) = (rt.alloc(), Scene::Suspected);
+    assert!(&rt; plays(&rt, alloc, 1, scene) || plays(&rt, alloc, 1, scene));
+}
+
+#[test]
+fn a_probe_of_which_nobody_was_asked_is_pinged_anew(rt: HostRuntime) {
+    let (alloc, scene) = (rt.alloc(), Scene::PingedAnew);
+    assert!(&rt; plays(&rt, alloc, 1, scene) || plays(&rt, alloc, 1, scene));
+}
+
+#[test]
 fn helpers_that_a_probe_waits_for_have_failed(rt: HostRuntime) {
-    let alloc = rt.alloc();
-    assert!(&rt; given_up(&rt, alloc) || given_up(&rt, alloc));
+    let (alloc, scene) = (rt.alloc(), Scene::GivenUp);
+    assert!(&rt; plays(&rt, alloc, 3, scene) || plays(&rt, alloc, 3, scene));
 }
 
 /// A node that holds 10.0.0.2:1 as alive.
@@ -353,10 +358,10 @@ fn hear_of_another(rt: &impl Abort, node: &mut NodeState<SumHash>) {
 fn share_two(rt: &impl Abort, alloc: Global) -> (Shared, Vec<Caller>)
     ensures { All (Fits result.0) result.1.items }
 {
-    if let Ok(made) = LockedNode::new(alloc, of_two(rt, alloc), 2, 2) {
+    if let Ok(made) = try_share(alloc, of_two(rt, alloc), 2, 2) {
         return made;
     }
-    let Ok(made) = LockedNode::new(alloc, of_two(rt, alloc), 2, 2) else {
+    let Ok(made) = try_share(alloc, of_two(rt, alloc), 2, 2) else {
         panic!(rt; "a locked node")
     };
     made
@@ -409,28 +414,48 @@ fn look_at_rest<R: Wait + Abort>(rt: &R, shared: &Shared, pass: &mut Caller)
     assert!(rt; shared.len(rt, pass) == Err(LockError::PassSpent));
 }
 
-/// Checks that the closed node has the probe still.
-fn close_with(rt: &impl Abort, shared: Shared, passes: Vec<Caller>)
+/// Spends the first pass in a round, and then looks by the second at what was left; whether the round came so far.
+fn spend_both<R: Wait + Abort>(
+    rt: &R,
+    alloc: Global,
+    shared: &Shared,
+    first: &mut Caller,
+    second: &mut Caller,
+) -> bool
+    requires first { Fits shared.now first.old }
+    requires second { Fits shared.now second.old }
+    ensures first { Fits shared.now first.new }
+    ensures second { Fits shared.now second.new }
+{
+    let is_spent = spend(rt, alloc, shared, first);
+    if is_spent {
+        look_at_rest(rt, shared, second);
+    }
+    is_spent
+}
+
+/// The probe that runs once a node is closed.
+fn closed_with(rt: &impl Abort, shared: Shared, passes: Vec<Caller>) -> Option<Running>
     requires { All (Fits shared) passes.items }
 {
     let closed = shared
         .close(passes)
         .ok()
         .expect(rt, "both passes are there");
-    assert!(rt; closed.running() == unasked(rt));
+    let running = closed.running();
     drop(closed);
+    running
 }
 
+/// Checks that the closed node has the probe still that a spent pass has left.
 fn leaves_a_probe<R: Wait + Abort>(rt: &R, alloc: Global) -> bool {
     let (shared, mut first, mut second, mut passes) = pair(rt, alloc);
-    if !spend(rt, alloc, &shared, &mut first) {
-        return false;
-    }
-    look_at_rest(rt, &shared, &mut second);
+    let is_left = spend_both(rt, alloc, &shared, &mut first, &mut second);
     passes.push(first).ok().expect(rt, "room");
     passes.push(second).ok().expect(rt, "room");
-    close_with(rt, shared, passes);
-    true
+    let running = closed_with(rt, shared, passes);
+    assert!(rt; !is_left || running == unasked(rt));
+    is_left
 }
 
 #[test]
@@ -544,7 +569,7 @@ const JOININGS: [(usize, Mood, Result<u32, ClusterError>, u64); 5] = [
 
 #[test]
 fn a_join_counts_the_hosts_that_answer(rt: HostRuntime) {
-    for (hosts, mood, wanted, calls) in JOININGS {
+    for &(hosts, mood, wanted, calls) in &JOININGS {
         let row = Joining {
             hosts,
             mood,

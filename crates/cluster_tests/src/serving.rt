@@ -392,7 +392,7 @@ const TARGETS: [(u8, Mood, Option<bool>, u64); 5] = [
 #[test]
 fn a_ping_req_tells_whether_its_target_was_reached(rt: HostRuntime) {
     let alloc = rt.alloc();
-    for (target, mood, reached, calls) in TARGETS {
+    for &(target, mood, reached, calls) in &TARGETS {
         let row = Sought {
             target,
             mood,
@@ -559,7 +559,7 @@ fn is_spent<R: Wait + Abort>(rt: &R, alloc: Global, shared: &Shared, pass: &mut 
 #[test]
 fn a_spent_pass_is_refused(rt: HostRuntime) {
     let alloc = rt.alloc();
-    for (turns, wanted) in [(1, true), (2, false)] {
+    for &(turns, wanted) in &[(1, true), (2, false)] {
         let start = Start {
             max: 4096,
             turns,

@@ -1,4 +1,5 @@
 //! Nodes that are shared. Where a growth is refused it is tried once more.
+ghost use Rattle.std.specs.Prelude.{IfOk};
 ghost use Rattle.std.specs.List.{All};
 ghost use Rattle.locked_node.specs.Passes.{Fits, IsNew};
 
@@ -7,9 +8,11 @@ use crate::nodes::state;
 use change_core::{Sourced, Status};
 use hash_ring::SumHash;
 use locked_node::{LockedNode, NodePass};
+use node_core::NodeState;
 use std::alloc::Global;
 use std::process::Abort;
 use std::sync::Wait;
+use turn_lock::NewError;
 
 pub(crate) type Shared = LockedNode<SumHash>;
 
@@ -35,15 +38,46 @@ pub(crate) fn among(others: u8) -> Start {
     }
 }
 
+/// Why a node is not shared. It is given up.
+#[derive(Clone, Copy, PartialEq, Eq)]
+pub(crate) enum Unshared {
+    BadCount,
+    Memory,
+}
+
+fn cause_of(fault: NewError<NodeState<SumHash>>) -> Unshared {
+    let cause = match &fault {
+        NewError::BadCount(_) => Unshared::BadCount,
+        NewError::Memory => Unshared::Memory,
+    };
+    drop(fault);
+    cause
+}
+
+/// A node that is shared by so many passes, each for so many calls.
+pub(crate) fn try_share(
+    alloc: Global,
+    node: NodeState<SumHash>,
+    passes: u32,
+    turns: u32,
+) -> Result<(Shared, Vec<Caller>), Unshared>
+    ensures { IfOk result (λ r. All (IsNew r.0 turns) r.1.items) }
+{
+    match LockedNode::new(alloc, node, passes, turns) {
+        Ok(made) => Ok(made),
+        Err(fault) => Err(cause_of(fault)),
+    }
+}
+
 /// The node with its one pass.
 fn share(rt: &impl Abort, alloc: Global, start: &Start) -> (Shared, Vec<Caller>)
     ensures { All (IsNew result.0 start.now.turns) result.1.items }
 {
     let turns = start.turns;
-    if let Ok(made) = LockedNode::new(alloc, state(rt, alloc, 1, start.max), 1, turns) {
+    if let Ok(made) = try_share(alloc, state(rt, alloc, 1, start.max), 1, turns) {
         return made;
     }
-    let Ok(made) = LockedNode::new(alloc, state(rt, alloc, 1, start.max), 1, turns) else {
+    let Ok(made) = try_share(alloc, state(rt, alloc, 1, start.max), 1, turns) else {
         panic!(rt; "a locked node")
     };
     made

@@ -8,7 +8,7 @@ use std::io::{BufReader, Read, Write};
 use std::net::{Net, TcpListener, TcpStream};
 use std::process::Abort;
 use std::sync::Wait;
-use std::thread::Threads;
+use std::thread::{JoinHandle, Threads};
 use std::time::{Clock, Duration};
 use std::{io, thread};
 use wire_json::{Content, Field, Message, WireError, encode, read_line};
@@ -52,7 +52,9 @@ fn short_pings() -> Limits {
 /// The next line; none where a growth was refused, or nothing came.
 fn heard<S: Read + Drop>(alloc: Global, stream: S) -> Option<Vec<u8>> {
     let mut reader = BufReader::new(alloc, stream).ok()?;
-    read_line(alloc, &mut reader).ok()?
+    let line = read_line(alloc, &mut reader).ok();
+    drop(reader);
+    line?
 }
 
 /// Drips, and writes these bytes.
@@ -66,7 +68,20 @@ fn write_slowly<R: Clock, W: Write>(rt: &R, stream: &mut W, drip: Drip, bytes: &
     let _written = stream.write_all(bytes);
 }
 
-/// Accepts one connection, reads a line of it, drips, and writes these bytes. It gives the line back.
+/// Reads a line of a connection, drips, and writes these bytes. It gives the line back.
+fn answer_on<R: Clock>(
+    rt: &R,
+    alloc: Global,
+    stream: &mut TcpStream,
+    drip: Drip,
+    bytes: &[u8],
+) -> Option<Vec<u8>> {
+    let line = heard(alloc, &mut *stream)?;
+    write_slowly(rt, stream, drip, bytes);
+    Some(line)
+}
+
+/// The same with one connection that it accepts.
 fn answer_once<R: Clock>(
     rt: &R,
     alloc: Global,
@@ -75,9 +90,9 @@ fn answer_once<R: Clock>(
     bytes: &[u8],
 ) -> Option<Vec<u8>> {
     let (mut stream, _) = listener.accept().ok()?;
-    let line = heard(alloc, &mut stream)?;
-    write_slowly(rt, &mut stream, drip, bytes);
-    Some(line)
+    let line = answer_on(rt, alloc, &mut stream, drip, bytes);
+    drop(stream);
+    line
 }
 
 /// Connects and hangs up, so that a peer that waits still is done.
@@ -86,12 +101,81 @@ fn knock<R: Net<Listener = TcpListener, Stream = TcpStream>>(rt: &R, to: Address
     let _stream = TcpStream::connect_timeout(rt, &socket_address(to), wait);
 }
 
-/// What a call came to: the answer, how often the link then has failed, and the line that the peer has read.
+/// A port of this machine that is listened at; none where there was none.
+fn listen<R: Net<Listener = TcpListener, Stream = TcpStream>>(
+    rt: &R,
+) -> Option<(TcpListener, Address)> {
+    let listener = TcpListener::bind(rt, "127.0.0.1:0").ok()?;
+    let to = address_of(&listener);
+    Some(listener).zip(to)
+}
+
+/// The address that is listened at.
+fn address_of(listener: &TcpListener) -> Option<Address> {
+    let port = listener.local_addr().ok()?.port();
+    Address::new(0x7f00_0001, port)
+}
+
+/// What comes back for a message.
+#[derive(Clone, Copy, PartialEq, Eq)]
+enum Said {
+    /// An Ack of this node.
+    Ack(Address),
+    /// Another answer.
+    Other,
+    /// No answer.
+    Fault(LinkError),
+}
+
+fn said_in(answer: Result<Message, LinkError>) -> Said {
+    match answer {
+        Ok(message) => {
+            let is_ack = matches!(&message.content, Content::Ack(_));
+            let from = message.source;
+            drop(message);
+            if is_ack { Said::Ack(from) } else { Said::Other }
+        }
+        Err(fault) => Said::Fault(fault),
+    }
+}
+
+/// The answer of a link, and how often it then has failed.
+type Answered = (Said, u64);
+
+/// What a call came to, and the line that the peer has read.
 #[derive(Drop)]
 struct Called {
-    answer: Result<Message, LinkError>,
-    failures: u64,
+    answered: Answered,
     line: Vec<u8>,
+}
+
+/// A peer in a thread of its own that answers one connection by these bytes; none where a growth was refused.
+fn start_peer<R: Threads + Clock + Copy + Send + 'static>(
+    rt: &R,
+    alloc: Global,
+    listener: TcpListener,
+    drip: Drip,
+    bytes: &[u8],
+) -> Option<JoinHandle<Option<Vec<u8>>>> {
+    let bytes = Vec::from_slice(alloc, bytes).ok()?;
+    let clock = *rt;
+    thread::spawn(
+        rt,
+        move || answer_once(&clock, alloc, &listener, drip, bytes.as_slice()),
+    )
+    .ok()
+}
+
+/// What a link answers to a message, and how often it then has failed.
+fn answer_of<N: Net + Clock, R: Wait>(
+    rt: &R,
+    alloc: Global,
+    link: &mut TcpLink<N>,
+    to: Address,
+    message: &Message,
+) -> Answered {
+    let answer = link.call(rt, alloc, to, message);
+    (said_in(answer), link.failures())
 }
 
 /// What a link with these limits answers to a message where the peer drips and then writes these bytes; none where a growth
@@ -112,44 +196,25 @@ fn try_call<
     drip: Drip,
     bytes: &[u8],
 ) -> Option<Called> {
-    let bytes = Vec::from_slice(alloc, bytes).ok()?;
-    let listener = TcpListener::bind(rt, "127.0.0.1:0").ok()?;
-    let port = listener.local_addr().ok()?.port();
-    let to = Address::new(0x7f00_0001, port)?;
-    let clock = *rt;
-    let peer = thread::spawn(
-        rt,
-        move || answer_once(&clock, alloc, &listener, drip, bytes.as_slice()),
-    );
-    let peer = peer.ok()?;
+    let (listener, to) = listen(rt)?;
+    let peer = start_peer(rt, alloc, listener, drip, bytes)?;
     let mut link = TcpLink::with_limits(rt, limits);
-    let answer = link.call(rt, alloc, to, message);
-    let failures = link.failures();
+    let answered = answer_of(rt, alloc, &mut link, to, message);
     drop(link);
-    if matches!(&answer, Err(LinkError::Memory)) {
+    if answered.0 == Said::Fault(LinkError::Memory) {
         knock(rt, to);
     }
-    called_so(answer, failures, peer.join(rt))
+    called_so(answered, peer.join(rt))
 }
 
 /// What a call came to; none where a growth was refused.
-fn called_so(
-    answer: Result<Message, LinkError>,
-    failures: u64,
-    line: Option<Vec<u8>>,
-) -> Option<Called> {
-    let is_refused = matches!(&answer, Err(LinkError::Memory));
-    match line {
-        Some(line) if !is_refused => Some(Called {
-            answer,
-            failures,
-            line,
-        }),
-        _ => {
-            drop(answer);
-            None
-        }
+fn called_so(answered: Answered, line: Option<Vec<u8>>) -> Option<Called> {
+    let line = line?;
+    if answered.0 == Said::Fault(LinkError::Memory) {
+        drop(line);
+        return None;
     }
+    Some(Called { answered, line })
 }
 
 /// The same; where a growth was refused, of another peer.
@@ -188,18 +253,13 @@ fn ack_line(rt: &impl Abort, alloc: Global) -> Vec<u8> {
     line
 }
 
-/// Whether an answer is an Ack of this node.
-fn is_ack(answer: &Result<Message, LinkError>, from: Address) -> bool {
-    match answer {
-        Ok(message) => matches!(&message.content, Content::Ack(_)) && message.source == from,
-        Err(_) => false,
-    }
-}
-
 /// Checks that a peer has read this message, and has answered by an Ack of its own.
 fn check_called(rt: &impl Abort, alloc: Global, called: &Called, ping: &Message) {
-    assert!(rt; is_ack(&called.answer, member(rt, 3)) && called.failures == 0);
-    assert!(rt; called.line.as_slice() == line_of(rt, alloc, ping).as_slice());
+    assert!(rt; called.answered == (Said::Ack(member(rt, 3)), 0));
+    let line = line_of(rt, alloc, ping);
+    let is_read = called.line.as_slice() == line.as_slice();
+    drop(line);
+    assert!(rt; is_read);
 }
 
 #[test]
@@ -217,7 +277,16 @@ fn a_line_goes_out_and_a_line_comes_back(rt: HostRuntime) {
 type Came = (Option<LinkError>, u64);
 
 fn outcome(called: Called) -> Came {
-    (called.answer.err(), called.failures)
+    let came = (fault_in(&called.answered.0), called.answered.1);
+    drop(called);
+    came
+}
+
+fn fault_in(said: &Said) -> Option<LinkError> {
+    match said {
+        Said::Fault(fault) => Some(*fault),
+        _ => None,
+    }
 }
 
 /// What a ping comes to.
@@ -249,7 +318,7 @@ fn what_is_no_answer_is_a_fault(rt: HostRuntime) {
             0,
         ),
     ];
-    for (text, fault, counted) in rows {
+    for &(text, fault, counted) in &rows {
         let came = ping_outcome(&rt, rt.alloc(), patient(), AT_ONCE, text.as_bytes());
         assert!(&rt; came == (Some(fault), counted));
     }
@@ -325,9 +394,9 @@ fn an_answer_may_be_too_long(rt: HostRuntime) {
 
 /// The address of a port where nobody listens.
 fn closed_port<R: Net<Listener = TcpListener, Stream = TcpStream>>(rt: &R) -> Option<Address> {
-    let listener = TcpListener::bind(rt, "127.0.0.1:0").ok()?;
-    let port = listener.local_addr().ok()?.port();
-    Address::new(0x7f00_0001, port)
+    let (listener, to) = listen(rt)?;
+    drop(listener);
+    Some(to)
 }
 
 /// The same, with a second try where the first found none.
@@ -338,19 +407,19 @@ fn nobody_at<R: Net<Listener = TcpListener, Stream = TcpStream> + Abort>(rt: &R)
     }
 }
 
-/// Why a link gives no answer to a message.
-fn fault<N: Net + Clock, R: Wait>(
+/// What a link answers to a message, and how often it then has failed; where there was no memory, when it is asked again.
+fn answer_again<N: Net + Clock, R: Wait>(
     rt: &R,
     alloc: Global,
     link: &mut TcpLink<N>,
     to: Address,
     message: &Message,
-) -> Option<LinkError> {
-    let fault = link.call(rt, alloc, to, message).err();
-    if fault == Some(LinkError::Memory) {
-        return link.call(rt, alloc, to, message).err();
+) -> Answered {
+    let answered = answer_of(rt, alloc, link, to, message);
+    if answered.0 == Said::Fault(LinkError::Memory) {
+        return answer_of(rt, alloc, link, to, message);
     }
-    fault
+    answered
 }
 
 /// Checks that each call of a link fails, and that it counts them.
@@ -362,10 +431,11 @@ fn check_failing<R: Net<Listener = TcpListener, Stream = TcpStream> + Wait + Clo
     let mut link = TcpLink::new(rt);
     let ping = ping(rt, alloc);
     for failures in 1..3 {
-        let fault = fault(rt, alloc, &mut link, to, &ping);
-        assert!(rt; fault == Some(LinkError::Io) && link.failures() == failures);
+        let answered = answer_again(rt, alloc, &mut link, to, &ping);
+        assert!(rt; answered == (Said::Fault(LinkError::Io), failures));
     }
     drop(ping);
+    drop(link);
 }
 
 #[test]
@@ -381,9 +451,31 @@ fn check_spent<R: Net<Listener = TcpListener, Stream = TcpStream> + Wait + Clock
 ) {
     let mut link = TcpLink::new(rt).after_failures(u64::MAX);
     let ping = ping(rt, alloc);
-    let fault = link.call(rt, alloc, to, &ping).err();
+    let answered = answer_of(rt, alloc, &mut link, to, &ping);
     drop(ping);
-    assert!(rt; fault == Some(LinkError::Spent) && link.failures() == u64::MAX);
+    drop(link);
+    assert!(rt; answered == (Said::Fault(LinkError::Spent), u64::MAX));
+}
+
+/// Connects, says `knock`, and hangs up.
+fn say_knock<R: Net<Listener = TcpListener, Stream = TcpStream>>(
+    rt: &R,
+    to: Address,
+) -> Option<()> {
+    let wait = Duration::from_secs(10);
+    let mut stream = TcpStream::connect_timeout(rt, &socket_address(to), wait).ok()?;
+    let said = stream.write_all(b"knock\n");
+    drop(stream);
+    said.ok()
+}
+
+/// Whether the first that connects to a listener says `knock`.
+fn is_knocked_at(alloc: Global, listener: &TcpListener) -> Option<bool> {
+    let (first, _) = listener.accept().ok()?;
+    let line = heard(alloc, first)?;
+    let is_knock = line.as_slice() == b"knock".as_slice();
+    drop(line);
+    Some(is_knock)
 }
 
 /// Whether the first that connects where a spent link was to send is one that knocks.
@@ -391,15 +483,14 @@ fn sends_nothing<R: Net<Listener = TcpListener, Stream = TcpStream> + Wait + Clo
     rt: &R,
     alloc: Global,
 ) -> Option<bool> {
-    let listener = TcpListener::bind(rt, "127.0.0.1:0").ok()?;
-    let port = listener.local_addr().ok()?.port();
-    let to = Address::new(0x7f00_0001, port)?;
+    let (listener, to) = listen(rt)?;
     check_spent(rt, alloc, to);
-    let wait = Duration::from_secs(10);
-    let mut knocks = TcpStream::connect_timeout(rt, &socket_address(to), wait).ok()?;
-    knocks.write_all(b"knock\n").ok()?;
-    let (first, _) = listener.accept().ok()?;
-    Some(heard(alloc, first)?.as_slice() == b"knock".as_slice())
+    let is_first = match say_knock(rt, to) {
+        Some(()) => is_knocked_at(alloc, &listener),
+        None => None,
+    };
+    drop(listener);
+    is_first
 }
 
 #[test]
@@ -419,10 +510,11 @@ fn a_message_too_long_is_not_sent(rt: HostRuntime) {
     let body = str::from_utf8(body.as_slice()).ok().expect(&rt, "letters");
     let request = request(&rt, alloc, ("a", "b"), body);
     let mut link = TcpLink::new(&rt);
-    let fault = fault(&rt, alloc, &mut link, nobody_at(&rt), &request);
+    let answered = answer_again(&rt, alloc, &mut link, nobody_at(&rt), &request);
     drop(request);
-    assert!(&rt; fault == Some(LinkError::Wire(WireError::LineTooLong)));
-    assert!(&rt; link.failures() == 0);
+    drop(link);
+    let too_long = LinkError::Wire(WireError::LineTooLong);
+    assert!(&rt; answered == (Said::Fault(too_long), 0));
 }
 
 /// A writer that takes all that it is given, and counts how often and how much that is.
@@ -459,15 +551,18 @@ fn made_of(rt: &impl Abort, alloc: Global, length: usize) -> Tally {
     again.ok().expect(rt, "all is written")
 }
 
+/// How long a line is, and how long it is with its newline.
+const LENGTHS: [(usize, usize); 5] = [
+    (0, 1),
+    (1, 2),
+    (8_191, 8_192),
+    (8_192, 8_193),
+    (100_000, 100_001),
+];
+
 #[test]
 fn a_line_and_its_newline_are_one_write(rt: HostRuntime) {
-    for (length, bytes) in [
-        (0, 1),
-        (1, 2),
-        (8_191, 8_192),
-        (8_192, 8_193),
-        (100_000, 100_001),
-    ] {
+    for &(length, bytes) in &LENGTHS {
         let tally = made_of(&rt, rt.alloc(), length);
         assert!(&rt; tally.writes == 1 && tally.bytes == bytes);
     }

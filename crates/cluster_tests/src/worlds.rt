@@ -2,17 +2,15 @@
 //! another what that one has not said of itself, and once all is told to all they hold the same. Each thing that may happen happens in
 //! each world. A helper answers none or false where a growth was refused; the world is then played again, once.
 ghost use Rattle.std.specs.Prelude.{◌≡◌, [], IfSome};
-ghost use Rattle.std.specs.List.{All};
-ghost use Rattle.locked_node.specs.Passes.{Fits, IsNew};
+ghost use Rattle.locked_node.specs.Passes.{Fits};
 
 use crate::fakes::{Echo, Fake, Mood};
 use crate::messages::{member, moment};
 use crate::nodes::{born, config};
-use crate::shared::{Caller, Shared};
+use crate::shared::{Caller, Shared, try_share};
 use change_core::{Address, Change, Incarnation, Moment, Status};
 use cluster_core::{ClusterError, Link, LinkError, Round, gossip_round, join, serve_one};
 use hash_ring::SumHash;
-use locked_node::LockedNode;
 use node_core::{Config, NodeState, Received};
 use rand_core::{Rng, SeedableRng};
 use rand_pcg::Pcg32;
@@ -114,7 +112,11 @@ impl World {
 
     /// Puts a node back, and notes what it says of itself.
     fn come_back(&mut self, node: NodeState<SumHash>) -> bool {
-        self.say(node.own()) && self.nodes.push(node).ok().is_some()
+        if self.say(node.own()) {
+            return self.nodes.push(node).ok().is_some();
+        }
+        drop(node);
+        false
     }
 
     /// Notes what a member says of itself.
@@ -154,22 +156,14 @@ impl World {
     }
 }
 
-/// A node that is shared by one pass of 99 turns.
-fn share(alloc: Global, node: NodeState<SumHash>) -> Option<(Shared, Vec<Caller>)>
-    ensures { IfSome result (λ r. All (IsNew r.0 99) r.1.items) }
-{
-    match LockedNode::new(alloc, node, 1, 99) {
-        Ok(made) => Some(made),
-        Err(_) => None,
-    }
-}
-
-/// The same, with its pass, and the list that the pass came in, now empty.
+/// A node that is shared by one pass of 99 turns, its pass, and the list that the pass came in, now empty.
 fn lock(alloc: Global, node: NodeState<SumHash>) -> Option<(Shared, Caller, Vec<Caller>)>
     ensures fits { IfSome result (λ r. Fits r.0 r.1) }
     ensures room { IfSome result (λ r. r.2.items ≡ []) }
 {
-    let (shared, mut passes) = share(alloc, node)?;
+    let Ok((shared, mut passes)) = try_share(alloc, node, 1, 99) else {
+        return None;
+    };
     let pass = passes.pop()?;
     passes.clear();
     Some((shared, pass, passes))
@@ -185,6 +179,22 @@ fn unlock(shared: Shared, pass: Caller, passes: Vec<Caller>) -> Option<NodeState
     shared.close(passes).ok()
 }
 
+/// What a shared node answers to a message.
+fn answer_by<R: Wait, L: Link>(
+    rt: &R,
+    alloc: Global,
+    shared: &Shared,
+    pass: &mut Caller,
+    link: &mut L,
+    now: Moment,
+    message: &Message,
+) -> Option<Message>
+    requires { Fits shared.now pass.old }
+    ensures { Fits shared.now pass.new }
+{
+    serve_one(rt, alloc, shared, pass, link, &WILLING, now, message).ok()
+}
+
 /// What a node answers to a message, and the node after it.
 fn serve_by<R: Wait, L: Link>(
     rt: &R,
@@ -195,8 +205,8 @@ fn serve_by<R: Wait, L: Link>(
     message: &Message,
 ) -> Option<(NodeState<SumHash>, Message)> {
     let (shared, mut pass, passes) = lock(alloc, node)?;
-    let answer = serve_one(rt, alloc, &shared, &mut pass, link, &WILLING, now, message);
-    unlock(shared, pass, passes).zip(answer.ok())
+    let answer = answer_by(rt, alloc, &shared, &mut pass, link, now, message);
+    unlock(shared, pass, passes).zip(answer)
 }
 
 /// What the node of an address answers, if it is there, by way of this link.
@@ -363,6 +373,26 @@ fn note_round(world: &mut World, round: Result<Round, ClusterError>) -> bool {
     true
 }
 
+/// A round by way of this world. Whether it was not refused.
+fn round_far<R: Wait>(
+    rt: &R,
+    alloc: Global,
+    shared: &Shared,
+    pass: &mut Caller,
+    world: &mut World,
+) -> bool
+    requires { Fits shared.now pass.old }
+    ensures { Fits shared.now pass.new }
+{
+    let now = world.now;
+    let mut link = Far {
+        world: &mut *world,
+        failures: 0,
+    };
+    let round = gossip_round(rt, alloc, shared, pass, &mut link, now);
+    note_round(world, round)
+}
+
 /// A round of a node, and the node after it.
 fn round_by<R: Wait>(
     rt: &R,
@@ -370,20 +400,38 @@ fn round_by<R: Wait>(
     node: NodeState<SumHash>,
     world: &mut World,
 ) -> Option<NodeState<SumHash>> {
-    let now = world.now;
     let (shared, mut pass, passes) = lock(alloc, node)?;
-    let mut link = Far {
-        world: &mut *world,
-        failures: 0,
-    };
-    let round = gossip_round(rt, alloc, &shared, &mut pass, &mut link, now);
-    let is_ended = note_round(world, round);
+    let is_ended = round_far(rt, alloc, &shared, &mut pass, world);
     let node = unlock(shared, pass, passes);
     if is_ended {
         return node;
     }
     drop(node);
     None
+}
+
+/// A join by way of this world.
+fn join_far<R: Wait>(
+    rt: &R,
+    alloc: Global,
+    shared: &Shared,
+    pass: &mut Caller,
+    world: &mut World,
+    hosts: &[Address; 3],
+)
+    requires { Fits shared.now pass.old }
+    ensures { Fits shared.now pass.new }
+{
+    let now = world.now;
+    let hosts = hosts.as_slice();
+    let mut link = Far {
+        world: &mut *world,
+        failures: 0,
+    };
+    let joined = join(rt, alloc, shared, pass, &mut link, hosts, now);
+    if joined.is_ok() {
+        world.happened.restarted = true;
+    }
 }
 
 /// A join of a node with all three addresses, its own among them, and the node after it.
@@ -394,24 +442,8 @@ fn join_by<R: Wait>(
     world: &mut World,
     hosts: &[Address; 3],
 ) -> Option<NodeState<SumHash>> {
-    let now = world.now;
     let (shared, mut pass, passes) = lock(alloc, node)?;
-    let mut link = Far {
-        world: &mut *world,
-        failures: 0,
-    };
-    let joined = join(
-        rt,
-        alloc,
-        &shared,
-        &mut pass,
-        &mut link,
-        hosts.as_slice(),
-        now,
-    );
-    if joined.is_ok() {
-        world.happened.restarted = true;
-    }
+    join_far(rt, alloc, &shared, &mut pass, world, hosts);
     unlock(shared, pass, passes)
 }
 
@@ -577,10 +609,12 @@ fn answered(received: Received) -> Option<Message> {
 
 /// How many changes of an answer altered an entry; none where that was not taken.
 fn applied(received: Received) -> Option<usize> {
-    match received {
+    let applied = match &received {
         Received::Done(taken) => Some(taken.applied),
         _ => None,
-    }
+    };
+    drop(received);
+    applied
 }
 
 /// What a node makes of a message; none where there is no such node.
@@ -629,6 +663,18 @@ fn agree(world: &World) -> Option<bool> {
     Some(true)
 }
 
+/// Puts three nodes into a world that know of nobody. Whether no growth was refused.
+fn settle(rt: &impl Abort, alloc: Global, world: &mut World, seed: u64) -> bool {
+    let first = Incarnation::new(7).expect(rt, "an incarnation");
+    for number in 1..4 {
+        let node = born(rt, alloc, number, &hasty(), first, seed, world.now);
+        if !world.come_back(node) {
+            return false;
+        }
+    }
+    true
+}
+
 /// Three nodes that know of nobody.
 fn begin(rt: &impl Abort, alloc: Global, seed: u64) -> Option<World> {
     let mut world = World {
@@ -639,14 +685,11 @@ fn begin(rt: &impl Abort, alloc: Global, seed: u64) -> Option<World> {
         dice: Pcg32::seed_from_u64(seed),
         now: moment(rt, 0),
     };
-    let first = Incarnation::new(7).expect(rt, "an incarnation");
-    for number in 1..4 {
-        let node = born(rt, alloc, number, &hasty(), first, seed, world.now);
-        if !world.come_back(node) {
-            return None;
-        }
+    if settle(rt, alloc, &mut world, seed) {
+        return Some(world);
     }
-    Some(world)
+    drop(world);
+    None
 }
 
 /// Makes so many steps, after each of which nobody holds what was not said, and checks that everything happened; none where a growth
@@ -687,10 +730,23 @@ fn come_to_agree(rt: &impl Abort, world: &mut World, seed: u64) -> Option<()> {
 }
 
 /// So many steps of a world, then synchronisations until nothing is altered; none where a growth was refused.
+fn play_to_the_end<R: Wait + Abort>(
+    rt: &R,
+    alloc: Global,
+    world: &mut World,
+    seed: u64,
+    steps: u32,
+) -> Option<()> {
+    play(rt, alloc, world, seed, steps)?;
+    come_to_agree(rt, world, seed)
+}
+
+/// The same of a new world.
 fn run<R: Wait + Abort>(rt: &R, alloc: Global, seed: u64, steps: u32) -> Option<()> {
     let mut world = begin(rt, alloc, seed)?;
-    play(rt, alloc, &mut world, seed, steps)?;
-    come_to_agree(rt, &mut world, seed)
+    let done = play_to_the_end(rt, alloc, &mut world, seed, steps);
+    drop(world);
+    done
 }
 
 #[test]

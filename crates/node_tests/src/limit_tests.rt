@@ -16,12 +16,16 @@ fn refusal(rt: &impl Abort, alloc: Global, replicas: u32) -> Option<NodeError> {
     NodeState::new(alloc, bad, SumHash, address(rt, A), born, 1, start).err()
 }
 
+/// Checks that no node is made with so many points for each unit of weight.
+fn check_refusal(rt: &impl Abort, alloc: Global, replicas: u32) {
+    let wanted = NodeError::BadConfig(ConfigField::Replicas);
+    assert!(rt; refusal(rt, alloc, replicas) == Some(wanted));
+}
+
 #[test]
 fn no_node_of_a_bad_configuration(rt: HostRuntime) {
-    for replicas in [0, 1_001] {
-        let wanted = NodeError::BadConfig(ConfigField::Replicas);
-        assert!(rt; refusal(&rt, rt.alloc(), replicas) == Some(wanted));
-    }
+    check_refusal(&rt, rt.alloc(), 0);
+    check_refusal(&rt, rt.alloc(), 1_001);
 }
 
 /// Room for so many changes.
@@ -32,24 +36,30 @@ fn room(rt: &impl Abort, alloc: Global, count: usize) -> Vec<Sourced> {
     Vec::with_capacity(alloc, count).ok().expect(rt, "room")
 }
 
+/// A change about the address so far past 11.0.0.0.
+fn stranger(rt: &impl Abort, place: u16) -> Sourced {
+    let subject = Address::new(0x0b00_0000 + u32::from(place), 1).expect(rt, "an address");
+    let mut one = news(rt, B, 1, Status::Alive);
+    one.change.address = subject;
+    one.source = subject;
+    one
+}
+
 /// Changes about 4,096 addresses from 11.0.0.0 on.
 fn strangers(rt: &impl Abort, alloc: Global) -> Changes {
     let mut given = room(rt, alloc, 4096);
-    for place in 0..4096u32 {
-        let subject = Address::new(0x0b00_0000 + place, 1).expect(rt, "an address");
-        let mut one = news(rt, B, 1, Status::Alive);
-        one.change.address = subject;
-        one.source = subject;
-        given.push(one).ok().expect(rt, "room");
+    for place in 0..4096u16 {
+        given.push(stranger(rt, place)).ok().expect(rt, "room");
     }
     Changes::from_vec(given).ok().expect(rt, "changes")
 }
 
 /// Takes as many of them as it may hold beside itself.
 fn take_strangers(rt: &impl Abort, alloc: Global, node: &mut NodeState<SumHash>) {
-    let answer = take_batch(node, &strangers(rt, alloc), moment(rt, 0));
-    assert!(rt; stopped(answer, 4_095, StopCause::Full));
-    assert!(rt; held(node, address(rt, A)).1 == 4_096);
+    let strangers = strangers(rt, alloc);
+    let answer = take_batch(node, &strangers, moment(rt, 0));
+    drop(strangers);
+    assert!(rt; stopped(answer, 4_095, StopCause::Full) && node.len() == 4_096);
 }
 
 #[test]
@@ -63,16 +73,11 @@ fn stops_at_the_last_of_as_many_as_may_be(rt: HostRuntime) {
 
 /// Takes the greatest incarnation, and leaves; there is none to refute by, and none to come back with.
 fn reach_the_greatest(rt: &impl Abort, node: &mut NodeState<SumHash>) {
-    let answer = take(rt, node, &news(rt, A, LIMIT, Status::Alive), 0);
-    let applied = Taken {
-        applied: 1,
-        refuted: 0,
-    };
-    assert!(rt; answer == Ok(applied));
+    check_taken(rt, node, &news(rt, A, LIMIT, Status::Alive), 1, 0);
     let answer = take(rt, node, &news(rt, A, LIMIT, Status::Suspect), 0);
     assert!(rt; stopped(answer, 0, StopCause::Exhausted));
-    assert!(rt; leave(node) == Ok(change(rt, A, LIMIT, Status::Leave)));
-    assert!(rt; rejoin(node) == Err(NodeError::Exhausted));
+    check_leave(rt, node, Ok(change(rt, A, LIMIT, Status::Leave)));
+    check_rejoin(rt, node, Err(NodeError::Exhausted));
 }
 
 #[test]
@@ -97,23 +102,31 @@ fn nothing_runs_out_past_the_greatest_moment(rt: HostRuntime) {
 
 /// Checks that two nodes hold the same members.
 fn list_alike(rt: &impl Abort, first: &NodeState<SumHash>, second: &NodeState<SumHash>) {
-    let listed = members(first).ok().expect(rt, "members");
-    let wanted = members(second).ok().expect(rt, "members");
-    assert!(rt; listed.as_slice() == wanted.as_slice());
+    let listed = members(rt, first);
+    let wanted = members(rt, second);
+    let is_alike = listed.as_slice() == wanted.as_slice();
+    drop(listed);
+    drop(wanted);
+    assert!(rt; is_alike);
 }
 
 /// Checks that two nodes name the same owners of a key.
 fn name_alike(rt: &impl Abort, first: &NodeState<SumHash>, second: &NodeState<SumHash>, key: &str) {
     let named = owners(first, key, 9).ok().expect(rt, "owners");
     let wanted = owners(second, key, 9).ok().expect(rt, "owners");
-    assert!(rt; named.as_slice() == wanted.as_slice());
+    let is_alike = named.as_slice() == wanted.as_slice();
+    drop(named);
+    drop(wanted);
+    assert!(rt; is_alike);
 }
+
+const KEYS: [&str; 4] = ["zzzz0", "zzzz1", "zzzz2", "zzzz3"];
 
 /// Checks that two nodes hold the same members, and name the same owners.
 fn hold_alike(rt: &impl Abort, first: &NodeState<SumHash>, second: &NodeState<SumHash>) {
     list_alike(rt, first, second);
-    for key in ["zzzz0", "zzzz1", "zzzz2", "zzzz3"] {
-        name_alike(rt, first, second, key);
+    for key in &KEYS {
+        name_alike(rt, first, second, *key);
     }
 }
 
@@ -145,10 +158,14 @@ fn tell_alike(rt: &impl Abort, first: &mut NodeState<SumHash>, second: &mut Node
     }
 }
 
+/// The moments up to which entries of 0 run out, and those before.
+const MOMENTS: [u64; 4] = [4_999, 5_000, 86_404_999, 86_405_000];
+
 /// Checks that the same runs out in two nodes, at the same moments.
 fn run_out_alike(rt: &impl Abort, first: &mut NodeState<SumHash>, second: &mut NodeState<SumHash>) {
-    for now in [4_999, 5_000, 86_404_999, 86_405_000] {
-        assert!(rt; expire(first, moment(rt, now)) == expire(second, moment(rt, now)));
+    for number in &MOMENTS {
+        let now = moment(rt, *number);
+        assert!(rt; expire(first, now) == expire(second, now));
     }
 }
 
@@ -167,6 +184,24 @@ fn compare(
     run_out_alike(rt, first, second);
 }
 
+/// Takes three changes as one batch, as far as memory lets it: how many of them.
+fn take_three(
+    rt: &impl Abort,
+    alloc: Global,
+    node: &mut NodeState<SumHash>,
+    given: &[Sourced],
+) -> usize {
+    let batch = changes(rt, alloc, given);
+    let answer = try_batch(node, &batch, moment(rt, 0));
+    drop(batch);
+    let taken = match answer {
+        Ok(_) => 3,
+        Err(stopped) => stopped.taken,
+    };
+    assert!(rt; answer.is_ok() || taken < 3 && stopped(answer, taken, StopCause::Memory));
+    taken
+}
+
 /// Takes a batch, as far as memory lets it, and compares itself with a new node that takes as many of it.
 fn stop_where_memory_does(rt: &impl Abort, alloc: Global, first: &mut NodeState<SumHash>) {
     let given = [
@@ -174,12 +209,7 @@ fn stop_where_memory_does(rt: &impl Abort, alloc: Global, first: &mut NodeState<
         news(rt, C, 1, Status::Alive),
         news(rt, B, 2, Status::Suspect),
     ];
-    let answer = try_batch(first, &changes(rt, alloc, &given), moment(rt, 0));
-    let taken = match answer {
-        Ok(_) => 3,
-        Err(stopped) => stopped.taken,
-    };
-    assert!(rt; answer.is_ok() || taken < 3 && stopped(answer, taken, StopCause::Memory));
+    let taken = take_three(rt, alloc, first, &given);
     let heard = given.get(..taken).expect(rt, "no more than were given");
     let mut second = first_node(rt, alloc);
     compare(rt, first, &mut second, heard);

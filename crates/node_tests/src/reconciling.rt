@@ -88,6 +88,27 @@ fn came_to(applied: usize, refuted: usize) -> Taken {
     Taken { applied, refuted }
 }
 
+/// What 10.0.0.1:1 hears at first.
+const HEARD_BY_ONE: [(&str, u64, Status); 3] = [
+    (B, 1, Status::Suspect),
+    (C, 2, Status::Suspect),
+    (D, 4, Status::Alive),
+];
+
+/// What 10.0.0.2:1 hears at first.
+const HEARD_BY_OTHER: [(&str, u64, Status); 3] = [
+    (A, 7, Status::Faulty),
+    (C, 3, Status::Alive),
+    (E, 1, Status::Leave),
+];
+
+/// Hears these.
+fn hear_all(rt: &impl Abort, node: &mut NodeState<SumHash>, rumours: &[(&str, u64, Status)]) {
+    for (text, number, status) in rumours {
+        hear(rt, node, &news(rt, *text, *number, *status), 0);
+    }
+}
+
 /// Each node has heard a rumour of itself from the other, which it refutes as that one tells it. What one refutes last, the other
 /// hears by the third exchange alone.
 fn reconcile_after_rumours(
@@ -96,38 +117,30 @@ fn reconcile_after_rumours(
     one: &mut NodeState<SumHash>,
     other: &mut NodeState<SumHash>,
 ) {
-    hear(rt, one, &news(rt, B, 1, Status::Suspect), 0);
-    hear(rt, one, &news(rt, C, 2, Status::Suspect), 0);
-    hear(rt, one, &news(rt, D, 4, Status::Alive), 0);
-    hear(rt, other, &news(rt, A, 7, Status::Faulty), 0);
-    hear(rt, other, &news(rt, C, 3, Status::Alive), 0);
-    hear(rt, other, &news(rt, E, 1, Status::Leave), 0);
     let now = moment(rt, 1);
     let taken = reconcile(alloc, one, other, now);
     let wanted = [came_to(3, 1), came_to(3, 1), came_to(1, 0)];
     assert!(rt; taken.is_none() || taken == Some(wanted));
     let again = match reconcile(alloc, one, other, now) {
-        Some(again) => Some(again),
         None => reconcile(alloc, one, other, now),
+        again => again,
     };
     assert!(rt; taken.is_none() || again == Some([came_to(0, 0); 3]));
 }
 
-/// Checks what a node holds in the end, and whom it names.
-fn check_node(rt: &impl Abort, node: &NodeState<SumHash>) {
-    let text =
-        "10.0.0.1:1alive8;10.0.0.2:1alive2;10.0.0.3:1alive3;10.0.0.4:1alive4;10.0.0.5:1leave1";
-    assert!(rt; has_text(node, text));
-    assert!(rt; owner(node, "zzzz3") == Some(address(rt, D)));
-}
+/// What both nodes hold in the end.
+const HELD: &str =
+    "10.0.0.1:1alive8;10.0.0.2:1alive2;10.0.0.3:1alive3;10.0.0.4:1alive4;10.0.0.5:1leave1";
 
 #[test]
 fn two_nodes_reconcile(rt: HostRuntime) {
     let mut one = first_node(&rt, rt.alloc());
     let mut other = node(&rt, rt.alloc(), SumHash, B, 1, 4096);
+    hear_all(&rt, &mut one, &HEARD_BY_ONE);
+    hear_all(&rt, &mut other, &HEARD_BY_OTHER);
     reconcile_after_rumours(&rt, rt.alloc(), &mut one, &mut other);
-    check_node(&rt, &one);
-    check_node(&rt, &other);
+    check_node(&rt, &one, HELD, "zzzz3", D);
+    check_node(&rt, &other, HELD, "zzzz3", D);
     drop(one);
     drop(other);
 }

@@ -52,6 +52,18 @@ fn is_refused(told: Told) -> bool {
     }
 }
 
+/// Makes these calls of a node, which comes back where its replies find no memory.
+fn try_run(
+    alloc: Global,
+    node: NodeState<SumHash>,
+    events: &[Event],
+) -> Result<Run<SumHash>, NodeState<SumHash>> {
+    match run(alloc, node, events) {
+        Ok(finished) => Ok(finished),
+        Err(refused) => Err(refused.node),
+    }
+}
+
 /// Makes these calls of a node alone, which comes back as it was where its replies find no memory.
 fn finish(
     rt: &impl Abort,
@@ -59,11 +71,11 @@ fn finish(
     node: NodeState<SumHash>,
     events: &[Event],
 ) -> Run<SumHash> {
-    match run(alloc, node, events) {
+    match try_run(alloc, node, events) {
         Ok(finished) => finished,
-        Err(refused) => {
-            assert!(rt; has_text(&refused.node, "10.0.0.1:1alive7"));
-            run(alloc, refused.node, events).ok().expect(rt, "a run")
+        Err(node) => {
+            assert!(rt; has_text(&node, "10.0.0.1:1alive7"));
+            try_run(alloc, node, events).ok().expect(rt, "a run")
         }
     }
 }
@@ -101,8 +113,8 @@ fn answers(
 /// Checks what a node answers to these calls; where one was refused memory, a new node makes them all.
 fn check(rt: &impl Abort, alloc: Global, max: usize, events: &[Event], wanted: &[Told]) {
     let answer = match answers(rt, alloc, max, events, wanted) {
-        Some(is_so) => Some(is_so),
         None => answers(rt, alloc, max, events, wanted),
+        answer => answer,
     };
     assert!(rt; answer == Some(true));
 }
@@ -131,6 +143,7 @@ fn a_run_refutes(rt: HostRuntime) {
         counted(0, 0),
     ];
     check(&rt, rt.alloc(), 4096, &events, &wanted);
+    drop(events);
 }
 
 #[test]
@@ -152,6 +165,7 @@ fn a_run_leaves_and_comes_back(rt: HostRuntime) {
         Told::Own(Err(NodeError::NotLeft)),
     ];
     check(&rt, rt.alloc(), 4096, &events, &wanted);
+    drop(events);
 }
 
 #[test]
@@ -176,6 +190,7 @@ fn a_run_stops_where_incarnations_run_out(rt: HostRuntime) {
         Told::Member(None),
     ];
     check(&rt, rt.alloc(), 4096, &events, &wanted);
+    drop(events);
 }
 
 #[test]
@@ -205,6 +220,7 @@ fn a_run_stops_where_it_is_full(rt: HostRuntime) {
         Told::Own(Ok(change(&rt, A, 8, Status::Alive))),
     ];
     check(&rt, rt.alloc(), 2, &events, &wanted);
+    drop(events);
 }
 
 /// The Join of 10.0.0.2:1.
@@ -242,4 +258,5 @@ fn a_run_lets_a_node_join_once(rt: HostRuntime) {
         Told::Member(Some(change(&rt, B, 1, Status::Alive).entry())),
     ];
     check(&rt, rt.alloc(), 4096, &events, &wanted);
+    drop(events);
 }

@@ -85,12 +85,8 @@ pub(crate) fn configured<H: PointHash>(
     let own = address(rt, text);
     let born = incarnation(rt, number);
     let start = moment(rt, 0);
-    match NodeState::new(alloc, *config, hash, own, born, 1, start) {
-        Ok(node) => return node,
-        Err(error) => assert!(rt; error == NodeError::Memory),
-    }
-    let again = NodeState::new(alloc, *config, hash, own, born, 1, start);
-    again.ok().expect(rt, "a node")
+    let made = again!(NodeState::new(alloc, *config, hash, own, born, 1, start));
+    made.ok().expect(rt, "a node")
 }
 
 /// A node with this many members at most.
@@ -118,6 +114,11 @@ pub(crate) fn held<H: PointHash>(
     (node.own(), node.len(), node.member(address))
 }
 
+/// Whether a node holds a member.
+pub(crate) fn holds(node: &NodeState<SumHash>, address: Address) -> bool {
+    node.member(address).is_some()
+}
+
 /// Takes one change.
 pub(crate) fn try_take<H: PointHash>(
     node: &mut NodeState<H>,
@@ -136,16 +137,31 @@ pub(crate) fn take<H: PointHash>(
 ) -> Result<Taken, Stopped> {
     let address = given.change.address;
     let before = held(node, address);
-    let answer = try_take(node, given, moment(rt, now));
-    let refused = Stopped {
-        taken: 0,
-        cause: StopCause::Memory,
-    };
-    if answer != Err(refused) {
-        return answer;
+    let now = moment(rt, now);
+    match try_take(node, given, now) {
+        Err(
+            Stopped {
+                taken: 0,
+                cause: StopCause::Memory,
+            },
+        ) => {
+            assert!(rt; held(node, address) == before);
+            try_take(node, given, now)
+        }
+        answer => answer,
     }
-    assert!(rt; held(node, address) == before);
-    try_take(node, given, moment(rt, now))
+}
+
+/// Takes one change at moment 0, and checks how many entries that alters, and how many of them refute.
+pub(crate) fn check_taken(
+    rt: &impl Abort,
+    node: &mut NodeState<SumHash>,
+    given: &Sourced,
+    applied: usize,
+    refuted: usize,
+) {
+    let answer = take(rt, node, given, 0);
+    assert!(rt; answer == Ok(Taken { applied, refuted }));
 }
 
 /// Takes one change, which is not refused.
@@ -168,9 +184,9 @@ pub(crate) fn expire<H: PointHash>(
 }
 
 /// Checks what runs out at a moment, if anything.
-pub(crate) fn check_expired(
+pub(crate) fn check_expired<H: PointHash>(
     rt: &impl Abort,
-    node: &mut NodeState<SumHash>,
+    node: &mut NodeState<H>,
     now: u64,
     wanted: Option<Change>,
 ) {
@@ -211,29 +227,74 @@ pub(crate) fn take_batch(
     }
 }
 
+/// Takes these changes as one batch at moment 0, and checks that it stops after the first, for this cause.
+pub(crate) fn check_stop(
+    rt: &impl Abort,
+    alloc: Global,
+    node: &mut NodeState<SumHash>,
+    given: &[Sourced],
+    cause: StopCause,
+) {
+    let batch = changes(rt, alloc, given);
+    let answer = take_batch(node, &batch, moment(rt, 0));
+    drop(batch);
+    assert!(rt; stopped(answer, 1, cause));
+}
+
 /// Whether a batch stopped after so many changes, for this cause.
 pub(crate) fn stopped(answer: Result<Taken, Stopped>, taken: usize, cause: StopCause) -> bool {
     answer.err() == Some(Stopped { taken, cause })
 }
 
-pub(crate) fn leave(node: &mut NodeState<SumHash>) -> Result<Change, NodeError> {
+fn leave(node: &mut NodeState<SumHash>) -> Result<Change, NodeError> {
     again!(node.leave())
 }
 
-pub(crate) fn rejoin(node: &mut NodeState<SumHash>) -> Result<Change, NodeError> {
+/// Checks what leaving comes to.
+pub(crate) fn check_leave(
+    rt: &impl Abort,
+    node: &mut NodeState<SumHash>,
+    wanted: Result<Change, NodeError>,
+) {
+    assert!(rt; leave(node) == wanted);
+}
+
+fn rejoin(node: &mut NodeState<SumHash>) -> Result<Change, NodeError> {
     again!(node.rejoin())
 }
 
-pub(crate) fn own<H: PointHash>(node: &NodeState<H>) -> Change {
-    node.own()
+/// Checks what coming back comes to.
+pub(crate) fn check_rejoin(
+    rt: &impl Abort,
+    node: &mut NodeState<SumHash>,
+    wanted: Result<Change, NodeError>,
+) {
+    assert!(rt; rejoin(node) == wanted);
+}
+
+/// Checks what a node says of itself.
+pub(crate) fn check_own(rt: &impl Abort, node: &NodeState<SumHash>, wanted: &Change) {
+    assert!(rt; node.own() == *wanted);
+}
+
+/// Checks what a node holds, and whom it names for a key.
+pub(crate) fn check_node(
+    rt: &impl Abort,
+    node: &NodeState<SumHash>,
+    text: &str,
+    key: &str,
+    named: &str,
+) {
+    assert!(rt; has_text(node, text));
+    assert!(rt; owner(node, key) == Some(address(rt, named)));
 }
 
 pub(crate) fn owner<H: PointHash>(node: &NodeState<H>, key: &str) -> Option<Address> {
     node.owner(key.as_bytes())
 }
 
-pub(crate) fn view<H: PointHash>(node: &mut NodeState<H>) -> Result<View<H>, NodeError> {
-    again!(node.view())
+pub(crate) fn view<H: PointHash>(rt: &impl Abort, node: &mut NodeState<H>) -> View<H> {
+    again!(node.view()).ok().expect(rt, "a view")
 }
 
 pub(crate) fn view_owner<H: PointHash>(view: &View<H>, key: &str) -> Option<Address> {
@@ -371,8 +432,8 @@ pub(crate) fn ping_req_ack_to(
     again!(node.ping_req_ack_to(source, target, reached))
 }
 
-pub(crate) fn members(node: &NodeState<SumHash>) -> Result<ChangeList, NodeError> {
-    again!(node.members())
+pub(crate) fn members(rt: &impl Abort, node: &NodeState<SumHash>) -> ChangeList {
+    again!(node.members()).ok().expect(rt, "members")
 }
 
 pub(crate) fn view_owners<H: PointHash>(

@@ -16,9 +16,8 @@ type Rumour = (u64, Status, usize, usize, u64);
 /// Stays alive when it is told so of itself.
 fn stay_alive(rt: &impl Abort, node: &mut NodeState<SumHash>, rumour: Rumour) {
     let (number, status, applied, refuted, held) = rumour;
-    let answer = take(rt, node, &news(rt, A, number, status), 0);
-    assert!(rt; answer == Ok(Taken { applied, refuted }));
-    assert!(rt; own(node) == change(rt, A, held, Status::Alive));
+    check_taken(rt, node, &news(rt, A, number, status), applied, refuted);
+    check_own(rt, node, &change(rt, A, held, Status::Alive));
 }
 
 /// Stays alive, whatever it is told of itself.
@@ -38,17 +37,13 @@ fn refutes_what_is_wrong_about_itself(rt: HostRuntime) {
 
 /// Leaves twice, refutes, and comes back twice.
 fn leave_and_come_back(rt: &impl Abort, node: &mut NodeState<SumHash>) {
-    assert!(rt; rejoin(node) == Err(NodeError::NotLeft));
-    assert!(rt; leave(node) == Ok(change(rt, A, 7, Status::Leave)));
-    assert!(rt; leave(node) == Err(NodeError::AlreadyLeft));
-    let answer = take(rt, node, &news(rt, A, 9, Status::Alive), 0);
-    let refuting = Taken {
-        applied: 1,
-        refuted: 1,
-    };
-    assert!(rt; answer == Ok(refuting) && own(node) == change(rt, A, 10, Status::Leave));
-    assert!(rt; rejoin(node) == Ok(change(rt, A, 11, Status::Alive)));
-    assert!(rt; rejoin(node) == Err(NodeError::NotLeft));
+    check_rejoin(rt, node, Err(NodeError::NotLeft));
+    check_leave(rt, node, Ok(change(rt, A, 7, Status::Leave)));
+    check_leave(rt, node, Err(NodeError::AlreadyLeft));
+    check_taken(rt, node, &news(rt, A, 9, Status::Alive), 1, 1);
+    check_own(rt, node, &change(rt, A, 10, Status::Leave));
+    check_rejoin(rt, node, Ok(change(rt, A, 11, Status::Alive)));
+    check_rejoin(rt, node, Err(NodeError::NotLeft));
 }
 
 #[test]
@@ -65,10 +60,8 @@ fn exhaust(rt: &impl Abort, alloc: Global, node: &mut NodeState<SumHash>) {
         news(rt, A, LIMIT, Status::Faulty),
         news(rt, C, 1, Status::Alive),
     ];
-    let answer = take_batch(node, &changes(rt, alloc, &given), moment(rt, 0));
-    assert!(rt; stopped(answer, 1, StopCause::Exhausted));
-    assert!(rt; held(node, address(rt, B)).2.is_some());
-    assert!(rt; held(node, address(rt, C)).2.is_none());
+    check_stop(rt, alloc, node, &given, StopCause::Exhausted);
+    assert!(rt; holds(node, address(rt, B)) && !holds(node, address(rt, C)));
 }
 
 #[test]
@@ -81,14 +74,8 @@ fn stops_where_incarnations_run_out(rt: HostRuntime) {
 /// Is full with the first of two changes, and goes on about the members that it has.
 fn fill(rt: &impl Abort, alloc: Global, node: &mut NodeState<SumHash>) {
     let given = [news(rt, B, 1, Status::Alive), news(rt, C, 1, Status::Alive)];
-    let answer = take_batch(node, &changes(rt, alloc, &given), moment(rt, 0));
-    assert!(rt; stopped(answer, 1, StopCause::Full));
-    let answer = take(rt, node, &news(rt, B, 2, Status::Suspect), 0);
-    let applied = Taken {
-        applied: 1,
-        refuted: 0,
-    };
-    assert!(rt; answer == Ok(applied));
+    check_stop(rt, alloc, node, &given, StopCause::Full);
+    check_taken(rt, node, &news(rt, B, 2, Status::Suspect), 1, 0);
 }
 
 #[test]
@@ -128,18 +115,26 @@ fn entries_run_out_in_turn(rt: HostRuntime) {
     drop(other);
 }
 
+const STATUSES: [Status; 5] = [
+    Status::Alive,
+    Status::Suspect,
+    Status::Faulty,
+    Status::Leave,
+    Status::Tombstone,
+];
+
+/// The members that the twenty changes are about.
+const SUBJECTS: [&str; 4] = [B, C, "10.0.0.4:1", "10.0.0.5:1"];
+
 /// The i-th of twenty changes: about 10.0.0.2 to 10.0.0.5, with each incarnation and status in turn.
 fn twenty(rt: &impl Abort, i: u8) -> Sourced {
-    let statuses = [
-        Status::Alive,
-        Status::Suspect,
-        Status::Faulty,
-        Status::Leave,
-        Status::Tombstone,
-    ];
-    let texts = [B, C, "10.0.0.4:1", "10.0.0.5:1"];
-    let status = statuses[usize::from(i % 5)];
-    news(rt, texts[usize::from(i % 4)], 1 + u64::from(i / 8), status)
+    let status = STATUSES[usize::from(i % 5)];
+    news(
+        rt,
+        SUBJECTS[usize::from(i % 4)],
+        1 + u64::from(i / 8),
+        status,
+    )
 }
 
 /// Has one node hear the twenty changes in turn, the other in reverse, and each of the other.
@@ -181,23 +176,12 @@ fn the_same_changes_in_two_orders_agree(rt: HostRuntime) {
     drop(last);
 }
 
-/// A message of A at 7 with these changes.
-fn message(
-    rt: &impl Abort,
-    alloc: Global,
-    kind: Kind,
-    checksum: Digest,
-    given: &[Sourced],
-) -> Message {
-    let changes = changes(rt, alloc, given);
-    let news = News { checksum, changes };
+/// A message of A at 7.
+fn message(rt: &impl Abort, content: Content) -> Message {
     Message {
         source: address(rt, A),
         source_incarnation: incarnation(rt, 7),
-        content: match kind {
-            Kind::Join => Content::Join(news),
-            _ => Content::Ping(news),
-        },
+        content,
     }
 }
 
@@ -236,7 +220,8 @@ fn answer_by(
     checksum: Digest,
     wanted: &[Sourced],
 ) {
-    let ping = message(rt, alloc, Kind::Ping, checksum, &[]);
+    let changes = changes(rt, alloc, &[]);
+    let ping = message(rt, Content::Ping(News { checksum, changes }));
     answer_so(rt, node, ping, (Kind::Ack, wanted));
 }
 
@@ -255,13 +240,17 @@ fn synchronise(rt: &impl Abort, alloc: Global, node: &mut NodeState<SumHash>, kn
     answer_by(rt, alloc, node, last, wanted);
 }
 
+/// Answers the pings of a sender, which knows its digest or does not, as a new node.
+fn synchronise_anew(rt: &impl Abort, alloc: Global, known: bool) {
+    let mut node = node(rt, alloc, SumHash, B, 1, 4096);
+    synchronise(rt, alloc, &mut node, known);
+    drop(node);
+}
+
 #[test]
 fn synchronises_where_it_has_nothing_to_say(rt: HostRuntime) {
-    for known in [false, true] {
-        let mut node = node(&rt, rt.alloc(), SumHash, B, 1, 4096);
-        synchronise(&rt, rt.alloc(), &mut node, known);
-        drop(node);
-    }
+    synchronise_anew(&rt, rt.alloc(), false);
+    synchronise_anew(&rt, rt.alloc(), true);
 }
 
 /// Takes in whoever joins, and answers by all members.
@@ -272,13 +261,13 @@ fn let_join(rt: &impl Abort, alloc: Global, node: &mut NodeState<SumHash>) {
         said(rt, B, 1, &birth[0].change),
         news(rt, B, 1, Status::Alive),
     ];
-    let join = message(rt, alloc, Kind::Join, nobody, &birth);
-    let taken = answer_so(rt, node, join, (Kind::Joined, all.as_slice()));
-    let applied = Taken {
-        applied: 1,
-        refuted: 0,
+    let news = News {
+        checksum: nobody,
+        changes: changes(rt, alloc, &birth),
     };
-    assert!(rt; taken == applied);
+    let join = message(rt, Content::Join(news));
+    let taken = answer_so(rt, node, join, (Kind::Joined, all.as_slice()));
+    assert!(rt; taken.applied == 1 && taken.refuted == 0);
 }
 
 #[test]

@@ -19,20 +19,18 @@ enum Question {
 /// More than is ever written.
 const ALL: usize = 1024;
 
-/// What the peer's answers come to, what is written, and how often it was asked.
-fn ask_once<R: Wait + Abort>(
+/// What the answers of a peer come to.
+fn ask_peer<R: Wait + Abort>(
     rt: &R,
     alloc: Global,
     question: Question,
-    mood: Mood,
-    room: usize,
-) -> (Result<(), AskFault>, Vec<u8>, u32) {
+    peer: &mut Peer,
+    page: &mut Page,
+) -> Result<(), AskFault> {
     let host = Address::new(0x0a00_0001, 1).expect(rt, "an address");
-    let mut peer = Peer::new(mood);
-    let mut page = Page::new(alloc, room);
-    let ended = match question {
-        Question::Ask => ask_over(rt, alloc, &mut peer, host, "k", "b", &mut page),
-        Question::Members(lines) => members_over(rt, alloc, &mut peer, host, lines, &mut page),
+    match question {
+        Question::Ask => ask_over(rt, alloc, peer, host, "k", "b", page),
+        Question::Members(lines) => members_over(rt, alloc, peer, host, lines, page),
         Question::AskAny(key) => {
             let words = AskAnyWords {
                 host,
@@ -41,10 +39,44 @@ fn ask_once<R: Wait + Abort>(
                 key,
                 body: "b",
             };
-            ask_any_over(rt, alloc, &mut peer, &words, &mut page)
+            ask_any_over(rt, alloc, peer, &words, page)
         }
-    };
-    (ended, page.bytes, peer.calls)
+    }
+}
+
+/// What asking comes to.
+#[derive(Clone, Copy)]
+struct Asked {
+    ended: Result<(), AskFault>,
+    /// Whether what is wanted was written.
+    is_written: bool,
+    /// Whether less was written than the writer takes.
+    is_short: bool,
+    /// How often the peer was asked.
+    calls: u32,
+}
+
+/// What it comes to with a peer of this mood and a writer with so much room.
+fn ask_once<R: Wait + Abort>(
+    rt: &R,
+    alloc: Global,
+    question: Question,
+    mood: Mood,
+    room: usize,
+    wanted: &[u8],
+) -> Asked {
+    let mut peer = Peer::new(mood);
+    let mut page = Page::new(alloc, room);
+    let ended = ask_peer(rt, alloc, question, &mut peer, &mut page);
+    let is_written = page.bytes.as_slice() == wanted;
+    let is_short = page.bytes.len() < room;
+    drop(page);
+    Asked {
+        ended,
+        is_written,
+        is_short,
+        calls: peer.calls,
+    }
 }
 
 /// The same, and once more where there was no memory.
@@ -54,15 +86,16 @@ fn ask<R: Wait + Abort>(
     question: Question,
     mood: Mood,
     room: usize,
-) -> (Result<(), AskFault>, Vec<u8>, u32) {
-    let asked = ask_once(rt, alloc, question, mood, room);
-    let is_starved = match &asked.0 {
+    wanted: &[u8],
+) -> Asked {
+    let asked = ask_once(rt, alloc, question, mood, room, wanted);
+    let is_starved = match asked.ended {
         Err(AskFault::NoMemory) => true,
-        Err(AskFault::CannotWrite) => asked.1.len() < room,
+        Err(AskFault::CannotWrite) => asked.is_short,
         _ => false,
     };
     if is_starved {
-        return ask_once(rt, alloc, question, mood, room);
+        return ask_once(rt, alloc, question, mood, room, wanted);
     }
     asked
 }
@@ -76,9 +109,9 @@ fn check_end<R: Wait + Abort>(
     wanted: Result<(), AskFault>,
     text: &str,
 ) -> u32 {
-    let (ended, out, calls) = ask(rt, alloc, question, mood, ALL);
-    assert!(rt; ended == wanted && out.as_slice() == text.as_bytes());
-    calls
+    let asked = ask(rt, alloc, question, mood, ALL, text.as_bytes());
+    assert!(rt; asked.ended == wanted && asked.is_written);
+    asked.calls
 }
 
 #[test]
@@ -105,7 +138,7 @@ fn ask_writes_the_reply_alone(rt: HostRuntime) {
         (Mood::Broken, Err(AskFault::NoAnswer), ""),
         (Mood::Starved, Err(AskFault::NoMemory), ""),
     ];
-    for (mood, wanted, text) in rows {
+    for &(mood, wanted, text) in &rows {
         let calls = check_end(&rt, rt.alloc(), Question::Ask, mood, wanted, text);
         assert!(&rt; calls <= 1);
     }
@@ -153,7 +186,7 @@ fn members_are_written_where_their_digest_fits(rt: HostRuntime) {
         (Held::Two, OF_TWO, false, TWO),
         (Held::Two, OF_TWO, true, TWO_LINES),
     ];
-    for (held, digits, lines, text) in rows {
+    for &(held, digits, lines, text) in &rows {
         let mood = Mood::Holds(held, digest(&rt, digits), Word::Broken);
         shows(&rt, rt.alloc(), lines, mood, Ok(()), text);
     }
@@ -165,7 +198,7 @@ fn members_are_written_where_their_digest_fits(rt: HostRuntime) {
         (Mood::Broken, AskFault::NoAnswer),
         (Mood::Starved, AskFault::NoMemory),
     ];
-    for (mood, fault) in refusals {
+    for &(mood, fault) in &refusals {
         shows(&rt, rt.alloc(), true, mood, Err(fault), "");
     }
 }
@@ -187,7 +220,7 @@ fn the_owner_is_asked_twice_at_most(rt: HostRuntime) {
         (Held::Alone, 4, Err(AskFault::NotOwner), "", 4),
         (Held::Two, 0, Ok(()), "mine 10.0.0.2:1\n", 2),
     ];
-    for (held, declined, wanted, text, asked) in rows {
+    for &(held, declined, wanted, text, asked) in &rows {
         let mood = holds(&rt, held, Word::Mine(declined));
         let calls = check_end(&rt, rt.alloc(), Question::AskAny("k"), mood, wanted, text);
         assert!(&rt; calls == asked);
@@ -220,7 +253,7 @@ fn no_request_is_sent_twice_but_to_another_owner(rt: HostRuntime) {
             2,
         ),
     ];
-    for (mood, fault, asked) in rows {
+    for &(mood, fault, asked) in &rows {
         let calls = check_end(&rt, rt.alloc(), Question::AskAny("k"), mood, Err(fault), "");
         assert!(&rt; calls == asked);
     }
@@ -235,9 +268,10 @@ fn check_front<R: Wait + Abort>(
     text: &str,
     room: usize,
 ) {
-    let (ended, out, _) = ask(rt, alloc, question, mood, room);
-    assert!(rt; ended == Err(AskFault::CannotWrite));
-    assert!(rt; Some(out.as_slice()) == text.as_bytes().get(..room));
+    let front = text.as_bytes().get(..room).expect(rt, "so much of it");
+    let asked = ask(rt, alloc, question, mood, room, front);
+    assert!(rt; asked.ended == Err(AskFault::CannotWrite));
+    assert!(rt; asked.is_written);
 }
 
 #[test]
@@ -249,7 +283,7 @@ fn a_writer_that_fails_has_a_front(rt: HostRuntime) {
         (Question::Members(false), two, TWO),
         (Question::Members(true), two, TWO_LINES),
     ];
-    for (question, mood, text) in rows {
+    for &(question, mood, text) in &rows {
         for room in 0..text.len() {
             check_front(&rt, rt.alloc(), question, mood, text, room);
         }

@@ -1,18 +1,20 @@
 //! How long a server waits for a line, and for its answer to be taken, to the millisecond, and at which moment it serves.
+ghost use Rattle.std.specs.Prelude.{◌≡◌, IfSome};
 ghost use Rattle.locked_node.specs.Passes.{Fits};
 
 use crate::clocks::{Manner, NEVER, Peer, SILENT, Town, Wire};
 use crate::lines::{MALFORMED, NOT_REACHED, PING_REQ};
 use crate::plans::local;
-use change_core::{Change, Incarnation, Moment, Sourced, Status, Weight};
+use change_core::{Address, Change, Incarnation, Moment, Sourced, Status, Weight};
 use cluster_links::{Limits, TcpLink, share};
 use hash_ring::SumHash;
-use locked_node::NodePass;
+use locked_node::{LockedNode, NodePass};
 use node_core::{Config, NodeState};
 use serve_core::{Server, Waits, Watch, serve_connection};
 use std::alloc::Global;
 use std::net::{Net, TcpListener, TcpStream};
 use std::sync::Wait;
+use std::time::Clock;
 
 /// 127.0.0.1:29177 at 1, born at 0, which holds a suspect as faulty so many milliseconds later; none where there is no memory for it.
 fn node(alloc: Global, suspect_ms: u64) -> Option<NodeState<SumHash>> {
@@ -25,11 +27,7 @@ fn node(alloc: Global, suspect_ms: u64) -> Option<NodeState<SumHash>> {
 }
 
 /// The same, which was told at 0 that 127.0.0.1:29170 is this at 1; none where there is no memory for it.
-pub(crate) fn node_of_two(
-    alloc: Global,
-    suspect_ms: u64,
-    status: Status,
-) -> Option<NodeState<SumHash>> {
+fn node_of_two(alloc: Global, suspect_ms: u64, status: Status) -> Option<NodeState<SumHash>> {
     let (other, first) = (local(29_170)?, Incarnation::new(1)?);
     let (weight, now) = (Weight::new(1)?, Moment::new(0)?);
     let change = Change {
@@ -56,6 +54,34 @@ fn node_told(alloc: Global, suspect_ms: u64, told: Option<Status>) -> Option<Nod
     }
 }
 
+/// The same, shared by no workers, and the pass of its rounds.
+pub(crate) fn shared_node(
+    alloc: Global,
+    suspect_ms: u64,
+    told: Option<Status>,
+) -> Option<(LockedNode<SumHash>, NodePass<SumHash>)>
+    ensures { IfSome result (λ r. Fits r.0 r.1) }
+{
+    let node = node_told(alloc, suspect_ms, told)?;
+    match share(alloc, node, 0) {
+        Ok((node, pass, _others)) => Some((node, pass)),
+        Err(_) => None,
+    }
+}
+
+/// A server of a node with the standard waits, which begins now by this clock.
+pub(crate) fn server_of<C: Clock>(
+    clock: &C,
+    own: Address,
+    node: LockedNode<SumHash>,
+    listener: TcpListener,
+) -> Server<SumHash>
+    ensures { result.node ≡ node }
+{
+    let (watch, waits) = (Watch::start(clock), Waits::standard());
+    Server::new(node, own, watch, waits, listener, 1)
+}
+
 /// Whether a node of a server has an entry that is due at this moment, or at the last one at which it was called, where that is later;
 /// none where there was no memory.
 pub(crate) fn is_due<R: Wait>(
@@ -76,6 +102,22 @@ pub(crate) fn is_due<R: Wait>(
 /// What comes of a connection.
 type Served = (u64, usize, Option<bool>);
 
+/// Has a server serve a peer.
+fn serve_peer<R: Net + Wait>(
+    rt: &R,
+    alloc: Global,
+    server: &Server<SumHash>,
+    pass: &mut NodePass<SumHash>,
+    peer: &Peer,
+)
+    requires { Fits server.now.node pass.old }
+    ensures { Fits server.now.node pass.new }
+{
+    let (town, links) = (Town { rt, peer }, Town { rt, peer });
+    let mut link = TcpLink::with_limits(links, Limits::standard());
+    serve_connection(server, pass, &town, alloc, &mut link, Wire { peer });
+}
+
 /// The millisecond at which a server with the standard waits has served a peer of this manner, how many bytes of its answer that has
 /// taken, and whether its node, which was told so at 0, then has an entry that is due; none where there was no memory.
 fn serve<R: Net<Listener = TcpListener, Stream = TcpStream> + Wait>(
@@ -87,18 +129,13 @@ fn serve<R: Net<Listener = TcpListener, Stream = TcpStream> + Wait>(
 ) -> Option<Served> {
     let own = local(29_177)?;
     let listener = TcpListener::bind(rt, "127.0.0.1:0").ok()?;
-    let node = node_told(alloc, suspect_ms, told)?;
-    let Ok((node, mut pass, _others)) = share(alloc, node, 0) else {
-        return None;
-    };
+    let (node, mut pass) = shared_node(alloc, suspect_ms, told)?;
     let peer = Peer::new(manner);
-    let (town, links) = (Town { rt, peer: &peer }, Town { rt, peer: &peer });
-    let mut link = TcpLink::with_limits(links, Limits::standard());
-    let (watch, waits) = (Watch::start(&town), Waits::standard());
-    let server = Server::new(node, own, watch, waits, listener, 1);
-    let stream = Wire { peer: &peer };
-    serve_connection(&server, &mut pass, &town, alloc, &mut link, stream);
+    let server = server_of(&Town { rt, peer: &peer }, own, node, listener);
+    serve_peer(rt, alloc, &server, &mut pass, &peer);
     let is_due = is_due(rt, &server, &mut pass, 0);
+    drop(server);
+    drop(pass);
     Some((peer.now(), peer.taken(), is_due))
 }
 
@@ -147,7 +184,7 @@ fn a_line_and_its_answer_have_a_limit_each(rt: HostRuntime) {
         (speaking_by(499, NEVER), 999, 0),
         (helped, 1_335, NOT_REACHED.len()),
     ];
-    for (manner, over, taken) in rows {
+    for &(manner, over, taken) in &rows {
         let wanted = Some((over, taken, Some(false)));
         let is_so = serve_alone(&rt, alloc, manner) == wanted
             || serve_alone(&rt, alloc, manner) == wanted;
@@ -181,7 +218,7 @@ fn a_line_is_served_at_the_moment_at_which_it_is_there(rt: HostRuntime) {
         (400, true),
         (499, true),
     ];
-    for (by, is_due) in rows {
+    for &(by, is_due) in &rows {
         let wanted = Some(is_due);
         let is_so = is_due_behind(&rt, alloc, by) == wanted
             || is_due_behind(&rt, alloc, by) == wanted;

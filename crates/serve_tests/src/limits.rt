@@ -58,14 +58,17 @@ fn call_once<R: Wait>(rt: &R, alloc: Global, question: Question, manner: Manner)
     let mut link = TcpLink::new(Town { rt, peer: &peer });
     let fault = link.call(rt, alloc, to, &message).err();
     drop(message);
-    if fault == Some(LinkError::Memory) {
-        return None;
-    }
-    Some(Called {
+    let called = Called {
         fault,
         failures: link.failures(),
         over: peer.now(),
-    })
+    };
+    drop(link);
+    if fault == Some(LinkError::Memory) {
+        None
+    } else {
+        Some(called)
+    }
 }
 
 /// The same, and once more where there was no memory.
@@ -129,7 +132,7 @@ fn check<R: Wait + Abort>(rt: &R, alloc: Global, question: Question, limit: u64)
         failures: 1,
         over: limit,
     };
-    for manner in slow_peers(limit) {
+    for &manner in &slow_peers(limit) {
         let called = call(rt, alloc, question, manner);
         assert!(rt; called == left, "{question:?}, {manner:?}: {called:?}");
     }

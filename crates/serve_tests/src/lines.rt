@@ -62,36 +62,85 @@ fn is_hung_up(fault: &io::Error) -> bool {
     )
 }
 
-/// All that comes until the other side hangs up; none where it never does, or there was no memory.
-fn rest_of<S: Read>(alloc: Global, stream: &mut S) -> Option<Vec<u8>> {
-    let mut bytes = Vec::new(alloc);
+/// What a peer hears.
+#[derive(Clone, Copy, PartialEq, Eq)]
+enum Rest {
+    /// What is wanted.
+    Wanted,
+    /// Nothing, which is not wanted.
+    Nothing,
+    /// Something else, or the server never hung up, or there was no memory.
+    Other,
+}
+
+/// Reads all that comes until the other side hangs up; none where it never does, or there was no memory.
+fn read_rest<S: Read>(stream: &mut S, bytes: &mut Vec<u8>) -> Option<()> {
     for _ in 0..1024 {
         let mut place = [0];
         match stream.read(&mut place) {
-            Ok(0) => return Some(bytes),
+            Ok(0) => return Some(()),
             Ok(_) => bytes.push(place[0]).ok()?,
-            Err(fault) if is_hung_up(&fault) => return Some(bytes),
+            Err(fault) if is_hung_up(&fault) => return Some(()),
             Err(_) => return None,
         }
     }
     None
 }
 
-/// What a peer hears that talks so, until the server hangs up; nothing where it hangs up itself.
+/// What comes until the other side hangs up.
+fn rest_of<S: Read>(alloc: Global, stream: &mut S, wanted: &str) -> Rest {
+    let mut bytes = Vec::new(alloc);
+    let is_read = read_rest(stream, &mut bytes).is_some();
+    let (is_wanted, is_empty) = (bytes.as_slice() == wanted.as_bytes(), bytes.is_empty());
+    drop(bytes);
+    if is_read && is_wanted {
+        Rest::Wanted
+    } else if is_read && is_empty {
+        Rest::Nothing
+    } else {
+        Rest::Other
+    }
+}
+
+/// What a peer that talks so hears on a stream, until the server hangs up; nothing where it hangs up itself.
+fn talks<C: Clock>(
+    clock: &C,
+    alloc: Global,
+    stream: &mut TcpStream,
+    talk: &Talk,
+    wanted: &str,
+) -> Rest {
+    let _said = say(clock, stream, talk);
+    let is_told = match talk.close {
+        Close::Waits => true,
+        Close::Ends => stream.shutdown(Shutdown::Write).is_ok(),
+        Close::HangsUp if wanted.is_empty() => return Rest::Wanted,
+        Close::HangsUp => return Rest::Nothing,
+    };
+    if is_told {
+        rest_of(alloc, stream, wanted)
+    } else {
+        Rest::Other
+    }
+}
+
+/// What a peer that talks so hears of a server.
 fn hears<R: Net<Listener = TcpListener, Stream = TcpStream> + Wait + Clock>(
     rt: &R,
     alloc: Global,
     server: &Running,
     talk: &Talk,
-) -> Option<Vec<u8>> {
-    let mut stream = connect(rt, server.address)?;
-    let _said = say(rt, &mut stream, talk);
-    match talk.close {
-        Close::Waits => {}
-        Close::Ends => stream.shutdown(Shutdown::Write).ok()?,
-        Close::HangsUp => return Some(Vec::new(alloc)),
+    wanted: &str,
+) -> Rest {
+    match connect(rt, server.address) {
+        Some(stream) => {
+            let mut stream = stream;
+            let rest = talks(rt, alloc, &mut stream, talk, wanted);
+            drop(stream);
+            rest
+        }
+        None => Rest::Other,
     }
-    rest_of(alloc, &mut stream)
 }
 
 /// Whether a server makes this of a talk.
@@ -102,10 +151,7 @@ fn makes<R: Net<Listener = TcpListener, Stream = TcpStream> + Wait + Clock>(
     talk: &Talk,
     wanted: &str,
 ) -> bool {
-    match hears(rt, alloc, server, talk) {
-        Some(heard) => heard.as_slice() == wanted.as_bytes(),
-        None => false,
-    }
+    hears(rt, alloc, server, talk, wanted) == Rest::Wanted
 }
 
 /// What a server answers to `hi`.
@@ -284,15 +330,15 @@ fn answers_late<R: Net<Listener = TcpListener, Stream = TcpStream> + Wait + Cloc
         let Ok(begun) = Instant::now(rt) else {
             return false;
         };
-        let Some(heard) = hears(rt, alloc, server, &talk) else {
-            return false;
-        };
-        if !heard.is_empty() {
-            let is_late = match begun.elapsed(rt) {
-                Ok(spent) => spent > Duration::from_millis(LIMIT),
-                Err(_) => false,
-            };
-            return is_late && heard.as_slice() == NOT_REACHED.as_bytes();
+        match hears(rt, alloc, server, &talk, NOT_REACHED) {
+            Rest::Nothing => {}
+            Rest::Other => return false,
+            Rest::Wanted => {
+                return match begun.elapsed(rt) {
+                    Ok(spent) => spent > Duration::from_millis(LIMIT),
+                    Err(_) => false,
+                };
+            }
         }
     }
     false

@@ -1,6 +1,9 @@
 //! Two servers, of which the second joins the first.
-use crate::plans::{Plan, plan_at};
-use crate::shared::{Question, Running, TRIES, answers, asked, ends_so, start, stop, turn};
+use crate::peers::Page;
+use crate::plans::{ALL, Plan, plan_at};
+use crate::shared::{
+    Question, Running, TRIES, answers, ask_once, ends_so, start, stop, stops_so, turn,
+};
 use serve_core::Host;
 use std::alloc::Global;
 use std::net::{Net, TcpListener, TcpStream};
@@ -44,10 +47,22 @@ fn joins<R: Net<Listener = TcpListener, Stream = TcpStream> + Host>(rt: &R, allo
         host: Some(29_175),
         ..plan_at(29_176, 1)
     };
-    let Some(second) = start_second(rt, alloc, &first, &plan) else {
-        let _stopped = stop(rt, first);
-        return false;
-    };
+    match start_second(rt, alloc, &first, &plan) {
+        Some(second) => tell_both(rt, alloc, first, second),
+        None => {
+            drop(stop(rt, first));
+            false
+        }
+    }
+}
+
+/// Whether two servers tell both members, and end with that.
+fn tell_both<R: Net<Listener = TcpListener, Stream = TcpStream> + Host>(
+    rt: &R,
+    alloc: Global,
+    first: Running,
+    second: Running,
+) -> bool {
     let are_joined = answers(rt, alloc, &second, Question::Members, BOTH)
         && answers(rt, alloc, &first, Question::Members, BOTH);
     let has_first_ended = ends_so(rt, first, are_joined, Ok(()), FIRST_WRITTEN);
@@ -99,6 +114,22 @@ fn is_ended_by<R: Host>(rt: &R, ending: &Running, staying: &Running) -> bool {
     false
 }
 
+/// Whether a server tells members, asked once, that begin so or so.
+fn begins<R: Net<Listener = TcpListener, Stream = TcpStream> + Host>(
+    rt: &R,
+    alloc: Global,
+    server: &Running,
+    fronts: [&str; 2],
+) -> bool {
+    let [one, other] = fronts;
+    let mut page = Page::new(alloc, ALL);
+    let asked = ask_once(rt, alloc, server.address, Question::Members, &mut page);
+    let bytes = page.bytes.as_slice();
+    let is_so = bytes.starts_with(one.as_bytes()) || bytes.starts_with(other.as_bytes());
+    drop(page);
+    asked.is_ok() && is_so
+}
+
 /// Whether a server comes to tell members that begin so or so.
 fn tells<R: Net<Listener = TcpListener, Stream = TcpStream> + Host>(
     rt: &R,
@@ -107,12 +138,8 @@ fn tells<R: Net<Listener = TcpListener, Stream = TcpStream> + Host>(
     fronts: [&str; 2],
 ) -> bool {
     for _ in 0..LOOKS {
-        if let Ok(text) = asked(rt, alloc, server.address, Question::Members) {
-            for front in fronts {
-                if text.as_slice().starts_with(front.as_bytes()) {
-                    return true;
-                }
-            }
+        if begins(rt, alloc, server, fronts) {
+            return true;
         }
         if server.has_ended() {
             return false;
@@ -120,18 +147,6 @@ fn tells<R: Net<Listener = TcpListener, Stream = TcpStream> + Host>(
         thread::sleep(rt, Duration::from_millis(100));
     }
     false
-}
-
-/// Whether a server that is stopped has served, with this text written.
-fn stops_so<R: Net<Listener = TcpListener, Stream = TcpStream> + Host>(
-    rt: &R,
-    server: Running,
-    text: &str,
-) -> bool {
-    match stop(rt, server) {
-        Some(ended) => ended.is(Ok(()), text),
-        None => false,
-    }
 }
 
 /// Whether the rounds of the server that stays use up the requests of the other one, and it then tells that it has lost it. Both are
@@ -144,39 +159,39 @@ fn loses<R: Net<Listener = TcpListener, Stream = TcpStream> + Host>(
     fronts: [&str; 2],
 ) -> bool {
     let is_used_up = is_ended_by(rt, &ending.0, &staying.0);
-    let has_served = stops_so(rt, ending.0, ending.1) && is_used_up;
+    let has_served = stops_so(rt, ending.0, Ok(()), ending.1) && is_used_up;
     let is_lost = has_served && tells(rt, alloc, &staying.0, fronts);
-    stops_so(rt, staying.0, staying.1) && is_lost
+    stops_so(rt, staying.0, Ok(()), staying.1) && is_lost
 }
 
-/// Two servers, of which the first or the second has few requests and seldom makes a round, and the other one often.
-fn meet<R: Net<Listener = TcpListener, Stream = TcpStream> + Host>(
-    rt: &R,
-    alloc: Global,
-    ends_first: bool,
-) -> bool {
+/// Two plans, of which the first or the second has few requests and seldom makes a round, and the other one often.
+fn plans(ends_first: bool) -> (Plan, Plan) {
     let (ending, staying) = ((FEW, 100), (MANY, 5));
     let (one, other) = if ends_first {
         (ending, staying)
     } else {
         (staying, ending)
     };
-    let plan = Plan {
+    let first = Plan {
         period: one.1,
         ..plan_at(29_175, one.0)
     };
-    let Some(first) = start(rt, alloc, &plan) else {
-        return false;
-    };
-    let plan = Plan {
+    let second = Plan {
         period: other.1,
         host: Some(29_175),
         ..plan_at(29_176, other.0)
     };
-    let Some(second) = start_second(rt, alloc, &first, &plan) else {
-        let _stopped = stop(rt, first);
-        return false;
-    };
+    (first, second)
+}
+
+/// Whether the one of two servers that stays loses the other one.
+fn lose<R: Net<Listener = TcpListener, Stream = TcpStream> + Host>(
+    rt: &R,
+    alloc: Global,
+    first: Running,
+    second: Running,
+    ends_first: bool,
+) -> bool {
     let (first, second) = ((first, FIRST_WRITTEN), (second, SECOND_WRITTEN));
     if ends_first {
         loses(rt, alloc, first, second, LOST_FIRST)
@@ -185,11 +200,30 @@ fn meet<R: Net<Listener = TcpListener, Stream = TcpStream> + Host>(
     }
 }
 
+/// Whether of two servers of such plans the one that stays loses the other one.
+fn meet<R: Net<Listener = TcpListener, Stream = TcpStream> + Host>(
+    rt: &R,
+    alloc: Global,
+    ends_first: bool,
+) -> bool {
+    let (one, other) = plans(ends_first);
+    let Some(first) = start(rt, alloc, &one) else {
+        return false;
+    };
+    match start_second(rt, alloc, &first, &other) {
+        Some(second) => lose(rt, alloc, first, second, ends_first),
+        None => {
+            drop(stop(rt, first));
+            false
+        }
+    }
+}
+
 #[test]
 fn each_of_two_servers_makes_rounds(rt: HostRuntime) {
     let alloc: Global = rt.alloc();
     let turn = turn(&rt).expect(&rt, "a turn");
-    for ends_first in [true, false] {
+    for &ends_first in &[true, false] {
         assert!(&rt; meet(&rt, alloc, ends_first) || meet(&rt, alloc, ends_first));
     }
     drop(turn);

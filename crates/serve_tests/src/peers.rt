@@ -157,6 +157,37 @@ fn told(
     }
 }
 
+/// Whether a peer of this mood can't be reached with what it is asked.
+fn is_broken(mood: Mood, content: &Content) -> bool {
+    match (mood, content) {
+        (Mood::Holds(_, _, _), Content::Join(_)) => false,
+        (Mood::Broken | Mood::Holds(_, _, Word::Broken), _) => true,
+        _ => false,
+    }
+}
+
+/// What a peer answers that can be reached, if there is memory for it.
+fn answer(
+    alloc: Global,
+    mood: Mood,
+    content: &Content,
+    asked: Address,
+    calls: u32,
+) -> Option<Message> {
+    let source_incarnation = Incarnation::new(7)?;
+    let content = match (mood, content) {
+        (Mood::Holds(held, checksum, _), Content::Join(news)) => {
+            joined(alloc, held, checksum, asked, news.changes.as_slice())?
+        }
+        (mood, content) => told(alloc, mood, content, asked, calls)?,
+    };
+    Some(Message {
+        source: asked,
+        source_incarnation,
+        content,
+    })
+}
+
 impl Link for Peer {
     ghost may_answer = { λ _ _ _. Unit {0} };
 
@@ -177,25 +208,12 @@ impl Link for Peer {
             return Err(LinkError::Spent);
         }
         self.calls = self.calls.wrapping_add(1);
-        let Some(source_incarnation) = Incarnation::new(7) else {
-            return Err(LinkError::Memory);
-        };
-        let content = match (self.mood, &message.content) {
-            (Mood::Holds(held, checksum, _), Content::Join(news)) => {
-                joined(alloc, held, checksum, to, news.changes.as_slice())
-            }
-            (Mood::Broken | Mood::Holds(_, _, Word::Broken), _) => {
-                self.failures += 1;
-                return Err(LinkError::Io);
-            }
-            (mood, content) => told(alloc, mood, content, to, self.calls),
-        };
-        match content {
-            Some(content) => Ok(Message {
-                source: to,
-                source_incarnation,
-                content,
-            }),
+        if is_broken(self.mood, &message.content) {
+            self.failures += 1;
+            return Err(LinkError::Io);
+        }
+        match answer(alloc, self.mood, &message.content, to, self.calls) {
+            Some(answer) => Ok(answer),
             None => Err(LinkError::Memory),
         }
     }

@@ -53,29 +53,33 @@ pub(crate) fn local(port: u16) -> Option<Address> {
 
 /// The hosts of a plan; none where there was no memory.
 fn hosts_of(alloc: Global, plan: &Plan) -> Option<Vec<Address>> {
-    let mut hosts = Vec::new(alloc);
-    if let Some(port) = plan.host {
-        hosts.push(local(port)?).ok()?;
+    match plan.host {
+        Some(port) => Vec::from_slice(alloc, &[local(port)?]).ok(),
+        None => Some(Vec::new(alloc)),
     }
-    Some(hosts)
 }
 
 /// The words of a plan; none where there was no memory, or there are no such words.
 pub(crate) fn words_of(alloc: Global, plan: &Plan) -> Option<ServeWords> {
-    let hosts = hosts_of(alloc, plan)?;
+    let (address, incarnation, weight) = (local(plan.port)?, Incarnation::new(1)?, Weight::new(1)?);
     let (requests, workers, period) = (plan.requests, plan.workers, plan.period);
     let are_words = requests >= 1 && requests <= MOST_REQUESTS && workers >= 1 && workers <= 16;
-    if !are_words || period > 3_600_000 || hosts.len() > 1 {
+    if !are_words || period > 3_600_000 {
+        return None;
+    }
+    let hosts = hosts_of(alloc, plan)?;
+    if hosts.len() > 1 {
+        drop(hosts);
         return None;
     }
     Some(ServeWords {
-        address: local(plan.port)?,
-        incarnation: Incarnation::new(1)?,
+        address,
+        incarnation,
         requests,
         workers,
         period,
         replicas: 100,
-        weight: Weight::new(1)?,
+        weight,
         sum: plan.sum,
         hosts,
     })

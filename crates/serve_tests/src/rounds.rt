@@ -1,12 +1,14 @@
 //! That a server makes no round before its period is over, by a clock that each look at it moves by a millisecond: it is slower than
 //! the system's, so that a rest is over by the one long before it is by the other, as where a thread is woken early; and that a round
 //! is made at the moment that it is.
-use crate::connections::{is_due, node_of_two};
+ghost use Rattle.locked_node.specs.Passes.{Fits};
+
+use crate::connections::{is_due, server_of, shared_node};
 use crate::plans::local;
 use change_core::Status;
-use cluster_links::share;
 use hash_ring::SumHash;
-use serve_core::{Server, Waits, Watch, make_rounds};
+use locked_node::NodePass;
+use serve_core::{Server, make_rounds};
 use std::alloc::Global;
 use std::cell::Cell;
 use std::io;
@@ -101,6 +103,29 @@ impl<'a, R: Wait> Wait for Desert<'a, R> {}
 /// After how many milliseconds a suspect is faulty.
 const SUSPECT: u64 = 1_000;
 
+/// How many rounds a server makes until they are ended, and how many of them too early.
+fn rounds_of<R: Wait>(
+    rt: &R,
+    alloc: Global,
+    server: &Server<SumHash>,
+    pass: &mut NodePass<SumHash>,
+    looks: &Looks,
+) -> (u32, u32)
+    requires { Fits server.now.node pass.old }
+    ensures { Fits server.now.node pass.new }
+{
+    let desert = Desert {
+        rt,
+        looks,
+        server,
+        last: Cell::new(looks.seen.get()),
+        rounds: Cell::new(0),
+        early: Cell::new(0),
+    };
+    make_rounds(server, pass, &&desert, alloc, PERIOD);
+    (desert.rounds.get(), desert.early.get())
+}
+
 /// How many rounds a server makes until they are ended, how many of them too early, and whether the node that it suspects since the first
 /// of them is due as faulty so long after the last millisecond of the first period, and after now; none where there was no memory.
 fn rounds<R: Net<Listener = TcpListener, Stream = TcpStream> + Wait>(
@@ -109,26 +134,16 @@ fn rounds<R: Net<Listener = TcpListener, Stream = TcpStream> + Wait>(
 ) -> Option<(u32, u32, Option<bool>, Option<bool>)> {
     let own = local(29_177)?;
     let listener = TcpListener::bind(rt, "127.0.0.1:0").ok()?;
-    let node = node_of_two(alloc, SUSPECT, Status::Alive)?;
-    let Ok((node, mut pass, _others)) = share(alloc, node, 0) else {
-        return None;
-    };
+    let (node, mut pass) = shared_node(alloc, SUSPECT, Some(Status::Alive))?;
     let looks = Looks { seen: Cell::new(0) };
-    let (watch, waits) = (Watch::start(&looks), Waits::standard());
-    let server = Server::new(node, own, watch, waits, listener, 1);
-    let desert = Desert {
-        rt,
-        looks: &looks,
-        server: &server,
-        last: Cell::new(looks.seen.get()),
-        rounds: Cell::new(0),
-        early: Cell::new(0),
-    };
-    make_rounds(&server, &mut pass, &&desert, alloc, PERIOD);
+    let server = server_of(&looks, own, node, listener);
+    let (made, early) = rounds_of(rt, alloc, &server, &mut pass, &looks);
     let now = SUSPECT.saturating_add(looks.seen.get());
     let is_early = is_due(rt, &server, &mut pass, SUSPECT + PERIOD - 1);
     let is_due = is_due(rt, &server, &mut pass, now);
-    Some((desert.rounds.get(), desert.early.get(), is_early, is_due))
+    drop(server);
+    drop(pass);
+    Some((made, early, is_early, is_due))
 }
 
 #[test]

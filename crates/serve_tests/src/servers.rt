@@ -2,8 +2,8 @@
 use crate::peers::Page;
 use crate::plans::{ALL, Plan, plan_at};
 use crate::shared::{
-    Counting, Ended, Question, Running, answers, answers_by, asked, connect, ends_so, spend, start,
-    stop, turn,
+    Counting, Ended, Question, Running, Told, answers, answers_by, asked, connect, ends_so, spend,
+    start, stop, turn,
 };
 use crate::tells::Lines;
 use change_core::Address;
@@ -73,7 +73,9 @@ fn finishes<R: Net<Listener = TcpListener, Stream = TcpStream> + Host>(
     let mut reader = Lines::new(LEFT, 1, "");
     let mut page = Page::new(alloc, ALL);
     let ended = cluster_command_run(rt, alloc, command, &mut reader, &mut page);
-    ended.is_ok() && page.bytes.as_slice() == text.as_bytes()
+    let is_written = page.bytes.as_slice() == text.as_bytes();
+    drop(page);
+    ended.is_ok() && is_written
 }
 
 /// Whether each command writes what it is to write of a server alone. They are five requests.
@@ -165,7 +167,7 @@ fn all_threads_end_with_the_last_request(rt: HostRuntime) {
         (1, 1, ALL, Ok(()), all),
         (2, 1, 24, Err(ServeFault::CannotWrite), serving),
     ];
-    for (workers, period, room, outcome, text) in rows {
+    for &(workers, period, room, outcome, text) in &rows {
         let plan = Plan {
             workers,
             period,
@@ -179,11 +181,22 @@ fn all_threads_end_with_the_last_request(rt: HostRuntime) {
     drop(turn);
 }
 
+/// How a server ends.
+#[derive(Clone, Copy, PartialEq, Eq)]
+enum Ending {
+    /// It served to its end.
+    Served,
+    /// It told what was refused to it: a growth, a thread, or one to its writer.
+    Told,
+    /// Something else.
+    Other,
+}
+
 /// How a server of one request, three workers and rounds ends that is asked, or that ends before; none where it was not started.
 fn ending_of<R: Net<Listener = TcpListener, Stream = TcpStream> + Host>(
     rt: &R,
     alloc: Global,
-) -> Option<Ended> {
+) -> Option<Ending> {
     let plan = Plan {
         workers: 3,
         period: 3_600_000,
@@ -191,52 +204,49 @@ fn ending_of<R: Net<Listener = TcpListener, Stream = TcpStream> + Host>(
     };
     let server = start(rt, alloc, &plan)?;
     let _served = answers(rt, alloc, &server, Question::Ask, "127.0.0.1:29173 hi\n");
-    stop(rt, server)
+    let ended = stop(rt, server)?;
+    let ending = ending_in(&ended);
+    drop(ended);
+    Some(ending)
 }
 
 /// What a server writes that serves to its end.
 const SERVED: &str = "serving 127.0.0.1:29173\ndone\n";
 
-/// Whether a server tells by its end what was refused to it: a growth, a thread, or one to its writer.
-fn is_told(ended: &Ended) -> bool {
+/// How a server ended.
+fn ending_in(ended: &Ended) -> Ending {
     let serving = "serving 127.0.0.1:29173\n";
-    ended.is(Err(ServeFault::NoThread), serving)
+    if ended.is(Ok(()), SERVED) {
+        return Ending::Served;
+    }
+    let is_told = ended.is(Err(ServeFault::NoThread), serving)
         || ended.is(Err(ServeFault::NoMemory), serving)
         || ended.is(Err(ServeFault::NoMemory), "")
-        || ended.is_unwritten(SERVED)
+        || ended.is_unwritten(SERVED);
+    if is_told { Ending::Told } else { Ending::Other }
 }
 
 #[test]
 fn what_is_refused_to_a_server_is_its_fault(rt: HostRuntime) {
     let alloc: Global = rt.alloc();
     let turn = turn(&rt).expect(&rt, "a turn");
-    let is_served = match ending_of(&rt, alloc) {
-        Some(ended) => {
-            let is_served = ended.is(Ok(()), SERVED);
-            assert!(&rt; is_served || is_told(&ended));
-            is_served
-        }
-        None => false,
-    };
-    if !is_served {
-        let again = ending_of(&rt, alloc).expect(&rt, "a server");
-        assert!(&rt; again.is(Ok(()), SERVED));
-    }
+    let ending = ending_of(&rt, alloc);
+    assert!(&rt; ending != Some(Ending::Other));
+    assert!(&rt; ending == Some(Ending::Served) || ending_of(&rt, alloc) == Some(Ending::Served));
     drop(turn);
 }
 
-/// So many peers that are silent; none where one was not connected or there was no memory.
-fn silent_peers<R: Net<Listener = TcpListener, Stream = TcpStream>>(
+/// Connects so many peers that are silent; none where one was not connected or there was no memory.
+fn connect_silent<R: Net<Listener = TcpListener, Stream = TcpStream>>(
     rt: &R,
-    alloc: Global,
+    silent: &mut Vec<TcpStream>,
     to: Address,
     count: u32,
-) -> Option<Vec<TcpStream>> {
-    let mut silent = Vec::new(alloc);
+) -> Option<()> {
     for _ in 0..count {
         silent.push(connect(rt, to)?).ok()?;
     }
-    Some(silent)
+    Some(())
 }
 
 /// Whether a server answers another peer while so many are silent, whose lines it waits for; they hang up then.
@@ -247,15 +257,11 @@ fn answers_beside<R: Net<Listener = TcpListener, Stream = TcpStream> + Wait + Cl
     count: u32,
     text: &str,
 ) -> bool {
-    let Some(silent) = silent_peers(rt, alloc, server.address, count) else {
-        return false;
-    };
-    let answer = asked(rt, alloc, server.address, Question::Ask);
+    let mut silent = Vec::new(alloc);
+    let is_answered = connect_silent(rt, &mut silent, server.address, count).is_some()
+        && asked(rt, alloc, server.address, Question::Ask, text) == Told::Text;
     drop(silent);
-    match answer {
-        Ok(answer) => answer.as_slice() == text.as_bytes(),
-        Err(_) => false,
-    }
+    is_answered
 }
 
 /// Workers that wait for lines, and between two peers that ask silent ones for all workers but one. There are requests to spare,
@@ -290,7 +296,7 @@ fn serves_beside<R: Net<Listener = TcpListener, Stream = TcpStream> + Host>(
 fn a_silent_peer_holds_one_worker(rt: HostRuntime) {
     let alloc: Global = rt.alloc();
     let turn = turn(&rt).expect(&rt, "a turn");
-    for workers in [2, 16] {
+    for &workers in &[2, 16] {
         let is_served = serves_beside(&rt, alloc, workers) || serves_beside(&rt, alloc, workers);
         assert!(&rt; is_served, "{workers} workers");
     }
@@ -324,7 +330,7 @@ fn faults_come_before_serving(rt: HostRuntime) {
         (own, None, 0, ServeFault::CannotWrite, ""),
         (own, None, 9, ServeFault::CannotWrite, "serving 1"),
     ];
-    for (port, host, room, fault, text) in rows {
+    for &(port, host, room, fault, text) in &rows {
         let plan = Plan {
             host,
             room,

@@ -84,14 +84,27 @@ fn serve<R: Net<Listener = TcpListener, Stream = TcpStream> + Host>(
     plan: &Plan,
     words: &ServeWords,
 ) -> Ended {
-    let mut ended = serve_once(rt, alloc, plan, words);
     for _ in 1..plan.tries {
+        let ended = serve_once(rt, alloc, plan, words);
         if ended.outcome != Err(ServeFault::CannotListen) {
-            break;
+            return ended;
         }
+        drop(ended);
         thread::sleep(rt, Duration::from_millis(1));
-        ended = serve_once(rt, alloc, plan, words);
     }
+    serve_once(rt, alloc, plan, words)
+}
+
+/// Serves, and rings then.
+fn serve_and_ring<R: Net<Listener = TcpListener, Stream = TcpStream> + Host>(
+    rt: &R,
+    alloc: Global,
+    plan: &Plan,
+    words: &ServeWords,
+    bell: &AtomicBool,
+) -> Ended {
+    let ended = serve(rt, alloc, plan, words);
+    bell.store(true, Ordering::SeqCst);
     ended
 }
 
@@ -110,26 +123,36 @@ impl Running {
     }
 }
 
+/// The thread of a server that rings this bell; none where a growth or the thread was refused.
+fn start_thread<R: Net<Listener = TcpListener, Stream = TcpStream> + Host>(
+    rt: &R,
+    alloc: Global,
+    plan: &Plan,
+    bell: &Arc<AtomicBool, Global>,
+) -> Option<JoinHandle<Ended>> {
+    let bell = Arc::try_clone(bell).ok()?;
+    let words = words_of(alloc, plan)?;
+    let (host, plan) = (*rt, *plan);
+    thread::spawn(
+        rt,
+        move || serve_and_ring(&host, alloc, &plan, &words, &*bell),
+    )
+    .ok()
+}
+
 /// Starts a server; none where a growth or the thread was refused.
 pub(crate) fn start<R: Net<Listener = TcpListener, Stream = TcpStream> + Host>(
     rt: &R,
     alloc: Global,
     plan: &Plan,
 ) -> Option<Running> {
-    let words = words_of(alloc, plan)?;
-    let address = words.address;
+    let address = local(plan.port)?;
     let bell = Arc::new(alloc, AtomicBool::new(false)).ok()?;
-    let theirs = Arc::try_clone(&bell).ok()?;
-    let (host, plan) = (*rt, *plan);
-    let started = thread::spawn(rt, move || {
-        let ended = serve(&host, alloc, &plan, &words);
-        theirs.store(true, Ordering::SeqCst);
-        ended
-    });
+    let thread = start_thread(rt, alloc, plan, &bell)?;
     Some(Running {
         address,
         bell,
-        thread: started.ok()?,
+        thread,
     })
 }
 
@@ -189,20 +212,27 @@ pub(crate) fn stop<R: Net<Listener = TcpListener, Stream = TcpStream> + Host>(
     server: Running,
 ) -> Option<Ended> {
     if !drain(rt, &server) {
+        drop(server);
         return None;
     }
     Some(server.thread.join(rt))
 }
 
-/// How a server ended by itself, where it had what it was to have; else it is stopped, and there is none.
-fn end<R: Net<Listener = TcpListener, Stream = TcpStream> + Host>(
+/// Whether a server that is stopped ended so, with this text written.
+pub(crate) fn stops_so<R: Net<Listener = TcpListener, Stream = TcpStream> + Host>(
     rt: &R,
     server: Running,
-    is_served: bool,
-) -> Option<Ended> {
-    let has_ended = is_served && ends(rt, &server);
-    let ended = stop(rt, server);
-    if has_ended { ended } else { None }
+    outcome: Result<(), ServeFault>,
+    text: &str,
+) -> bool {
+    match stop(rt, server) {
+        Some(ended) => {
+            let is_so = ended.is(outcome, text);
+            drop(ended);
+            is_so
+        }
+        None => false,
+    }
 }
 
 /// Whether a server ended so, with this text written, by itself where it had what it was to have; else it is stopped,
@@ -214,10 +244,8 @@ pub(crate) fn ends_so<R: Net<Listener = TcpListener, Stream = TcpStream> + Host>
     outcome: Result<(), ServeFault>,
     text: &str,
 ) -> bool {
-    match end(rt, server, is_served) {
-        Some(ended) => ended.is(outcome, text),
-        None => false,
-    }
+    let has_ended = is_served && ends(rt, &server);
+    stops_so(rt, server, outcome, text) && has_ended
 }
 
 /// The network, which counts the connections that were made over it.
@@ -301,45 +329,63 @@ pub(crate) enum Question {
     Members,
 }
 
-/// What a server answers once, as it is written.
+/// Asks a server once, and writes what it answers.
+pub(crate) fn ask_once<R: Net<Listener = TcpListener, Stream = TcpStream> + Wait + Clock>(
+    rt: &R,
+    alloc: Global,
+    to: Address,
+    question: Question,
+    page: &mut Page,
+) -> Result<(), AskFault> {
+    let mut link = TcpLink::with_limits(rt, patient());
+    match question {
+        Question::Ask => ask_over(rt, alloc, &mut link, to, "k", "hi", page),
+        Question::AskRun => ask_run(rt, alloc, to, "k", "hi", page),
+        Question::Members => members_over(rt, alloc, &mut link, to, false, page),
+    }
+}
+
+/// What a server answers once.
+#[derive(Clone, Copy, PartialEq, Eq)]
+pub(crate) enum Told {
+    /// The text.
+    Text,
+    /// What begins with the text, and goes on.
+    Longer,
+    /// Something else, or nothing.
+    Other,
+    /// That it refuses.
+    Refusal,
+}
+
+/// What is told of a text by these bytes.
+fn told_in(bytes: &[u8], text: &str) -> Told {
+    if !bytes.starts_with(text.as_bytes()) {
+        Told::Other
+    } else if bytes.len() == text.len() {
+        Told::Text
+    } else {
+        Told::Longer
+    }
+}
+
+/// What a server answers once, compared with this text.
 pub(crate) fn asked<R: Net<Listener = TcpListener, Stream = TcpStream> + Wait + Clock>(
     rt: &R,
     alloc: Global,
     to: Address,
     question: Question,
-) -> Result<Vec<u8>, AskFault> {
+    text: &str,
+) -> Told {
     let mut page = Page::new(alloc, ALL);
-    let mut link = TcpLink::with_limits(rt, patient());
-    match question {
-        Question::Ask => ask_over(rt, alloc, &mut link, to, "k", "hi", &mut page)?,
-        Question::AskRun => ask_run(rt, alloc, to, "k", "hi", &mut page)?,
-        Question::Members => members_over(rt, alloc, &mut link, to, false, &mut page)?,
+    let ended = ask_once(rt, alloc, to, question, &mut page);
+    let told = told_in(page.bytes.as_slice(), text);
+    drop(page);
+    match ended {
+        Ok(()) => told,
+        Err(AskFault::Refused(_)) => Told::Refusal,
+        Err(_) => Told::Other,
     }
-    Ok(page.bytes)
-}
-
-/// What a server answers that begins so, asked so often at most, a millisecond apart; none where it refuses, ends before, or never
-/// answers so.
-pub(crate) fn answer<R: Net<Listener = TcpListener, Stream = TcpStream> + Wait + Clock>(
-    rt: &R,
-    alloc: Global,
-    server: &Running,
-    question: Question,
-    front: &str,
-    tries: u32,
-) -> Option<Vec<u8>> {
-    for _ in 0..tries {
-        match asked(rt, alloc, server.address, question) {
-            Ok(text) if text.as_slice().starts_with(front.as_bytes()) => return Some(text),
-            Err(AskFault::Refused(_)) => return None,
-            _ => {}
-        }
-        if server.has_ended() {
-            return None;
-        }
-        thread::sleep(rt, Duration::from_millis(1));
-    }
-    None
 }
 
 /// Whether a server answers with this text at last.
@@ -353,7 +399,8 @@ pub(crate) fn answers<R: Net<Listener = TcpListener, Stream = TcpStream> + Wait 
     answers_by(rt, alloc, server, question, text, TRIES)
 }
 
-/// Whether a server answers with this text at last, asked so often at most.
+/// Whether a server answers with this text at last, asked so often at most, a millisecond apart; not where it refuses, ends before,
+/// or answers with more.
 pub(crate) fn answers_by<R: Net<Listener = TcpListener, Stream = TcpStream> + Wait + Clock>(
     rt: &R,
     alloc: Global,
@@ -362,10 +409,18 @@ pub(crate) fn answers_by<R: Net<Listener = TcpListener, Stream = TcpStream> + Wa
     text: &str,
     tries: u32,
 ) -> bool {
-    match answer(rt, alloc, server, question, text, tries) {
-        Some(answer) => answer.len() == text.len(),
-        None => false,
+    for _ in 0..tries {
+        match asked(rt, alloc, server.address, question, text) {
+            Told::Text => return true,
+            Told::Longer | Told::Refusal => return false,
+            Told::Other => {}
+        }
+        if server.has_ended() {
+            return false;
+        }
+        thread::sleep(rt, Duration::from_millis(1));
     }
+    false
 }
 
 /// Waits for the turn of a test, since all tests of all processes use the same ports, and keeps it; none where it never comes.

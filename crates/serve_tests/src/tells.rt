@@ -78,7 +78,19 @@ impl Read for Lines {
 /// More than is ever written.
 const ALL: usize = 64;
 
-/// What telling comes to, what is written, and how often the peer was asked.
+/// What telling comes to.
+#[derive(Clone, Copy)]
+struct Told {
+    ended: Result<(), TellFault>,
+    /// Whether what is wanted was written.
+    is_written: bool,
+    /// Whether less was written than the writer takes.
+    is_short: bool,
+    /// How often the peer was asked.
+    calls: u32,
+}
+
+/// What telling comes to with a peer of this mood and a writer with so much room.
 fn tell_once<R: Wait>(
     rt: &R,
     alloc: Global,
@@ -86,20 +98,29 @@ fn tell_once<R: Wait>(
     lines: Lines,
     mood: Mood,
     room: usize,
-) -> (Result<(), TellFault>, Vec<u8>, u32) {
+    wanted: &[u8],
+) -> Told {
     let mut peer = Peer::new(mood);
     let mut page = Page::new(alloc, room);
     let mut reader = lines;
     let ended = tell_over(rt, alloc, &mut peer, host, &mut reader, &mut page);
-    (ended, page.bytes, peer.calls)
+    let is_written = page.bytes.as_slice() == wanted;
+    let is_short = page.bytes.len() < room;
+    drop(page);
+    Told {
+        ended,
+        is_written,
+        is_short,
+        calls: peer.calls,
+    }
 }
 
-/// Whether a growth may have been refused; `is_short` where less was written than the writer takes.
-fn is_starved(ended: &Result<(), TellFault>, is_short: bool) -> bool {
-    match ended {
+/// Whether a growth may have been refused.
+fn is_starved(told: &Told) -> bool {
+    match told.ended {
         Err(TellFault::AtLine(_, LineFault::OutOfMemory)) => true,
         Err(TellFault::Asked(AskFault::NoMemory)) => true,
-        Err(TellFault::Asked(AskFault::CannotWrite)) => is_short,
+        Err(TellFault::Asked(AskFault::CannotWrite)) => told.is_short,
         _ => false,
     }
 }
@@ -111,15 +132,19 @@ fn tell<R: Wait + Abort>(
     lines: Lines,
     mood: Mood,
     room: usize,
-) -> (Result<(), TellFault>, Vec<u8>, u32) {
+    wanted: &[u8],
+) -> Told {
     let host = Address::new(0x0a00_0001, 1).expect(rt, "an address");
-    let told = tell_once(rt, alloc, host, lines, mood, room);
-    if !is_starved(&told.0, told.1.len() < room) {
+    let told = tell_once(rt, alloc, host, lines, mood, room, wanted);
+    if !is_starved(&told) {
         return told;
     }
-    let again = tell_once(rt, alloc, host, lines, mood, room);
-    if matches!(&again.0, Err(TellFault::AtLine(_, LineFault::OutOfMemory))) {
-        return tell_once(rt, alloc, host, lines, mood, room);
+    let again = tell_once(rt, alloc, host, lines, mood, room, wanted);
+    if matches!(
+        again.ended,
+        Err(TellFault::AtLine(_, LineFault::OutOfMemory))
+    ) {
+        return tell_once(rt, alloc, host, lines, mood, room, wanted);
     }
     again
 }
@@ -138,16 +163,17 @@ fn check_end<R: Wait + Abort>(
     wanted: Result<(), TellFault>,
     text: &str,
 ) -> u32 {
-    let (ended, out, calls) = tell(rt, alloc, lines, mood, ALL);
-    assert!(rt; ended == wanted && out.as_slice() == text.as_bytes());
-    calls
+    let told = tell(rt, alloc, lines, mood, ALL, text.as_bytes());
+    assert!(rt; told.ended == wanted && told.is_written);
+    told.calls
 }
 
 /// Checks that a writer with this room fails with a front of `2`.
 fn check_front<R: Wait + Abort>(rt: &R, alloc: Global, lines: Lines, mood: Mood, room: usize) {
-    let (ended, out, _) = tell(rt, alloc, lines, mood, room);
-    assert!(rt; ended == Err(TellFault::Asked(AskFault::CannotWrite)));
-    assert!(rt; b"2\n".get(..room) == Some(out.as_slice()));
+    let front = b"2\n".get(..room).expect(rt, "so much of it");
+    let told = tell(rt, alloc, lines, mood, room, front);
+    assert!(rt; told.ended == Err(TellFault::Asked(AskFault::CannotWrite)));
+    assert!(rt; told.is_written);
 }
 
 #[test]
@@ -164,7 +190,7 @@ fn tell_writes_how_many_members_there_are(rt: HostRuntime) {
             "1\n",
         ),
     ];
-    for (lines, held, digits, text) in rows {
+    for &(lines, held, digits, text) in &rows {
         let mood = peer(&rt, held, digits);
         let calls = check_end(&rt, rt.alloc(), lines, mood, Ok(()), text);
         assert!(&rt; calls == 1);
@@ -200,7 +226,7 @@ fn nobody_is_asked_where_a_line_is_at_fault(rt: HostRuntime) {
             TellFault::AtLine(4097, no_object),
         ),
     ];
-    for (lines, fault) in rows {
+    for &(lines, fault) in &rows {
         let calls = check_end(&rt, rt.alloc(), lines, Mood::Broken, Err(fault), "");
         assert!(&rt; calls == 0);
     }
@@ -216,7 +242,7 @@ fn what_a_node_answers_to_changes_is_told(rt: HostRuntime) {
         (Mood::Broken, AskFault::NoAnswer),
         (Mood::Starved, AskFault::NoMemory),
     ];
-    for (mood, fault) in rows {
+    for &(mood, fault) in &rows {
         let lines = Lines::new(FIRST, 1, SECOND);
         let wanted = Err(TellFault::Asked(fault));
         let calls = check_end(&rt, rt.alloc(), lines, mood, wanted, "");

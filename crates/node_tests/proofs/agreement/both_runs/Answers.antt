@@ -2,8 +2,8 @@ use Rattle.std.proofs.Common.{◌∙◌, sym, ap}
 use Rattle.node_core.specs.declared.configs.Config.{Config}
 use Rattle.node_tests.proofs.agreement.both_runs.Goals as goal
 
-pub returns : goal.returns
-returns g c = λ same hash replicas.
+pub returns-in-Ok-run : goal.returns-in-Ok-run
+returns-in-Ok-run g c = λ same hash replicas.
     let first = c.in-Ok.ensures.itself in
     let second = c.in-Ok-run.ensures.itself in
     c.agreement.ensures.agree c.in-Ok.first.node c.in-Ok-run.second.node _ _ c.in-Ok.ensures.log c.in-Ok-run.ensures.log same

@@ -149,7 +149,7 @@ struct Called {
     line: Vec<u8>,
 }
 
-/// A peer in a thread of its own that answers one connection by these bytes; none where a growth was refused.
+/// A peer in a thread of its own that answers one connection by these bytes; none where a growth or the thread was refused.
 fn start_peer<R: Threads + Clock + Copy + Send + 'static>(
     rt: &R,
     alloc: Global,

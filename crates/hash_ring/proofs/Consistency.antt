@@ -11,7 +11,7 @@ use Rattle.hash_ring.specs.Points.{by_distance, distance, distance_among, owner,
 use Rattle.hash_ring.specs.Servers.{is_same, address_of_server, addresses_of, server_cmp, weight_of, weight_or_none, with_server, without}
 use Rattle.hash_ring.specs.declared.servers.Server.{Server}
 use Rattle.hash_ring.proofs.Firsts.{same_is, is_same_itself, test_cases}
-use Rattle.hash_ring.proofs.Lists.{in_map, map_in}
+use Rattle.hash_ring.proofs.ListMembers.{in_map, map_in}
 use Rattle.hash_ring.proofs.PointOrder.{by_exact}
 use Rattle.hash_ring.proofs.Weights.{absent_if_none, differs}
 

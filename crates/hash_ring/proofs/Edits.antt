@@ -16,7 +16,7 @@ use Rattle.hash_ring.specs.declared.servers.Server.{Server}
 use Rattle.change_core.proofs.Order.{in_append, in_append_left, in_append_right, in_put, put_new, put_old, ascending_ascends, ascending_in, in_ascending, ascending_is, ascending_same, in_filter, filter_in, filter_ascends}
 use Rattle.hash_ring.proofs.Placed.{at_in, ascending_at}
 use Rattle.hash_ring.proofs.PointOrder.{point_exact, server_exact, less_hash_le}
-use Rattle.hash_ring.proofs.Lists.{in_flat_map, flat_map_in}
+use Rattle.hash_ring.proofs.ListMembers.{in_flat_map, flat_map_in}
 use Rattle.hash_ring.proofs.Walk.{in_points_of}
 
 -- ---- a search by hash

@@ -16,7 +16,7 @@ use Rattle.hash_ring.specs.Points.{clockwise, point, point_cmp, points, distance
 use Rattle.hash_ring.specs.RingModel.{IsRing}
 use Rattle.hash_ring.specs.Servers.{addresses_of, shares}
 use Rattle.hash_ring.specs.Steps.{turn, IsNear, IsNext, IsBelow, IsFrom}
-use Rattle.hash_ring.proofs.Lists.{map_in}
+use Rattle.hash_ring.proofs.ListMembers.{map_in}
 use Rattle.hash_ring.proofs.Placed.{in_at}
 use Rattle.hash_ring.proofs.PointOrder.{by, by_exact, point_exact, less_split, less_by_hash, less_by_server, least-le}
 use Rattle.hash_ring.proofs.Walk.{point_at, points_in, turned_ascends, nearest_point, points_are}

@@ -10,7 +10,7 @@ use Rattle.hash_ring.specs.declared.servers.Server.{Server}
 use Rattle.hash_ring.specs.Points.{point_cmp, points_by, points, AreSmall}
 use Rattle.hash_ring.specs.Servers.{is_same, addresses_of, address_of_server, server_cmp, without, AreServers}
 use Rattle.hash_ring.specs.RingModel.{ring_of, ring_model, IsRing}
-use Rattle.hash_ring.proofs.Lists.{map_in}
+use Rattle.hash_ring.proofs.ListMembers.{map_in}
 use Rattle.hash_ring.proofs.PointOrder.{point_exact, server_exact}
 use Rattle.hash_ring.proofs.Walk.{in_points, in_points_of}
 use Rattle.hash_ring.proofs.Weights.{in_without, AreServers-put, AreServers-without}

@@ -17,7 +17,7 @@ use Rattle.hash_ring.specs.Servers.{is_same, address_of_server, addresses_of, se
 use Rattle.hash_ring.specs.Serving.{server_of, servers_of}
 use Rattle.hash_ring.proofs.Firsts.{same_is, test_cases}
 use Rattle.hash_ring.proofs.FreshPoints.{in_of_contains, contains_of_in}
-use Rattle.hash_ring.proofs.Lists.{in_map, map_in}
+use Rattle.hash_ring.proofs.ListMembers.{in_map, map_in}
 use Rattle.hash_ring.proofs.PointOrder.{server_exact}
 use Rattle.hash_ring.proofs.Weights.{in_without, not_same, weight_of_in}
 

@@ -9,7 +9,7 @@ use Rattle.hash_ring.specs.declared.points.Point.{Point}
 use Rattle.hash_ring.specs.declared.servers.Server.{Server}
 use Rattle.hash_ring.specs.Servers.{address_of_server, addresses_of, shares, EachOnce}
 use Rattle.hash_ring.specs.Points.{point_cmp, clockwise, point, owners, points_of, points_by, points, least}
-use Rattle.hash_ring.proofs.Lists.{in_map, map_in, in_flat_map, flat_map_in, in_range, range_in}
+use Rattle.hash_ring.proofs.ListMembers.{in_map, map_in, in_flat_map, flat_map_in, in_range, range_in}
 use Rattle.hash_ring.proofs.Weights.{positive_product, shares_in}
 use Rattle.change_core.specs.Ascending.{ascending, In, IsAscending}
 use Rattle.change_core.proofs.Order.{in_append, in_append_left, in_append_right, ascends_append, ascends_front, ascends_back, in_ascending, ascending_in, ascending_ascends, ascending_is}

@@ -7,7 +7,7 @@ use Rattle.change_core.proofs.Order.{in_put, put_new, put_old, put_ascends, same
 use Rattle.std.specs.List.{filter}
 use Rattle.std.specs.Option.{is_some}
 use Rattle.hash_ring.specs.declared.points.Point.{Point}
-use Rattle.hash_ring.proofs.Lists.{in_map}
+use Rattle.hash_ring.proofs.ListMembers.{in_map}
 use Rattle.hash_ring.specs.declared.servers.Server.{Server}
 use Rattle.hash_ring.specs.Servers.{is_same, address_of_server, addresses_of, server_cmp, without, with_server, weight_of, shares, EachOnce, AreServers, has_weight}
 use Rattle.hash_ring.proofs.PointOrder.{server_exact}

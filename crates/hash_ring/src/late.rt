@@ -1,12 +1,12 @@
 //! Points that came late: those of servers that were added after the others were merged. They stand as they came, so that
 //! many servers cost one sort and one merge.
-ghost use Rattle.std.specs.Prelude.{◌≡◌, ◌+◌, ◌≤◌, [], ◌++◌, length, IfOk, vec_len, vec_capacity};
+ghost use Rattle.std.specs.Prelude.{◌≡◌, ◌+◌, ◌≤◌, [], ◌++◌, length, OnOk, vec_len, vec_capacity};
 ghost use Rattle.change_core.specs.Ascending.{ascending, In, IsAscending};
 ghost use Rattle.hash_ring.specs.Points.{point_cmp};
 
 use crate::points::{Point, merge_points};
 use crate::starts::Starts;
-use std::alloc::{AllocError, Global};
+use std::alloc::AllocError;
 
 /// Merges the late points into the others, so that none is late. With room this takes no memory.
 pub(crate) fn merge_late(points: &mut Vec<Point>, starts: &mut Starts, late: &mut Vec<Point>)
@@ -27,21 +27,22 @@ pub(crate) fn merge_late(points: &mut Vec<Point>, starts: &mut Starts, late: &mu
     late.clear();
 }
 
-/// A list of all points, merged.
-pub(crate) fn merged(
-    alloc: Global,
+/// Fills a list that is empty with all points, merged.
+pub(crate) fn merge_all(
+    list: &mut Vec<Point>,
     points: &[Point],
     late: &[Point],
-) -> Result<Vec<Point>, AllocError>
+) -> Result<(), AllocError>
+    requires none { list.old.items ≡ [] }
     requires ascends { IsAscending point_cmp points.now }
-    ensures merged { IfOk result (λ all. all.items ≡ ascending point_cmp (points.now ++ late.now)) }
+    ensures merged { OnOk result (list.new.items ≡ ascending point_cmp (points.now ++ late.now)) }
 {
-    let mut all = Vec::from_slice(alloc, points)?;
+    list.extend_from_slice(points)?;
     if late.is_empty() {
-        return Ok(all);
+        return Ok(());
     }
-    all.extend_from_slice(late)?;
-    all.sort_unstable();
-    all.dedup();
-    Ok(all)
+    list.extend_from_slice(late)?;
+    list.sort_unstable();
+    list.dedup();
+    Ok(())
 }

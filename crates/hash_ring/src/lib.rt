@@ -6,6 +6,7 @@ mod errors;
 mod hash;
 mod late;
 pub mod laws;
+mod lists;
 mod points;
 mod ring;
 mod search;

@@ -4,15 +4,14 @@ ghost use Rattle.hash_ring.specs.Points.{IsReplicas, IsNearest, owner, owners};
 ghost use Rattle.hash_ring.specs.Servers.{has_weight, weight_of, with_each, with_server, without};
 ghost use Rattle.hash_ring.specs.declared.servers.Server.{Server};
 
-use crate::builds::{fill_all, list_servers, most_points};
 use crate::errors::RingError;
 use crate::hash::PointHash;
-use crate::late::{merge_late, merged};
-use crate::points::{MOST_REPLICAS, Point, point_count, push_points, reserve_points};
-use crate::search::{met, next_server};
-use crate::servers::{Server, take_out, weighs, weight_among};
+use crate::late::merge_late;
+use crate::lists::Lists;
+use crate::points::{MOST_REPLICAS, point_count, push_points};
+use crate::search::{met_with_late, next_server};
+use crate::servers::{Server, weighs, weight_among};
 use crate::sorted::place;
-use crate::starts::Starts;
 use change_core::{Address, Weight};
 use std::alloc::Global;
 use std::marker::Model;
@@ -26,11 +25,7 @@ use std::marker::Model;
 pub struct Ring<H: PointHash> {
     hash: H,
     replicas: u32,
-    servers: Vec<Server>,
-    points: Vec<Point>,
-    starts: Starts,
-    /// Points of servers that were added since the others were merged, as they came.
-    late: Vec<Point>,
+    lists: Lists,
 }
 
 impl<H: PointHash> Model for Ring<H> {
@@ -39,9 +34,9 @@ impl<H: PointHash> Model for Ring<H> {
 
     ghost Value = { RingModel H };
 
-    ghost view = { λ r. ring_model r.hash r.replicas r.servers r.points r.late };
+    ghost view = { λ r. ring_model r.hash r.replicas r.lists.servers r.lists.points r.lists.late };
 
-    ghost invariant = { λ r. IsKept (H.hash_of r.hash) r.replicas r.servers.items r.points.items r.late.items (vec_capacity r.late) (vec_capacity r.points) };
+    ghost invariant = { λ r. IsKept (H.hash_of r.hash) r.replicas r.lists.servers.items r.lists.points.items r.lists.late.items (vec_capacity r.lists.late) (vec_capacity r.lists.points) };
 }
 
 impl<H: PointHash> Ring<H> {
@@ -59,10 +54,7 @@ impl<H: PointHash> Ring<H> {
         Ok(Ring {
             hash,
             replicas,
-            servers: Vec::new(alloc),
-            points: Vec::new(alloc),
-            starts: Starts::new(alloc),
-            late: Vec::new(alloc),
+            lists: Lists::new(alloc),
         })
     }
 
@@ -79,25 +71,16 @@ impl<H: PointHash> Ring<H> {
         ensures bad_replicas { (IsReplicas replicas → ⊥) → result ≡ Err RingError.BadReplicas }
         ensures growth { IsReplicas replicas → OnErr result (0 < length servers.now) }
     {
-        if servers.is_empty() {
+        // `Ring::new` refuses what is out of range.
+        if servers.is_empty() || replicas < 1 || replicas > MOST_REPLICAS {
             return Ring::new(alloc, hash, replicas);
         }
-        if replicas < 1 || replicas > MOST_REPLICAS {
-            return Err(RingError::BadReplicas);
-        }
-        let mut list = Vec::new(alloc);
-        let mut late = Vec::new(alloc);
-        list_servers(&mut list, &mut late, replicas, servers)?;
-        let mut points = Vec::new(alloc);
-        fill_all(&mut points, hash, replicas, &list)?;
-        let starts = Starts::of(alloc, &points)?;
+        let mut lists = Lists::new(alloc);
+        lists.fill(hash, replicas, servers)?;
         Ok(Ring {
             hash,
             replicas,
-            servers: list,
-            points,
-            starts,
-            late,
+            lists,
         })
     }
 
@@ -107,7 +90,7 @@ impl<H: PointHash> Ring<H> {
         // The points that are kept are those of the servers, after any edits.
         ensures kept { self.now ≡ ring_of self.now.hash (H.hash_of self.now.hash) self.now.replicas self.now.servers self.now.room }
     {
-        self.servers.len()
+        self.lists.servers.len()
     }
 
     /// Whether the server of an address is there.
@@ -121,7 +104,7 @@ impl<H: PointHash> Ring<H> {
     pub fn weight(&self, address: Address) -> Option<Weight>
         ensures { result ≡ weight_of address self.now.servers }
     {
-        weight_among(&self.servers, address)
+        weight_among(&self.lists.servers, address)
     }
 
     /// Makes room for a server, unless it is there with at least this weight. `Memory`: a growth was refused;
@@ -133,15 +116,11 @@ impl<H: PointHash> Ring<H> {
         ensures grown { self.old.room ≤ self.new.room }
         ensures refusal { IsOkUnless result RingError.Memory }
     {
-        if weighs(&self.servers, address, weight) {
+        if weighs(&self.lists.servers, address, weight) {
             return Ok(());
         }
         let count = point_count(self.replicas, weight) as usize;
-        self.servers.reserve(1)?;
-        self.late.reserve(count)?;
-        let more = self.late.len() + count;
-        reserve_points(&mut self.points, &mut self.starts, more)?;
-        Ok(())
+        self.lists.reserve(count)
     }
 
     /// Adds a server and its points, in the place of those that it had with another weight, and answers whether
@@ -157,17 +136,11 @@ impl<H: PointHash> Ring<H> {
             return false;
         }
         let count = point_count(self.replicas, weight);
-        take_out(
-            &mut self.servers,
-            &mut self.points,
-            &mut self.starts,
-            &mut self.late,
-            address,
-        );
-        let Ok(_) = place(&mut self.servers, Server { address, weight }) else {
+        self.lists.take_out(address);
+        let Ok(_) = place(&mut self.lists.servers, Server { address, weight }) else {
             unreachable!()
         };
-        push_points(&mut self.late, self.hash, address, count);
+        push_points(&mut self.lists.late, self.hash, address, count);
         true
     }
 
@@ -177,7 +150,11 @@ impl<H: PointHash> Ring<H> {
         ensures same { self.new ≡ record self.old { room = self.new.room } }
         ensures room { self.old.room ≤ self.new.room }
     {
-        merge_late(&mut self.points, &mut self.starts, &mut self.late);
+        merge_late(
+            &mut self.lists.points,
+            &mut self.lists.starts,
+            &mut self.lists.late,
+        );
     }
 
     /// Removes a server and its points, and answers whether it was there. The room does not shrink, and no memory
@@ -188,13 +165,7 @@ impl<H: PointHash> Ring<H> {
         ensures unchanged { result ≡ false → self.new ≡ record self.old { room = self.new.room } }
         ensures room { self.old.room ≤ self.new.room }
     {
-        take_out(
-            &mut self.servers,
-            &mut self.points,
-            &mut self.starts,
-            &mut self.late,
-            address,
-        )
+        self.lists.take_out(address)
     }
 
     /// The server of a key: that of the first point at or after the key's hash, the least point after the
@@ -204,7 +175,12 @@ impl<H: PointHash> Ring<H> {
         ensures nearest { IfSome result (IsNearest (H.hash_of self.now.hash) self.now.replicas self.now.servers key.now) }
         ensures nobody { IfNone result (self.now.servers ≡ []) }
     {
-        next_server(&self.points, &self.starts, &self.late, self.hash.hash(key))
+        next_server(
+            &self.lists.points,
+            &self.lists.starts,
+            &self.lists.late,
+            self.hash.hash(key),
+        )
     }
 
     /// The first `count` owners of a key, the owner first, or all servers where there are fewer. `Memory`: the
@@ -214,17 +190,20 @@ impl<H: PointHash> Ring<H> {
         ensures growth { OnErr result ((0 < count) × (0 < length self.now.servers)) }
         ensures refusal { IsOkUnless result RingError.Memory }
     {
-        let alloc = *self.servers.allocator();
+        let alloc = *self.lists.servers.allocator();
         let hash = self.hash.hash(key);
-        let count = count.min(self.servers.len());
+        let count = count.min(self.lists.servers.len());
         if count == 0 {
             return Ok(Vec::new(alloc));
         }
-        if self.late.is_empty() {
-            return Ok(met(alloc, &self.points, &self.starts, hash, count)?);
-        }
-        let points = merged(alloc, &self.points, &self.late)?;
-        Ok(met(alloc, &points, &Starts::new(alloc), hash, count)?)
+        met_with_late(
+            alloc,
+            &self.lists.points,
+            &self.lists.starts,
+            &self.lists.late,
+            hash,
+            count,
+        )
     }
 
     /// A ring of its own that equals this one. `Memory`: a growth was refused.
@@ -233,23 +212,16 @@ impl<H: PointHash> Ring<H> {
         ensures growth { OnErr result (0 < length self.now.servers) }
         ensures refusal { IsOkUnless result RingError.Memory }
     {
-        let alloc = *self.servers.allocator();
-        if self.servers.is_empty() {
+        let alloc = *self.lists.servers.allocator();
+        if self.lists.servers.is_empty() {
             return Ring::new(alloc, self.hash, self.replicas);
         }
-        let points = merged(alloc, &self.points, &self.late)?;
-        let starts = if self.late.is_empty() {
-            self.starts.copy()?
-        } else {
-            Starts::of(alloc, &points)?
-        };
+        let mut lists = Lists::new(alloc);
+        lists.fill_as(&self.lists, self.replicas)?;
         Ok(Ring {
             hash: self.hash,
             replicas: self.replicas,
-            servers: Vec::from_slice(alloc, &self.servers)?,
-            points,
-            starts,
-            late: Vec::with_capacity(alloc, most_points(self.replicas, &self.servers))?,
+            lists,
         })
     }
 }

@@ -1,11 +1,13 @@
 //! Searching the points for a hash, and walking on from there.
-ghost use Rattle.std.specs.Prelude.{◌≡◌, ℕ, ◌+◌, ◌-◌, ◌<◌, ◌≤◌, [], ◌++◌, length, take, drop, not, ltb, slice_get, IfSome, IfNone, IfOk, OnOk, OnErr, vec_capacity};
+ghost use Rattle.std.specs.Prelude.{◌≡◌, ℕ, ◌+◌, ◌-◌, ◌<◌, ◌≤◌, [], ◌++◌, length, take, drop, not, ltb, slice_get, IfSome, IfNone, IfOk, IsOkUnless, OnOk, OnErr, vec_capacity};
 ghost use Rattle.std.specs.List.{position};
-ghost use Rattle.change_core.specs.Ascending.{In, IsAscending};
+ghost use Rattle.change_core.specs.Ascending.{ascending, In, IsAscending};
 ghost use Rattle.hash_ring.specs.Points.{point_cmp, AreSmall};
 ghost use Rattle.hash_ring.specs.Steps.{IsBelow, IsFrom, IsNext, IsSorted, AreMet, firsts, turn};
 ghost use Rattle.hash_ring.specs.declared.points.Point.{Point};
 
+use crate::errors::RingError;
+use crate::late::merge_all;
 use crate::points::Point;
 use crate::sorted::place;
 use crate::starts::Starts;
@@ -94,17 +96,40 @@ fn turned(point: &Point, hash: u64) -> Point
     }
 }
 
+/// The servers of points that ascend and of late ones, from a hash on, as `met` gives them of all in one list.
+pub(crate) fn met_with_late(
+    alloc: Global,
+    points: &[Point],
+    starts: &Starts,
+    late: &[Point],
+    hash: u64,
+    count: usize,
+) -> Result<Vec<Address>, RingError>
+    requires ascends { IsAscending point_cmp points.now }
+    requires some { 0 < count }
+    ensures met { IfOk result (λ named. AreMet hash (ascending point_cmp (points.now ++ late.now)) count named.items) }
+    ensures refusal { IsOkUnless result RingError.Memory }
+{
+    if late.is_empty() {
+        return met(alloc, points, starts, hash, count);
+    }
+    let mut all = Vec::new(alloc);
+    merge_all(&mut all, points, late)?;
+    met(alloc, &all, &Starts::new(alloc), hash, count)
+}
+
 /// The servers of points that ascend, from a hash on, going round, each where it comes first, up to a count.
-pub(crate) fn met(
+fn met(
     alloc: Global,
     points: &[Point],
     starts: &Starts,
     hash: u64,
     count: usize,
-) -> Result<Vec<Address>, AllocError>
+) -> Result<Vec<Address>, RingError>
     requires ascends { IsAscending point_cmp points.now }
     ensures met { IfOk result (λ named. AreMet hash points.now count named.items) }
     ensures growth { OnErr result (0 < count) }
+    ensures refusal { IsOkUnless result RingError.Memory }
 {
     let start = first_at(points, starts, hash);
     let mut named = Vec::with_capacity(alloc, count)?;

@@ -49,18 +49,9 @@ impl Starts {
         }
     }
 
-    /// The starts of a list of points.
-    pub(crate) fn of(alloc: Global, points: &Vec<Point>) -> Result<Starts, AllocError> {
-        let mut starts = Starts::new(alloc);
-        starts.widen(points, points.capacity())?;
-        Ok(starts)
-    }
-
-    pub(crate) fn copy(&self) -> Result<Starts, AllocError> {
-        let alloc = *self.counts.allocator();
-        Ok(Starts {
-            counts: Vec::from_slice(alloc, &self.counts)?,
-        })
+    /// Fills starts that are empty with others.
+    pub(crate) fn fill_as(&mut self, others: &Starts) -> Result<(), AllocError> {
+        self.counts.extend_from_slice(&others.counts)
     }
 
     /// Makes the list long enough for a number of points. Where that is refused it stays as it was.

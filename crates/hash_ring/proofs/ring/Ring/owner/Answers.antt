@@ -17,10 +17,10 @@ next_server-requires-clause-small g c = subst AreSmall (sym c.deref.ensures.valu
 pub returns-clause-first : goal.returns-clause-first
 returns-clause-first g c =
     let i = c.self.inside in
-    let both = i.points.items ++ i.late.items in
+    let both = i.lists.points.items ++ i.lists.late.items in
     let same : c.deref.result.now ++ c.deref-2.result.now ≡ both = λ j. c.deref.ensures.value j ++ c.deref-2.ensures.value j in
     rw (← c.self.view_is)
-    (next_is (g.H.PointHash.hash_of i.hash) i.replicas i.servers.items _ _ c.args.key.now c.self.invariant.ring c.next_server.result c.hash.result c.next_server.ensures.next c.next_server.ensures.nobody c.hash.ensures
+    (next_is (g.H.PointHash.hash_of i.hash) i.replicas i.lists.servers.items _ _ c.args.key.now c.self.invariant.ring c.next_server.result c.hash.result c.next_server.ensures.next c.next_server.ensures.nobody c.hash.ensures
     (λ q h. ascending_in point_exact q both (subst (In q) same h))
     (λ q h. subst (In q) (sym same) (in_ascending point_exact q both h)))
 

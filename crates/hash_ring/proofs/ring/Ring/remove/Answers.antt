@@ -15,27 +15,27 @@ invariant_of-self g c =
 
 pub returns-clause-ring : goal.returns-clause-ring
 returns-clause-ring g c =
-    let n = c.take_out.new in
+    let n = c.take_out.new.self in
     rw (← c.self.view_is)
-    (kept_is c.self.inside.hash (g.H.PointHash.hash_of c.self.inside.hash) c.self.inside.replicas n.servers n.points n.late (without c.args.address c.self.inside.servers.items) (invariant_of-self g c) c.take_out.ensures.servers)
+    (kept_is c.self.inside.hash (g.H.PointHash.hash_of c.self.inside.hash) c.self.inside.replicas n.servers n.points n.late (without c.args.address c.self.inside.lists.servers.items) (invariant_of-self g c) c.take_out.ensures.servers)
 
 pub returns-clause-room : goal.returns-clause-room
 returns-clause-room g c =
     let i = c.self.inside in
-    let n = c.take_out.new in
+    let n = c.take_out.new.self in
     let e = c.take_out.ensures in
     let fewer = taken_fewer _ _ _ _ _ c.self.invariant c.args.address c.take_out.result _ _ e.points in
     rw (← c.self.view_is)
-    (room_kept i.hash i.replicas i.servers n.servers i.points n.points i.late n.late
-    (fewer_servers c.args.address i.servers.items n.servers.items e.servers) (omega (arith, e.servers_capacity)) fewer.0 e.points_capacity fewer.1 e.late_capacity)
+    (room_kept i.hash i.replicas i.lists.servers n.servers i.lists.points n.points i.lists.late n.late
+    (fewer_servers c.args.address i.lists.servers.items n.servers.items e.servers) (omega (arith, e.servers_capacity)) fewer.0 e.points_capacity fewer.1 e.late_capacity)
 
 pub returns-clause-unchanged : goal.returns-clause-unchanged
 returns-clause-unchanged g c absent =
     let i = c.self.inside in
-    let n = c.take_out.new in
+    let n = c.take_out.new.self in
     let e = c.take_out.ensures in
     let a = c.args.address in
-    let same = e.servers ∙ without_none a i.servers.items (none_if_not_some (weight_of a i.servers.items) (sym e.there ∙ absent)) in
-    let taken = subst (λ b. IsTaken a i.points.items i.late.items b n.points.items n.late.items) absent e.points in
+    let same = e.servers ∙ without_none a i.lists.servers.items (none_if_not_some (weight_of a i.lists.servers.items) (sym e.there ∙ absent)) in
+    let taken = subst (λ b. IsTaken a i.lists.points.items i.lists.late.items b n.points.items n.late.items) absent e.points in
     rw (← c.self.view_is)
-    (kept_same i.hash i.replicas i.servers n.servers i.points n.points i.late n.late same (λ j. ascending point_cmp (taken.0 j ++ taken.1 j)))
+    (kept_same i.hash i.replicas i.lists.servers n.servers i.lists.points n.points i.lists.late n.late same (λ j. ascending point_cmp (taken.0 j ++ taken.1 j)))

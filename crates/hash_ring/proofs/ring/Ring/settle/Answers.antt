@@ -12,7 +12,7 @@ returns-clause-same g c =
     let i = c.self.inside in
     let n = c.merge_late.new in
     rw (← c.self.view_is)
-    (kept_same i.hash i.replicas i.servers i.servers i.points n.points i.late n.late refl ((invariant_of-self g c).ring.points_are ∙ sym c.self.invariant.ring.points_are))
+    (kept_same i.hash i.replicas i.lists.servers i.lists.servers i.lists.points n.points i.lists.late n.late refl ((invariant_of-self g c).ring.points_are ∙ sym c.self.invariant.ring.points_are))
 
 pub returns-clause-room : goal.returns-clause-room
 returns-clause-room g c =
@@ -21,4 +21,4 @@ returns-clause-room g c =
     let e = c.merge_late.ensures in
     let fewer = merged_fewer _ _ _ _ _ c.self.invariant n.points.items n.late.items e.merged e.none in
     rw (← c.self.view_is)
-    (room_kept i.hash i.replicas i.servers i.servers i.points n.points i.late n.late (omega arith) (omega arith) fewer.0 e.capacity fewer.1 e.late_capacity)
+    (room_kept i.hash i.replicas i.lists.servers i.lists.servers i.lists.points n.points i.lists.late n.late (omega arith) (omega arith) fewer.0 e.capacity fewer.1 e.late_capacity)

@@ -1,5 +1,5 @@
 -- The pending list as it is kept: by entries of a map, and by an index that goes up.
-use Rattle.std.proofs.Common.{◌≡◌, ℕ, zero, suc, ◌+◌, ◌-◌, ◌*◌, ◌^◌, ◌<◌, ◌≤◌, ◌==◌, Bool, true, false, ◌&&◌, nat_eq, nat_lt, if◌then◌else◌, cond, List, [], ◌∷◌, ◌++◌, length, map, filter, take, drop, set, slice_get, Some, refl, sym, ap, ◌∙◌, subst, All, Option, None, unwrap_or, IfNone, IfSome, Result, Ok, Err, OnOk, OnErr, arith, append_assoc, append-nil, add-one, drop-cons, eqb-true, get_or, true≢false, ◌≢◌, ◌⊎◌, is_some, inl, inr, length-append}
+use Rattle.std.proofs.Common.{◌≡◌, ℕ, zero, suc, ◌+◌, ◌-◌, ◌*◌, ◌^◌, ◌<◌, ◌≤◌, ◌==◌, Bool, true, false, ◌&&◌, nat_eq, nat_lt, if◌then◌else◌, cond, List, [], ◌∷◌, ◌++◌, length, map, filter, take, drop, set, slice_get, Some, refl, sym, ap, ◌∙◌, subst, All, Option, None, unwrap_or, IfNone, IfSome, Result, Ok, Err, OnOk, OnErr, arith, append_assoc, append-nil, add-one, drop-cons, eqb-true, get_or, true≢false, ◌≢◌, ◌⊎◌, is_some, inl, inr, length-append, min}
 use Rattle.std.proofs.Math.Nat.{pow-le-pow_right, pow-suc, one-le-pow}
 use Rattle.std.proofs.Math.Bool.{and-false}
 use Rattle.std.proofs.lemmas.Bool.{ltb-true, lt-ltb, eqb-false}
@@ -124,6 +124,10 @@ pub record IsIssuing (t k : ℕ) (old : List Pending) (given : List Sourced) (i 
 
 room_left : (xs : List Pending) (i : ℕ) (p : Pending) → slice_get xs i ≡ Some p → All (λ p. p.count < 2 ^ 32 - 1) (drop i xs) → All (λ p. p.count < 2 ^ 32 - 1) (drop (i + 1) xs)
 room_left xs i p at h = All-tail (λ p. p.count < 2 ^ 32 - 1) p (drop (i + 1) xs) (subst (All (λ p. p.count < 2 ^ 32 - 1)) (drop_at xs i p at) h)
+
+-- memory is asked for only where something is
+pub some_asked : (n k l : ℕ) → n ≡ min k l → (n ≡ 0 → ⊥) → (0 < k) × (0 < l)
+some_asked n k l least some = (omega (arith, least, some), omega (arith, least, some))
 
 -- nothing has been looked at
 pub IsIssuing-none : (t k : ℕ) (old : List Pending) → All (λ p. p.count < 2 ^ 32 - 1) old → IsIssuing t k old [] 0 old

@@ -10,7 +10,6 @@ use Rattle.gossip_core.specs.Dissemination.{Dissemination, with_news}
 use Rattle.gossip_core.specs.Pending.{limit_for}
 use Rattle.hash_ring.specs.declared.servers.Server.{Server}
 use Rattle.hash_ring.specs.RingModel.{RingModel, ring_of}
-use Rattle.hash_ring.specs.Servers.{with_server}
 use Rattle.hash_ring.specs.Serving.{server_of, servers_of}
 use Rattle.member_core.specs.Membership.{Membership, IsMembership}
 use Rattle.rand_pcg.specs.Lcg.{Lcg}
@@ -28,19 +27,20 @@ pub servers_of-birth : (own incarnation weight : ℕ) → servers_of (birth own 
 servers_of-birth own incarnation weight =
     ap (λ (ms : List Change). map server_of (filter (λ (c : Change). is_serving c.status) ms)) (members-IsMemberList (birth own incarnation weight ∷ []) (tt, tt))
 
+-- nothing is passed on yet
+abbrev pub untold : ℕ → Dissemination
+untold piggyback = record { factor = piggyback; limit = limit_for piggyback 1; pending = [] }
+
 module _ {H : Type 0} (hash_of : H → List ℕ → ℕ) (hash : H) (config : Config) (own incarnation moment : ℕ) (generator : Lcg)
-    (m : Membership) (made reserved ring : RingModel H) (empty gossip : Dissemination) (timers : TimerList) (probing : ProbeState) where
+    (m : Membership) (ring : RingModel H) (gossip : Dissemination) (timers : TimerList) (probing : ProbeState) where
   -- what the constructors of the parts say
   pub record Begun : Type 0 where
     pub own_is : m.own ≡ birth own incarnation config.weight
     pub members_are : m.members ≡ m.own ∷ []
     pub max_is : m.max ≡ config.max_members
     pub membership : IsMembership m.own m.members m.max
-    pub made_is : made ≡ ring_of hash (hash_of hash) config.replicas [] made.room
-    pub reserved_is : reserved ≡ record made { room = reserved.room }
-    pub ring_is : ring ≡ ring_of reserved.hash (hash_of reserved.hash) reserved.replicas (with_server (record { address = own; weight = config.weight }) reserved.servers) ring.room
-    pub empty_is : empty ≡ record { factor = config.piggyback; limit = limit_for config.piggyback 1; pending = [] }
-    pub gossip_is : gossip ≡ with_news empty (asserted_by m.own.address m.own)
+    pub ring_is : ring ≡ ring_of hash (hash_of hash) config.replicas (record { address = own; weight = config.weight } ∷ []) ring.room
+    pub gossip_is : gossip ≡ with_news (untold config.piggyback) (asserted_by m.own.address m.own)
     pub timers_are : timers ≡ record { timers = []; room = 0 }
     pub probing_is : probing ≡ record { last = 0; helpers = config.helpers; rest = []; generator = generator; running = None }
 
@@ -56,23 +56,17 @@ module _ {H : Type 0} (hash_of : H → List ℕ → ℕ) (hash : H) (config : Co
   }
 
   module _ (b : Begun) where
-    ring_begun : ring ≡ ring_of hash (hash_of hash) config.replicas (server_of (birth own incarnation config.weight) ∷ []) ring.room
-    ring_begun =
-        b.ring_is
-        ∙ ap (λ (r : RingModel H). ring_of r.hash (hash_of r.hash) r.replicas (with_server (record { address = own; weight = config.weight }) r.servers) ring.room)
-        (b.reserved_is ∙ ap (λ (r : RingModel H). record r { room = reserved.room }) b.made_is)
-
     members_begun : m.members ≡ birth own incarnation config.weight ∷ []
     members_begun = b.members_are ∙ ap (λ (c : Change). c ∷ []) b.own_is
 
-    gossip_begun : gossip ≡ with_news (record { factor = config.piggyback; limit = limit_for config.piggyback 1; pending = [] }) (asserted_by own (birth own incarnation config.weight))
-    gossip_begun = b.gossip_is ∙ ap (λ (c : Change). with_news empty (asserted_by c.address c)) b.own_is
-        ∙ ap (λ (g : Dissemination). with_news g (asserted_by own (birth own incarnation config.weight))) b.empty_is
+    gossip_begun : gossip ≡ with_news (untold config.piggyback) (asserted_by own (birth own incarnation config.weight))
+    gossip_begun = b.gossip_is
+        ∙ ap (λ (c : Change). with_news (untold config.piggyback) (asserted_by c.address c)) b.own_is
 
     node_begun : node_of begun ≡ newborn hash config own incarnation moment generator
     node_begun =
         ap (λ (c : Change). record (node_of begun) { own = c.address }) b.own_is
-        ∙ ap (λ (r : RingModel H). record (node_of begun) { own = own; hash = r.hash }) ring_begun
+        ∙ ap (λ (r : RingModel H). record (node_of begun) { own = own; hash = r.hash }) b.ring_is
         ∙ ap (λ (ms : List Change). record (node_of begun) { own = own; hash = hash; members = ms }) members_begun
         ∙ ap (λ (g : Dissemination). record (node_of begun) { own = own; hash = hash; members = birth own incarnation config.weight ∷ []; gossip = g }) gossip_begun
         ∙ ap (λ (t : TimerList). record (newborn hash config own incarnation moment generator) { timers = t.timers; probing = probing }) b.timers_are
@@ -82,7 +76,7 @@ module _ {H : Type 0} (hash_of : H → List ℕ → ℕ) (hash : H) (config : Co
     seen_begun =
         ap (λ (n : Node H). record (seen_in begun) { node = n }) node_begun
         ∙ ap (λ (r : RingModel H). record { node = newborn hash config own incarnation moment generator; points = r.points })
-        (ring_begun ∙ ap (λ (ss : List Server). ring_of hash (hash_of hash) config.replicas ss ring.room) (sym (servers_of-birth own incarnation config.weight)))
+        (b.ring_is ∙ ap (λ (ss : List Server). ring_of hash (hash_of hash) config.replicas ss ring.room) (sym (servers_of-birth own incarnation config.weight)))
 
     pub parts_begun : IsConfig config → AreParts hash_of begun
     parts_begun configured = record {
@@ -90,7 +84,7 @@ module _ {H : Type 0} (hash_of : H → List ℕ → ℕ) (hash : H) (config : Co
       membership = b.membership;
       most = b.max_is;
       ring_is = ring_of-hash hash_of ring hash config.replicas (servers_of m.members)
-          (ring_begun ∙ ap (λ (ss : List Server). ring_of hash (hash_of hash) config.replicas ss ring.room)
+          (b.ring_is ∙ ap (λ (ss : List Server). ring_of hash (hash_of hash) config.replicas ss ring.room)
           (sym (ap servers_of members_begun ∙ servers_of-birth own incarnation config.weight)));
       rising = subst (λ (t : TimerList). IsAscending t.timers) (sym b.timers_are) (λ i j d low here. absurd (omega (arith, here)));
     }

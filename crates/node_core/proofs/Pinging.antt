@@ -2,8 +2,8 @@
 use Rattle.std.proofs.Common.{◌≡◌, ℕ, ◌+◌, ◌<◌, ◌≤◌, ◌&&◌, Bool, true, false, cond, not, eqb, List, [], ◌∷◌, ◌++◌, length, map, take, drop, refl, sym, ◌∙◌, ap, get_or, length-append, arith}
 use Rattle.std.specs.List.{filter, count_by}
 use Rattle.std.specs.List.Sorted.{IsStrictlyIncreasing}
-use Rattle.std.proofs.lemmas.List.{length-map, take-append-drop}
-use Rattle.std.proofs.lemmas.List.Elements.{filter-append}
+use Rattle.std.proofs.lemmas.List.{append-nil, length-map, map_push, take-append-drop}
+use Rattle.std.proofs.lemmas.List.Elements.{filter-append, filter_more}
 use Rattle.std.proofs.lemmas.List.Filters.{length-filter_more}
 use Rattle.std.proofs.lemmas.List.Sums.{length-filter}
 use Rattle.change_core.specs.declared.changes.Change.{Change}
@@ -70,3 +70,20 @@ module _ (own : ℕ) (M : List Change) (i : ℕ) (d : Change) (found : List ℕ)
       let sum : length (filter p M) ≡ length (filter p (take (i + 1) M)) + length (filter p (drop (i + 1) M)) = ap length parts ∙ length-append (filter p (take (i + 1) M)) (filter p (drop (i + 1) M)) in
       let one : length (filter p (take (i + 1) M)) ≡ length (filter p (take i M)) + 1 = length-filter_more p M i d within ∙ ap (λ (b : Bool). length (filter p (take i M)) + cond b 1 0) e in
       omega (arith, h.len_is, h.fits)
+
+  kept_more : filter p (take (i + 1) M) ≡ filter p (take i M) ++ cond (p c) (c ∷ []) []
+  kept_more = filter_more p M i d within
+
+  pub found_push : p c ≡ true → HasFound own M (i + 1) (found ++ c.address ∷ []) (len + 1) capacity
+  found_push e =
+      let kept : filter p (take (i + 1) M) ≡ filter p (take i M) ++ c ∷ [] = kept_more ∙ ap (λ (b : Bool). filter p (take i M) ++ cond b (c ∷ []) []) e in
+      record {
+        so_far = ap (λ (addresses : List ℕ). addresses ++ c.address ∷ []) h.so_far ∙ sym (map_push address_of_change (filter p (take i M)) c) ∙ ap (map address_of_change) (sym kept);
+        len_is = ap (λ n. n + 1) h.len_is ∙ sym (ap length kept ∙ length-append (filter p (take i M)) (c ∷ []));
+        fits = h.fits;
+      }
+
+  pub found_skip : p c ≡ false → HasFound own M (i + 1) found len capacity
+  found_skip e =
+      let kept : filter p (take (i + 1) M) ≡ filter p (take i M) = kept_more ∙ ap (λ (b : Bool). filter p (take i M) ++ cond b (c ∷ []) []) e ∙ append-nil (filter p (take i M)) in
+      record { so_far = h.so_far ∙ ap (map address_of_change) (sym kept); len_is = h.len_is ∙ ap length (sym kept); fits = h.fits }

@@ -19,3 +19,4 @@ pub mod World
 pub mod Viewing
 pub mod Calls
 pub mod Itself
+pub mod Workers

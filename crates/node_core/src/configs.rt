@@ -7,6 +7,9 @@ use gossip_core::MOST_FACTOR;
 use hash_ring::MOST_REPLICAS;
 use std::fmt;
 
+/// How many threads serve a node of a cluster at most.
+pub const MOST_WORKERS: u32 = 16;
+
 /// What a node is made with, beside its address and its hash.
 #[derive(Clone, Copy, Debug, PartialEq, Eq)]
 pub struct Config {

@@ -1,8 +1,9 @@
 //! One alteration, in every part or in none: each growth is made before the first part is edited.
-ghost use Rattle.std.specs.Prelude.{◌≡◌, ◌⊎◌, ◌<◌, ◌&&◌, not, [], ◌∷◌, ◌++◌, length, cond, true, false, None, Some, OnOk, OnErr, IsOkUnless};
+ghost use Rattle.std.specs.Prelude.{◌≡◌, ◌⊎◌, ◌<◌, ◌≤◌, ◌&&◌, not, [], ◌∷◌, ◌++◌, length, cond, true, false, None, Some, OnOk, OnErr, IsOkUnless};
 ghost use Rattle.std.specs.Option.{option_map_or};
 ghost use Rattle.change_core.specs.declared.changes.Change.{Change};
 ghost use Rattle.change_core.specs.Members.{greatest, members as members_of};
+ghost use Rattle.change_core.specs.Numbers.{greatest_number};
 ghost use Rattle.change_core.specs.Status.{is_serving};
 ghost use Rattle.detector_core.specs.Timers.{HasTimer};
 ghost use Rattle.gossip_core.specs.Dissemination.{with_news, adjusted};
@@ -24,7 +25,7 @@ use hash_ring::PointHash;
 use member_core::{Members, Verdict};
 
 /// What is put into the membership: what it says of a given change, or what the node asserts of itself.
-#[derive(Clone, Copy, Debug)]
+#[derive(Clone, Copy)]
 pub(crate) enum Edit {
     Judged(Verdict),
     Own(Change),
@@ -59,14 +60,27 @@ fn edit_ring<H: PointHash>(ring: &mut SharedRing<H>, change: &Change)
     }
 }
 
-/// What an entry becomes, and after how many milliseconds.
-fn next_of(config: &Config, status: Status) -> Option<(Status, u64)>
-    ensures { result ≡ cond (has_deadline status) (Some (record { 0 = next_status status; 1 = wait_for config.now status })) None }
+/// What an entry of this status becomes at its deadline. One that has none stays.
+fn next_status(status: Status) -> Status
+    ensures { result ≡ next_status status }
 {
     match status {
-        Status::Suspect => Some((Status::Faulty, config.suspect_ms)),
-        Status::Faulty => Some((Status::Tombstone, config.faulty_ms)),
-        Status::Alive | Status::Leave | Status::Tombstone => None,
+        Status::Suspect => Status::Faulty,
+        Status::Faulty => Status::Tombstone,
+        _ => status,
+    }
+}
+
+/// After how many milliseconds an entry of this status comes to its deadline, and 0 where it has none.
+fn wait_for(config: &Config, status: Status) -> u64
+    requires configured { IsConfig config.now }
+    ensures value { result ≡ wait_for config.now status }
+    ensures within { result ≤ greatest_number }
+{
+    match status {
+        Status::Suspect => config.suspect_ms,
+        Status::Faulty => config.faulty_ms,
+        _ => 0,
     }
 }
 
@@ -77,7 +91,14 @@ fn has_deadline(status: Status) -> bool
     matches!(status, Status::Suspect | Status::Faulty)
 }
 
-/// Whether a timer is to be made for an entry: it has a deadline and is another's, and what is held had none.
+/// Whether an entry has a timer: it has a deadline and is another's.
+fn is_timed(own: Address, change: &Change) -> bool
+    ensures { result ≡ is_timed own change.now }
+{
+    has_deadline(change.status) && change.address != own
+}
+
+/// Whether a timer is to be made for an entry: it has one, and what is held had none.
 fn wants_timer(own: Address, change: &Change, held: Option<Entry>) -> bool
     ensures { result ≡ (is_timed own change.now && not (option_map_or (λ e. has_deadline e.status) held false)) }
 {
@@ -85,7 +106,7 @@ fn wants_timer(own: Address, change: &Change, held: Option<Entry>) -> bool
         Some(entry) => has_deadline(entry.status),
         None => false,
     };
-    has_deadline(change.status) && change.address != own && !waits
+    is_timed(own, change) && !waits
 }
 
 /// A timer runs exactly for another's suspect or faulty entry.
@@ -94,18 +115,15 @@ fn edit_timers(timers: &mut Timers, own: Address, config: &Config, moment: Momen
     requires configured { IsConfig config.now }
     ensures { timers.new.timers ≡ timers_with own config.now moment timers.old.timers change.now }
 {
-    match next_of(config, change.status) {
-        Some((next, wait)) if change.address != own => {
-            timers.set(
-                change.address,
-                change.incarnation,
-                next,
-                moment.number() + wait,
-            );
-        }
-        _ => {
-            timers.clear(change.address);
-        }
+    if is_timed(own, change) {
+        timers.set(
+            change.address,
+            change.incarnation,
+            next_status(change.status),
+            moment.number() + wait_for(config, change.status),
+        );
+    } else {
+        timers.clear(change.address);
     }
 }
 

@@ -9,41 +9,50 @@ use gossip_core::GossipError;
 use hash_ring::RingError;
 use member_core::MemberError;
 use std::alloc::AllocError;
+use std::fmt;
 use thiserror::Error;
 
 /// Why a call of a node was refused.
 #[derive(Clone, Copy, Debug, PartialEq, Eq, Error)]
 pub enum NodeError {
     /// The first field of the configuration that is out of its range.
-    #[error("bad configuration: {0}")]
     BadConfig(ConfigField),
     /// No incarnation is left for what the node would have to assert.
-    #[error("no incarnation is left")]
     Exhausted,
     /// The address is unknown, and as many members are held as may be.
-    #[error("too many members")]
     Full,
     /// The node has left already.
-    #[error("the node has left already")]
     AlreadyLeft,
     /// The node has not left.
-    #[error("the node has not left")]
     NotLeft,
     /// A probe is running.
-    #[error("a probe is running")]
     Busy,
     /// No probe number is left.
-    #[error("no probe number is left")]
     Spent,
     /// The probe is not the running one, or its helpers were asked already.
-    #[error("the probe does not run")]
     StaleProbe,
     /// The helper was not asked, or has answered.
-    #[error("the helper was not asked")]
     NotAsked,
     /// A growth was refused.
-    #[error("out of memory")]
     Memory,
+}
+
+impl fmt::Display for NodeError {
+    fn fmt<W: fmt::Write>(&self, f: &mut fmt::Formatter<W>) -> fmt::Result {
+        let text = match self {
+            NodeError::BadConfig(field) => return write!(f, "bad configuration: {field}"),
+            NodeError::Exhausted => "no incarnation is left",
+            NodeError::Full => "too many members",
+            NodeError::AlreadyLeft => "the node has left already",
+            NodeError::NotLeft => "the node has not left",
+            NodeError::Busy => "a probe is running",
+            NodeError::Spent => "no probe number is left",
+            NodeError::StaleProbe => "the probe does not run",
+            NodeError::NotAsked => "the helper was not asked",
+            NodeError::Memory => "out of memory",
+        };
+        f.write_str(text)
+    }
 }
 
 impl From<AllocError> for NodeError {

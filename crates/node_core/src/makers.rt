@@ -1,7 +1,7 @@
 //! The messages that a node makes.
 ghost use Rattle.std.specs.Prelude.{◌≡◌, ◌≤◌, [], length, IfOk, OnOk, OnErr, IsOkUnless};
 ghost use Rattle.change_core.specs.Numbers.{most_members};
-ghost use Rattle.node_core.specs.Messages.{ack_by, digest_of, full_sync, join_by, joined_by, news_of, piggyback, ping_by, ping_req_ack_by, ping_req_by, says, told};
+ghost use Rattle.node_core.specs.Messages.{ack_by, full_sync, join_by, joined_by, news_of, piggyback, ping_by, ping_req_ack_by, ping_req_by, says, told};
 ghost use Rattle.node_core.specs.Node.{said_by};
 ghost use Rattle.node_core.specs.Receiving.{MakeStep};
 
@@ -80,17 +80,11 @@ impl<H: PointHash> NodeState<H> {
     pub(crate) fn ack(&mut self, source: Address, checksum: Digest) -> Result<Message, NodeError>
         ensures step { MakeStep self.old.node (ack_by self.old.node source checksum) (told self.old.node source) result self.new.node }
     {
-        let digest = self.checksum()?;
-        let issued = self.issue_for(source)?;
-        let changes = if issued.as_slice().is_empty() && checksum != digest {
-            self.full_sync()?
-        } else {
-            issued
-        };
-        Ok(self.message(Content::Ack(News {
-            checksum: digest,
-            changes,
-        })))
+        let mut news = self.news_for(source)?;
+        if news.changes.as_slice().is_empty() && checksum != news.checksum {
+            news.changes = self.full_sync()?;
+        }
+        Ok(self.message(Content::Ack(news)))
     }
 
     /// A change as the node says it.
@@ -117,39 +111,22 @@ impl<H: PointHash> NodeState<H> {
         }
     }
 
-    /// The digest, and what is passed on to a target. The digest is made first, so that nothing is issued in vain.
+    /// The digest, made anew only where the members changed since it was made last, and what is passed on to a target. The
+    /// digest is made first, so that nothing is issued in vain.
     fn news_for(&mut self, target: Address) -> Result<News, NodeError>
         ensures news { IfOk result (λ n. n ≡ news_of self.old.node (piggyback self.old.node target)) }
         ensures ok { OnOk result (self.new.node ≡ told self.old.node target) }
+        // News of nothing change nothing.
+        ensures nothing { IfOk result (λ n. n.changes ≡ [] → self.new ≡ self.old) }
         ensures err { OnErr result (self.new ≡ self.old) }
         ensures refusal { IsOkUnless result NodeError.Memory }
     {
-        let checksum = self.checksum()?;
-        let changes = self.issue_for(target)?;
-        Ok(News { checksum, changes })
-    }
-
-    /// The digest of the members, made anew only where they changed since it was made last.
-    fn checksum(&mut self) -> Result<Digest, NodeError>
-        ensures digest { IfOk result (λ d. d ≡ digest_of self.old.node.members) }
-        ensures same { self.new ≡ self.old }
-        ensures refusal { IsOkUnless result NodeError.Memory }
-    {
-        Ok(self.members.keep_digest()?)
-    }
-
-    /// Issues what is passed on to a target in one message.
-    fn issue_for(&mut self, target: Address) -> Result<Changes, NodeError>
-        ensures issued { IfOk result (λ changes. changes ≡ piggyback self.old.node target) }
-        ensures ok { OnOk result (self.new.node ≡ told self.old.node target) }
-        // An issue of nothing changes nothing.
-        ensures nothing { IfOk result (λ changes. changes ≡ [] → self.new ≡ self.old) }
-        ensures err { OnErr result (self.new ≡ self.old) }
-        ensures refusal { IsOkUnless result NodeError.Memory }
-    {
-        let at_most = self.config.per_message;
-        let issued = self.gossip.issue_for(target, at_most)?;
-        Ok(fitting(issued))
+        let checksum = self.members.keep_digest()?;
+        let issued = self.gossip.issue_for(target, self.config.per_message)?;
+        Ok(News {
+            checksum,
+            changes: fitting(issued),
+        })
     }
 
     /// All members, each with the node as its source.

@@ -1,8 +1,10 @@
 //! The node, over its parts.
-ghost use Rattle.std.specs.Prelude.{◌≡◌, ◌↔◌, Some, None, Err, length, option_map, IfOk, IfErr, OnOk, OnErr, IsOkUnless};
+ghost use Rattle.std.specs.Prelude.{◌≡◌, ◌≤◌, ◌↔◌, [], Some, None, Err, length, option_map, IfOk, IfErr, OnOk, OnErr, IsOkUnless};
 ghost use Rattle.change_core.specs.Change.{entry_of};
 ghost use Rattle.change_core.specs.Members.{greatest};
 ghost use Rattle.detector_core.specs.Choices.{seeded};
+ghost use Rattle.gossip_core.specs.Dissemination.{most_factor, with_news};
+ghost use Rattle.gossip_core.specs.Pending.{limit_for};
 ghost use Rattle.node_core.specs.declared.configs.ConfigField.{ConfigField};
 ghost use Rattle.node_core.specs.Configs.{bad_field};
 ghost use Rattle.node_core.specs.Edits.{entry_in, membership_of, MayEdit};
@@ -17,8 +19,8 @@ use crate::errors::NodeError;
 use crate::rings::SharedRing;
 use change_core::{Address, Change, Entry, Incarnation, Moment, Sourced};
 use detector_core::{Prober, Timers};
-use gossip_core::Gossip;
-use hash_ring::{PointHash, Ring};
+use gossip_core::{Gossip, GossipError};
+use hash_ring::PointHash;
 use member_core::Members;
 use std::alloc::Global;
 use std::fmt;
@@ -87,18 +89,13 @@ impl<H: PointHash> NodeState<H> {
         if let Some(field) = config.bad_field() {
             return Err(NodeError::BadConfig(field));
         }
+        let ring = SharedRing::of_one(alloc, hash, config.replicas, own, config.weight)?;
         let members = Members::new(alloc, own, incarnation, config.weight, config.max_members)?;
-        let mut ring = Ring::new(alloc, hash, config.replicas)?;
-        ring.reserve_for(own, config.weight)?;
-        ring.add(own, config.weight);
-        ring.settle();
-        let mut gossip = Gossip::new(alloc, config.piggyback)?;
-        let birth = members.own();
-        gossip.put(asserted(&birth))?;
+        let gossip = first_news(alloc, config.piggyback, &members.own())?;
         Ok(NodeState {
             config,
             members,
-            ring: SharedRing::of(alloc, ring),
+            ring,
             gossip,
             timers: Timers::new(alloc),
             prober: Prober::new(alloc, seed, config.helpers, 0),
@@ -172,6 +169,17 @@ impl<H: PointHash> fmt::Debug for NodeState<H> {
             .field("moment", &self.moment)
             .finish_non_exhaustive()
     }
+}
+
+/// What a node passes on at first: its birth. `Memory`: a growth was refused.
+fn first_news(alloc: Global, piggyback: u32, birth: &Change) -> Result<Gossip, GossipError>
+    requires { (1 ≤ piggyback) × (piggyback ≤ most_factor) }
+    ensures news { IfOk result (λ g. g ≡ with_news (record { factor = piggyback; limit = limit_for piggyback 1; pending = [] }) (asserted_by birth.now.address birth.now)) }
+    ensures refusal { IsOkUnless result GossipError.Memory }
+{
+    let mut gossip = Gossip::new(alloc, piggyback)?;
+    gossip.put(asserted(birth))?;
+    Ok(gossip)
 }
 
 /// A change of the node's own entry, said by itself.

@@ -53,11 +53,10 @@ impl<H: PointHash> NodeState<H> {
             return Err(NodeError::StaleProbe);
         };
         if self.can_ask(target) {
-            return self.ask(number, moment);
+            self.ask(number, moment)
+        } else {
+            self.give_up(number, target, moment)
         }
-        let change = self.suspect(target, moment)?;
-        self.prober.give_up(number)?;
-        Ok(NodeLost::Suspect(change))
     }
 
     /// Notes at a moment what a helper said of a target. Where the verdict is that the target is suspect, it is held so.
@@ -130,6 +129,26 @@ impl<H: PointHash> NodeState<H> {
             }
             Lost::NoHelper => unreachable!(),
         }
+    }
+
+    /// Ends a lost probe about whose target nobody can be asked: the target is suspect.
+    fn give_up(
+        &mut self,
+        number: u64,
+        target: Address,
+        moment: Moment,
+    ) -> Result<NodeLost, NodeError>
+        requires other { target ≢ self.old.node.own }
+        requires unasked { unasked_target self.old.node.probing number ≡ Some target }
+        requires nobody { helper_count self.old.node.probing (pingable self.old.node) target ≡ 0 }
+        ensures step { LostStep self.old.node number moment result self.new.node }
+        ensures drawn { LostDraw self.old.node number result self.new.node }
+    {
+        let change = self.suspect(target, moment)?;
+        let Ok(()) = self.prober.give_up(number) else {
+            unreachable!()
+        };
+        Ok(NodeLost::Suspect(change))
     }
 
     /// Whether anyone may be asked about a target.

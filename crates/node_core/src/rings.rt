@@ -1,7 +1,7 @@
 //! The node's ring, and the copy of it that views share.
-ghost use Rattle.std.specs.Prelude.{◌≡◌, ◌≤◌, ◌<◌, length, take, IfOk, OnOk, OnErr, IsOk, IsOkUnless};
+ghost use Rattle.std.specs.Prelude.{◌≡◌, ◌≤◌, ◌<◌, [], ◌∷◌, length, take, IfOk, OnOk, OnErr, IsOk, IsOkUnless};
 ghost use Rattle.std.specs.Arc.{arc_value};
-ghost use Rattle.hash_ring.specs.Points.{owner, owners};
+ghost use Rattle.hash_ring.specs.Points.{IsReplicas, owner, owners};
 ghost use Rattle.hash_ring.specs.RingModel.{ring_of, HasRoom};
 ghost use Rattle.hash_ring.specs.Servers.{with_server, without};
 
@@ -32,15 +32,27 @@ impl<H: PointHash> Model for SharedRing<H> {
 }
 
 impl<H: PointHash> SharedRing<H> {
-    /// A ring of which nothing was handed out.
-    pub(crate) fn of(alloc: Global, ring: Ring<H>) -> Self
-        ensures { result ≡ ring }
+    /// The ring of one server, of which nothing was handed out. `Memory`: a growth was refused.
+    pub(crate) fn of_one(
+        alloc: Global,
+        hash: H,
+        replicas: u32,
+        address: Address,
+        weight: Weight,
+    ) -> Result<Self, RingError>
+        requires { IsReplicas replicas }
+        ensures ring { IfOk result (λ r. r ≡ ring_of hash (H.hash_of hash) replicas (record { address = address; weight = weight } ∷ []) r.room) }
+        ensures refusal { IsOkUnless result RingError.Memory }
     {
-        SharedRing {
+        let mut ring = Ring::new(alloc, hash, replicas)?;
+        ring.reserve_for(address, weight)?;
+        ring.add(address, weight);
+        ring.settle();
+        Ok(SharedRing {
             ring,
             shown: None,
             alloc,
-        }
+        })
     }
 
     /// How many servers there are.

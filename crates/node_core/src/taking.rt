@@ -12,7 +12,7 @@ use hash_ring::PointHash;
 use member_core::Verdict;
 
 /// What a change that was taken did.
-#[derive(Clone, Copy, Debug)]
+#[derive(Clone, Copy)]
 enum Effect {
     /// It is old.
     Unaltered,

@@ -1,10 +1,12 @@
 //! A request that is answered here or by the node that owns its keys, and is tried again on the schedule of an attempt. Each
 //! function calls the link or the handler at most once.
-ghost use Rattle.std.specs.Prelude.{◌≡◌, IfOk, IfErr};
+ghost use Rattle.std.specs.Prelude.{◌≡◌, Result, IfOk, IfErr};
 ghost use Rattle.forward_core.specs.Attempts.{IsOpen};
 ghost use Rattle.forward_core.specs.declared.attempts.Stage.TheVariants.{InFlight};
 ghost use Rattle.locked_node.specs.Passes.{Fits};
-ghost use Rattle.cluster_core.specs.Forwarding.{IsHandled, IsJudged, IsRequest, IsRequestRefusal, LooksUp, Sends, StandsFor, StaysOpen, TriesOnce};
+ghost use Rattle.wire_json.specs.declared.messages.Message.{Message};
+ghost use Rattle.cluster_core.specs.declared.errors.LinkError.{LinkError};
+ghost use Rattle.cluster_core.specs.Forwarding.{IsFailure, IsHandled, IsJudged, IsRequest, IsRequestRefusal, LooksUp, Sends, StandsFor, StaysOpen, TriesOnce};
 ghost use Rattle.cluster_core.specs.Parts.{Does};
 
 use crate::clocks::Clock;
@@ -21,14 +23,14 @@ use std::sync::Wait;
 use wire_json::{Content, Keys, Message, Text};
 
 /// What is asked: its attempt, which holds the keys, and the body.
-#[derive(Debug, Drop)]
+#[derive(Drop)]
 pub(crate) struct Request {
     attempt: Attempt,
     body: Text,
 }
 
 /// What came of one try.
-#[derive(Debug, Drop)]
+#[derive(Drop)]
 pub(crate) enum Tried {
     /// The request was answered by this text.
     Answered(Text),
@@ -78,6 +80,18 @@ fn handle<R: Wait, A: Handler>(
     }
 }
 
+/// What an answer that is a failure comes to: the attempt has failed once more.
+fn try_again(now: Moment, request: Request) -> Result<Tried, ClusterError>
+    requires { request.attempt.stage ≡ InFlight }
+    ensures judged { (answer : Result Message LinkError) → IsFailure answer → IsJudged now request answer result }
+    ensures open { IfOk result StaysOpen }
+    ensures named { IfErr result IsRequestRefusal }
+{
+    let Request { mut attempt, body } = request;
+    attempt.failed(now)?;
+    Ok(Tried::Again(Request { attempt, body }))
+}
+
 /// What an answer comes to: a Reply is the answer of the request, and anything else but want of memory is a failure.
 fn judge(
     now: Moment,
@@ -98,9 +112,7 @@ fn judge(
         Err(LinkError::Memory) => return Err(ClusterError::Memory),
         Err(_) => {}
     }
-    let Request { mut attempt, body } = request;
-    attempt.failed(now)?;
-    Ok(Tried::Again(Request { attempt, body }))
+    try_again(now, request)
 }
 
 /// Sends a request to its owner. What came of it.

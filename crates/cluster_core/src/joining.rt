@@ -3,7 +3,7 @@ ghost use Rattle.std.specs.Prelude.{◌≡◌, ◌+◌, ◌-◌, ◌<◌, ◌^�
 ghost use Rattle.locked_node.specs.Passes.{Fits};
 ghost use Rattle.cluster_core.specs.Asking.{Applied};
 ghost use Rattle.cluster_core.specs.Errors.{IsJoinRefusal};
-ghost use Rattle.cluster_core.specs.Joining.{IsJoin, JoinsHost, JoinsHosts, one_if};
+ghost use Rattle.cluster_core.specs.Joining.{HearsHost, IsJoin, JoinsHost, JoinsHosts, one_if};
 ghost use Rattle.cluster_core.specs.Parts.{Asks, Does};
 
 use crate::asking::apply_to;
@@ -35,6 +35,29 @@ fn apply<R: Wait, H: PointHash, L: Link>(
     let_in(heard)
 }
 
+/// Takes what was heard of a host, if it is its Joined. Whether it is.
+fn take_joined<R: Wait, H: PointHash>(
+    rt: &R,
+    node: &LockedNode<H>,
+    pass: &mut NodePass<H>,
+    now: Moment,
+    heard: &Heard,
+) -> Result<bool, ClusterError>
+    requires { Fits node.now pass.old }
+    ensures did { Does node.now (HearsHost now heard.now) result pass.old pass.new }
+    ensures fits { Fits node.now pass.new }
+    ensures named { IfErr result IsJoinRefusal }
+{
+    match heard {
+        Heard::Answer(joined) => {
+            take(rt, node, pass, now, joined)?;
+            Ok(true)
+        }
+        Heard::Other => Ok(false),
+        Heard::NoMemory => Err(ClusterError::Memory),
+    }
+}
+
 /// Sends a Join to one host and takes its Joined. Whether there was one.
 fn join_host<R: Wait, H: PointHash, L: Link>(
     rt: &R,
@@ -51,14 +74,7 @@ fn join_host<R: Wait, H: PointHash, L: Link>(
     ensures named { IfErr result IsJoinRefusal }
 {
     let heard = apply(rt, alloc, node, pass, link, host)?;
-    match heard {
-        Heard::Answer(joined) => {
-            take(rt, node, pass, now, &joined)?;
-            Ok(true)
-        }
-        Heard::Other => Ok(false),
-        Heard::NoMemory => Err(ClusterError::Memory),
-    }
+    take_joined(rt, node, pass, now, &heard)
 }
 
 fn counted(count: u32, joined: bool) -> u32

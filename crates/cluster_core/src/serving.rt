@@ -2,7 +2,8 @@
 ghost use Rattle.std.specs.Prelude.{◌≡◌, true, false, Ok, IfOk, IfErr};
 ghost use Rattle.node_core.specs.Receiving.{is_answered, is_gossip};
 ghost use Rattle.locked_node.specs.Passes.{Fits};
-ghost use Rattle.cluster_core.specs.Parts.{Does, let_in};
+ghost use Rattle.cluster_core.specs.Asking.{Pinged};
+ghost use Rattle.cluster_core.specs.Parts.{Asks, Does, Next, let_in};
 ghost use Rattle.cluster_core.specs.Serving.{Finds, Forwards, Gossips, IsDecided, IsRouted, PassesOn, Refuses, Reports, Says, Seeks, Serves, TellsRequester, reason_of};
 
 use crate::asking::ping;
@@ -98,20 +99,38 @@ fn seek<R: Wait, H: PointHash>(
     node: &LockedNode<H>,
     pass: &mut NodePass<H>,
     now: Moment,
-    heard: Heard,
+    heard: &Heard,
 ) -> Result<Option<bool>, LockError>
     requires { Fits node.now pass.old }
-    ensures did { Does node.now (Seeks now heard) (let_in result) pass.old pass.new }
+    ensures did { Does node.now (Seeks now heard.now) (let_in result) pass.old pass.new }
     ensures fits { Fits node.now pass.new }
 {
     match heard {
         Heard::Answer(ack) => {
-            let _received = node.receive(rt, pass, &ack, now)?;
+            let _received = node.receive(rt, pass, ack, now)?;
             Ok(Some(true))
         }
         Heard::Other => Ok(Some(false)),
         Heard::NoMemory => Ok(None),
     }
+}
+
+/// Whether a target answers a ping. None where there was no memory to find out.
+fn reach<R: Wait, H: PointHash, L: Link>(
+    rt: &R,
+    alloc: Global,
+    node: &LockedNode<H>,
+    pass: &mut NodePass<H>,
+    link: &mut L,
+    now: Moment,
+    target: Address,
+) -> Result<Option<bool>, LockError>
+    requires { Fits node.now pass.old }
+    ensures did { Does node.now (Next (Asks (Pinged L.may_answer target)) (Seeks now)) (let_in result) pass.old pass.new }
+    ensures fits { Fits node.now pass.new }
+{
+    let heard = ping(rt, alloc, node, pass, link, target)?;
+    seek(rt, node, pass, now, &heard)
 }
 
 /// Whether a target is the node itself or answers its ping. None where there was no memory to find out.
@@ -132,8 +151,7 @@ fn find_out<R: Wait, H: PointHash, L: Link>(
     if own.address == target {
         return Ok(Some(true));
     }
-    let heard = ping(rt, alloc, node, pass, link, target)?;
-    seek(rt, node, pass, now, heard)
+    reach(rt, alloc, node, pass, link, now, target)
 }
 
 /// Tells a requester what was found out about a target.

@@ -11,3 +11,4 @@ pub mod ScriptAnswers
 pub mod Simulated
 pub mod ScriptRuns
 pub mod Subcommands
+pub mod Words

@@ -19,4 +19,7 @@ pub use hashes::{hash_run, hash_text};
 pub use owners::{owner_run, ring_of};
 pub use scripts::{ScriptFault, SimFault, sim_run};
 pub use subcommands::{Subcommand, SubcommandFault, subcommand_run};
-pub use words::{OwnerWords, SimWords};
+pub use words::{
+    AskAnyWords, AskWords, ClusterCommand, MOST_REQUESTS, MembersWords, OwnerWords, ServeWords,
+    SimWords,
+};

@@ -1,9 +1,9 @@
 //! Change lines in, the owners of a key among their members out.
-ghost use Rattle.std.specs.Prelude.{◌≡◌, ◌∷◌, ◌++◌, [], IfOk, IfErr, IfSome, OnOk, IsOkUnless, string_bytes};
+ghost use Rattle.std.specs.Prelude.{◌≡◌, ◌∷◌, ◌++◌, [], take, IfOk, IfErr, IfSome, OnOk, IsOkUnless, string_bytes};
 ghost use Rattle.std.specs.List.{flat_map};
 ghost use Rattle.std.specs.Io.KnownBytes.{Appends};
 ghost use Rattle.change_core.specs.Members.{IsMemberList};
-ghost use Rattle.hash_ring.specs.Points.{IsReplicas};
+ghost use Rattle.hash_ring.specs.Points.{IsReplicas, owners};
 ghost use Rattle.hash_ring.specs.Serving.{servers_of};
 ghost use Rattle.cli_core.specs.Changes.{IsRefused};
 ghost use Rattle.cli_core.specs.Runs.{Leaves, LeavesPart, Writes};
@@ -15,6 +15,7 @@ use crate::outputs::write_text;
 use crate::words::OwnerWords;
 use change_core::{Address, Change};
 use hash_ring::{PointHash, Ring, Server, Sha256Hash, SumHash};
+use member_core::MemberTable;
 use std::alloc::Global;
 use std::io::{Read, Write};
 
@@ -80,6 +81,27 @@ fn write_owners<W: Write>(alloc: Global, writer: &mut W, owners: &[Address]) -> 
     write_text(writer, text.as_str())
 }
 
+/// The first owners of the key among the members of the table that serve, as many as the words say or all there are.
+fn owners_among<H: PointHash>(
+    alloc: Global,
+    hash: H,
+    words: &OwnerWords<'_>,
+    table: &MemberTable,
+) -> Result<Vec<Address>, RunFault>
+    ensures owners { IfOk result (λ named. IsMemberList table.now.members → named.items
+        ≡ take words.now.count (owners (H.hash_of hash) words.now.replicas (servers_of table.now.members) words.now.key.now)) }
+    ensures refusal { IsOkUnless result RunFault.NoMemory }
+{
+    let Ok(members) = table.list() else {
+        return Err(RunFault::NoMemory);
+    };
+    let ring = ring_of(alloc, hash, words.replicas, members.as_slice())?;
+    let Ok(owners) = ring.owners(words.key.as_bytes(), words.count) else {
+        return Err(RunFault::NoMemory);
+    };
+    Ok(owners)
+}
+
 /// `owner_run` under a hash.
 fn owner_run_by<H: PointHash, R: Read, W: Write>(
     alloc: Global,
@@ -97,11 +119,7 @@ fn owner_run_by<H: PointHash, R: Read, W: Write>(
         (R.remaining reader.old) (W.contents writer.old) (W.contents writer.new)) }
 {
     let table = read_members(alloc, reader)?;
-    let members = table.list().map_err(|_| RunFault::NoMemory)?;
-    let ring = ring_of(alloc, hash, words.replicas, members.as_slice())?;
-    let owners = ring
-        .owners(words.key.as_bytes(), words.count)
-        .map_err(|_| RunFault::NoMemory)?;
+    let owners = owners_among(alloc, hash, words, &table)?;
     write_owners(alloc, writer, owners.as_slice())
 }
 

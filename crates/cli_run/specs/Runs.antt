@@ -2,8 +2,8 @@
 use Rattle.std.specs.Prelude.{ℕ, List, Option}
 use Rattle.cli_core.specs.Subcommands.{Finishes, Fails, Reads}
 use Rattle.serve_core.specs.Commands.{CommandFinishes, CommandFails, CommandReads}
-use Rattle.cli_words.specs.declared.faults.Fault.{Fault}
-use Rattle.cli_words.specs.declared.faults.Fault.TheVariants as fault
+use Rattle.cli_run.specs.declared.faults.Fault.{Fault}
+use Rattle.cli_run.specs.declared.faults.Fault.TheVariants as fault
 use Rattle.cli_words.specs.declared.words.Words.{Words}
 use Rattle.cli_words.specs.declared.words.Words.TheVariants.{Lines, Cluster}
 

@@ -2,8 +2,9 @@
 ghost use Rattle.std.specs.Prelude.{IfErr, OnOk};
 ghost use Rattle.cli_run.specs.Runs.{WordsFail, WordsFinish, WordsRead};
 
+use crate::faults::Fault;
 use cli_core::subcommand_run;
-use cli_words::{Fault, Words};
+use cli_words::Words;
 use serve_core::{Host, cluster_command_run};
 use std::alloc::Global;
 use std::io::{Read, Write};

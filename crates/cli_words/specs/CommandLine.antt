@@ -7,7 +7,7 @@ use Rattle.clap.specs.declared.builder.action.ArgAction.TheVariants.{Append, Set
 use Rattle.clap.specs.declared.builder.value_parser.ValueParser.TheVariants.{Unsigned}
 use Rattle.change_core.specs.Numbers.{greatest_number, greatest_weight, most_members}
 use Rattle.hash_ring.specs.Points.{most_replicas}
-use Rattle.serve_core.specs.Words.{most_requests}
+use Rattle.cli_core.specs.Words.{most_requests}
 
 -- a word that has to be given: a text, which may be empty
 abbrev pub word : Text → Rule

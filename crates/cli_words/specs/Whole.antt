@@ -5,11 +5,11 @@ use Rattle.clap.specs.Words.{Row, Text, all_of, first_of}
 use Rattle.change_core.specs.Address.{IsAddress, address_text}
 use Rattle.change_core.specs.Numbers.{IsWeight, greatest_number, most_members}
 use Rattle.hash_ring.specs.Points.{IsReplicas}
-use Rattle.cluster_links.specs.Clusters.{IsCrew}
-use Rattle.serve_core.specs.Words.{IsRequests}
+use Rattle.node_core.specs.Workers.{IsCrew}
+use Rattle.cli_core.specs.Words.{IsRequests}
 use Rattle.cli_words.specs.Faults.{IsRefusalOf}
 use Rattle.cli_words.specs.Words.{IsFlagAt, IsNumberAt}
-use Rattle.cli_words.specs.declared.faults.Fault.{Fault}
+use Rattle.cli_words.specs.declared.faults.WordsFault.{WordsFault}
 
 -- the word of this name is there, and it is one of these numbers
 abbrev pub HasNumber : List Row → Text → (ℕ → Type 0) → Type 0
@@ -82,6 +82,6 @@ HasBadAddress rows =
     IsNoAddressAt rows (codes "address") ⊎ (IsNoAddressAt rows (codes "host") ⊎ IsNoAddressAmong rows (codes "host"))
 
 -- why the words are refused, where they name this subcommand with these words behind it
-abbrev pub IsRefusalBy : Option (Text × List Row) → Fault → Type 0
+abbrev pub IsRefusalBy : Option (Text × List Row) → WordsFault → Type 0
 IsRefusalBy named =
     IsRefusalOf (IfSome named (λ p. IsWhole p.0 p.1)) (IsSomeAnd named (λ p. HasBadAddress p.1))

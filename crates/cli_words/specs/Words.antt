@@ -9,11 +9,11 @@ use Rattle.cli_core.specs.declared.words.OwnerWords.{OwnerWords}
 use Rattle.cli_core.specs.declared.words.SimWords.{SimWords}
 use Rattle.cli_core.specs.declared.subcommands.Subcommand.{Subcommand}
 use Rattle.cli_core.specs.declared.subcommands.Subcommand.TheVariants.{Fold, Hash, Owner, Sim}
-use Rattle.serve_core.specs.declared.commands.ClusterCommand.{ClusterCommand}
-use Rattle.serve_core.specs.declared.commands.ClusterCommand.TheVariants.{Serve, Ask, AskAny, Members, Tell}
-use Rattle.serve_core.specs.declared.words.AskAnyWords.{AskAnyWords}
-use Rattle.serve_core.specs.declared.words.MembersWords.{MembersWords}
-use Rattle.serve_core.specs.declared.words.ServeWords.{ServeWords}
+use Rattle.cli_core.specs.declared.words.ClusterCommand.{ClusterCommand}
+use Rattle.cli_core.specs.declared.words.ClusterCommand.TheVariants.{Serve, Ask, AskAny, Members, Tell}
+use Rattle.cli_core.specs.declared.words.AskAnyWords.{AskAnyWords}
+use Rattle.cli_core.specs.declared.words.MembersWords.{MembersWords}
+use Rattle.cli_core.specs.declared.words.ServeWords.{ServeWords}
 use Rattle.cli_words.specs.declared.words.Words.{Words}
 use Rattle.cli_words.specs.declared.words.Words.TheVariants.{Lines, Cluster}
 

@@ -1,35 +1,37 @@
 //! The words of the commands that speak to nodes.
-ghost use Rattle.std.specs.Prelude.{◌≡◌, ◌<◌, ◌^◌, length, map, codes, IfErr, IfOk, IfSome, IsSome, MatchOption};
+ghost use Rattle.std.specs.Prelude.{◌≡◌, ◌<◌, ◌≤◌, ◌^◌, length, map, codes, IfErr, IfOk, IfSome, IsSome, MatchOption};
 ghost use Rattle.std.specs.List.{Any};
 ghost use Rattle.clap.specs.Words.{first_of};
 ghost use Rattle.change_core.specs.Address.{address_text};
+ghost use Rattle.change_core.specs.Numbers.{IsWeight, greatest_number};
+ghost use Rattle.node_core.specs.Workers.{IsCrew};
 ghost use Rattle.cli_words.specs.Faults.{IsRefusalOf};
-ghost use Rattle.cli_words.specs.Whole.{HasAnyAsked, HasAsked, HasBadAddress, HasNumbers, HasServed, IsNoAddress, IsNoAddressAmong, IsNoAddressAt};
-ghost use Rattle.cli_words.specs.Whole.{IsOfNodes, IsWhole};
-ghost use Rattle.cli_words.specs.Words.{AreAddressesAt, AreMembersAt, AreNumbersAt, IsAddressAt, IsAnyAskedAt, IsAskedAt, IsCommandOf, IsServedAt};
-ghost use Rattle.cli_words.specs.Words.{rows_in};
+ghost use Rattle.cli_words.specs.Whole.{HasAnyAsked, HasAsked, HasBadAddress, HasNumber, HasNumbers, HasServed, IsNoAddress, IsNoAddressAmong};
+ghost use Rattle.cli_words.specs.Whole.{IsNoAddressAt, IsOfNodes, IsWhole};
+ghost use Rattle.cli_words.specs.Words.{AreAddressesAt, AreMembersAt, AreNumbersAt, IsAddressAt, IsAnyAskedAt, IsAskedAt, IsCommandOf, IsNumberAt};
+ghost use Rattle.cli_words.specs.Words.{IsServedAt, rows_in};
 
 use crate::commands::{
     ADDRESS, ANY, BODY, HOST, INCARNATION, KEY, LINES, PERIOD, REQUESTS, SUM, WEIGHT, WORKERS,
 };
-use crate::faults::Fault;
+use crate::faults::WordsFault;
 use crate::words::{absent, flag, number, replicas};
 use change_core::{Address, GREATEST_NUMBER, GREATEST_WEIGHT, Incarnation, Weight};
 use clap::ArgMatches;
-use cluster_links::MOST_WORKERS;
-use serve_core::{AskAnyWords, AskWords, ClusterCommand, MOST_REQUESTS, MembersWords, ServeWords};
+use cli_core::{AskAnyWords, AskWords, ClusterCommand, MOST_REQUESTS, MembersWords, ServeWords};
+use node_core::MOST_WORKERS;
 use std::alloc::Global;
 
 /// An address by its one text. Any other text is `BadAddress`.
-fn address_of(text: &str) -> Result<Address, Fault>
+fn address_of(text: &str) -> Result<Address, WordsFault>
     ensures ok { IfOk result (λ a. text.now ≡ address_text a) }
-    ensures fault { IfErr result (λ f. (f ≡ Fault.BadAddress) × IsNoAddress text.now) }
+    ensures fault { IfErr result (λ f. (f ≡ WordsFault.BadAddress) × IsNoAddress text.now) }
 {
-    Address::parse(text).map_err(|_| Fault::BadAddress)
+    Address::parse(text).map_err(|_| WordsFault::BadAddress)
 }
 
 /// The address that a word is.
-fn address_at(alloc: Global, matches: &ArgMatches<'_>, id: &str) -> Result<Address, Fault>
+fn address_at(alloc: Global, matches: &ArgMatches<'_>, id: &str) -> Result<Address, WordsFault>
     ensures ok { IfOk result (IsAddressAt (rows_in matches.now) id.now) }
     ensures fault { IfErr result (IsRefusalOf (IsSome (first_of id.now (rows_in matches.now))) (IsNoAddressAt (rows_in matches.now) id.now)) }
 {
@@ -40,7 +42,7 @@ fn address_at(alloc: Global, matches: &ArgMatches<'_>, id: &str) -> Result<Addre
 }
 
 /// The addresses that these texts are, in their order. The first text that is none is `BadAddress`.
-fn addresses_of(alloc: Global, texts: &[&str]) -> Result<Vec<Address>, Fault>
+fn addresses_of(alloc: Global, texts: &[&str]) -> Result<Vec<Address>, WordsFault>
     ensures ok { IfOk result (λ hosts. map (λ s. s.now) texts.now ≡ map address_text hosts.items) }
     ensures fault { IfErr result (IsRefusalOf (Unit {0}) (Any IsNoAddress (map (λ s. s.now) texts.now))) }
 {
@@ -53,7 +55,7 @@ fn addresses_of(alloc: Global, texts: &[&str]) -> Result<Vec<Address>, Fault>
 }
 
 /// The hosts that a node asks to let it join.
-fn hosts_at(alloc: Global, matches: &ArgMatches<'_>) -> Result<Vec<Address>, Fault>
+fn hosts_at(alloc: Global, matches: &ArgMatches<'_>) -> Result<Vec<Address>, WordsFault>
     ensures ok { IfOk result (λ hosts. AreAddressesAt (rows_in matches.now) (codes "host") hosts.items) }
     ensures fault { IfErr result (IsRefusalOf (Unit {0}) (IsNoAddressAmong (rows_in matches.now) (codes "host"))) }
 {
@@ -63,8 +65,66 @@ fn hosts_at(alloc: Global, matches: &ArgMatches<'_>) -> Result<Vec<Address>, Fau
     }
 }
 
-/// The words of `serve` with these addresses, exactly where each number is in its range, and so is the number of hosts.
+/// A node's first incarnation, exactly where it is there and in its range.
+fn incarnation(matches: &ArgMatches<'_>) -> Option<Incarnation>
+    ensures given { IfSome result (IsNumberAt (rows_in matches.now) (codes "incarnation")) }
+    ensures taken { HasNumber (rows_in matches.now) (codes "incarnation") (λ n. n ≤ greatest_number) → IsSome result }
+{
+    let incarnation = number(matches, INCARNATION, 0, GREATEST_NUMBER)?;
+    Incarnation::new(incarnation)
+}
+
+/// How many connections are served at a time, exactly where that is there and in its range.
+fn workers(matches: &ArgMatches<'_>) -> Option<u32>
+    ensures range { IfSome result IsCrew }
+    ensures given { IfSome result (IsNumberAt (rows_in matches.now) (codes "workers")) }
+    ensures taken { HasNumber (rows_in matches.now) (codes "workers") IsCrew → IsSome result }
+{
+    let workers = number(matches, WORKERS, 1, u64::from(MOST_WORKERS))?;
+    Some(workers as u32)
+}
+
+/// A node's weight, exactly where it is there and in its range.
+fn weight(matches: &ArgMatches<'_>) -> Option<Weight>
+    ensures given { IfSome result (IsNumberAt (rows_in matches.now) (codes "weight")) }
+    ensures taken { HasNumber (rows_in matches.now) (codes "weight") IsWeight → IsSome result }
+{
+    let weight = number(matches, WEIGHT, 1, u64::from(GREATEST_WEIGHT))?;
+    Weight::new(weight as u8)
+}
+
+/// The words of `serve` with this address and no host, exactly where each number is in its range.
+fn words_without_hosts(
+    alloc: Global,
+    matches: &ArgMatches<'_>,
+    address: Address,
+) -> Option<ServeWords>
+    ensures address { IfSome result (λ words. words.address ≡ address) }
+    ensures numbers { IfSome result (AreNumbersAt (rows_in matches.now)) }
+    ensures taken { HasNumbers (rows_in matches.now) → IsSome result }
+{
+    let incarnation = incarnation(matches)?;
+    let requests = number(matches, REQUESTS, 1, MOST_REQUESTS)?;
+    let workers = workers(matches)?;
+    let period = number(matches, PERIOD, 0, GREATEST_NUMBER)?;
+    let replicas = replicas(matches)?;
+    let weight = weight(matches)?;
+    Some(ServeWords {
+        address,
+        incarnation,
+        requests,
+        workers,
+        period,
+        replicas,
+        weight,
+        sum: flag(matches, SUM),
+        hosts: Vec::new(alloc),
+    })
+}
+
+/// The words of `serve` with this address and these hosts, exactly where each number is in its range, and so is the number of hosts.
 fn serve_words_at(
+    alloc: Global,
     matches: &ArgMatches<'_>,
     address: Address,
     hosts: Vec<Address>,
@@ -74,44 +134,29 @@ fn serve_words_at(
     ensures numbers { IfSome result (AreNumbersAt (rows_in matches.now)) }
     ensures taken { HasNumbers (rows_in matches.now) → length hosts.items < 2 ^ 32 → IsSome result }
 {
-    let incarnation = Incarnation::new(number(matches, INCARNATION, 0, GREATEST_NUMBER)?)?;
-    let requests = number(matches, REQUESTS, 1, MOST_REQUESTS)?;
-    let workers = number(matches, WORKERS, 1, u64::from(MOST_WORKERS))?;
-    let period = number(matches, PERIOD, 0, GREATEST_NUMBER)?;
-    let replicas = replicas(matches)?;
-    let weight = number(matches, WEIGHT, 1, u64::from(GREATEST_WEIGHT))?;
-    let weight = Weight::new(weight as u8)?;
     if hosts.len() > u32::MAX as usize {
         return None;
     }
-    Some(ServeWords {
-        address,
-        incarnation,
-        requests,
-        workers: workers as u32,
-        period,
-        replicas,
-        weight,
-        sum: flag(matches, SUM),
-        hosts,
-    })
+    let mut words = words_without_hosts(alloc, matches, address)?;
+    words.hosts = hosts;
+    Some(words)
 }
 
 /// The words of `serve`.
-fn serve_words(alloc: Global, matches: &ArgMatches<'_>) -> Result<ServeWords, Fault>
+fn serve_words(alloc: Global, matches: &ArgMatches<'_>) -> Result<ServeWords, WordsFault>
     ensures served { IfOk result (IsServedAt (rows_in matches.now)) }
     ensures fault { IfErr result (IsRefusalOf (HasServed (rows_in matches.now)) (HasBadAddress (rows_in matches.now))) }
 {
     let address = address_at(alloc, matches, ADDRESS)?;
     let hosts = hosts_at(alloc, matches)?;
-    match serve_words_at(matches, address, hosts) {
+    match serve_words_at(alloc, matches, address, hosts) {
         Some(words) => Ok(words),
         None => Err(absent(alloc)),
     }
 }
 
 /// The words of `ask`.
-fn ask_words<'a>(alloc: Global, matches: &ArgMatches<'a>) -> Result<AskWords<'a>, Fault>
+fn ask_words<'a>(alloc: Global, matches: &ArgMatches<'a>) -> Result<AskWords<'a>, WordsFault>
     ensures asked { IfOk result (λ words. IsAskedAt (rows_in matches.now) words.address words.key.now words.body.now) }
     ensures fault { IfErr result (IsRefusalOf (HasAsked (rows_in matches.now)) (HasBadAddress (rows_in matches.now))) }
 {
@@ -123,7 +168,7 @@ fn ask_words<'a>(alloc: Global, matches: &ArgMatches<'a>) -> Result<AskWords<'a>
 }
 
 /// The words of `ask --any`.
-fn ask_any_words<'a>(alloc: Global, matches: &ArgMatches<'a>) -> Result<AskAnyWords<'a>, Fault>
+fn ask_any_words<'a>(alloc: Global, matches: &ArgMatches<'a>) -> Result<AskAnyWords<'a>, WordsFault>
     ensures asked { IfOk result (IsAnyAskedAt (rows_in matches.now)) }
     ensures fault { IfErr result (IsRefusalOf (HasAnyAsked (rows_in matches.now)) (HasBadAddress (rows_in matches.now))) }
 {
@@ -141,7 +186,7 @@ fn ask_any_words<'a>(alloc: Global, matches: &ArgMatches<'a>) -> Result<AskAnyWo
 }
 
 /// The words of `members`.
-fn members_words(alloc: Global, matches: &ArgMatches<'_>) -> Result<MembersWords, Fault>
+fn members_words(alloc: Global, matches: &ArgMatches<'_>) -> Result<MembersWords, WordsFault>
     ensures members { IfOk result (AreMembersAt (rows_in matches.now)) }
     ensures fault { IfErr result (IsRefusalOf (IsSome (first_of (codes "host") (rows_in matches.now))) (HasBadAddress (rows_in matches.now))) }
 {
@@ -159,7 +204,7 @@ pub fn cluster_command_of<'a>(
     alloc: Global,
     name: &str,
     matches: &ArgMatches<'a>,
-) -> Result<Option<ClusterCommand<'a>>, Fault>
+) -> Result<Option<ClusterCommand<'a>>, WordsFault>
     ensures command { IfOk result (λ found. MatchOption found (¬ IsOfNodes name.now) (IsCommandOf name.now (rows_in matches.now))) }
     ensures other { ¬ IsOfNodes name.now → result ≡ Ok None }
     ensures fault { IfErr result (IsRefusalOf (IsWhole name.now (rows_in matches.now)) (HasBadAddress (rows_in matches.now))) }

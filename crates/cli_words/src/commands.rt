@@ -1,15 +1,16 @@
 //! The command line, as `clap` reads it.
-ghost use Rattle.std.specs.Prelude.{◌≡◌, IfOk, codes};
-ghost use Rattle.clap.specs.Words.{app_of, rule_of};
+ghost use Rattle.std.specs.Prelude.{◌≡◌, IfOk, IsOkAnd, codes};
+ghost use Rattle.clap.specs.Words.{AddsArg, AddsInTurn, AddsSubcommand, app_of, new_app, rule_of};
+ghost use Rattle.clap.specs.declared.builder.command.Command.{Command as BuiltCommand};
 ghost use Rattle.cli_words.specs.CommandLine as line;
 ghost use Rattle.cli_words.specs.CommandLine.{leaf, ringpop_app};
 
 use change_core::{GREATEST_NUMBER, GREATEST_WEIGHT, MOST_MEMBERS};
 use clap::builder::{ValueParser, ValueRange};
 use clap::{Arg, ArgAction, Command};
-use cluster_links::MOST_WORKERS;
+use cli_core::MOST_REQUESTS;
 use hash_ring::MOST_REPLICAS;
-use serve_core::MOST_REQUESTS;
+use node_core::MOST_WORKERS;
 use std::alloc::{AllocError, Global};
 
 /// How many owners are named.
@@ -118,6 +119,18 @@ fn word<'a>(alloc: Global, name: &'a str, value: &'a str, help: &'a str) -> Arg<
         .help(help)
 }
 
+/// A new subcommand with these options and words, in their order.
+fn leaf_command<'a>(
+    alloc: Global,
+    name: &'a str,
+    about: &'a str,
+    words: Vec<Arg<'a>>,
+) -> Result<Command<'a>, AllocError>
+    ensures { IfOk result (λ c. (bare : BuiltCommand) × (app_of bare ≡ new_app name.entry.now) × AddsInTurn AddsArg bare words.entry.items c) }
+{
+    Command::new(alloc, name).about(about).args(words)
+}
+
 fn fold_command<'a>(alloc: Global) -> Command<'a>
     ensures { app_of result ≡ leaf line.fold_words }
 {
@@ -163,22 +176,23 @@ fn owner_command<'a>(alloc: Global) -> Result<Command<'a>, AllocError>
         "How many owners to print, the first first: 0 to 4096",
     );
     let key = word(alloc, KEY, "KEY", "The key: any text, which may be empty");
-    Command::new(alloc, "owner")
-        .about("Reads change lines; prints the members that own a key, one a line")
-        .arg(count)?
-        .arg(replicas_option(alloc))?
-        .arg(sum_flag(alloc))?
-        .arg(key)
+    let words = vec![in alloc; count, replicas_option(alloc), sum_flag(alloc), key]?;
+    leaf_command(
+        alloc,
+        "owner",
+        "Reads change lines; prints the members that own a key, one a line",
+        words,
+    )
 }
 
 fn sim_command<'a>(alloc: Global) -> Result<Command<'a>, AllocError>
     ensures { IfOk result (λ c. app_of c ≡ leaf line.sim_words) }
 {
+    let words = vec![in alloc; replicas_option(alloc), sum_flag(alloc)]?;
     Command::new(alloc, "sim")
         .about("Reads a script of nodes in one process, a command a line; answers each with a line")
         .after_help(BELOW_SIM)
-        .arg(replicas_option(alloc))?
-        .arg(sum_flag(alloc))
+        .args(words)
 }
 
 /// How many connections are served at a time.
@@ -259,19 +273,23 @@ fn serve_command<'a>(alloc: Global) -> Result<Command<'a>, AllocError>
         "ADDRESS",
         "Where the node listens, and how the others name it: an IPv4 address and a port",
     );
-    Command::new(alloc, "serve")
-        .about(
-            "Runs a node: joins the hosts, if any, serves so many connections, and ends; a request is answered by the node's address and the request",
-        )
-        .arg(workers_option(alloc))?
-        .arg(period_option(alloc))?
-        .arg(replicas_option(alloc))?
-        .arg(sum_flag(alloc))?
-        .arg(weight_option(alloc))?
-        .arg(address)?
-        .arg(incarnation_word(alloc))?
-        .arg(requests_word(alloc))?
-        .arg(hosts_word(alloc))
+    let words = vec![in alloc;
+        workers_option(alloc),
+        period_option(alloc),
+        replicas_option(alloc),
+        sum_flag(alloc),
+        weight_option(alloc),
+        address,
+        incarnation_word(alloc),
+        requests_word(alloc),
+        hosts_word(alloc),
+    ]?;
+    leaf_command(
+        alloc,
+        "serve",
+        "Runs a node: joins the hosts, if any, serves so many connections, and ends; a request is answered by the node's address and the request",
+        words,
+    )
 }
 
 /// Whether the owner of the key is asked, whichever node that is.
@@ -284,7 +302,14 @@ fn any_flag<'a>(alloc: Global) -> Arg<'a>
         .help("Take ADDRESS for any node of the cluster, and ask the owner of the key")
 }
 
-fn ask_command<'a>(alloc: Global) -> Result<Command<'a>, AllocError>
+/// `ask`, whose options for the owner are these.
+fn ask_command_with<'a>(
+    alloc: Global,
+    replicas: Arg<'a>,
+    sum: Arg<'a>,
+) -> Result<Command<'a>, AllocError>
+    requires replicas { rule_of replicas ≡ line.with_another line.replicas }
+    requires sum { rule_of sum ≡ line.with_another line.sum }
     ensures { IfOk result (λ c. app_of c ≡ leaf line.ask_words) }
 {
     let address = word(
@@ -300,14 +325,21 @@ fn ask_command<'a>(alloc: Global) -> Result<Command<'a>, AllocError>
         "BODY",
         "The request: any text, which may be empty",
     );
-    Command::new(alloc, "ask")
-        .about("Sends a request to a running node; prints its reply")
-        .arg(any_flag(alloc))?
-        .arg(replicas_option(alloc).requires_arg(ANY)?)?
-        .arg(sum_flag(alloc).requires_arg(ANY)?)?
-        .arg(address)?
-        .arg(key)?
-        .arg(body)
+    let words = vec![in alloc; any_flag(alloc), replicas, sum, address, key, body]?;
+    leaf_command(
+        alloc,
+        "ask",
+        "Sends a request to a running node; prints its reply",
+        words,
+    )
+}
+
+fn ask_command<'a>(alloc: Global) -> Result<Command<'a>, AllocError>
+    ensures { IfOk result (λ c. app_of c ≡ leaf line.ask_words) }
+{
+    let replicas = replicas_option(alloc).requires_arg(ANY)?;
+    let sum = sum_flag(alloc).requires_arg(ANY)?;
+    ask_command_with(alloc, replicas, sum)
 }
 
 /// A running node.
@@ -329,10 +361,13 @@ fn members_command<'a>(alloc: Global) -> Result<Command<'a>, AllocError>
         .long(LINES)
         .action(ArgAction::SetTrue)
         .help("Print a change line for each member, as owner and fold read them");
-    Command::new(alloc, "members")
-        .about("Prints the members that a running node holds, and their digest")
-        .arg(lines)?
-        .arg(host_word(alloc))
+    let words = vec![in alloc; lines, host_word(alloc)]?;
+    leaf_command(
+        alloc,
+        "members",
+        "Prints the members that a running node holds, and their digest",
+        words,
+    )
 }
 
 fn tell_command<'a>(alloc: Global) -> Result<Command<'a>, AllocError>
@@ -345,23 +380,33 @@ fn tell_command<'a>(alloc: Global) -> Result<Command<'a>, AllocError>
         .arg(host_word(alloc))
 }
 
+/// The command with one subcommand more, where there was memory for both.
+fn with_subcommand<'a>(
+    command: Result<Command<'a>, AllocError>,
+    subcommand: Result<Command<'a>, AllocError>,
+) -> Result<Command<'a>, AllocError>
+    ensures { IfOk result (λ c. IsOkAnd command.entry (λ x. IsOkAnd subcommand.entry (λ y. AddsSubcommand x y c))) }
+{
+    command?.subcommand(subcommand?)
+}
+
 /// The subcommands and their words, as the table of the command line has them.
 pub fn ringpop_command<'a>(alloc: Global) -> Result<Command<'a>, AllocError>
     ensures { IfOk result (λ c. app_of c ≡ ringpop_app) }
 {
-    Command::new(alloc, "ringpop")
+    let command = Command::new(alloc, "ringpop")
         .bin_name("ringpop")?
         .version("0.1.0")
         .about(
             "The members of a cluster and the owners of its keys, from change lines on standard input or from its running nodes; and a node that serves. With no command it is fold.",
         )
         .after_help(BELOW)
-        .subcommand(fold_command(alloc))?
-        .subcommand(hash_command(alloc)?)?
-        .subcommand(owner_command(alloc)?)?
-        .subcommand(sim_command(alloc)?)?
-        .subcommand(serve_command(alloc)?)?
-        .subcommand(ask_command(alloc)?)?
-        .subcommand(members_command(alloc)?)?
-        .subcommand(tell_command(alloc)?)
+        .subcommand(fold_command(alloc));
+    let command = with_subcommand(command, hash_command(alloc));
+    let command = with_subcommand(command, owner_command(alloc));
+    let command = with_subcommand(command, sim_command(alloc));
+    let command = with_subcommand(command, serve_command(alloc));
+    let command = with_subcommand(command, ask_command(alloc));
+    let command = with_subcommand(command, members_command(alloc));
+    with_subcommand(command, tell_command(alloc))
 }

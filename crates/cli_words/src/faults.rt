@@ -1,29 +1,23 @@
-//! Why the program ends before its end.
+//! Why the words are refused.
 ghost use Rattle.std.specs.Prelude.{◌≡◌};
-ghost use Rattle.cli_words.specs.declared.faults.Fault.TheVariants.{Cluster, NoMemory, Subcommand};
+ghost use Rattle.cli_words.specs.declared.faults.WordsFault.TheVariants.{NoMemory};
 
 use clap::error::ErrorKind;
-use cli_core::SubcommandFault;
-use serve_core::ClusterFault;
 use std::alloc::{AllocError, AllocFailed};
 use std::fmt;
 
-/// Why the program ended before its end. Its `Display` is what standard error gets.
+/// Why the words of the command line come to nothing. Its `Display` is what standard error gets.
 #[derive(Debug, Drop)]
-pub enum Fault {
+pub enum WordsFault {
     /// The words are refused, or ask for help: `clap`'s own text.
     Usage(clap::Error),
     /// A word that is to be an address is none.
     BadAddress,
     /// A growth was refused before the subcommand began.
     NoMemory,
-    /// The subcommand ended early.
-    Subcommand(SubcommandFault),
-    /// The command that speaks to nodes ended early.
-    Cluster(ClusterFault),
 }
 
-impl Fault {
+impl WordsFault {
     ghost use Rattle.cli_words.specs.Faults.{status_of};
 
     /// The exit status: 2 where the words are refused, else 1.
@@ -31,65 +25,47 @@ impl Fault {
         ensures { result ≡ status_of self.now }
     {
         match self {
-            Fault::Usage(_) | Fault::BadAddress => 2,
-            Fault::NoMemory | Fault::Subcommand(_) | Fault::Cluster(_) => 1,
+            WordsFault::Usage(_) | WordsFault::BadAddress => 2,
+            WordsFault::NoMemory => 1,
         }
     }
 }
 
-impl fmt::Display for Fault {
+impl fmt::Display for WordsFault {
     fn fmt<W: fmt::Write>(&self, f: &mut fmt::Formatter<W>) -> fmt::Result {
         match self {
-            Fault::Usage(error) => write!(f, "{error}"),
-            Fault::BadAddress => writeln!(f, "ringpop: bad address"),
-            Fault::NoMemory => writeln!(f, "ringpop: out of memory"),
-            Fault::Subcommand(fault) => writeln!(f, "ringpop: {fault}"),
-            Fault::Cluster(fault) => writeln!(f, "ringpop: {fault}"),
+            WordsFault::Usage(error) => write!(f, "{error}"),
+            WordsFault::BadAddress => writeln!(f, "ringpop: bad address"),
+            WordsFault::NoMemory => writeln!(f, "ringpop: out of memory"),
         }
     }
 }
 
-impl From<SubcommandFault> for Fault {
-    ghost from_gives = { λ e f. f ≡ Subcommand e };
-
-    fn from(fault: SubcommandFault) -> Fault {
-        Fault::Subcommand(fault)
-    }
-}
-
-impl From<ClusterFault> for Fault {
-    ghost from_gives = { λ e f. f ≡ Cluster e };
-
-    fn from(fault: ClusterFault) -> Fault {
-        Fault::Cluster(fault)
-    }
-}
-
-impl From<AllocError> for Fault {
+impl From<AllocError> for WordsFault {
     ghost from_gives = { λ _ f. f ≡ NoMemory };
 
-    fn from(_refused: AllocError) -> Fault {
-        Fault::NoMemory
+    fn from(_refused: AllocError) -> WordsFault {
+        WordsFault::NoMemory
     }
 }
 
-impl<T: Drop> From<AllocFailed<T>> for Fault {
+impl<T: Drop> From<AllocFailed<T>> for WordsFault {
     ghost from_gives = { λ _ f. f ≡ NoMemory };
 
-    fn from(_refused: AllocFailed<T>) -> Fault {
-        Fault::NoMemory
+    fn from(_refused: AllocFailed<T>) -> WordsFault {
+        WordsFault::NoMemory
     }
 }
 
-impl From<clap::Error> for Fault {
+impl From<clap::Error> for WordsFault {
     ghost use Rattle.cli_words.specs.Faults.{fault_of_words};
 
     ghost from_gives = { λ e f. f ≡ fault_of_words e };
 
-    fn from(error: clap::Error) -> Fault {
+    fn from(error: clap::Error) -> WordsFault {
         match error.kind() {
-            ErrorKind::OutOfMemory => Fault::NoMemory,
-            _ => Fault::Usage(error),
+            ErrorKind::OutOfMemory => WordsFault::NoMemory,
+            _ => WordsFault::Usage(error),
         }
     }
 }

@@ -6,5 +6,5 @@ mod commands;
 mod faults;
 mod words;
 
-pub use faults::Fault;
+pub use faults::WordsFault;
 pub use words::{Words, read_words, words_not_text};

@@ -4,19 +4,18 @@ ghost use Rattle.clap.specs.Values.{kind_of};
 ghost use Rattle.clap.specs.Words.{subcommand_of, subcommand_rows_of, takes};
 ghost use Rattle.hash_ring.specs.Points.{IsReplicas};
 ghost use Rattle.cli_words.specs.CommandLine.{ringpop_app};
-ghost use Rattle.cli_words.specs.Faults.{IsRefusalOf, IsUsageFault, IsWordsFault};
+ghost use Rattle.cli_words.specs.Faults.{IsRefusalOf, IsUsageFault};
 ghost use Rattle.cli_words.specs.Whole.{HasBadAddress, HasNumber, HasOwned, IsOfLines, IsRefusalBy, IsWhole};
 ghost use Rattle.cli_words.specs.Words.{AreAskedBy, AreLinesOf, AreWordsOf, IsFlagAt, IsNumberAt, IsOwnedAt, IsScriptAt, rows_in};
 
 use crate::cluster_words::cluster_command_of;
 use crate::commands::{COUNT, KEY, REPLICAS, SUM, TEXT, ringpop_command};
-use crate::faults::Fault;
+use crate::faults::WordsFault;
 use change_core::MOST_MEMBERS;
 use clap::ArgMatches;
 use clap::error::ErrorKind;
-use cli_core::{OwnerWords, SimWords, Subcommand};
+use cli_core::{ClusterCommand, OwnerWords, SimWords, Subcommand};
 use hash_ring::MOST_REPLICAS;
-use serve_core::ClusterCommand;
 use std::alloc::{AllocError, Global};
 use std::convert::AsStr;
 
@@ -109,7 +108,11 @@ fn lines_of<'a>(name: &str, matches: &ArgMatches<'a>) -> Option<Subcommand<'a>>
 
 /// What the subcommand of this name is to do. It refuses words as `clap` does only where there is no such subcommand, or one of its
 /// words is absent or not in its range, or there are 2^32 hosts, and by `BadAddress` only where a word that is to be an address is none.
-fn words_at<'a>(alloc: Global, name: &str, matches: &ArgMatches<'a>) -> Result<Words<'a>, Fault>
+fn words_at<'a>(
+    alloc: Global,
+    name: &str,
+    matches: &ArgMatches<'a>,
+) -> Result<Words<'a>, WordsFault>
     ensures words { IfOk result (AreWordsOf name.now (rows_in matches.now)) }
     ensures fault { IfErr result (IsRefusalOf (IsWhole name.now (rows_in matches.now)) (HasBadAddress (rows_in matches.now))) }
 {
@@ -123,7 +126,7 @@ fn words_at<'a>(alloc: Global, name: &str, matches: &ArgMatches<'a>) -> Result<W
 }
 
 /// What the words that `clap` took ask for, by the subcommand that they name; `words_at` says when they are refused.
-fn words_of<'a>(alloc: Global, matches: &ArgMatches<'a>) -> Result<Words<'a>, Fault>
+fn words_of<'a>(alloc: Global, matches: &ArgMatches<'a>) -> Result<Words<'a>, WordsFault>
     ensures alone { subcommand_rows_of matches.now ≡ None → result ≡ Ok (Words.Lines Subcommand.Fold) }
     ensures asked { IfOk result (AreAskedBy (subcommand_rows_of matches.now)) }
     ensures fault { IfErr result (IsRefusalBy (subcommand_rows_of matches.now)) }
@@ -136,14 +139,13 @@ fn words_of<'a>(alloc: Global, matches: &ArgMatches<'a>) -> Result<Words<'a>, Fa
 
 /// Reads the words, of which the first is the program's name. With no other they ask for `fold`; else for what the subcommand does that
 /// `clap`'s definitions find in them by the table of the command line, `ringpop_app`, with the words behind it. What `clap` refuses, a
-/// call for help among it, is a `Fault::Usage`; then the first address that is none is `Fault::BadAddress`. Each number in the words is
-/// in its range.
-pub fn read_words<'a, S: AsStr>(alloc: Global, words: &'a [S]) -> Result<Words<'a>, Fault>
+/// call for help among it, is a `WordsFault::Usage`; then the first address that is none is `WordsFault::BadAddress`. Each number in the
+/// words is in its range.
+pub fn read_words<'a, S: AsStr>(alloc: Global, words: &'a [S]) -> Result<Words<'a>, WordsFault>
     ensures alone { length words.now ≤ 1 → result ≡ Ok (Words.Lines Subcommand.Fold) }
     ensures asked { 2 ≤ length words.now → IfOk result (AreAskedBy (subcommand_of ringpop_app (map S.text words.now))) }
     ensures taken { takes ringpop_app (map S.text words.now) ≡ true → IfErr result (IsRefusalBy (subcommand_of ringpop_app (map S.text words.now))) }
-    ensures address { result ≡ Err Fault.BadAddress → IsSomeAnd (subcommand_of ringpop_app (map S.text words.now)) (λ p. HasBadAddress p.1) }
-    ensures fault { IfErr result IsWordsFault }
+    ensures address { result ≡ Err WordsFault.BadAddress → IsSomeAnd (subcommand_of ringpop_app (map S.text words.now)) (λ p. HasBadAddress p.1) }
 {
     if words.len() < 2 {
         return Ok(Words::Lines(Subcommand::Fold));
@@ -153,19 +155,19 @@ pub fn read_words<'a, S: AsStr>(alloc: Global, words: &'a [S]) -> Result<Words<'
 }
 
 /// The refusal of words in which one is absent or not in its range. `clap` has tested them, so that none is refused so.
-pub fn absent(alloc: Global) -> Fault
+pub fn absent(alloc: Global) -> WordsFault
     ensures { IsUsageFault result }
 {
     refusal(alloc, "a word is absent or not in its range")
 }
 
 /// A refusal of the words in the form of `clap`'s, or a want of memory.
-fn refusal(alloc: Global, text: &str) -> Fault
+fn refusal(alloc: Global, text: &str) -> WordsFault
     ensures { IsUsageFault result }
 {
     match invalid(alloc, text) {
-        Ok(error) => Fault::from(error),
-        Err(refused) => Fault::from(refused),
+        Ok(error) => WordsFault::from(error),
+        Err(refused) => WordsFault::from(refused),
     }
 }
 
@@ -177,7 +179,7 @@ fn invalid(alloc: Global, text: &str) -> Result<clap::Error, AllocError>
 }
 
 /// The refusal of words that are not UTF-8, in the form of `clap`'s.
-pub fn words_not_text(alloc: Global) -> Fault
+pub fn words_not_text(alloc: Global) -> WordsFault
     ensures { IsUsageFault result }
 {
     refusal(alloc, "the words are not UTF-8")

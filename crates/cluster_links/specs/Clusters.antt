@@ -3,6 +3,7 @@ use Rattle.std.specs.Prelude.{◌≡◌, ◌≢◌, ℕ, ◌+◌, ◌-◌, ◌^�
 use Rattle.std.specs.Arc.{arc_value}
 use Rattle.std.specs.List.{AllZip, range_with_len}
 use Rattle.std.specs.declared.thread.PromisedHandle.{PromisedHandle}
+use Rattle.node_core.specs.Workers.{IsCrew}
 use Rattle.change_core.specs.declared.addresses.Address.{Address}
 use Rattle.node_core.specs.Node.{Seen, own_change}
 use Rattle.turn_lock.specs.Passes.{number_of}
@@ -23,10 +24,6 @@ use Rattle.cluster_core.specs.Rounds.{IsRound}
 -- no node has the address
 abbrev pub HasNoPost : List Post → Address → Type 0
 HasNoPost posts a = All (λ (p : Post). p.address ≢ a) posts
-
--- so many workers a node may have
-abbrev pub IsCrew : ℕ → Type 0
-IsCrew workers = (0 < workers) × (workers ≤ 16)
 
 module _ {H : Type 0} where
   -- whose a node is, as it holds itself

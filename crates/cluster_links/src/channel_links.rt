@@ -1,15 +1,15 @@
 //! A link over channels, between nodes in one process.
-ghost use Rattle.std.specs.Prelude.{◌≡◌, ◌≢◌, ◌<◌, ◌-◌, ◌^◌, Err, IfErr, IfNone, IfSome, IsSome};
+ghost use Rattle.std.specs.Prelude.{◌≡◌, ◌≢◌, ◌<◌, ◌-◌, ◌^◌, Err, IfErr, IfNone, IfSome, IsOkUnless, IsSome};
 ghost use Rattle.cluster_links.specs.Channels.{IsChannelFault, failures_of, reached_by};
 ghost use Rattle.cluster_links.specs.Clusters.{HasNoPost};
 
 use crate::copies::copy_message;
 use change_core::Address;
 use cluster_core::{Link, LinkError};
-use crossbeam_channel::{SendError, Sender, bounded};
+use crossbeam_channel::{Receiver, SendError, Sender, bounded};
 use std::alloc::Global;
 use std::sync::{Arc, Wait};
-use wire_json::Message;
+use wire_json::{Message, WireError};
 
 /// What a worker of a node gets.
 #[derive(Drop)]
@@ -41,6 +41,26 @@ pub(crate) fn post_of(posts: &[Post], address: Address) -> Option<&Post>
     None
 }
 
+/// Sends an item. `Memory` where a growth was refused, `Closed` where nobody is left to receive it.
+pub(crate) fn put<R: Wait, T: Drop>(rt: &R, to: &Sender<T>, item: T) -> Result<(), LinkError>
+    ensures only { IfErr result IsChannelFault }
+{
+    match to.send(rt, item) {
+        Ok(()) => Ok(()),
+        Err(SendError::OutOfMemory(_)) => Err(LinkError::Memory),
+        Err(SendError::Disconnected(_)) => Err(LinkError::Closed),
+    }
+}
+
+/// A job with a copy of the message, and where its answer comes out.
+fn job_for(alloc: Global, message: &Message) -> Result<(Job, Receiver<Message>), WireError>
+    ensures err { IsOkUnless result WireError.Memory }
+{
+    let copy = copy_message(alloc, message)?;
+    let (to, from) = bounded(alloc, 1)?;
+    Ok((Job::Serve(copy, to), from))
+}
+
 /// Posts a message, and waits for the answer.
 fn exchange<R: Wait>(
     rt: &R,
@@ -50,17 +70,10 @@ fn exchange<R: Wait>(
 ) -> Result<Message, LinkError>
     ensures only { IfErr result IsChannelFault }
 {
-    let Ok(copy) = copy_message(alloc, message) else {
+    let Ok((job, from)) = job_for(alloc, message) else {
         return Err(LinkError::Memory);
     };
-    let Ok((to, from)) = bounded(alloc, 1) else {
-        return Err(LinkError::Memory);
-    };
-    match post.jobs.send(rt, Job::Serve(copy, to)) {
-        Ok(()) => {}
-        Err(SendError::OutOfMemory(_)) => return Err(LinkError::Memory),
-        Err(_) => return Err(LinkError::Closed),
-    }
+    put(rt, &post.jobs, job)?;
     match from.recv(rt) {
         Ok(answer) => Ok(answer),
         Err(_) => Err(LinkError::Closed),

@@ -1,23 +1,24 @@
 //! Nodes of one process, each served by workers of its own, that talk over channels.
-ghost use Rattle.std.specs.Prelude.{◌≡◌, ◌≢◌, ◌⊎◌, ◌<◌, ◌≤◌, ◌+◌, ◌++◌, ◌∷◌, [], map, slice_index_or, IsTrue, IsFalse, IfOk, IfErr, IfNone, IfSome, Err, All, length};
+ghost use Rattle.std.specs.Prelude.{◌≡◌, ◌≢◌, ◌⊎◌, ◌<◌, ◌≤◌, ◌+◌, ◌++◌, ◌∷◌, [], map, slice_index_or, IsTrue, IsFalse, IfOk, IfErr, IfNone, IfSome, IsOkUnless, Err, All, length};
 ghost use Rattle.std.specs.List.{AllZip};
 ghost use Rattle.std.specs.Arc.{arc_value};
 ghost use Rattle.turn_lock.specs.Passes.{IsSamePass};
+ghost use Rattle.node_core.specs.Workers.{IsCrew};
 ghost use Rattle.locked_node.specs.Passes.{Fits, opening_of, passes_of};
 ghost use Rattle.cluster_links.specs.Channels.{any_answer, IsChannelFault, failures_of, reached_by};
-ghost use Rattle.cluster_links.specs.Clusters.{address_in, AreAll, AreApart, AreFresh, given_to, HasNoNode, HasNoPost, HasRound, IsCrew, IsGivenUp, IsNotStarted, IsOfSeat, IsRoundBy, IsSeat, IsWhole, NoneHas, posts_of, Seats, IsStarted};
+ghost use Rattle.cluster_links.specs.Clusters.{address_in, AreAll, AreApart, AreFresh, given_to, HasNoNode, HasNoPost, HasRound, IsGivenUp, IsNotStarted, IsOfSeat, IsRoundBy, IsSeat, IsWhole, NoneHas, posts_of, Seats, IsStarted};
 ghost use Rattle.cluster_core.specs.Errors.{IsRoundRefusal};
 ghost use Rattle.cluster_core.specs.Parts.{Does, let_in};
 ghost use Rattle.cluster_core.specs.Serving.{Serves};
 
-use crate::channel_links::{ChannelLink, Job, Post, ask_one, post_of};
+use crate::channel_links::{ChannelLink, Job, Post, ask_one, post_of, put};
 use crate::seats::{Returned, Seat};
 use change_core::{Address, Moment};
 use cluster_core::{ClusterError, Handler, LinkError, Round, gossip_round, serve_one};
-use crossbeam_channel::{Receiver, SendError, unbounded};
+use crossbeam_channel::{Receiver, Sender, unbounded};
 use hash_ring::PointHash;
 use locked_node::{LockedNode, NodePass};
-use node_core::NodeState;
+use node_core::{MOST_WORKERS, NodeState};
 use std::alloc::{AllocError, AllocFailed, Global};
 use std::fmt;
 use std::snapshot::Snapshot;
@@ -26,9 +27,6 @@ use std::thread::{self, PromisedHandle, Threads};
 use thiserror::Error;
 use turn_lock::LockError;
 use wire_json::Message;
-
-/// How many workers a node has at most.
-pub const MOST_WORKERS: u32 = 16;
 
 /// Why a cluster was not started.
 #[derive(Drop, Error)]
@@ -104,6 +102,49 @@ fn answer_one<R: Wait, H: PointHash, A: Handler>(
     serve_one(rt, alloc, node, pass, link, handler, beginning(), message)
 }
 
+/// Answers a message, and sends the answer where somebody waits for it.
+fn answer_to<R: Wait, H: PointHash, A: Handler>(
+    rt: &R,
+    alloc: Global,
+    node: &LockedNode<H>,
+    pass: &mut NodePass<H>,
+    link: &mut ChannelLink,
+    handler: &A,
+    message: &Message,
+    to: &Sender<Message>,
+)
+    requires { Fits node.now pass.old }
+    ensures fits { Fits node.now pass.new }
+    ensures same { IsSamePass pass.old pass.new }
+{
+    if let Ok(answer) = answer_one(rt, alloc, node, pass, link, handler, message) {
+        let _sent = put(rt, to, answer);
+    }
+}
+
+/// Answers the next message that comes. Where there is none to come, or the worker is to end, it is `false`.
+fn serve_next<R: Wait, H: PointHash, A: Handler>(
+    rt: &R,
+    alloc: Global,
+    node: &LockedNode<H>,
+    pass: &mut NodePass<H>,
+    link: &mut ChannelLink,
+    handler: &A,
+    jobs: &Receiver<Job>,
+) -> bool
+    requires { Fits node.now pass.old }
+    ensures fits { Fits node.now pass.new }
+    ensures same { IsSamePass pass.old pass.new }
+{
+    match &jobs.recv(rt) {
+        Ok(Job::Serve(message, to)) => {
+            answer_to(rt, alloc, node, pass, link, handler, message, to);
+            true
+        }
+        Ok(Job::Stop) | Err(_) => false,
+    }
+}
+
 /// Answers what comes until there is nothing more to come, and gives the pass back.
 fn work<R: Wait + Copy, H: PointHash, A: Handler + Drop>(
     rt: R,
@@ -119,14 +160,8 @@ fn work<R: Wait + Copy, H: PointHash, A: Handler + Drop>(
     ensures same { IsSamePass pass result }
 {
     'jobs: for _ in rt.forever() {
-        let Ok(Job::Serve(message, to)) = jobs.recv(&rt) else {
+        if !serve_next(&rt, alloc, &*node, &mut pass, &mut link, &*handler, &jobs) {
             break;
-        };
-        let answer = answer_one(
-            &rt, alloc, &*node, &mut pass, &mut link, &*handler, &message,
-        );
-        if let Ok(answer) = answer {
-            let _sent = to.send(&rt, answer);
         }
     }
     pass
@@ -219,18 +254,23 @@ pub fn share<H: PointHash>(
     Ok((locked, pass, passes))
 }
 
-/// Tells so many workers that they are to end. Where there is no memory to tell them it is tried again.
+/// Tells one worker that it is to end. Where there is no memory to tell it, it is tried again.
+fn dismiss_one<R: Wait>(rt: &R, post: &Post) {
+    for _ in rt.forever() {
+        if !matches!(put(rt, &post.jobs, Job::Stop), Err(LinkError::Memory)) {
+            break;
+        }
+        thread::yield_now();
+    }
+}
+
+/// Tells so many workers that they are to end.
 fn dismiss<R: Wait>(rt: &R, posts: &[Post], address: Address, workers: usize) {
     let Some(post) = post_of(posts, address) else {
         return;
     };
     for _ in 0..workers {
-        for _ in rt.forever() {
-            match post.jobs.send(rt, Job::Stop) {
-                Err(SendError::OutOfMemory(_)) => thread::yield_now(),
-                _ => break,
-            }
-        }
+        dismiss_one(rt, post);
     }
 }
 
@@ -376,6 +416,24 @@ impl<H: PointHash> Seat<H> {
     }
 }
 
+/// Puts an item after the others. `Memory` is the only refusal.
+fn append<T: Drop>(items: &mut Vec<T>, item: T) -> Result<(), StopError>
+    ensures put { IfOk result (λ _. items.new.items ≡ items.old.items ++ item ∷ []) }
+    ensures err { IsOkUnless result StopError.Memory }
+{
+    let Ok(()) = items.push(item) else {
+        return Err(StopError::Memory);
+    };
+    Ok(())
+}
+
+/// Tells the workers of the seats that they are to end.
+fn dismiss_all<R: Wait, H: PointHash>(rt: &R, posts: &[Post], seats: &[Seat<H>]) {
+    for seat in seats {
+        dismiss(rt, posts, seat.address, seat.workers.len());
+    }
+}
+
 /// Ends the workers of the seats, each after the messages that it has, and gives the nodes back in the order of the seats.
 fn end_all<R: Threads + Wait, H: PointHash>(
     rt: &R,
@@ -387,17 +445,13 @@ fn end_all<R: Threads + Wait, H: PointHash>(
     ensures closed { IfOk result (λ v. AllZip (IsOfSeat H.hash_of) seats.items v.items) }
     ensures empty { length seats.items ≡ 0 → result ≢ Err StopError.StillHeld }
 {
-    'told: for seat in &seats {
-        dismiss(rt, posts, seat.address, seat.workers.len());
-    }
+    dismiss_all(rt, posts, &seats);
     let Ok(mut nodes) = Vec::with_capacity(alloc, seats.len()) else {
         return Err(StopError::Memory);
     };
     'closed: for seat in seats {
         let node = seat.close(rt)?;
-        if nodes.push(node).is_err() {
-            return Err(StopError::Memory);
-        }
+        append(&mut nodes, node)?;
     }
     Ok(nodes)
 }

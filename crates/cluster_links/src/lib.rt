@@ -9,6 +9,7 @@ mod seats;
 mod tcp_links;
 
 pub use channel_links::ChannelLink;
-pub use clusters::{Cluster, MOST_WORKERS, StartError, StopError, share};
+pub use clusters::{Cluster, StartError, StopError, share};
 pub use deadlines::{Deadline, Timed};
+pub use node_core::MOST_WORKERS;
 pub use tcp_links::{Limits, TcpLink, send_line, socket_address};

@@ -1,8 +1,8 @@
 //! The members of a cluster and the owners of its keys, from a command line.
 #![tactic(auto)]
 
-use cli_run::words_run;
-use cli_words::{Fault, read_words, words_not_text};
+use cli_run::{Fault, words_run};
+use cli_words::{WordsFault, read_words, words_not_text};
 use serve_core::Host;
 use std::alloc::{Alloc, Global};
 use std::env::Env;
@@ -12,10 +12,10 @@ use std::process::ExitCode;
 use std::{env, io};
 
 /// The words that the program was given, its name first.
-fn given_words(rt: &(impl Env + Alloc<A = Global>)) -> Result<Vec<String>, Fault> {
+fn given_words(rt: &(impl Env + Alloc<A = Global>)) -> Result<Vec<String>, WordsFault> {
     let given = match env::args(rt) {
         Ok(given) => given,
-        Err(error) if error.kind() == ErrorKind::OutOfMemory => return Err(Fault::NoMemory),
+        Err(error) if error.kind() == ErrorKind::OutOfMemory => return Err(WordsFault::NoMemory),
         Err(_) => return Err(words_not_text(rt.alloc())),
     };
     let mut words = Vec::with_capacity(rt.alloc(), given.len())?;
@@ -37,8 +37,8 @@ fn run<
     let alloc = rt.alloc();
     let given = given_words(rt)?;
     let words = read_words(alloc, given.as_slice())?;
-    let mut reader = BufReader::new(alloc, rt.reader()).map_err(|_| Fault::NoMemory)?;
-    let mut writer = BufWriter::new(alloc, io::writer(rt)).map_err(|_| Fault::NoMemory)?;
+    let mut reader = BufReader::new(alloc, rt.reader()).map_err(|_| WordsFault::NoMemory)?;
+    let mut writer = BufWriter::new(alloc, io::writer(rt)).map_err(|_| WordsFault::NoMemory)?;
     words_run(rt, alloc, &words, &mut reader, &mut writer)
 }
 

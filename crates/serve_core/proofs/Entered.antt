@@ -10,7 +10,7 @@ use Rattle.cluster_links.specs.Clusters.{AreFresh}
 use Rattle.serve_core.specs.Service.{HasEntered, IsBorn, IsJoinedTo, IsThreadFault, LeavesServing, TellsEntry}
 use Rattle.serve_core.specs.declared.faults.ServeFault.{ServeFault}
 use Rattle.serve_core.specs.declared.faults.ServeFault.TheVariants as serve
-use Rattle.serve_core.specs.declared.words.ServeWords.{ServeWords}
+use Rattle.cli_core.specs.declared.words.ServeWords.{ServeWords}
 
 -- what may end a server that was let in
 abbrev pub MayFollow : ServeFault → Type 0

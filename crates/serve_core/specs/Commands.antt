@@ -7,8 +7,8 @@ use Rattle.serve_core.specs.Membership.{IsUnwritten, WritesSeen, membership_text
 use Rattle.serve_core.specs.Owning.{IsAnswered, IsUnanswered}
 use Rattle.serve_core.specs.Service.{IsUnserved, Served}
 use Rattle.serve_core.specs.Telling.{IsUntold, Tells}
-use Rattle.serve_core.specs.declared.commands.ClusterCommand.{ClusterCommand}
-use Rattle.serve_core.specs.declared.commands.ClusterCommand.TheVariants.{Serve, Ask, AskAny, Members, Tell}
+use Rattle.cli_core.specs.declared.words.ClusterCommand.{ClusterCommand}
+use Rattle.cli_core.specs.declared.words.ClusterCommand.TheVariants.{Serve, Ask, AskAny, Members, Tell}
 use Rattle.serve_core.specs.declared.commands.ClusterFault.{ClusterFault}
 use Rattle.serve_core.specs.declared.commands.ClusterFault.TheVariants as fault
 

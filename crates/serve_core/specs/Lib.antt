@@ -6,5 +6,4 @@ pub mod Membership
 pub mod Owning
 pub mod Service
 pub mod Telling
-pub mod Words
 pub mod Working

@@ -26,7 +26,7 @@ use Rattle.cli_core.specs.Owner.{hash_by}
 use Rattle.serve_core.specs.declared.faults.ServeFault.{ServeFault}
 use Rattle.serve_core.specs.declared.faults.ServeFault.TheVariants as serve
 use Rattle.serve_core.specs.declared.waits.Waits.{Waits}
-use Rattle.serve_core.specs.declared.words.ServeWords.{ServeWords}
+use Rattle.cli_core.specs.declared.words.ServeWords.{ServeWords}
 
 -- 500 milliseconds for a line, and a link's standard limits
 abbrev pub IsStandardWaits : Waits → Type 0

@@ -10,27 +10,11 @@ use crate::looks::members_run;
 use crate::owners::ask_any_run;
 use crate::serving::serve_run;
 use crate::telling::tell_run;
-use crate::words::{AskAnyWords, AskWords, MembersWords, ServeWords};
-use change_core::Address;
+use cli_core::ClusterCommand;
 use std::alloc::Global;
 use std::io::{Read, Write};
 use std::net::{Net, TcpListener, TcpStream};
 use thiserror::Error;
-
-/// What the program is asked to do with nodes.
-#[derive(Debug, PartialEq, Drop)]
-pub enum ClusterCommand<'a> {
-    /// A node that serves.
-    Serve(ServeWords),
-    /// A request to a node.
-    Ask(AskWords<'a>),
-    /// A request to the owner of its key.
-    AskAny(AskAnyWords<'a>),
-    /// The members that a node holds.
-    Members(MembersWords),
-    /// Changes that a node is told.
-    Tell(Address),
-}
 
 /// Why such a command ended before its end.
 #[derive(Clone, Copy, Debug, PartialEq, Eq, Error)]

@@ -19,11 +19,13 @@ mod telling;
 mod threads;
 mod waits;
 mod watches;
-mod words;
 
 pub use answering::respond;
 pub use asking::{ask_over, ask_run};
-pub use commands::{ClusterCommand, ClusterFault, cluster_command_run};
+pub use cli_core::{
+    AskAnyWords, AskWords, ClusterCommand, MOST_REQUESTS, MembersWords, ServeWords,
+};
+pub use commands::{ClusterFault, cluster_command_run};
 pub use connections::serve_connection;
 pub use echoes::Echo;
 pub use faults::{AskFault, ServeFault, TellFault};
@@ -36,4 +38,3 @@ pub use serving::{serve_run, serve_within};
 pub use telling::{tell_over, tell_run};
 pub use waits::Waits;
 pub use watches::Watch;
-pub use words::{AskAnyWords, AskWords, MOST_REQUESTS, MembersWords, ServeWords};

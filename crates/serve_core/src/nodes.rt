@@ -6,8 +6,8 @@ ghost use Rattle.cluster_links.specs.Clusters.{AreFresh};
 ghost use Rattle.serve_core.specs.Service.{IsBorn, IsJoinedTo, join_fault};
 
 use crate::faults::ServeFault;
-use crate::words::ServeWords;
 use change_core::{Address, Moment};
+use cli_core::ServeWords;
 use cluster_core::{ClusterError, Link, join};
 use cluster_links::share;
 use hash_ring::PointHash;

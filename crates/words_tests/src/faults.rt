@@ -1,7 +1,8 @@
 //! What is said of each fault, and how it ends the program.
 
 use cli_core::{LineFault, RunFault, ScriptFault, SimFault, SubcommandFault};
-use cli_words::Fault;
+use cli_run::Fault;
+use cli_words::WordsFault;
 use serve_core::{AskFault, ClusterFault, ServeFault, TellFault};
 use std::alloc::Global;
 use std::process::Abort;
@@ -137,7 +138,7 @@ fn tells_what_the_machine_refused(rt: HostRuntime) {
     tells(
         &rt,
         rt.alloc(),
-        &Fault::NoMemory,
+        &Fault::from(WordsFault::NoMemory),
         "ringpop: out of memory\n",
     );
     for (fault, text) in &FAULTS {

@@ -3,16 +3,18 @@ ghost use Rattle.std.specs.Prelude.{◌≡◌, ◌<◌, ◌^◌, vec_len};
 ghost use Rattle.hash_ring.specs.Points.{IsReplicas};
 
 use change_core::{Address, GREATEST_NUMBER, Incarnation, Weight};
-use cli_core::{OwnerWords, SimWords, Subcommand};
-use cli_words::{Fault, Words, read_words};
-use serve_core::{AskAnyWords, AskWords, ClusterCommand, MembersWords, ServeWords};
+use cli_core::{
+    AskAnyWords, AskWords, ClusterCommand, MembersWords, OwnerWords, ServeWords, SimWords,
+    Subcommand,
+};
+use cli_words::{Words, WordsFault, read_words};
 use std::alloc::Global;
 use std::process::Abort;
 
 /// What the words ask for, or the refusal. After a refused growth they are read again.
-pub fn read<'a>(alloc: Global, words: &'a [&'a str]) -> Result<Words<'a>, Fault> {
+pub fn read<'a>(alloc: Global, words: &'a [&'a str]) -> Result<Words<'a>, WordsFault> {
     match read_words(alloc, words) {
-        Err(Fault::NoMemory) => read_words(alloc, words),
+        Err(WordsFault::NoMemory) => read_words(alloc, words),
         ended => ended,
     }
 }

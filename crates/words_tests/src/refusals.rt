@@ -2,7 +2,8 @@
 
 use crate::faults::told;
 use crate::reads::{AT, read};
-use cli_words::{Fault, words_not_text};
+use cli_run::Fault;
+use cli_words::{WordsFault, words_not_text};
 use std::alloc::Global;
 use std::process::Abort;
 
@@ -105,7 +106,7 @@ fn is_refused(rt: &impl Abort, alloc: Global, words: &[&str], text: &str) {
     let Err(fault) = read(alloc, words) else {
         panic!(rt; "not refused: {text}")
     };
-    begins(rt, alloc, &fault, text);
+    begins(rt, alloc, &Fault::from(fault), text);
 }
 
 #[test]
@@ -229,9 +230,9 @@ fn refuses_words(rt: HostRuntime) {
 #[test]
 fn refuses_words_that_are_not_text(rt: HostRuntime) {
     let fault = match words_not_text(rt.alloc()) {
-        Fault::NoMemory => words_not_text(rt.alloc()),
+        WordsFault::NoMemory => words_not_text(rt.alloc()),
         fault => fault,
     };
     let text = "error: the words are not UTF-8\n";
-    begins(&rt, rt.alloc(), &fault, text);
+    begins(&rt, rt.alloc(), &Fault::from(fault), text);
 }

@@ -12,7 +12,7 @@ use std::alloc::Global;
 use wire_json::Text;
 
 /// What a line is answered.
-#[derive(Debug, Drop)]
+#[derive(Drop)]
 pub enum Answer {
     /// It is done.
     Done,

@@ -11,7 +11,7 @@ use crate::scripts::readers::{LineRest, read_address, read_number, read_text};
 use change_core::{Address, Change, Incarnation, MOST_MEMBERS, Moment, Weight};
 
 /// What a node is made with.
-#[derive(Clone, Copy, Debug, PartialEq, Eq)]
+#[derive(Clone, Copy)]
 pub struct Birth {
     pub address: Address,
     pub incarnation: Incarnation,
@@ -19,7 +19,7 @@ pub struct Birth {
 }
 
 /// What a node is asked.
-#[derive(Clone, Copy, Debug, PartialEq, Eq)]
+#[derive(Clone, Copy)]
 pub enum Question<'a> {
     /// To take a change that its subject says of itself.
     Take(Change),
@@ -34,7 +34,7 @@ pub enum Question<'a> {
 }
 
 /// What a line asks for.
-#[derive(Clone, Copy, Debug, PartialEq, Eq)]
+#[derive(Clone, Copy)]
 pub enum Command<'a> {
     /// A node is made.
     Node(Birth),
@@ -51,7 +51,7 @@ pub enum Command<'a> {
 }
 
 /// The first word of a line.
-#[derive(Clone, Copy, Debug, PartialEq, Eq)]
+#[derive(Clone, Copy)]
 enum Verb {
     Node,
     At,

@@ -4,7 +4,7 @@ use change_core::Address;
 use wire_json::Message;
 
 /// A message, and whom it is for.
-#[derive(Debug, Drop)]
+#[derive(Drop)]
 pub struct Sent {
     pub to: Address,
     pub message: Message,

@@ -66,7 +66,7 @@ fn read_weight(word: Option<&[u8]>) -> Option<Weight>
 }
 
 /// What is left of a line.
-#[derive(Clone, Copy, Debug)]
+#[derive(Clone, Copy)]
 pub struct LineRest<'a> {
     pub rest: &'a [u8],
 }

@@ -1,12 +1,14 @@
-use Rattle.std.proofs.Common.{◌≡◌, None, Some, arith}
 use Rattle.cli_words.proofs.cluster_words.serve_words_at.Goals as goal
 
-pub returns-in_err-workers-clause-taken : goal.returns-in_err-workers-clause-taken
-returns-in_err-workers-clause-taken c = λ has few.
-    let n = has.workers in
-    let never : None ≡ Some n.0 = c.in_err-workers.ensures.taken n.0 n.1 (omega (arith, n.2.0)) (omega (arith, n.2.1, c.from.ensures)) in cc
-
-pub returns-in_err-weight-clause-taken : goal.returns-in_err-weight-clause-taken
-returns-in_err-weight-clause-taken c = λ has few.
-    let n = has.weight in
-    let never : None ≡ Some n.0 = c.in_err-weight.ensures.taken n.0 n.1 (omega (arith, n.2.0)) (omega (arith, n.2.1, c.from-2.ensures)) in cc
+pub returns-clause-numbers : goal.returns-clause-numbers
+returns-clause-numbers c =
+    let n = c.in_ok-words.ensures.numbers in
+    record {
+      incarnation = n.incarnation;
+      requests = n.requests;
+      workers = n.workers;
+      period = n.period;
+      replicas = n.replicas;
+      weight = n.weight;
+      sum = n.sum;
+    }

@@ -1,10 +1,9 @@
-use Rattle.std.proofs.Common.{rules, codes, refl}
-use Rattle.clap.specs.Words.{new_app}
+use Rattle.std.proofs.Common.{codes, refl, rules}
 use Rattle.cli_words.specs.CommandLine as line
-use Rattle.cli_words.proofs.Built.{rule_added, rule_if_added}
+use Rattle.cli_words.proofs.Built.{leaf_if_built}
 use Rattle.cli_words.proofs.commands.members_command.Goals as goal
 
 pub returns : goal.returns
 returns c =
-    let with_1 = rule_added _ _ _ (new_app (codes "members")) (line.flag (codes "lines")) c.in_ok-arg.ensures (search rules) (search rules) refl in
-    rule_if_added _ _ _ (line.word (codes "host")) c.arg-2.result c.arg-2.ensures with_1 (search rules) refl
+    leaf_if_built _ _ (codes "members") line.members_words.rules c.leaf_command.result c.leaf_command.ensures c.in_ok-words.ensures.items
+    ((search rules), refl, (c.host_word.ensures, refl, tt))

@@ -1,10 +1,12 @@
-use Rattle.std.proofs.Common.{rules, codes, refl}
-use Rattle.clap.specs.Words.{new_app}
+use Rattle.std.proofs.Common.{◌∙◌, ap, codes, refl}
+use Rattle.std.proofs.lemmas.Result.{IfOk-weaker}
+use Rattle.clap.specs.Simple.{app_of_fields}
 use Rattle.cli_words.specs.CommandLine as line
-use Rattle.cli_words.proofs.Built.{rule_added, rule_if_added}
+use Rattle.cli_words.proofs.Built.{leaf_if_built}
 use Rattle.cli_words.proofs.commands.sim_command.Goals as goal
 
 pub returns : goal.returns
 returns c =
-    let with_1 = rule_added _ _ _ (new_app (codes "sim")) line.replicas c.in_ok-arg.ensures (search rules) (search rules) refl in
-    rule_if_added _ _ _ line.sum c.arg-2.result c.arg-2.ensures with_1 (search rules) refl
+    let is = ap app_of_fields c.after_help.ensures ∙ ap app_of_fields c.about.ensures ∙ c.new.ensures.app in
+    leaf_if_built _ _ (codes "sim") line.sim_words.rules c.args-2.result (IfOk-weaker c.args-2.result _ _ (λ r added. (c.after_help.result, is, added)) c.args-2.ensures)
+    c.in_ok-words.ensures.items (c.replicas_option.ensures, refl, (c.sum_flag.ensures, refl, tt))

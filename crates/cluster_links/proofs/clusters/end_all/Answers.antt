@@ -22,7 +22,7 @@ closed-preserved g c = record {
   length_is = (let cut : length (into_iter_items c.closed.seat-iterator) ≡ suc (length (into_iter_items c.next.new.self)) = ap length c.in-Some.ensures.steps.0 in omega (arith, c.in-Some.ensures.steps.1));
   left = All-rest IsSeat c.in-Some.seat (into_iter_items c.next.new.self) (into_iter_items c.closed.seat-iterator) c.in-Some.ensures.steps.0 c.closed.invariant.left;
   so_far = closes (IsOfSeat g.H.PointHash.hash_of) c.in-Some.seat c.in_ok-node.node c.args.seats.items (into_iter_items c.next.new.self) (into_iter_items c.closed.seat-iterator)
-      c.closed.nodes.items c.push.new.self.items c.in-Some.ensures.steps.0 (grind (arith, common_steps)) c.in_ok-node.ensures c.closed.invariant.so_far;
+      c.closed.nodes.items _ c.in-Some.ensures.steps.0 c.in_ok-append.ensures.put c.in_ok-node.ensures c.closed.invariant.so_far;
 }
 
 pub returns-clause-closed : goal.returns-clause-closed

@@ -1,7 +1,7 @@
 use Rattle.std.proofs.Common.{◌≤◌, refl, arith}
 use Rattle.change_core.specs.Numbers.{greatest_number}
 use Rattle.cli_core.specs.Simulated.{beginning}
-use Rattle.cli_core.proofs.ScriptTurns.{ends, goes, stops}
+use Rattle.cli_core.proofs.ScriptTurns.{ends, goes, starts, stops}
 use Rattle.cli_core.proofs.scripts.runs.sim_run_by.Goals as goal
 
 pub lines-preserved : goal.lines-preserved
@@ -27,3 +27,9 @@ returns-in-Err-clause-fault g c =
     stops g.H.PointHash.hash_of (beginning c.args.hash c.args.replicas) (g.R.Read.remaining c.args.reader.now) (g.R.Read.remaining c.lines.reader) (g.R.Read.remaining c.turn.new.reader)
     (g.W.Write.contents c.args.writer.now) (g.W.Write.contents c.lines.writer) (g.W.Write.contents c.turn.new.writer) c.lines.number c.lines.simulation c.turn.new.simulation c.in-Err.fault
     c.lines.invariant.answered c.in-Err.ensures.turn
+
+pub lines-init : goal.lines-init
+lines-init g c = record {
+  counted = omega arith;
+  answered = starts g.H.PointHash.hash_of (beginning c.args.hash c.args.replicas) c.new-simulation.result (g.R.Read.remaining c.args.reader.now) (g.W.Write.contents c.args.writer.now) c.new-simulation.ensures;
+}

@@ -1,7 +1,8 @@
 use Rattle.std.proofs.Common.{rules, refl, subst, ◌≡◌, ◌<◌, ◌≤◌, IsTrue, IsFalse, IfOk, IfErr, ℕ, List}
 use Rattle.std.specs.Prelude.{Result, Ok, Err}
+use Rattle.node_core.specs.Workers.{IsCrew}
 use Rattle.node_core.specs.Node.{Seen}
-use Rattle.cluster_links.specs.Clusters.{AreApart, IsCrew, IsGivenUp, IsNotStarted}
+use Rattle.cluster_links.specs.Clusters.{AreApart, IsGivenUp, IsNotStarted}
 use Rattle.cluster_links.specs.declared.clusters.StartError.{StartError}
 use Rattle.cluster_links.specs.declared.clusters.StartError.TheVariants.{BadCount, SameAddress, NoThread, Memory}
 use Rattle.cluster_links.proofs.clusters.Cluster.start.Goals as goal

@@ -49,3 +49,6 @@ returns-in_ok-number-in-Answer-clause-answer g c =
       kept.1,
       ap (λ ms. simulated_of c.self.inside.hash c.self.inside.replicas c.self.inside.moment (nodes_in c.receive_at.new.nodes.items) ms) kept.2,
     )
+
+pub returns-in_default-clause-fault : goal.returns-in_default-clause-fault
+returns-in_default-clause-fault g c = rw (← c.self.view_is) (sym (rw c.as_slice.ensures.value at c.in_default.ensures))

@@ -1,4 +1,4 @@
-use Rattle.std.proofs.Common.{◌<◌, ◌≤◌, ap, arith}
+use Rattle.std.proofs.Common.{◌<◌, ◌≤◌, ap, arith, refl}
 use Rattle.std.proofs.lemmas.Result.{err_from_is_err_and}
 use Rattle.cli_core.proofs.ScriptCommands.{held_below, held_not_below, restarted, simulated_of}
 use Rattle.cli_core.specs.Simulated.{nodes_in, with_node}
@@ -26,3 +26,6 @@ returns-clause-answer g c =
           (rw c.as_slice.ensures.value at c.in-Some.ensures.place) (rw c.as_slice-2.ensures.value at c.incarnation_at-held.ensures) above c.in_ok-node.ensures.born,
       ap (λ ns. simulated_of c.self.inside.hash c.self.inside.replicas c.self.inside.moment ns c.self.inside.messages.items) c.put_at.ensures,
     )
+
+pub returns-in_default-clause-fault : goal.returns-in_default-clause-fault
+returns-in_default-clause-fault g c = rw (← c.self.view_is) (rw c.as_slice.ensures.value at (c.in_default.ensures.none refl))

@@ -1,4 +1,4 @@
-use Rattle.std.proofs.Common.{◌<◌, ◌≤◌, ap, length, rules}
+use Rattle.std.proofs.Common.{◌<◌, ◌≤◌, ap, length, refl, rules}
 use Rattle.std.proofs.lemmas.Result.{err_from_is_err_and}
 use Rattle.cli_core.specs.Simulated.{most_messages, nodes_in}
 use Rattle.cli_core.proofs.ScriptCommands.{place_known, simulated_of, send_refused}
@@ -33,3 +33,6 @@ returns-clause-answer g c =
       kept.1,
       ap (λ ms. simulated_of c.self.inside.hash c.self.inside.replicas c.self.inside.moment (nodes_in c.ping_at.new.nodes.items) ms) kept.2,
     )
+
+pub returns-in_default-clause-fault : goal.returns-in_default-clause-fault
+returns-in_default-clause-fault g c = rw (← c.self.view_is) (rw c.as_slice.ensures.value at (c.in_default.ensures.none refl))

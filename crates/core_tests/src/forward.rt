@@ -1,0 +1,3 @@
+//! The tests of `forward_core`.
+mod tests;
+mod views;

@@ -1,0 +1,273 @@
+use crate::forward::views::{Views, keys, view, views_of};
+use crate::shared::{A, B, C, CountingHash, LIMIT, address, moment};
+use change_core::Status;
+use forward_core::{Attempt, Decision, ForwardError, MOST_SENDS, Route, route_keys};
+use hash_ring::SumHash;
+use node_core::View;
+use std::alloc::Global;
+use std::process::Abort;
+use std::sync::atomic::{AtomicU64, Ordering};
+use wire_json::Keys;
+
+/// Checks where keys go by a view.
+fn check_route(
+    rt: &impl Abort,
+    alloc: Global,
+    view: &View<SumHash>,
+    texts: &[&str],
+    wanted: Result<Route, ForwardError>,
+) {
+    let first = texts.first().copied().unwrap_or("");
+    let keys = keys(rt, alloc, texts);
+    let route = route_keys(view, &keys);
+    drop(keys);
+    assert!(rt; route == wanted, "of {first}");
+}
+
+/// The route to this member.
+fn route_to(rt: &impl Abort, text: &str) -> Result<Route, ForwardError> {
+    Ok(Route::To(address(rt, text)))
+}
+
+/// Checks the keys of each view.
+fn check_routes(rt: &impl Abort, alloc: Global, views: &Views) {
+    let (three, two, none) = (&views.three, &views.two, &views.none);
+    let rows: [(&View<SumHash>, &[&str], Result<Route, ForwardError>); 8] = [
+        (three, &["zzzz0"], Ok(Route::Here)),
+        (three, &["zzzz1"], route_to(rt, B)),
+        (three, &["zzzz1", "zzzz1", "zzzz1"], route_to(rt, B)),
+        (three, &["zzzz1", "zzzz2"], Err(ForwardError::Diverged)),
+        (three, &["zzzz0", "", "zzzz1"], Err(ForwardError::Diverged)),
+        (two, &["zzzz0", ""], Ok(Route::Here)),
+        (two, &["zzzz1", "zzzz2"], route_to(rt, C)),
+        (none, &["zzzz1", "zzzz2"], Ok(Route::Nobody)),
+    ];
+    for (view, texts, wanted) in &rows {
+        check_route(rt, alloc, *view, *texts, *wanted);
+    }
+}
+
+#[test]
+fn one_owner_of_all_keys(rt: HostRuntime) {
+    let views = views_of(&rt, rt.alloc(), Status::Suspect);
+    check_routes(&rt, rt.alloc(), &views);
+    drop(views);
+}
+
+/// A call of an attempt, and what it is to answer.
+#[derive(Clone, Copy)]
+enum Call<'a> {
+    /// `ready`, by this view at this moment.
+    Ready(&'a View<SumHash>, u64, Result<Decision, ForwardError>),
+    /// `failed`, at this moment.
+    Failed(u64, Result<(), ForwardError>),
+}
+
+/// The step that sends to this member.
+fn to(rt: &impl Abort, text: &str) -> Result<Decision, ForwardError> {
+    Ok(Decision::Send(address(rt, text)))
+}
+
+/// Checks what `ready` answers, and that a `Send` counts one send, and every other answer none.
+fn check_ready(
+    rt: &impl Abort,
+    attempt: &mut Attempt,
+    view: &View<SumHash>,
+    now: u64,
+    wanted: Result<Decision, ForwardError>,
+) {
+    let sends = u32::from(matches!(wanted, Ok(Decision::Send(_))));
+    let sends = attempt.sends().wrapping_add(sends);
+    let answer = attempt.ready(view, moment(rt, now));
+    assert!(rt;
+        answer == wanted && attempt.sends() == sends,
+        "ready at {now}"
+    );
+}
+
+/// Checks what `failed` answers, and that it counts no send.
+fn check_failed(
+    rt: &impl Abort,
+    attempt: &mut Attempt,
+    now: u64,
+    wanted: Result<(), ForwardError>,
+) {
+    let sends = attempt.sends();
+    let answer = attempt.failed(moment(rt, now));
+    assert!(rt;
+        answer == wanted && attempt.sends() == sends,
+        "failed at {now}"
+    );
+}
+
+/// Makes a call, and checks its answer, and that a refused `ready`, a `Wait` and a `Here` count no send.
+fn check_call(rt: &impl Abort, attempt: &mut Attempt, call: &Call) {
+    match call {
+        Call::Ready(view, now, wanted) => check_ready(rt, attempt, *view, *now, *wanted),
+        Call::Failed(now, wanted) => check_failed(rt, attempt, *now, *wanted),
+    }
+}
+
+/// Makes the calls in turn. After each the keys are lent out and taken back, which changes nothing.
+fn check_calls(rt: &impl Abort, attempt: Attempt, calls: &[Call]) -> Attempt {
+    let mut attempt = attempt;
+    for call in calls {
+        check_call(rt, &mut attempt, call);
+        let (keys, lent) = attempt.lend();
+        attempt = lent.take_back(keys);
+    }
+    attempt
+}
+
+/// Has a new attempt at these keys go through the calls; returns how often it was sent, and how many keys it has.
+fn attempt_of(rt: &impl Abort, alloc: Global, texts: &[&str], calls: &[Call]) -> (u32, usize) {
+    let attempt = Attempt::start(keys(rt, alloc, texts));
+    let attempt = check_calls(rt, attempt, calls);
+    let counts = (attempt.sends(), attempt.keys().len());
+    drop(attempt);
+    counts
+}
+
+/// Checks an attempt that fails each time.
+fn check_failing(rt: &impl Abort, alloc: Global, views: &Views) {
+    let (three, none) = (&views.three, &views.none);
+    let calls = [
+        Call::Ready(three, 0, to(rt, B)),
+        Call::Failed(0, Ok(())),
+        Call::Ready(three, 2_999, Ok(Decision::Wait(3_000))),
+        Call::Ready(three, 3_000, to(rt, B)),
+        Call::Failed(3_000, Ok(())),
+        Call::Ready(three, 8_999, Ok(Decision::Wait(9_000))),
+        Call::Ready(three, 9_000, to(rt, B)),
+        Call::Failed(9_000, Ok(())),
+        Call::Ready(three, 20_999, Ok(Decision::Wait(21_000))),
+        Call::Ready(three, 21_000, to(rt, B)),
+        Call::Failed(21_000, Err(ForwardError::RetriesSpent)),
+        Call::Ready(three, 50_000, Err(ForwardError::RetriesSpent)),
+        Call::Ready(none, 50_000, Err(ForwardError::RetriesSpent)),
+        Call::Failed(50_000, Err(ForwardError::NotInFlight)),
+    ];
+    assert!(rt; attempt_of(rt, alloc, &["zzzz1"], &calls) == (MOST_SENDS, 1));
+}
+
+#[test]
+fn an_attempt_is_sent_four_times(rt: HostRuntime) {
+    let views = views_of(&rt, rt.alloc(), Status::Alive);
+    check_failing(&rt, rt.alloc(), &views);
+    drop(views);
+}
+
+/// Checks an attempt whose owner changes.
+fn check_owners(rt: &impl Abort, alloc: Global, views: &Views) {
+    let (three, two, at_c, none) = (&views.three, &views.two, &views.at_c, &views.none);
+    let calls = [
+        Call::Failed(0, Err(ForwardError::NotInFlight)),
+        Call::Ready(none, 0, Err(ForwardError::Nobody)),
+        Call::Ready(three, 0, to(rt, B)),
+        Call::Ready(none, 0, Err(ForwardError::InFlight)),
+        Call::Failed(0, Ok(())),
+        Call::Failed(0, Err(ForwardError::NotInFlight)),
+        Call::Ready(none, 2_999, Err(ForwardError::Nobody)),
+        Call::Ready(three, 2_999, Ok(Decision::Wait(3_000))),
+        Call::Ready(at_c, 2_999, Ok(Decision::Wait(3_000))),
+        Call::Ready(at_c, 3_000, Ok(Decision::Here)),
+        Call::Ready(two, 3_000, to(rt, C)),
+        Call::Ready(two, 9_000, Err(ForwardError::InFlight)),
+    ];
+    attempt_of(rt, alloc, &["zzzz1"], &calls);
+}
+
+/// Checks an attempt that is this node's, and then another's.
+fn check_here(rt: &impl Abort, alloc: Global, views: &Views) {
+    let calls = [
+        Call::Ready(&views.at_c, 0, Ok(Decision::Here)),
+        Call::Ready(&views.two, 0, to(rt, C)),
+    ];
+    attempt_of(rt, alloc, &["zzzz1"], &calls);
+}
+
+#[test]
+fn the_owner_is_looked_up_each_time(rt: HostRuntime) {
+    let views = views_of(&rt, rt.alloc(), Status::Alive);
+    check_owners(&rt, rt.alloc(), &views);
+    check_here(&rt, rt.alloc(), &views);
+    drop(views);
+}
+
+/// Checks an attempt at two keys, of one owner or of two.
+fn check_two_keys(rt: &impl Abort, alloc: Global, views: &Views) {
+    let (three, two) = (&views.three, &views.two);
+    let calls = [
+        Call::Ready(three, 0, Err(ForwardError::Diverged)),
+        Call::Ready(two, 0, to(rt, C)),
+        Call::Failed(5, Ok(())),
+        Call::Ready(three, 5, Err(ForwardError::Diverged)),
+        Call::Ready(two, 5, Ok(Decision::Wait(3_005))),
+        Call::Ready(two, LIMIT, to(rt, C)),
+        Call::Failed(LIMIT, Ok(())),
+        Call::Ready(two, LIMIT, Ok(Decision::Wait(9_007_199_254_746_991))),
+    ];
+    assert!(rt; attempt_of(rt, alloc, &["zzzz1", "zzzz2"], &calls) == (2, 2));
+}
+
+#[test]
+fn an_attempt_waits_for_one_owner(rt: HostRuntime) {
+    let views = views_of(&rt, rt.alloc(), Status::Alive);
+    check_two_keys(&rt, rt.alloc(), &views);
+    drop(views);
+}
+
+/// Checks how many hashes the routing of keys takes.
+fn count_routing<'a>(
+    rt: &impl Abort,
+    alloc: Global,
+    view: &View<CountingHash<'a>>,
+    calls: &AtomicU64,
+) {
+    let to_c = Ok(Route::To(address(rt, C)));
+    let rows: [(&[&str; 3], Result<Route, ForwardError>, u64); 2] = [
+        (&["zzzz1", "zzzz2", "zzzy3"], to_c, 3),
+        (&["zzzz1", "zzzz0", "zzzz2"], Err(ForwardError::Diverged), 2),
+    ];
+    for (texts, wanted, hashes) in &rows {
+        let keys = keys(rt, alloc, texts.as_slice());
+        let before = calls.load(Ordering::SeqCst);
+        let route = route_keys(view, &keys);
+        let counted = calls.load(Ordering::SeqCst);
+        drop(keys);
+        assert!(rt; route == *wanted && counted == before.wrapping_add(*hashes));
+    }
+}
+
+/// Checks how many hashes an attempt takes. The second answer is `InFlight`, before any look-up.
+fn count_attempt<'a>(
+    rt: &impl Abort,
+    attempt: &mut Attempt,
+    view: &View<CountingHash<'a>>,
+    calls: &AtomicU64,
+) {
+    let before = calls.load(Ordering::SeqCst);
+    for wanted in [to(rt, C), Err(ForwardError::InFlight)] {
+        let answer = attempt.ready(view, moment(rt, 0));
+        let counted = calls.load(Ordering::SeqCst);
+        assert!(rt; answer == wanted && counted == before.wrapping_add(3));
+    }
+}
+
+/// Checks how many hashes three keys take.
+fn count<'a>(rt: &impl Abort, alloc: Global, view: &View<CountingHash<'a>>, calls: &AtomicU64) {
+    count_routing(rt, alloc, view, calls);
+    let mut attempt = Attempt::start(keys(rt, alloc, &["zzzz1", "zzzz2", "zzzy3"]));
+    count_attempt(rt, &mut attempt, view, calls);
+    drop(attempt);
+}
+
+#[test]
+fn each_key_is_hashed_once(rt: HostRuntime) {
+    let calls = AtomicU64::new(0);
+    let hash = CountingHash { calls: &calls };
+    let two = [(B, Status::Faulty), (C, Status::Alive)];
+    let view = view(&rt, rt.alloc(), hash, A, &two);
+    count(&rt, rt.alloc(), &view, &calls);
+    drop(view);
+}

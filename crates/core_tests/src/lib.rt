@@ -1,0 +1,14 @@
+//! The tests of `node_core`, `reconciliation`, `forward_core`, `locked_node` and `cli_core`. They stand in one crate, since a check of it
+//! reads the libraries below once.
+#![tactic(auto)]
+
+#[cfg(test)]
+mod cli;
+#[cfg(test)]
+mod forward;
+#[cfg(test)]
+mod locked;
+#[cfg(test)]
+mod node;
+#[cfg(test)]
+mod shared;

@@ -6,7 +6,7 @@ here=$(cd "$(dirname "$0")" && pwd)
 root=$here/../..
 work=$(mktemp -d)
 trap 'rm -rf "$work"' EXIT
-below=(change_core wire_json member_core hash_ring gossip_core detector_core node_core turn_lock locked_node)
+below=(change_core message_core wire_fields wire_json member_core hash_ring gossip_core detector_core node_core turn_lock locked_node)
 mkdir "$work/crates"
 for crate in "${below[@]}"; do cp -r "$root/crates/$crate" "$work/crates/"; done
 cp -r "$here/locked_bench" "$work/crates/"

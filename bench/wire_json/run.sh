@@ -20,7 +20,7 @@ instructions() {
 }
 
 mkdir "$work/crates"
-for crate in "$root/crates/change_core" "$root/crates/wire_json" "$here/wire_bench"; do
+for crate in "$root"/crates/{change_core,message_core,wire_fields,wire_json} "$here/wire_bench"; do
     mkdir "$work/crates/$(basename "$crate")"
     cp -r "$crate"/src "$work/crates/$(basename "$crate")/"
     for part in specs proofs; do
@@ -29,7 +29,7 @@ for crate in "$root/crates/change_core" "$root/crates/wire_json" "$here/wire_ben
 done
 # A check reads each .rt and .antt file of the repository, so those of a benchmark bear another ending there.
 find "$work" \( -name '*.rt.txt' -o -name '*.antt.txt' \) | while read -r file; do mv "$file" "${file%.txt}"; done
-grep -E '^(change_core|wire_json):' "$root/crates.txt" > "$work/crates.txt"
+grep -E '^(change_core|message_core|wire_fields|wire_json):' "$root/crates.txt" > "$work/crates.txt"
 echo 'wire_bench: change_core wire_json serde_json anyhow' >> "$work/crates.txt"
 python3 "$here/ping.py" make "$work"
 files=("$work/ping0.json" "$work/ping64.json" "$work/ping4096.json")

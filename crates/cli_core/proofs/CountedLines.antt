@@ -4,8 +4,8 @@ use Rattle.std.specs.Prelude.{IfSome, IfOk, IfErr, IsSome, Result, ◌⊎◌, ve
 use Rattle.change_core.specs.Numbers.{greatest_number}
 use Rattle.wire_json.specs.Lines.{max_line}
 use Rattle.wire_json.specs.Input.{line_of, after_line, TakesLine}
-use Rattle.wire_json.specs.declared.errors.WireError.{WireError}
-use Rattle.wire_json.specs.declared.errors.WireError.TheVariants.{LineTooLong, Io, Memory}
+use Rattle.message_core.specs.declared.errors.WireError.{WireError}
+use Rattle.message_core.specs.declared.errors.WireError.TheVariants.{LineTooLong, Io, Memory}
 use Rattle.cli_core.specs.Input.{lines_of}
 use Rattle.cli_core.specs.Counted.{EndsLines, IsCountedFault, IsUnread, ReadsLine}
 use Rattle.cli_core.proofs.Lines.{lines_of-first, some_from_line}

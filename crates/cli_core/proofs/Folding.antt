@@ -12,8 +12,8 @@ use Rattle.change_core.proofs.Members.{members-append, IsMemberList-members}
 use Rattle.wire_json.specs.Forms.{ChangeFault}
 use Rattle.wire_json.specs.Lines.{Faults}
 use Rattle.wire_json.specs.Input.{AppendsFront}
-use Rattle.wire_json.specs.declared.errors.WireError.{WireError}
-use Rattle.wire_json.specs.declared.errors.WireError.TheVariants.{LineTooLong, BadJson, NotObject, UnknownKind, MissingField, BadField, TooMany, Io, Memory}
+use Rattle.message_core.specs.declared.errors.WireError.{WireError}
+use Rattle.message_core.specs.declared.errors.WireError.TheVariants.{LineTooLong, BadJson, NotObject, UnknownKind, MissingField, BadField, TooMany, Io, Memory}
 use Rattle.cli_core.specs.declared.faults.LineFault.{LineFault}
 use Rattle.cli_core.specs.declared.faults.LineFault.TheVariants.{Wire, ReadFailed, OutOfMemory}
 use Rattle.cli_core.specs.declared.faults.RunFault.{RunFault}

@@ -4,7 +4,7 @@ use Rattle.std.specs.Prelude.{IfSome}
 use Rattle.std.specs.Io.KnownBytes.{Appends}
 use Rattle.change_core.specs.Numbers.{greatest_number}
 use Rattle.wire_json.specs.Input.{AppendsFront}
-use Rattle.wire_json.specs.declared.errors.WireError.{WireError}
+use Rattle.message_core.specs.declared.errors.WireError.{WireError}
 use Rattle.cli_core.specs.declared.scripts.faults.ScriptFault.{ScriptFault}
 use Rattle.cli_core.specs.declared.scripts.faults.SimFault.{SimFault}
 use Rattle.cli_core.specs.declared.scripts.faults.SimFault.TheVariants.{AtLine, CannotWrite}

@@ -4,8 +4,8 @@ use Rattle.std.specs.Prelude.{IfSome, IfOk, IfErr, IsOkUnless, IsSome, Result, â
 use Rattle.std.specs.Io.KnownBytes.{Appends}
 use Rattle.change_core.specs.Numbers.{greatest_number}
 use Rattle.wire_json.specs.Lines.{max_line}
-use Rattle.wire_json.specs.declared.errors.WireError.{WireError}
-use Rattle.wire_json.specs.declared.errors.WireError.TheVariants.{LineTooLong, Io, Memory}
+use Rattle.message_core.specs.declared.errors.WireError.{WireError}
+use Rattle.message_core.specs.declared.errors.WireError.TheVariants.{LineTooLong, Io, Memory}
 use Rattle.cli_core.specs.declared.scripts.answers.Answer.{Answer}
 use Rattle.cli_core.specs.declared.scripts.lines.Command.{Command}
 use Rattle.cli_core.specs.declared.scripts.lines.Command.TheVariants as command

@@ -1,6 +1,6 @@
 -- What a fault of the crates below is to a run.
-use Rattle.wire_json.specs.declared.errors.WireError.{WireError}
-use Rattle.wire_json.specs.declared.errors.WireError.TheVariants.{Io, Memory}
+use Rattle.message_core.specs.declared.errors.WireError.{WireError}
+use Rattle.message_core.specs.declared.errors.WireError.TheVariants.{Io, Memory}
 use Rattle.cli_core.specs.declared.faults.LineFault.{LineFault}
 use Rattle.cli_core.specs.declared.faults.LineFault.TheVariants.{Wire, ReadFailed, OutOfMemory}
 

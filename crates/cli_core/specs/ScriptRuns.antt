@@ -1,7 +1,7 @@
 -- A run of a script: the answers to its lines, and the first line at fault.
 use Rattle.std.specs.Prelude.{◌≡◌, ℕ, ◌+◌, ◌<◌, ◌≤◌, ◌⊎◌, Bool, true, false, List, [], ◌∷◌, ◌++◌, length, Option, Some, None, IfSome, Result, Ok, Err}
-use Rattle.wire_json.specs.declared.errors.WireError.{WireError}
-use Rattle.wire_json.specs.declared.errors.WireError.TheVariants.{LineTooLong, Memory}
+use Rattle.message_core.specs.declared.errors.WireError.{WireError}
+use Rattle.message_core.specs.declared.errors.WireError.TheVariants.{LineTooLong, Memory}
 use Rattle.std.specs.Io.KnownBytes.{Appends}
 use Rattle.change_core.specs.Numbers.{greatest_number}
 use Rattle.wire_json.specs.Input.{AppendsFront}

@@ -14,7 +14,7 @@ use Rattle.node_core.specs.Configs.{standard}
 use Rattle.node_core.specs.Node.{Node, Seen, own_change}
 use Rattle.node_core.specs.Step.{NodeStep}
 use Rattle.node_core.specs.World.{newborn}
-use Rattle.wire_json.specs.declared.messages.Message.{Message}
+use Rattle.message_core.specs.declared.messages.Message.{Message}
 use Rattle.cli_core.specs.declared.scripts.messages.Sent.{Sent}
 use Rattle.cli_core.specs.declared.scripts.answers.Answer.{Answer}
 use Rattle.cli_core.specs.declared.scripts.answers.Answer.TheVariants as answer

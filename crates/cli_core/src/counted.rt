@@ -5,9 +5,10 @@ ghost use Rattle.wire_json.specs.Lines.{max_line};
 ghost use Rattle.cli_core.specs.Counted.{EndsLines, IsCountedFault, ReadsLine};
 
 use change_core::GREATEST_NUMBER;
+use message_core::WireError;
 use std::alloc::Global;
 use std::io::Read;
-use wire_json::{WireError, read_line};
+use wire_json::read_line;
 
 /// What was read in place of a line that can't be counted: nothing at the end of the input, and a fault for any line.
 fn end_of_lines(read: Result<Option<Vec<u8>>, WireError>) -> Result<Option<Vec<u8>>, WireError>

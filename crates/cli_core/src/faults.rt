@@ -2,9 +2,9 @@
 ghost use Rattle.std.specs.Prelude.{◌≡◌};
 ghost use Rattle.cli_core.specs.declared.faults.RunFault.TheVariants.{NoMemory};
 
+use message_core::WireError;
 use std::alloc::AllocError;
 use thiserror::Error;
-use wire_json::WireError;
 
 /// What is wrong with a line of the input.
 #[derive(Clone, Copy, Debug, PartialEq, Eq, Error)]

@@ -1,7 +1,7 @@
 -- What an answer comes to that is a failure of the send.
 use Rattle.std.proofs.Common.{◌≡◌, ℕ, sym, subst, refl, Result, Ok, Err}
 use Rattle.std.specs.Prelude.{IsErrAnd}
-use Rattle.wire_json.specs.declared.messages.Message.{Message}
+use Rattle.message_core.specs.declared.messages.Message.{Message}
 use Rattle.forward_core.specs.declared.errors.ForwardError.{ForwardError}
 use Rattle.forward_core.specs.declared.errors.ForwardError.TheVariants as forward
 use Rattle.forward_core.specs.Attempts.{AttemptState, IsOpen, FailedStep}

@@ -2,8 +2,8 @@
 use Rattle.std.specs.Prelude.{◌≡◌, ◌≢◌, ◌⊎◌, ℕ, List, [], Contains, Some, Result, Ok, Err, IfOk, IfErr}
 use Rattle.change_core.specs.declared.addresses.Address.{Address}
 use Rattle.change_core.specs.declared.changes.Change.{Change}
-use Rattle.wire_json.specs.declared.messages.Content.TheVariants as content
-use Rattle.wire_json.specs.declared.messages.Message.{Message}
+use Rattle.message_core.specs.declared.messages.Content.TheVariants as content
+use Rattle.message_core.specs.declared.messages.Message.{Message}
 use Rattle.node_core.specs.declared.errors.NodeError.TheVariants as node
 use Rattle.node_core.specs.declared.events.Event.TheVariants as call
 use Rattle.node_core.specs.declared.events.Reply.TheVariants as reply

@@ -4,7 +4,7 @@ ghost use Rattle.std.specs.Prelude.{◌≡◌, Result, IfOk, IfErr};
 ghost use Rattle.forward_core.specs.Attempts.{IsOpen};
 ghost use Rattle.forward_core.specs.declared.attempts.Stage.TheVariants.{InFlight};
 ghost use Rattle.locked_node.specs.Passes.{Fits};
-ghost use Rattle.wire_json.specs.declared.messages.Message.{Message};
+ghost use Rattle.message_core.specs.declared.messages.Message.{Message};
 ghost use Rattle.cluster_core.specs.declared.errors.LinkError.{LinkError};
 ghost use Rattle.cluster_core.specs.Forwarding.{IsFailure, IsHandled, IsJudged, IsRequest, IsRequestRefusal, LooksUp, Sends, StandsFor, StaysOpen, TriesOnce};
 ghost use Rattle.cluster_core.specs.Parts.{Does};
@@ -18,9 +18,9 @@ use change_core::{Address, Moment};
 use forward_core::{Attempt, Decision};
 use hash_ring::PointHash;
 use locked_node::{LockedNode, NodePass};
+use message_core::{Content, Keys, Message, Text};
 use std::alloc::Global;
 use std::sync::Wait;
-use wire_json::{Content, Keys, Message, Text};
 
 /// What is asked: its attempt, which holds the keys, and the body.
 #[derive(Drop)]

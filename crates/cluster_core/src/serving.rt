@@ -15,11 +15,11 @@ use change_core::{Address, Moment};
 use forward_core::{ForwardError, Route, route_keys};
 use hash_ring::PointHash;
 use locked_node::{LockedNode, NodePass};
+use message_core::{Content, Keys, Message, Reason, Text};
 use node_core::{NodeError, Received, StopCause, View};
 use std::alloc::Global;
 use std::sync::Wait;
 use turn_lock::LockError;
-use wire_json::{Content, Keys, Message, Reason, Text};
 
 /// A message of the node's own.
 pub(crate) fn say<R: Wait, H: PointHash>(

@@ -6,7 +6,7 @@ use Rattle.std.specs.declared.net.socket_addr.SocketAddr.{SocketAddr}
 use Rattle.change_core.specs.declared.addresses.Address.{Address}
 use Rattle.change_core.specs.Address.{ip_of, port_of}
 use Rattle.serde_json.specs.Written.{compact_text}
-use Rattle.wire_json.specs.declared.messages.Message.{Message}
+use Rattle.message_core.specs.declared.messages.Message.{Message}
 use Rattle.wire_json.specs.Lines.{max_line}
 use Rattle.wire_json.specs.Messages.{message_data}
 use Rattle.cluster_links.specs.declared.tcp_links.Limits.{Limits}

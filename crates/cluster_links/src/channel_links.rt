@@ -7,9 +7,9 @@ use crate::copies::copy_message;
 use change_core::Address;
 use cluster_core::{Link, LinkError};
 use crossbeam_channel::{Receiver, SendError, Sender, bounded};
+use message_core::{Message, WireError};
 use std::alloc::Global;
 use std::sync::{Arc, Wait};
-use wire_json::{Message, WireError};
 
 /// What a worker of a node gets.
 #[derive(Drop)]

@@ -18,6 +18,7 @@ use cluster_core::{ClusterError, Handler, LinkError, Round, gossip_round, serve_
 use crossbeam_channel::{Receiver, Sender, unbounded};
 use hash_ring::PointHash;
 use locked_node::{LockedNode, NodePass};
+use message_core::Message;
 use node_core::{MOST_WORKERS, NodeState};
 use std::alloc::{AllocError, AllocFailed, Global};
 use std::fmt;
@@ -26,7 +27,6 @@ use std::sync::{Arc, Wait};
 use std::thread::{self, PromisedHandle, Threads};
 use thiserror::Error;
 use turn_lock::LockError;
-use wire_json::Message;
 
 /// Why a cluster was not started.
 #[derive(Drop, Error)]

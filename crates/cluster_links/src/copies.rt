@@ -1,8 +1,8 @@
 //! Copies of messages: a channel takes a message for itself.
 ghost use Rattle.std.specs.Prelude.{◌≡◌, IfOk, IsOkUnless};
 
+use message_core::{Changes, Content, Keys, Message, News, Text, WireError};
 use std::alloc::Global;
-use wire_json::{Changes, Content, Keys, Message, News, Text, WireError};
 
 /// A copy of the keys.
 fn copy_keys(alloc: Global, keys: &Keys) -> Result<Keys, WireError>

@@ -8,13 +8,14 @@ ghost use Rattle.cluster_core.specs.Links.{IsNamed, fault_named};
 use crate::deadlines::{Deadline, Timed};
 use change_core::Address;
 use cluster_core::{Link, LinkError};
+use message_core::{Content, Message, WireError};
 use std::alloc::Global;
 use std::io;
 use std::io::{BufReader, BufWriter, Read, Write};
 use std::net::{IpAddr, Ipv4Addr, Net, SocketAddr, TcpStream};
 use std::sync::Wait;
 use std::time::{Clock, Duration};
-use wire_json::{Content, Message, WireError, decode, encode, read_line, write_line};
+use wire_json::{decode, encode, read_line, write_line};
 
 /// How long a call of a link may take altogether: connecting, writing the line and reading the answer's.
 #[derive(Clone, Copy, Debug, PartialEq, Eq)]

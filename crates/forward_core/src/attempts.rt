@@ -7,9 +7,9 @@ use crate::routes::Route;
 use crate::routing::route_keys;
 use change_core::{Address, Moment};
 use hash_ring::PointHash;
+use message_core::Keys;
 use node_core::View;
 use std::marker::Model;
-use wire_json::Keys;
 
 /// How often an attempt is sent at most.
 pub const MOST_SENDS: u32 = 4;

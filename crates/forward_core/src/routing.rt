@@ -6,8 +6,8 @@ use crate::errors::ForwardError;
 use crate::routes::Route;
 use change_core::Address;
 use hash_ring::PointHash;
+use message_core::{Keys, Text};
 use node_core::View;
-use wire_json::{Keys, Text};
 
 /// Where a request goes whose keys have this owner, for the node `own`: it is handled here exactly where the node owns
 /// them itself, and by nobody exactly where they have no owner.

@@ -13,9 +13,9 @@ use Rattle.detector_core.specs.declared.asked.Said.{Said}
 use Rattle.detector_core.specs.Helpers.{noted, unanswered}
 use Rattle.detector_core.specs.Picks.{WasAsked}
 use Rattle.detector_core.specs.Probing.{ProbeState, OpenedProbe, unasked_target, after_saying, left_running}
-use Rattle.wire_json.specs.declared.messages.Message.{Message}
-use Rattle.wire_json.specs.declared.messages.Content.{Content}
-use Rattle.wire_json.specs.declared.messages.Content.TheVariants as content
+use Rattle.message_core.specs.declared.messages.Message.{Message}
+use Rattle.message_core.specs.declared.messages.Content.{Content}
+use Rattle.message_core.specs.declared.messages.Content.TheVariants as content
 use Rattle.node_core.specs.declared.errors.NodeError.{NodeError}
 use Rattle.node_core.specs.declared.errors.NodeError.TheVariants as error
 use Rattle.node_core.specs.declared.events.Event.{Event}

@@ -9,10 +9,10 @@ use crate::node::{LockedNode, NodePass};
 use crate::turns::Asked;
 use change_core::{Change, Moment, Sourced};
 use hash_ring::PointHash;
+use message_core::Message;
 use node_core::{NodeError, NodeState, Received, Stopped, Taken};
 use std::sync::Wait;
 use turn_lock::LockError;
-use wire_json::Message;
 
 #[derive(Clone, Copy)]
 struct Take<'a> {

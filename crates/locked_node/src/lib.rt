@@ -22,9 +22,9 @@ pub use change_core::{
 };
 pub use detector_core::{Addresses, Probe, Running, Said};
 pub use hash_ring::{PointHash, Sha256Hash, SumHash};
+pub use message_core::{Changes, Content, Keys, Kind, Message, News, Reason, Text};
 pub use node_core::{
     ChangeList, Config, ConfigField, NodeError, NodeLost, NodeOutcome, NodeState, Received,
     StopCause, Stopped, Taken, View,
 };
 pub use turn_lock::{CloseError, LockError, NewError};
-pub use wire_json::{Changes, Content, Keys, Kind, Message, News, Reason, Text};

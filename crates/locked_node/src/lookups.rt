@@ -9,10 +9,10 @@ use crate::turns::Asked;
 use change_core::{Address, Change, Digest, Entry};
 use detector_core::Addresses;
 use hash_ring::PointHash;
+use message_core::Text;
 use node_core::{ChangeList, NodeError, NodeState, View};
 use std::sync::Wait;
 use turn_lock::LockError;
-use wire_json::Text;
 
 #[derive(Clone, Copy)]
 struct Own;

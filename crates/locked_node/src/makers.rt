@@ -8,10 +8,10 @@ use crate::node::{LockedNode, NodePass};
 use crate::turns::Asked;
 use change_core::Address;
 use hash_ring::PointHash;
+use message_core::Message;
 use node_core::{NodeError, NodeState};
 use std::sync::Wait;
 use turn_lock::LockError;
-use wire_json::Message;
 
 #[derive(Clone, Copy)]
 struct JoinMessage;

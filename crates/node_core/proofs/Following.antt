@@ -18,9 +18,9 @@ use Rattle.node_core.specs.declared.errors.NodeError.{NodeError}
 use Rattle.node_core.specs.declared.errors.NodeError.TheVariants as error
 use Rattle.node_core.specs.declared.events.Taken.{Taken}
 use Rattle.node_core.specs.declared.events.Stopped.{Stopped}
-use Rattle.wire_json.specs.declared.messages.Message.{Message}
-use Rattle.wire_json.specs.declared.messages.Content.{Content}
-use Rattle.wire_json.specs.declared.messages.Content.TheVariants as content
+use Rattle.message_core.specs.declared.messages.Message.{Message}
+use Rattle.message_core.specs.declared.messages.Content.{Content}
+use Rattle.message_core.specs.declared.messages.Content.TheVariants as content
 use Rattle.node_core.specs.Log.{log_given}
 use Rattle.node_core.specs.Messages.{carried}
 use Rattle.node_core.specs.Node.{Node, at_moment}

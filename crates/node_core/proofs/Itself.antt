@@ -2,9 +2,9 @@
 use Rattle.std.proofs.Common.{◌≡◌, ℕ, List, [], ◌∷◌, Option, Some, None, Ok, Err, Result, refl, ◌∙◌, ap, take}
 use Rattle.change_core.specs.declared.changes.Change.{Change}
 use Rattle.change_core.specs.declared.changes.Sourced.{Sourced}
-use Rattle.wire_json.specs.declared.messages.Message.{Message}
-use Rattle.wire_json.specs.declared.messages.Content.{Content}
-use Rattle.wire_json.specs.declared.messages.Content.TheVariants as content
+use Rattle.message_core.specs.declared.messages.Message.{Message}
+use Rattle.message_core.specs.declared.messages.Content.{Content}
+use Rattle.message_core.specs.declared.messages.Content.TheVariants as content
 use Rattle.node_core.specs.declared.configs.Config.{Config}
 use Rattle.node_core.specs.declared.errors.NodeError.{NodeError}
 use Rattle.node_core.specs.declared.errors.NodeError.TheVariants as error

@@ -1,6 +1,6 @@
 -- What a message comes to whose changes were taken, by what became of its answer.
 use Rattle.std.proofs.Common.{◌≡◌, ℕ, true, Result, Ok, Err, sym, subst}
-use Rattle.wire_json.specs.declared.messages.Message.{Message}
+use Rattle.message_core.specs.declared.messages.Message.{Message}
 use Rattle.node_core.specs.declared.errors.NodeError.{NodeError}
 use Rattle.node_core.specs.declared.errors.NodeError.TheVariants as error
 use Rattle.node_core.specs.declared.events.Taken.{Taken}

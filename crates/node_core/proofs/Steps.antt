@@ -16,9 +16,9 @@ use Rattle.change_core.proofs.Order.{in_append}
 use Rattle.change_core.proofs.Precedence.{same_change}
 use Rattle.detector_core.specs.Probing.{ProbeState}
 use Rattle.gossip_core.specs.Pending.{counted}
-use Rattle.wire_json.specs.declared.messages.Message.{Message}
-use Rattle.wire_json.specs.declared.messages.Content.{Content}
-use Rattle.wire_json.specs.declared.messages.Content.TheVariants as content
+use Rattle.message_core.specs.declared.messages.Message.{Message}
+use Rattle.message_core.specs.declared.messages.Content.{Content}
+use Rattle.message_core.specs.declared.messages.Content.TheVariants as content
 use Rattle.node_core.specs.declared.errors.NodeError.{NodeError}
 use Rattle.node_core.specs.declared.errors.NodeError.TheVariants as error
 use Rattle.node_core.specs.declared.events.Event.{Event}

@@ -10,7 +10,7 @@ use Rattle.node_core.specs.declared.events.Event.{Event}
 use Rattle.node_core.specs.declared.events.Reply.{Reply}
 use Rattle.rand_pcg.specs.Lcg.{Lcg}
 use Rattle.gossip_core.specs.declared.pending.Pending.{Pending}
-use Rattle.wire_json.specs.declared.messages.Message.{Message}
+use Rattle.message_core.specs.declared.messages.Message.{Message}
 use Rattle.node_core.specs.Node.{Node, birth, asserted_by, asserts}
 use Rattle.gossip_core.specs.Pending.{fresh}
 use Rattle.node_core.specs.Run.{given_in}

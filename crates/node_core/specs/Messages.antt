@@ -8,10 +8,10 @@ use Rattle.change_core.specs.declared.digests.Digest.{Digest}
 use Rattle.change_core.specs.Members.{digest_text}
 use Rattle.gossip_core.specs.Dissemination.{after_issue}
 use Rattle.gossip_core.specs.Pending.{issued}
-use Rattle.wire_json.specs.declared.messages.Message.{Message}
-use Rattle.wire_json.specs.declared.messages.News.{News}
-use Rattle.wire_json.specs.declared.messages.Content.{Content}
-use Rattle.wire_json.specs.declared.messages.Content.TheVariants.{Join, Joined, Ping, Ack, PingReq, PingReqAck, Forward, Reply, NotOwner, Refused}
+use Rattle.message_core.specs.declared.messages.Message.{Message}
+use Rattle.message_core.specs.declared.messages.News.{News}
+use Rattle.message_core.specs.declared.messages.Content.{Content}
+use Rattle.message_core.specs.declared.messages.Content.TheVariants.{Join, Joined, Ping, Ack, PingReq, PingReqAck, Forward, Reply, NotOwner, Refused}
 use Rattle.node_core.specs.Node.{Node, own_change, said_by}
 
 -- the digest of a member list

@@ -3,8 +3,8 @@ use crate::errors::NodeError;
 use crate::lists::{ChangeList, KeyBytes};
 use change_core::{Address, Change, Digest, Entry, Moment};
 use detector_core::{Addresses, Probe, Running, Said};
+use message_core::{Changes, Message, Text};
 use thiserror::Error;
-use wire_json::{Changes, Message, Text};
 
 /// How many changes altered an entry, and how many of these were refuted.
 #[derive(Clone, Copy, Debug, PartialEq, Eq)]

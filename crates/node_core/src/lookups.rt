@@ -14,7 +14,7 @@ use crate::views::View;
 use change_core::{Address, Digest};
 use detector_core::{Addresses, Running};
 use hash_ring::PointHash;
-use wire_json::Text;
+use message_core::Text;
 
 impl<H: PointHash> NodeState<H> {
     /// The owner of a key: of the serving members the one nearest to it (ringpop-go, package hashring). None exactly where

@@ -9,7 +9,7 @@ use crate::errors::NodeError;
 use crate::node::NodeState;
 use change_core::{Address, Change, Digest, Sourced};
 use hash_ring::PointHash;
-use wire_json::{Changes, Content, Message, News};
+use message_core::{Changes, Content, Message, News};
 
 impl<H: PointHash> NodeState<H> {
     /// What a node that wants to join sends to a host: its own entry, to be answered by all that the host holds

@@ -7,7 +7,7 @@ use crate::events::{Received, Stopped, Taken};
 use crate::node::NodeState;
 use change_core::Moment;
 use hash_ring::PointHash;
-use wire_json::{Content, Message};
+use message_core::{Content, Message};
 
 impl<H: PointHash> NodeState<H> {
     /// Takes the changes of a message, at a moment, and makes the answer that it wants: to a join the whole membership; to

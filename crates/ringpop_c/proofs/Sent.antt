@@ -1,7 +1,7 @@
 -- A line that stands in a buffer, once it is known to be that of a message.
 use Rattle.std.proofs.Common.{◌≡◌, ◌≢◌, ◌∙◌, ℕ, ◌≤◌, List, length, subst}
 use Rattle.std.specs.Prelude.{All}
-use Rattle.wire_json.specs.declared.messages.Message.{Message}
+use Rattle.message_core.specs.declared.messages.Message.{Message}
 use Rattle.wire_json.specs.Lines.{IsLine, max_line}
 use Rattle.wire_json.specs.Messages.{MessageForm}
 use Rattle.ringpop_c.specs.Lines.{Buffer, Fills, Sends, line_of}

@@ -6,8 +6,8 @@ use Rattle.node_core.specs.declared.errors.NodeError.{NodeError}
 use Rattle.node_core.specs.declared.errors.NodeError.TheVariants as error
 use Rattle.node_core.specs.declared.events.StopCause.{StopCause}
 use Rattle.node_core.specs.declared.events.StopCause.TheVariants as cause
-use Rattle.wire_json.specs.declared.errors.WireError.{WireError}
-use Rattle.wire_json.specs.declared.errors.WireError.TheVariants as wire
+use Rattle.message_core.specs.declared.errors.WireError.{WireError}
+use Rattle.message_core.specs.declared.errors.WireError.TheVariants as wire
 use Rattle.ringpop_c.specs.declared.codes.Code.{Code}
 use Rattle.ringpop_c.specs.declared.codes.Code.TheVariants as code
 

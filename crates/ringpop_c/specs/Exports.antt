@@ -6,7 +6,7 @@ use Rattle.change_core.specs.declared.changes.Sourced.{Sourced}
 use Rattle.detector_core.specs.declared.asked.Said.{Said}
 use Rattle.detector_core.specs.Picks.{running_of}
 use Rattle.hash_ring.specs.declared.hash.Sha256Hash.{Sha256Hash}
-use Rattle.wire_json.specs.declared.messages.Message.{Message}
+use Rattle.message_core.specs.declared.messages.Message.{Message}
 use Rattle.wire_json.specs.Forms.{ChangeForm}
 use Rattle.wire_json.specs.Lines.{IsLine}
 use Rattle.wire_json.specs.Messages.{MessageForm}

@@ -2,9 +2,9 @@
 use Rattle.std.specs.Prelude.{◌≡◌, ◌≢◌, ◌<◌, ◌≤◌, ◌⊎◌, ◌++◌, ℕ, List, length, drop, All}
 use Rattle.serde_json.specs.Written.{compact_text}
 use Rattle.hash_ring.specs.declared.hash.Sha256Hash.{Sha256Hash}
-use Rattle.wire_json.specs.declared.errors.WireError.{WireError}
-use Rattle.wire_json.specs.declared.errors.WireError.TheVariants as wire
-use Rattle.wire_json.specs.declared.messages.Message.{Message}
+use Rattle.message_core.specs.declared.errors.WireError.{WireError}
+use Rattle.message_core.specs.declared.errors.WireError.TheVariants as wire
+use Rattle.message_core.specs.declared.messages.Message.{Message}
 use Rattle.wire_json.specs.Lines.{IsLine, Faults, max_line}
 use Rattle.wire_json.specs.Messages.{MessageForm, message_data}
 use Rattle.wire_json.specs.MessageFaults.{MessageFault}

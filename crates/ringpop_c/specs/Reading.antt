@@ -1,9 +1,9 @@
 -- What a line says of itself: its kind, whom it is from, and whom it asks to ping or says was reached.
 use Rattle.std.specs.Prelude.{◌≡◌, ◌⊎◌, ℕ, Bool, List}
 use Rattle.change_core.specs.Address.{ip_of, port_of}
-use Rattle.wire_json.specs.declared.messages.Content.{Content}
-use Rattle.wire_json.specs.declared.messages.Content.TheVariants.{Join, Joined, Ping, Ack, PingReq, PingReqAck, Forward, Reply, NotOwner, Refused}
-use Rattle.wire_json.specs.declared.messages.Message.{Message}
+use Rattle.message_core.specs.declared.messages.Content.{Content}
+use Rattle.message_core.specs.declared.messages.Content.TheVariants.{Join, Joined, Ping, Ack, PingReq, PingReqAck, Forward, Reply, NotOwner, Refused}
+use Rattle.message_core.specs.declared.messages.Message.{Message}
 use Rattle.wire_json.specs.Lines.{IsLine}
 use Rattle.wire_json.specs.Messages.{MessageForm}
 use Rattle.ringpop_c.specs.declared.codes.Code.{Code}

@@ -6,8 +6,8 @@ use Rattle.node_core.specs.declared.events.Stopped.{Stopped}
 use Rattle.node_core.specs.declared.events.Taken.{Taken}
 use Rattle.node_core.specs.Node.{Node}
 use Rattle.node_core.specs.Taking.{TakeStep}
-use Rattle.wire_json.specs.declared.errors.WireError.{WireError}
-use Rattle.wire_json.specs.declared.errors.WireError.TheVariants as wire
+use Rattle.message_core.specs.declared.errors.WireError.{WireError}
+use Rattle.message_core.specs.declared.errors.WireError.TheVariants as wire
 use Rattle.wire_json.specs.Forms.{ChangeFault, ChangeForm}
 use Rattle.wire_json.specs.Lines.{Faults, IsLine}
 use Rattle.ringpop_c.specs.declared.codes.Code.{Code}

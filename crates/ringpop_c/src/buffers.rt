@@ -4,8 +4,9 @@ ghost use Rattle.ringpop_c.specs.Lines.{Buffer, Fills, IsShort, TellsText, Write
 ghost use Rattle.wire_json.specs.Lines.{max_line};
 
 use crate::codes::Code;
+use message_core::Message;
 use std::alloc::Global;
-use wire_json::{MAX_LINE, Message, encode};
+use wire_json::{MAX_LINE, encode};
 
 /// Puts bytes at the front of a buffer, and how many there are into `count`.
 pub(crate) fn put(out: &mut [u8], count: &mut usize, bytes: &[u8])

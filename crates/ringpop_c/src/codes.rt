@@ -2,8 +2,8 @@
 ghost use Rattle.std.specs.Prelude.{◌≡◌};
 ghost use Rattle.ringpop_c.specs.Codes.{code_number, code_of_error, code_of_field, code_of_stop, code_of_wire};
 
+use message_core::WireError;
 use node_core::{ConfigField, NodeError, StopCause};
-use wire_json::WireError;
 
 /// What a call came to. C sees its number.
 #[derive(Clone, Copy, Debug, PartialEq, Eq)]

@@ -4,8 +4,9 @@ ghost use Rattle.ringpop_c.specs.Codes.{code_number};
 ghost use Rattle.ringpop_c.specs.Reading.{IsRead, ReadsLine, TellsReached, TellsSource, TellsTarget, kind_number};
 
 use crate::codes::Code;
+use message_core::{Content, Message};
 use std::alloc::Global;
-use wire_json::{Content, Message, decode};
+use wire_json::decode;
 
 /// The number of a kind, which the header names.
 fn number_of(content: &Content) -> u8

@@ -11,9 +11,10 @@ use crate::codes::Code;
 use crate::handles::{RingpopNode, lift, put_back};
 use change_core::Moment;
 use hash_ring::Sha256Hash;
+use message_core::Message;
 use node_core::{NodeState, Received};
 use std::alloc::Global;
-use wire_json::{Message, decode};
+use wire_json::decode;
 
 /// Tells what a message came to.
 fn tell(alloc: Global, received: &Received, out: &mut [u8], count: &mut usize) -> Code

@@ -7,10 +7,10 @@ use Rattle.turn_lock.specs.declared.errors.LockError.{LockError}
 use Rattle.wire_json.specs.Lines.{Faults, IsLine, max_line}
 use Rattle.wire_json.specs.MessageFaults.{MessageFault}
 use Rattle.wire_json.specs.Messages.{MessageForm}
-use Rattle.wire_json.specs.declared.errors.WireError.{WireError}
-use Rattle.wire_json.specs.declared.errors.WireError.TheVariants.{LineTooLong, BadJson, NotObject, UnknownKind, MissingField, BadField, TooMany, Io, Memory}
-use Rattle.wire_json.specs.declared.kinds.Reason.{Reason}
-use Rattle.wire_json.specs.declared.messages.Message.{Message}
+use Rattle.message_core.specs.declared.errors.WireError.{WireError}
+use Rattle.message_core.specs.declared.errors.WireError.TheVariants.{LineTooLong, BadJson, NotObject, UnknownKind, MissingField, BadField, TooMany, Io, Memory}
+use Rattle.message_core.specs.declared.kinds.Reason.{Reason}
+use Rattle.message_core.specs.declared.messages.Message.{Message}
 use Rattle.locked_node.specs.declared.node.LockedNode.{LockedNode}
 use Rattle.locked_node.specs.Passes.{NodePass}
 use Rattle.cluster_core.specs.Acts.{Makes}

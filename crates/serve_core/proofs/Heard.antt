@@ -6,7 +6,7 @@ use Rattle.std.specs.Io.Buffered.{reader_buffer, reader_capacity, reader_inner, 
 use Rattle.std.specs.Io.KnownBytes.{prepend_known}
 use Rattle.std.specs.declared.io.buffered.BufReader.{BufReader}
 use Rattle.wire_json.specs.Input.{TakesLine}
-use Rattle.wire_json.specs.declared.errors.WireError.{WireError}
+use Rattle.message_core.specs.declared.errors.WireError.{WireError}
 use Rattle.serve_core.specs.Answering.{Hears, input_of}
 use Rattle.serve_core.specs.declared.inputs.Input.{Input}
 

@@ -9,8 +9,8 @@ use Rattle.change_core.specs.declared.changes.Sourced.{Sourced}
 use Rattle.wire_json.specs.Forms.{ChangeFault}
 use Rattle.wire_json.specs.Lines.{Faults}
 use Rattle.wire_json.specs.Input.{TakesLine, after_line, line_of}
-use Rattle.wire_json.specs.declared.errors.WireError.{WireError}
-use Rattle.wire_json.specs.declared.errors.WireError.TheVariants as wire
+use Rattle.message_core.specs.declared.errors.WireError.{WireError}
+use Rattle.message_core.specs.declared.errors.WireError.TheVariants as wire
 use Rattle.cli_core.proofs.CountedLines.{IsReadError, line_taken}
 use Rattle.cli_core.proofs.Folding.{AreChangeLines-more, bad_line, fault_line, unread}
 use Rattle.cli_core.proofs.Lines.{lines_of-first}

@@ -6,11 +6,11 @@ use Rattle.wire_json.specs.Input.{TakesLine}
 use Rattle.wire_json.specs.Lines.{Faults, IsLine, max_line}
 use Rattle.wire_json.specs.MessageFaults.{MessageFault}
 use Rattle.wire_json.specs.Messages.{MessageForm, message_data}
-use Rattle.wire_json.specs.declared.errors.WireError.{WireError}
-use Rattle.wire_json.specs.declared.errors.WireError.TheVariants as wire
-use Rattle.wire_json.specs.declared.kinds.Reason.{Reason}
-use Rattle.wire_json.specs.declared.kinds.Reason.TheVariants as reason
-use Rattle.wire_json.specs.declared.messages.Message.{Message}
+use Rattle.message_core.specs.declared.errors.WireError.{WireError}
+use Rattle.message_core.specs.declared.errors.WireError.TheVariants as wire
+use Rattle.message_core.specs.declared.kinds.Reason.{Reason}
+use Rattle.message_core.specs.declared.kinds.Reason.TheVariants as reason
+use Rattle.message_core.specs.declared.messages.Message.{Message}
 use Rattle.turn_lock.specs.declared.errors.LockError.{LockError}
 use Rattle.locked_node.specs.declared.node.LockedNode.{LockedNode}
 use Rattle.locked_node.specs.Passes.{NodePass}

@@ -4,9 +4,9 @@ use Rattle.std.specs.Io.KnownBytes.{Appends, Keeps}
 use Rattle.change_core.specs.declared.addresses.Address.{Address}
 use Rattle.change_core.specs.Address.{address_of}
 use Rattle.wire_json.specs.Input.{AppendsFront}
-use Rattle.wire_json.specs.declared.messages.Content.{Content}
-use Rattle.wire_json.specs.declared.messages.Content.TheVariants as content
-use Rattle.wire_json.specs.declared.messages.Message.{Message}
+use Rattle.message_core.specs.declared.messages.Content.{Content}
+use Rattle.message_core.specs.declared.messages.Content.TheVariants as content
+use Rattle.message_core.specs.declared.messages.Message.{Message}
 use Rattle.cluster_core.specs.declared.errors.LinkError.{LinkError}
 use Rattle.cluster_core.specs.declared.errors.LinkError.TheVariants as link
 use Rattle.cluster_core.specs.Links.{MayAnswer}

@@ -10,9 +10,9 @@ use Rattle.change_core.specs.declared.changes.Sourced.{Sourced}
 use Rattle.change_core.specs.Members.{digest_text, members}
 use Rattle.wire_json.specs.Forms.{change_data}
 use Rattle.wire_json.specs.Input.{AppendsFront}
-use Rattle.wire_json.specs.declared.messages.Content.{Content}
-use Rattle.wire_json.specs.declared.messages.Content.TheVariants as content
-use Rattle.wire_json.specs.declared.messages.News.{News}
+use Rattle.message_core.specs.declared.messages.Content.{Content}
+use Rattle.message_core.specs.declared.messages.Content.TheVariants as content
+use Rattle.message_core.specs.declared.messages.News.{News}
 use Rattle.cli_core.specs.Changes.{change_of}
 use Rattle.cli_core.specs.Fold.{fold_text}
 use Rattle.cluster_core.specs.Links.{MayAnswer}

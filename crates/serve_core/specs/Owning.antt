@@ -1,8 +1,8 @@
 -- A request to whichever node owns its key, by what one node tells of the members.
 use Rattle.std.specs.Prelude.{◌≡◌, ◌⊎◌, ℕ, List, [], Option, Some, None}
 use Rattle.change_core.specs.declared.addresses.Address.{Address}
-use Rattle.wire_json.specs.declared.kinds.Reason.TheVariants as reason
-use Rattle.wire_json.specs.declared.messages.News.{News}
+use Rattle.message_core.specs.declared.kinds.Reason.TheVariants as reason
+use Rattle.message_core.specs.declared.messages.News.{News}
 use Rattle.hash_ring.specs.Points.{owner}
 use Rattle.hash_ring.specs.Serving.{servers_of}
 use Rattle.cluster_core.specs.Links.{MayAnswer}

@@ -7,7 +7,7 @@ use Rattle.change_core.specs.declared.addresses.Address.{Address}
 use Rattle.change_core.specs.declared.changes.Sourced.{Sourced}
 use Rattle.wire_json.specs.Forms.{ChangeFault}
 use Rattle.wire_json.specs.Lines.{Faults}
-use Rattle.wire_json.specs.declared.messages.News.{News}
+use Rattle.message_core.specs.declared.messages.News.{News}
 use Rattle.cli_core.specs.Changes.{AreChangeLines, IsChangeLine}
 use Rattle.cli_core.specs.Input.{lines_of}
 use Rattle.cli_core.specs.declared.faults.LineFault.{LineFault}

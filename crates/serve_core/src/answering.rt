@@ -14,10 +14,11 @@ use change_core::Moment;
 use cluster_core::{Link, refuse, serve_one};
 use hash_ring::PointHash;
 use locked_node::{LockedNode, NodePass};
+use message_core::{Message, Reason, WireError};
 use std::alloc::Global;
 use std::sync::Wait;
 use turn_lock::LockError;
-use wire_json::{Message, Reason, WireError, decode, encode};
+use wire_json::{decode, encode};
 
 /// How a refusal names what is wrong with a line.
 fn reason_of(fault: WireError) -> Reason

@@ -8,12 +8,12 @@ use crate::questions::{ask_for, write_text};
 use change_core::Address;
 use cluster_core::Link;
 use cluster_links::TcpLink;
+use message_core::{Content, Keys, Text};
 use std::alloc::Global;
 use std::io::Write;
 use std::net::Net;
 use std::sync::Wait;
 use std::time::Clock;
-use wire_json::{Content, Keys, Text};
 
 /// A request for a key.
 fn request(alloc: Global, key: &str, body: &str) -> Result<Content, AskFault>

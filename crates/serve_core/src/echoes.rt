@@ -2,9 +2,9 @@
 
 use change_core::Address;
 use cluster_core::{Handler, HandlerFault};
+use message_core::{Keys, Text};
 use std::alloc::Global;
 use std::sync::Wait;
-use wire_json::{Keys, Text};
 
 /// Answers each request with a node's address, a space and the body.
 #[derive(Clone, Copy, Debug)]

@@ -5,9 +5,9 @@ ghost use Rattle.serve_core.specs.declared.faults.ServeFault.TheVariants as serv
 ghost use Rattle.serve_core.specs.declared.faults.TellFault.TheVariants as tell;
 
 use cli_core::LineFault;
+use message_core::Reason;
 use std::alloc::AllocError;
 use thiserror::Error;
-use wire_json::Reason;
 
 /// Why a question to a running node came to nothing.
 #[derive(Clone, Copy, Debug, PartialEq, Eq, Error)]

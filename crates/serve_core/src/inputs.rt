@@ -2,9 +2,10 @@
 ghost use Rattle.std.specs.Prelude.{◌≡◌};
 ghost use Rattle.serve_core.specs.Answering.{Hears, input_of};
 
+use message_core::{Reason, WireError};
 use std::alloc::Global;
 use std::io::{BufReader, Read};
-use wire_json::{Reason, WireError, read_line};
+use wire_json::read_line;
 
 /// What came over a connection.
 #[derive(Debug, Drop)]

@@ -18,12 +18,13 @@ use cli_core::fold_text;
 use cluster_core::Link;
 use cluster_links::TcpLink;
 use member_core::{MemberError, MemberTable};
+use message_core::{Changes, News};
 use std::alloc::Global;
 use std::io::Write;
 use std::net::Net;
 use std::sync::Wait;
 use std::time::Clock;
-use wire_json::{Changes, News, encode_change};
+use wire_json::encode_change;
 
 /// The members that changes come to.
 fn folded(alloc: Global, changes: &[Sourced]) -> Result<MemberTable, AskFault>

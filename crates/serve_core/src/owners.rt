@@ -18,12 +18,12 @@ use cli_core::{AskAnyWords, ring_of};
 use cluster_core::Link;
 use cluster_links::TcpLink;
 use hash_ring::{PointHash, Sha256Hash, SumHash};
+use message_core::{Reason, Text};
 use std::alloc::Global;
 use std::io::Write;
 use std::net::Net;
 use std::sync::Wait;
 use std::time::Clock;
-use wire_json::{Reason, Text};
 
 /// The owner of a key among members. `Refused` with `nobody` where none of them serves, as a node would say.
 fn owner_by<H: PointHash>(

@@ -8,10 +8,11 @@ ghost use Rattle.serve_core.specs.Membership.{IsNotTold, IsTold};
 use crate::faults::AskFault;
 use change_core::{Address, Digest, Incarnation};
 use cluster_core::{Link, LinkError};
+use message_core::{Changes, Content, Message, News};
 use std::alloc::Global;
 use std::io::Write;
 use std::sync::Wait;
-use wire_json::{Changes, Content, Message, News, write_line};
+use wire_json::write_line;
 
 /// A message that no node made.
 fn by_nobody(content: Content) -> Message

@@ -14,12 +14,13 @@ use change_core::{Address, MOST_MEMBERS, Sourced};
 use cli_core::LineFault;
 use cluster_core::Link;
 use cluster_links::TcpLink;
+use message_core::Changes;
 use std::alloc::Global;
 use std::io::{Read, Write};
 use std::net::Net;
 use std::sync::Wait;
 use std::time::Clock;
-use wire_json::{Changes, decode_change, read_line};
+use wire_json::{decode_change, read_line};
 
 /// How many changes a message has at most: as many as a cluster has members.
 const MOST_CHANGES: usize = MOST_MEMBERS;

@@ -10,11 +10,11 @@ use anyhow::{Context, bail};
 use change_core::{Address, Incarnation, Moment};
 use cluster_links::Cluster;
 use hash_ring::Sha256Hash;
+use message_core::{Content, Keys, Message, Text, WireError};
 use node_core::{Config, NodeState, Received, View};
 use std::alloc::Global;
 use std::sync::Wait;
 use trips::Trips;
-use wire_json::{Content, Keys, Message, Text, WireError};
 
 /// Where the nodes are.
 const ADDRESSES: [&str; 3] = ["10.0.0.1:7946", "10.0.0.2:7946", "10.0.0.3:7946"];

@@ -1,9 +1,9 @@
 //! What the service does with a request: the node that owns a rider counts the trips.
 use cluster_core::{Handler, HandlerFault};
+use message_core::{Keys, Text};
 use std::alloc::{AllocError, Global};
 use std::collections::BTreeMap;
 use std::sync::{Mutex, Wait};
-use wire_json::{Keys, Text};
 
 /// How many trips each rider made. The nodes of one `Cluster` share a handler, and only the owner of a rider is asked.
 #[derive(Drop)]

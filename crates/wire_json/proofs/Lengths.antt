@@ -17,13 +17,13 @@ use Rattle.change_core.specs.Status.{status_word}
 use Rattle.change_core.specs.declared.statuses.Status.{Status}
 use Rattle.change_core.specs.declared.statuses.Status.TheVariants.{Alive, Suspect, Faulty, Leave, Tombstone}
 use Rattle.change_core.proofs.NumberTexts.{Digits, Digits-number_text}
-use Rattle.wire_json.specs.declared.fields.Field.{Field}
-use Rattle.wire_json.specs.declared.fields.Field.TheVariants as field
-use Rattle.wire_json.specs.declared.kinds.Kind.{Kind}
-use Rattle.wire_json.specs.declared.kinds.Kind.TheVariants as kind
-use Rattle.wire_json.specs.Fields.{name}
+use Rattle.message_core.specs.declared.fields.Field.{Field}
+use Rattle.message_core.specs.declared.fields.Field.TheVariants as field
+use Rattle.message_core.specs.declared.kinds.Kind.{Kind}
+use Rattle.message_core.specs.declared.kinds.Kind.TheVariants as kind
+use Rattle.message_core.specs.Fields.{name}
 use Rattle.wire_json.specs.Forms.{with_fields, written}
-use Rattle.wire_json.specs.Words.{kind_word}
+use Rattle.message_core.specs.Words.{kind_word}
 
 -- a byte that a string writes as itself, and that is a character
 abbrev pub IsPlainByte : ℕ → Type 0

@@ -11,10 +11,10 @@ use Rattle.change_core.specs.Digest.{digest_digits}
 use Rattle.serde_json.specs.View.{items_of}
 use Rattle.serde_json.specs.Read.{max_depth}
 use Rattle.serde_json.specs.Written.{has_float, items_have_float}
-use Rattle.wire_json.specs.declared.messages.Message.{Message}
-use Rattle.wire_json.specs.declared.messages.News.{News}
-use Rattle.wire_json.specs.declared.messages.Content.{Content}
-use Rattle.wire_json.specs.declared.messages.Content.TheVariants.{Join, Joined, Ping, Ack, PingReq, PingReqAck, Forward, Reply, NotOwner, Refused}
+use Rattle.message_core.specs.declared.messages.Message.{Message}
+use Rattle.message_core.specs.declared.messages.News.{News}
+use Rattle.message_core.specs.declared.messages.Content.{Content}
+use Rattle.message_core.specs.declared.messages.Content.TheVariants.{Join, Joined, Ping, Ack, PingReq, PingReqAck, Forward, Reply, NotOwner, Refused}
 use Rattle.wire_json.specs.Forms.{ChangeForm, IsChange, change_data}
 use Rattle.wire_json.specs.Messages.{HasNews, MessageForm, IsNewsRecord, IsContent, IsMessage, message_data}
 use Rattle.wire_json.proofs.Encoding.{change_stands, change_whole, change_shallow}

@@ -8,11 +8,11 @@ use Rattle.change_core.specs.Address.{IsAddress, address_text}
 use Rattle.change_core.specs.Numbers.{greatest_number}
 use Rattle.change_core.specs.Status.{status_word}
 use Rattle.change_core.specs.declared.statuses.Status.{Status}
-use Rattle.wire_json.specs.declared.fields.Field.{Field}
-use Rattle.wire_json.specs.declared.fields.Field.TheVariants as field
+use Rattle.message_core.specs.declared.fields.Field.{Field}
+use Rattle.message_core.specs.declared.fields.Field.TheVariants as field
 use Rattle.wire_json.specs.declared.partial.PartialChange.{PartialChange}
-use Rattle.wire_json.specs.Fields.{name}
-use Rattle.wire_json.specs.Forms.{Weighs}
+use Rattle.message_core.specs.Fields.{name}
+use Rattle.wire_fields.specs.Forms.{Weighs}
 use Rattle.wire_json.specs.Partial.{IsReadOf}
 
 apart : (xs ys : List ℕ) → bytes_eq xs ys ≡ false → xs ≡ ys → ⊥

@@ -13,21 +13,21 @@ use Rattle.change_core.specs.Status.{status_word}
 use Rattle.change_core.specs.declared.changes.Sourced.{Sourced}
 use Rattle.change_core.specs.declared.statuses.Status.{Status}
 use Rattle.change_core.specs.declared.statuses.Status.TheVariants.{Alive, Suspect, Faulty, Leave, Tombstone}
-use Rattle.wire_json.specs.declared.fields.Field.{Field}
-use Rattle.wire_json.specs.declared.fields.Field.TheVariants as field
-use Rattle.wire_json.specs.declared.kinds.Kind.{Kind}
-use Rattle.wire_json.specs.declared.kinds.Kind.TheVariants as kind
-use Rattle.wire_json.specs.declared.kinds.Reason.{Reason}
-use Rattle.wire_json.specs.declared.kinds.Reason.TheVariants as reason_is
-use Rattle.wire_json.specs.declared.messages.Message.{Message}
-use Rattle.wire_json.specs.declared.messages.News.{News}
-use Rattle.wire_json.specs.declared.messages.Content.{Content}
-use Rattle.wire_json.specs.declared.messages.Content.TheVariants.{Join, Joined, Ping, Ack, PingReq, PingReqAck, Forward, Reply, NotOwner, Refused}
-use Rattle.wire_json.specs.Fields.{name}
+use Rattle.message_core.specs.declared.fields.Field.{Field}
+use Rattle.message_core.specs.declared.fields.Field.TheVariants as field
+use Rattle.message_core.specs.declared.kinds.Kind.{Kind}
+use Rattle.message_core.specs.declared.kinds.Kind.TheVariants as kind
+use Rattle.message_core.specs.declared.kinds.Reason.{Reason}
+use Rattle.message_core.specs.declared.kinds.Reason.TheVariants as reason_is
+use Rattle.message_core.specs.declared.messages.Message.{Message}
+use Rattle.message_core.specs.declared.messages.News.{News}
+use Rattle.message_core.specs.declared.messages.Content.{Content}
+use Rattle.message_core.specs.declared.messages.Content.TheVariants.{Join, Joined, Ping, Ack, PingReq, PingReqAck, Forward, Reply, NotOwner, Refused}
+use Rattle.message_core.specs.Fields.{name}
 use Rattle.wire_json.specs.Forms.{IsChange, change_data}
 use Rattle.wire_json.specs.Messages.{IsNewsRecord, IsContent, IsMessage, message_data}
 use Rattle.wire_json.specs.Sending.{AreTexts}
-use Rattle.wire_json.specs.Words.{kind_word, reason_word}
+use Rattle.message_core.specs.Words.{kind_word, reason_word}
 use Rattle.wire_json.proofs.Encoding.{change_object}
 use Rattle.wire_json.proofs.Lengths.{IsPlain, address_plain}
 use Rattle.wire_json.proofs.ReadBack.{IsUtf8-small, IsPrinted, ArePrinted, MembersArePrinted}

@@ -11,12 +11,12 @@ use Rattle.serde_json.specs.View.{items_of}
 use Rattle.change_core.specs.Address.{address_text}
 use Rattle.change_core.specs.Status.{status_word}
 use Rattle.change_core.specs.declared.changes.Sourced.{Sourced}
-use Rattle.wire_json.specs.declared.fields.Field.{Field}
-use Rattle.wire_json.specs.declared.fields.Field.TheVariants as field
-use Rattle.wire_json.specs.declared.messages.Message.{Message}
-use Rattle.wire_json.specs.declared.messages.Content.{Content}
-use Rattle.wire_json.specs.declared.messages.Content.TheVariants.{Join, Joined, Ping, Ack, PingReq, PingReqAck, Forward, Reply, NotOwner, Refused}
-use Rattle.wire_json.specs.Fields.{name}
+use Rattle.message_core.specs.declared.fields.Field.{Field}
+use Rattle.message_core.specs.declared.fields.Field.TheVariants as field
+use Rattle.message_core.specs.declared.messages.Message.{Message}
+use Rattle.message_core.specs.declared.messages.Content.{Content}
+use Rattle.message_core.specs.declared.messages.Content.TheVariants.{Join, Joined, Ping, Ack, PingReq, PingReqAck, Forward, Reply, NotOwner, Refused}
+use Rattle.message_core.specs.Fields.{name}
 use Rattle.wire_json.specs.Forms.{plain_fields, weight_fields, change_data}
 use Rattle.wire_json.specs.Messages.{message_data}
 use Rattle.wire_json.specs.Sending.{Sends, SendsAll, content_sent, fields_sent}

@@ -13,17 +13,17 @@ use Rattle.change_core.specs.Status.{status_word}
 use Rattle.change_core.specs.declared.changes.Sourced.{Sourced}
 use Rattle.change_core.proofs.Hex.{length-digest_digits}
 use Rattle.change_core.proofs.OneText.{address_text-short}
-use Rattle.wire_json.specs.declared.fields.Field.TheVariants as field
-use Rattle.wire_json.specs.declared.messages.Message.{Message}
-use Rattle.wire_json.specs.declared.messages.News.{News}
-use Rattle.wire_json.specs.declared.messages.Content.{Content}
-use Rattle.wire_json.specs.declared.messages.Content.TheVariants.{Join, Joined, Ping, Ack, PingReq, PingReqAck, Forward, Reply, NotOwner, Refused}
-use Rattle.wire_json.specs.Fields.{name}
+use Rattle.message_core.specs.declared.fields.Field.TheVariants as field
+use Rattle.message_core.specs.declared.messages.Message.{Message}
+use Rattle.message_core.specs.declared.messages.News.{News}
+use Rattle.message_core.specs.declared.messages.Content.{Content}
+use Rattle.message_core.specs.declared.messages.Content.TheVariants.{Join, Joined, Ping, Ack, PingReq, PingReqAck, Forward, Reply, NotOwner, Refused}
+use Rattle.message_core.specs.Fields.{name}
 use Rattle.wire_json.specs.Forms.{IsChange, change_data}
-use Rattle.wire_json.specs.Limits.{most_change_bytes}
-use Rattle.wire_json.specs.Lines.{max_line}
-use Rattle.wire_json.specs.Messages.{kind_of, news_fields, content_fields, message_data, CarriesNews, IsNewsRecord, IsContent, IsMessage}
-use Rattle.wire_json.specs.Words.{kind_word}
+use Rattle.wire_json.specs.Lines.{most_change_bytes, max_line}
+use Rattle.message_core.specs.Messages.{kind_of}
+use Rattle.wire_json.specs.Messages.{news_fields, content_fields, message_data, CarriesNews, IsNewsRecord, IsContent, IsMessage}
+use Rattle.message_core.specs.Words.{kind_word}
 use Rattle.wire_json.proofs.Encoding.{change_object}
 use Rattle.wire_json.proofs.Lengths.{length-members_text, items_short, sizes, written_short, quoted-plain, quoted_short, quoted_name, quoted_status, kind_short, address_plain}
 

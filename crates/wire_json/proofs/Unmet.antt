@@ -1,7 +1,7 @@
 -- The parts that a message is asked to have, up to the first fault.
 use Rattle.std.proofs.Common.{List, [], ◌∷◌, ◌++◌, inl, inr}
 use Rattle.serde_json.specs.Data.{Data}
-use Rattle.wire_json.specs.declared.errors.WireError.{WireError}
+use Rattle.message_core.specs.declared.errors.WireError.{WireError}
 use Rattle.wire_json.specs.MessageFaults.{Part, FirstUnmet}
 
 -- a fault of the first parts asked for is one of all

@@ -5,17 +5,18 @@ use Rattle.serde_json.specs.Find.{get, as_array}
 use Rattle.serde_json.specs.View.{items_of}
 use Rattle.change_core.specs.Numbers.{most_members}
 use Rattle.change_core.specs.declared.changes.Sourced.{Sourced}
-use Rattle.wire_json.specs.declared.errors.WireError.{WireError}
-use Rattle.wire_json.specs.declared.errors.WireError.TheVariants.{UnknownKind, MissingField, BadField, TooMany}
-use Rattle.wire_json.specs.declared.fields.Field.{Field}
-use Rattle.wire_json.specs.declared.fields.Field.TheVariants as field
-use Rattle.wire_json.specs.declared.kinds.Kind.{Kind}
-use Rattle.wire_json.specs.declared.kinds.Kind.TheVariants as kind
-use Rattle.wire_json.specs.Fields.{name}
-use Rattle.wire_json.specs.Words.{kind_word}
-use Rattle.wire_json.specs.Forms.{HasText, ChangeForm, ChangeFault, Form, text, address, whole, digest, truth, reason, IsGood, IsBad}
+use Rattle.message_core.specs.declared.errors.WireError.{WireError}
+use Rattle.message_core.specs.declared.errors.WireError.TheVariants.{MissingField, BadField, TooMany}
+use Rattle.message_core.specs.declared.fields.Field.{Field}
+use Rattle.message_core.specs.declared.fields.Field.TheVariants as field
+use Rattle.message_core.specs.declared.kinds.Kind.{Kind}
+use Rattle.message_core.specs.declared.kinds.Kind.TheVariants as kind
+use Rattle.message_core.specs.Fields.{name}
+use Rattle.message_core.specs.Words.{kind_word}
+use Rattle.wire_fields.specs.Forms.{HasText, KindFault, Form, text, address, whole, digest, truth, reason, IsGood, IsBad}
+use Rattle.wire_json.specs.Forms.{ChangeForm, ChangeFault}
 use Rattle.wire_json.specs.Lines.{IsObject}
-use Rattle.wire_json.specs.Limits.{max_keys}
+use Rattle.message_core.specs.Limits.{max_keys}
 use Rattle.wire_json.specs.Messages.{HasChanges, HasKeys}
 
 -- the first element at fault; those before it are good
@@ -97,10 +98,6 @@ parts_of kind.Refused = plain reason field.Reason ∷ []
 -- what a message of the kind is asked to have, in the order of checks
 abbrev pub message_parts : Kind → List Part
 message_parts k = plain address field.Source ∷ plain whole field.SourceIncarnationNumber ∷ parts_of k
-
--- the field `kind` is absent, no string, or no word of a kind
-abbrev pub KindFault : Data → WireError → Type 0
-KindFault v e = IsBad text field.Kind v e ⊎ ((e ≡ UnknownKind) × (t : List ℕ) × HasText field.Kind v t × ((k : Kind) → t ≢ kind_word k))
 
 -- the first fault of a value that stands for no message: that of its kind, or of what the kind asks for
 abbrev pub MessageFault : Data → WireError → Type 0

@@ -8,19 +8,18 @@ use Rattle.change_core.specs.Address.{IsAddress, address_text}
 use Rattle.change_core.specs.Digest.{IsDigest, digest_digits}
 use Rattle.change_core.specs.Numbers.{greatest_number, most_members}
 use Rattle.change_core.specs.declared.changes.Sourced.{Sourced}
-use Rattle.wire_json.specs.declared.fields.Field.{Field}
-use Rattle.wire_json.specs.declared.fields.Field.TheVariants as field
-use Rattle.wire_json.specs.declared.kinds.Kind.{Kind}
-use Rattle.wire_json.specs.declared.kinds.Kind.TheVariants as kind
-use Rattle.wire_json.specs.declared.kinds.Reason.{Reason}
-use Rattle.wire_json.specs.declared.messages.Message.{Message}
-use Rattle.wire_json.specs.declared.messages.News.{News}
-use Rattle.wire_json.specs.declared.messages.Content.{Content}
-use Rattle.wire_json.specs.declared.messages.Content.TheVariants.{Join, Joined, Ping, Ack, PingReq, PingReqAck, Forward, Reply, NotOwner, Refused}
-use Rattle.wire_json.specs.Fields.{name}
-use Rattle.wire_json.specs.Words.{kind_word, reason_word}
-use Rattle.wire_json.specs.Forms.{HasText, HasAddress, HasNumber, HasDigest, HasTruth, ChangeForm, IsChange, written, change_data}
-use Rattle.wire_json.specs.Limits.{max_keys}
+use Rattle.message_core.specs.declared.fields.Field.{Field}
+use Rattle.message_core.specs.declared.fields.Field.TheVariants as field
+use Rattle.message_core.specs.declared.messages.Message.{Message}
+use Rattle.message_core.specs.declared.messages.News.{News}
+use Rattle.message_core.specs.declared.messages.Content.{Content}
+use Rattle.message_core.specs.declared.messages.Content.TheVariants.{Join, Joined, Ping, Ack, PingReq, PingReqAck, Forward, Reply, NotOwner, Refused}
+use Rattle.message_core.specs.Fields.{name}
+use Rattle.message_core.specs.Messages.{kind_of}
+use Rattle.message_core.specs.Words.{kind_word, reason_word}
+use Rattle.wire_fields.specs.Forms.{HasText, HasAddress, HasNumber, HasDigest, HasTruth, HasReason}
+use Rattle.wire_json.specs.Forms.{ChangeForm, IsChange, written, change_data}
+use Rattle.message_core.specs.Limits.{max_keys}
 
 -- ---- the form
 
@@ -37,27 +36,10 @@ pub record HasKeys (v : Data) (ks : List (List ℕ)) : Type 0 where
   pub some : 0 < length ks
   pub few : length ks ≤ max_keys
 
--- the field `reason` is the word of the reason
-abbrev pub HasReason : Data → Reason → Type 0
-HasReason v r = HasText field.Reason v (reason_word r)
-
 -- the value has the digest of the sender's members and the changes that it passes on
 pub record HasNews (v : Data) (g : News) : Type 0 where
   pub checksum : HasDigest field.Checksum v g.checksum
   pub changes : HasChanges v g.changes
-
--- the kind of a message
-abbrev pub kind_of : Content → Kind
-kind_of (Join g) = kind.Join
-kind_of (Joined g) = kind.Joined
-kind_of (Ping g) = kind.Ping
-kind_of (Ack g) = kind.Ack
-kind_of (PingReq g a) = kind.PingReq
-kind_of (PingReqAck g a b) = kind.PingReqAck
-kind_of (Forward ks t) = kind.Forward
-kind_of (Reply t) = kind.Reply
-kind_of NotOwner = kind.NotOwner
-kind_of (Refused r) = kind.Refused
 
 -- the fields beside kind and source, for each kind its own
 abbrev pub ContentForm : Data → Content → Type 0

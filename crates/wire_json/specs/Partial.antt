@@ -2,9 +2,9 @@
 use Rattle.std.specs.Prelude.{◌≡◌, None, IfSome}
 use Rattle.serde_json.specs.Data.{object, Members}
 use Rattle.serde_json.specs.Find.{get}
-use Rattle.wire_json.specs.Fields.{name}
-use Rattle.wire_json.specs.Forms.{HasAddress, HasNumber, HasWord, HasWeight}
-use Rattle.wire_json.specs.declared.fields.Field.TheVariants as field
+use Rattle.message_core.specs.Fields.{name}
+use Rattle.wire_fields.specs.Forms.{HasAddress, HasNumber, HasWord, HasWeight}
+use Rattle.message_core.specs.declared.fields.Field.TheVariants as field
 use Rattle.wire_json.specs.declared.partial.PartialChange.{PartialChange}
 
 -- what is there of the change is what these fields say, of which none is `tombstone`

@@ -9,16 +9,16 @@ use Rattle.serde_json.specs.Events.{SendsValue}
 use Rattle.serde_json.specs.View.{items_of}
 use Rattle.change_core.specs.Address.{address_text}
 use Rattle.change_core.specs.Digest.{digest_digits}
-use Rattle.wire_json.specs.declared.fields.Field.{Field}
-use Rattle.wire_json.specs.declared.fields.Field.TheVariants as field
-use Rattle.wire_json.specs.declared.messages.Message.{Message}
-use Rattle.wire_json.specs.declared.messages.News.{News}
-use Rattle.wire_json.specs.declared.messages.Content.{Content}
-use Rattle.wire_json.specs.declared.messages.Content.TheVariants.{Join, Joined, Ping, Ack, PingReq, PingReqAck, Forward, Reply, NotOwner, Refused}
-use Rattle.wire_json.specs.Fields.{name}
+use Rattle.message_core.specs.declared.fields.Field.{Field}
+use Rattle.message_core.specs.declared.fields.Field.TheVariants as field
+use Rattle.message_core.specs.declared.messages.Message.{Message}
+use Rattle.message_core.specs.declared.messages.News.{News}
+use Rattle.message_core.specs.declared.messages.Content.{Content}
+use Rattle.message_core.specs.declared.messages.Content.TheVariants.{Join, Joined, Ping, Ack, PingReq, PingReqAck, Forward, Reply, NotOwner, Refused}
+use Rattle.message_core.specs.Fields.{name}
 use Rattle.wire_json.specs.Forms.{change_data}
-use Rattle.wire_json.specs.Messages.{kind_of}
-use Rattle.wire_json.specs.Words.{kind_word, reason_word}
+use Rattle.message_core.specs.Messages.{kind_of}
+use Rattle.message_core.specs.Words.{kind_word, reason_word}
 
 -- these fields are sent one after another, each as its name and what its value sends
 abbrev pub SendsEach : List (Field × Data) → Log → Log → Type 0

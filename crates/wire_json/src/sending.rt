@@ -8,9 +8,8 @@ ghost use Rattle.serde_json.specs.Events.{SendsValue};
 ghost use Rattle.serde_json.specs.Sent.{IsTextOf};
 ghost use Rattle.wire_json.specs.Sending.{Sends};
 
-use crate::errors::WireError;
-use crate::fields::Field;
 use change_core::{Address, AddressText, Incarnation};
+use message_core::{Field, WireError};
 use serde::{Serialize, Serializer};
 use std::alloc::Global;
 

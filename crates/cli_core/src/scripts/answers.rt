@@ -7,9 +7,9 @@ ghost use Rattle.cli_core.specs.ScriptAnswers.{answer_text, cause_word, message_
 use crate::scripts::faults::ScriptFault;
 use change_core::{Address, Change, Digest};
 use detector_core::Addresses;
+use message_core::Text;
 use node_core::{StopCause, Stopped, Taken};
 use std::alloc::Global;
-use wire_json::Text;
 
 /// What a line is answered.
 #[derive(Drop)]

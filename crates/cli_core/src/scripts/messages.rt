@@ -1,7 +1,7 @@
 //! The messages that a script keeps.
 
 use change_core::Address;
-use wire_json::Message;
+use message_core::Message;
 
 /// A message, and whom it is for.
 #[derive(Drop)]

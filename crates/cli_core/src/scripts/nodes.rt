@@ -10,9 +10,9 @@ use crate::scripts::faults::ScriptFault;
 use crate::scripts::lines::{Birth, Question};
 use change_core::{Address, Incarnation, Moment};
 use hash_ring::PointHash;
+use message_core::Message;
 use node_core::{Config, NodeState, Received};
 use std::alloc::Global;
-use wire_json::Message;
 
 /// Where the node of an address stands.
 pub fn place_of<H: PointHash>(nodes: &[NodeState<H>], address: Address) -> Option<usize>

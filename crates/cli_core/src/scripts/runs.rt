@@ -13,9 +13,9 @@ use crate::scripts::lines::read_command;
 use crate::scripts::simulation::Simulation;
 use crate::words::SimWords;
 use hash_ring::{PointHash, Sha256Hash, SumHash};
+use message_core::WireError;
 use std::alloc::Global;
 use std::io::{Read, Write};
-use wire_json::WireError;
 
 /// What a fault of reading a line is to a script.
 fn fault_of_read(fault: WireError) -> ScriptFault

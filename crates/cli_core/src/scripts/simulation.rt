@@ -12,10 +12,10 @@ use crate::scripts::nodes::{
 };
 use change_core::{Address, Moment};
 use hash_ring::PointHash;
+use message_core::Message;
 use node_core::{NodeState, Received};
 use std::alloc::Global;
 use std::marker::Model;
-use wire_json::Message;
 
 /// How many nodes a script has at most.
 pub const MOST_NODES: usize = 64;

@@ -1,7 +1,7 @@
 use Rattle.std.proofs.Common.{length, map, arith}
 use Rattle.std.proofs.lemmas.List.{length-map}
 use Rattle.wire_json.specs.Forms.{change_data}
-use Rattle.wire_json.specs.declared.fields.Field.TheVariants as field
+use Rattle.message_core.specs.declared.fields.Field.TheVariants as field
 use Rattle.wire_json.proofs.Sent.{list_sent}
 use Rattle.wire_json.proofs.message_values.send_changes.Goals as goal
 

@@ -1,7 +1,7 @@
 use Rattle.std.proofs.Common.{length, map, arith}
 use Rattle.std.proofs.lemmas.List.{length-map}
 use Rattle.serde_json.specs.Data.{string}
-use Rattle.wire_json.specs.declared.fields.Field.TheVariants as field
+use Rattle.message_core.specs.declared.fields.Field.TheVariants as field
 use Rattle.wire_json.proofs.Sent.{list_sent}
 use Rattle.wire_json.proofs.message_values.send_keys.Goals as goal
 

@@ -1,6 +1,6 @@
 use Rattle.std.proofs.Common.{List, Ok, ap, refl, subst, sym, ◌∙◌}
 use Rattle.change_core.specs.declared.changes.Sourced.{Sourced}
-use Rattle.wire_json.specs.declared.messages.Content.{Content}
+use Rattle.message_core.specs.declared.messages.Content.{Content}
 use Rattle.node_core.specs.declared.events.Received.{Received}
 use Rattle.node_core.specs.Messages.{ack_by, carried, joined_by, told}
 use Rattle.node_core.specs.Receiving.{AnswerStep, ReceiveStep, is_answered}

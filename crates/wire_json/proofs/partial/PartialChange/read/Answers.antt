@@ -1,6 +1,6 @@
 use Rattle.std.proofs.Common.{inl, inr, refl, rules}
 use Rattle.serde_json.specs.View.{view}
-use Rattle.wire_json.specs.declared.fields.Field.TheVariants as field
+use Rattle.message_core.specs.declared.fields.Field.TheVariants as field
 use Rattle.wire_json.proofs.OneField.{others, is_at, counts, names, reads}
 use Rattle.wire_json.proofs.partial.PartialChange.read.Goals as goal
 

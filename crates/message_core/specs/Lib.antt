@@ -1,0 +1,4 @@
+pub mod Fields
+pub mod Limits
+pub mod Messages
+pub mod Words

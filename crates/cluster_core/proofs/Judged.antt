@@ -5,11 +5,11 @@ use Rattle.message_core.specs.declared.messages.Message.{Message}
 use Rattle.forward_core.specs.declared.errors.ForwardError.{ForwardError}
 use Rattle.forward_core.specs.declared.errors.ForwardError.TheVariants as forward
 use Rattle.forward_core.specs.Attempts.{AttemptState, IsOpen, FailedStep}
-use Rattle.cluster_core.specs.declared.errors.ClusterError.{ClusterError}
-use Rattle.cluster_core.specs.declared.errors.LinkError.{LinkError}
+use Rattle.round_core.specs.declared.errors.ClusterError.{ClusterError}
+use Rattle.round_core.specs.declared.errors.LinkError.{LinkError}
 use Rattle.cluster_core.specs.declared.forwarding.Request.{Request}
 use Rattle.cluster_core.specs.declared.forwarding.Tried.{Tried}
-use Rattle.cluster_core.specs.Errors.{error_of_forward}
+use Rattle.round_core.specs.Errors.{error_of_forward}
 use Rattle.cluster_core.specs.Forwarding.{IsFailure, IsJudged}
 
 module _ (now : ℕ) (request : Request) (answer : Result Message LinkError) (fails : IsFailure answer) where

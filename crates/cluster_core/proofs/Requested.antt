@@ -19,20 +19,20 @@ use Rattle.forward_core.specs.declared.errors.ForwardError.{ForwardError}
 use Rattle.forward_core.specs.declared.errors.ForwardError.TheVariants as forward
 use Rattle.forward_core.specs.Attempts.{AttemptState, IsOpen, ReadyStep, FailedStep}
 use Rattle.forward_core.specs.Routes.{AllOwnedBy, HaveDiverged}
-use Rattle.cluster_core.specs.declared.errors.ClusterError.{ClusterError}
-use Rattle.cluster_core.specs.declared.errors.ClusterError.TheVariants as error
-use Rattle.cluster_core.specs.declared.errors.HandlerFault.{HandlerFault}
-use Rattle.cluster_core.specs.declared.errors.LinkError.{LinkError}
-use Rattle.cluster_core.specs.declared.errors.LinkError.TheVariants as link
+use Rattle.round_core.specs.declared.errors.ClusterError.{ClusterError}
+use Rattle.round_core.specs.declared.errors.ClusterError.TheVariants as error
+use Rattle.round_core.specs.declared.errors.HandlerFault.{HandlerFault}
+use Rattle.round_core.specs.declared.errors.LinkError.{LinkError}
+use Rattle.round_core.specs.declared.errors.LinkError.TheVariants as link
 use Rattle.cluster_core.specs.declared.forwarding.Request.{Request}
 use Rattle.cluster_core.specs.declared.forwarding.Tried.{Tried}
 use Rattle.cluster_core.specs.declared.forwarding.Tried.TheVariants.{Answered, Again}
-use Rattle.cluster_core.specs.Acts.{Act, OfActs, did, looked}
-use Rattle.cluster_core.specs.Errors.{error_of_forward}
+use Rattle.round_core.specs.Acts.{Act, OfActs, did, looked}
+use Rattle.round_core.specs.Errors.{error_of_forward}
 use Rattle.cluster_core.specs.Forwarding.{CarriesOut, IsFailure, IsHandled, IsJudged, LooksUp, Times, TriesOnce, way_of_try}
 use Rattle.cluster_core.specs.Handling.{MayHandle}
-use Rattle.cluster_core.specs.Links.{MayAnswer}
-use Rattle.cluster_core.specs.Parts.{IsOfLock, onward, ended, Until}
+use Rattle.round_core.specs.Links.{MayAnswer}
+use Rattle.round_core.specs.Parts.{IsOfLock, onward, ended, Until}
 use Rattle.cluster_core.specs.Requests.{Owns, IsOfHandler, IsOfOwner, IsAnswered, IsUnanswered, RequestsRest}
 use Rattle.cluster_core.specs.Serving.{message_by, Says}
 use Rattle.cluster_core.proofs.Servings.{has_first, has_later}

@@ -17,13 +17,13 @@ use Rattle.node_core.specs.declared.events.Received.{Received}
 use Rattle.node_core.specs.declared.events.Received.TheVariants as received
 use Rattle.node_core.specs.declared.events.Reply.TheVariants as reply
 use Rattle.node_core.specs.Viewing.{Viewed}
-use Rattle.cluster_core.specs.declared.errors.LinkError.{LinkError}
-use Rattle.cluster_core.specs.declared.hearing.Heard.{Heard}
-use Rattle.cluster_core.specs.declared.hearing.Heard.TheVariants as heard
-use Rattle.cluster_core.specs.Acts.{Act, did, looked}
-use Rattle.cluster_core.specs.Asking.{IsSent}
+use Rattle.round_core.specs.declared.errors.LinkError.{LinkError}
+use Rattle.round_core.specs.declared.hearing.Heard.{Heard}
+use Rattle.round_core.specs.declared.hearing.Heard.TheVariants as heard
+use Rattle.round_core.specs.Acts.{Act, did, looked}
+use Rattle.round_core.specs.Asking.{IsSent}
 use Rattle.cluster_core.specs.Handling.{MayHandle}
-use Rattle.cluster_core.specs.Links.{MayAnswer, IsAckOf}
+use Rattle.round_core.specs.Links.{MayAnswer, IsAckOf}
 use Rattle.cluster_core.specs.Provenance.{pinged, AnswersSo, IsDecidedSo, IsFound, IsMadeOf, IsReport, ServingsRest}
 use Rattle.cluster_core.specs.Serving.{message_by, Answers, Finds, AnswersPingReq, Forwards, Gossips, IsDecided, PassesOn, Reaches, Reports, Says, Seeks, GivesMade, Serves, TellsRequester, Views}
 

@@ -10,17 +10,17 @@ use Rattle.node_core.specs.declared.events.Reply.TheVariants as reply
 use Rattle.node_core.specs.Viewing.{Viewed}
 use Rattle.turn_lock.specs.declared.errors.LockError.{LockError}
 use Rattle.forward_core.specs.Routes.{AllOwnedBy, HaveDiverged}
-use Rattle.cluster_core.specs.declared.errors.ClusterError.{ClusterError}
-use Rattle.cluster_core.specs.declared.errors.ClusterError.TheVariants as error
-use Rattle.cluster_core.specs.declared.errors.HandlerFault.{HandlerFault}
-use Rattle.cluster_core.specs.declared.errors.HandlerFault.TheVariants as fault
-use Rattle.cluster_core.specs.declared.errors.LinkError.{LinkError}
-use Rattle.cluster_core.specs.declared.errors.LinkError.TheVariants as link
-use Rattle.cluster_core.specs.Acts.{Act, OfActs, did, looked}
-use Rattle.cluster_core.specs.Errors.{error_of_lock}
+use Rattle.round_core.specs.declared.errors.ClusterError.{ClusterError}
+use Rattle.round_core.specs.declared.errors.ClusterError.TheVariants as error
+use Rattle.round_core.specs.declared.errors.HandlerFault.{HandlerFault}
+use Rattle.round_core.specs.declared.errors.HandlerFault.TheVariants as fault
+use Rattle.round_core.specs.declared.errors.LinkError.{LinkError}
+use Rattle.round_core.specs.declared.errors.LinkError.TheVariants as link
+use Rattle.round_core.specs.Acts.{Act, OfActs, did, looked}
+use Rattle.round_core.specs.Errors.{error_of_lock}
 use Rattle.cluster_core.specs.Forwarding.{IsFailure, IsRequest, Times}
 use Rattle.cluster_core.specs.Handling.{MayHandle}
-use Rattle.cluster_core.specs.Links.{MayAnswer}
+use Rattle.round_core.specs.Links.{MayAnswer}
 use Rattle.cluster_core.specs.Serving.{message_by}
 
 module _ {H : Type 0} (hash_of : H → List ℕ → ℕ) (Came : MayAnswer) (Handled : MayHandle) (keys : List (List ℕ)) (body : List ℕ) where

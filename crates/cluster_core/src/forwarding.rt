@@ -5,20 +5,19 @@ ghost use Rattle.forward_core.specs.Attempts.{IsOpen};
 ghost use Rattle.forward_core.specs.declared.attempts.Stage.TheVariants.{InFlight};
 ghost use Rattle.locked_node.specs.Passes.{Fits};
 ghost use Rattle.message_core.specs.declared.messages.Message.{Message};
-ghost use Rattle.cluster_core.specs.declared.errors.LinkError.{LinkError};
+ghost use Rattle.round_core.specs.declared.errors.LinkError.{LinkError};
 ghost use Rattle.cluster_core.specs.Forwarding.{IsFailure, IsHandled, IsJudged, IsRequest, IsRequestRefusal, LooksUp, Sends, StandsFor, StaysOpen, TriesOnce};
-ghost use Rattle.cluster_core.specs.Parts.{Does};
+ghost use Rattle.round_core.specs.Parts.{Does};
 
 use crate::clocks::Clock;
-use crate::errors::{ClusterError, HandlerFault, LinkError};
 use crate::handlers::Handler;
-use crate::links::Link;
 use crate::serving::say;
 use change_core::{Address, Moment};
 use forward_core::{Attempt, Decision};
 use hash_ring::PointHash;
 use locked_node::{LockedNode, NodePass};
 use message_core::{Content, Keys, Message, Text};
+use round_core::{ClusterError, HandlerFault, Link, LinkError};
 use std::alloc::Global;
 use std::sync::Wait;
 

@@ -4,8 +4,8 @@ ghost use Rattle.cluster_core.specs.Requests.{RequestsRest};
 
 use crate::clocks::Clock;
 use crate::handlers::Handler;
-use crate::links::Link;
 use hash_ring::PointHash;
+use round_core::Link;
 
 /// What a round says of others came over the link: a probe is acknowledged directly after the Ack that came from its target
 /// was taken, is lost only where another answer came; a helper was named when the node was told last that the probe is

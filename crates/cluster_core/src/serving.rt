@@ -2,21 +2,18 @@
 ghost use Rattle.std.specs.Prelude.{◌≡◌, true, false, Ok, IfOk, IfErr};
 ghost use Rattle.node_core.specs.Receiving.{is_answered, is_gossip};
 ghost use Rattle.locked_node.specs.Passes.{Fits};
-ghost use Rattle.cluster_core.specs.Asking.{Pinged};
-ghost use Rattle.cluster_core.specs.Parts.{Asks, Does, Next, let_in};
+ghost use Rattle.round_core.specs.Asking.{Pinged};
+ghost use Rattle.round_core.specs.Parts.{Asks, Does, Next, let_in};
 ghost use Rattle.cluster_core.specs.Serving.{Finds, Forwards, Gossips, IsDecided, IsRouted, PassesOn, Refuses, Reports, Says, Seeks, Serves, TellsRequester, reason_of};
 
-use crate::asking::ping;
-use crate::errors::HandlerFault;
 use crate::handlers::Handler;
-use crate::hearing::Heard;
-use crate::links::Link;
 use change_core::{Address, Moment};
 use forward_core::{ForwardError, Route, route_keys};
 use hash_ring::PointHash;
 use locked_node::{LockedNode, NodePass};
 use message_core::{Content, Keys, Message, Reason, Text};
 use node_core::{NodeError, Received, StopCause, View};
+use round_core::{HandlerFault, Heard, Link, ping};
 use std::alloc::Global;
 use std::sync::Wait;
 use turn_lock::LockError;

@@ -20,8 +20,8 @@ use Rattle.locked_node.specs.declared.node.LockedNode.{LockedNode}
 use Rattle.locked_node.specs.Passes.{NodePass, AreOwn, Fits, IsClosed, IsNew, RefusesToClose, name_of, passes_of}
 use Rattle.cluster_links.specs.declared.channel_links.Post.{Post}
 use Rattle.cluster_links.specs.declared.clusters.Cluster.{Cluster}
-use Rattle.cluster_core.specs.declared.errors.ClusterError.{ClusterError}
-use Rattle.cluster_core.specs.declared.rounds.Round.{Round}
+use Rattle.round_core.specs.declared.errors.ClusterError.{ClusterError}
+use Rattle.round_core.specs.declared.rounds.Round.{Round}
 use Rattle.cluster_links.specs.declared.seats.Returned.{Returned}
 use Rattle.cluster_links.specs.declared.seats.Seat.{Seat}
 use Rattle.cluster_links.specs.Clusters.{AreAll, AreApart, HasNoNode, HasNoPost, HasRound, IsOfSeat, IsRoundBy, IsSeat, IsWhole, NoneHas, Seats, address_in, given_to, passes_in, posts_of}

@@ -3,9 +3,9 @@ use Rattle.std.specs.Prelude.{ℕ, List}
 use Rattle.std.specs.Arc.{arc_value}
 use Rattle.cluster_links.specs.declared.channel_links.ChannelLink.{ChannelLink}
 use Rattle.cluster_links.specs.declared.channel_links.Post.{Post}
-use Rattle.cluster_core.specs.Links.{MayAnswer}
-use Rattle.cluster_core.specs.declared.errors.LinkError.{LinkError}
-use Rattle.cluster_core.specs.declared.errors.LinkError.TheVariants.{Closed, Memory}
+use Rattle.round_core.specs.Links.{MayAnswer}
+use Rattle.round_core.specs.declared.errors.LinkError.{LinkError}
+use Rattle.round_core.specs.declared.errors.LinkError.TheVariants.{Closed, Memory}
 
 -- of a peer that is reached over channels nothing is known
 abbrev pub any_answer : MayAnswer

@@ -11,15 +11,15 @@ use Rattle.locked_node.specs.declared.node.LockedNode.{LockedNode}
 use Rattle.locked_node.specs.Passes.{NodePass, AreOwn, Fits, IsClosed, IsNew, opening_of, passes_of}
 use Rattle.cluster_links.specs.declared.channel_links.Post.{Post}
 use Rattle.cluster_links.specs.declared.clusters.Cluster.{Cluster}
-use Rattle.cluster_core.specs.declared.errors.ClusterError.{ClusterError}
-use Rattle.cluster_core.specs.declared.rounds.Round.{Round}
+use Rattle.round_core.specs.declared.errors.ClusterError.{ClusterError}
+use Rattle.round_core.specs.declared.rounds.Round.{Round}
 use Rattle.cluster_links.specs.declared.seats.Returned.{Returned}
 use Rattle.cluster_links.specs.declared.seats.Seat.{Seat}
 use Rattle.cluster_links.specs.declared.clusters.StartError.{StartError}
 use Rattle.cluster_links.specs.declared.clusters.StartError.TheVariants.{BadCount, SameAddress, NoThread, Memory}
 use Rattle.cluster_links.specs.Channels.{any_answer, failures_of, reached_by}
-use Rattle.cluster_core.specs.Parts.{Does}
-use Rattle.cluster_core.specs.Rounds.{IsRound}
+use Rattle.round_core.specs.Parts.{Does}
+use Rattle.round_core.specs.Rounds.{IsRound}
 
 -- no node has the address
 abbrev pub HasNoPost : List Post → Address → Type 0

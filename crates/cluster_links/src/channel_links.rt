@@ -140,7 +140,7 @@ impl ChannelLink {
 impl Link for ChannelLink {
     ghost use Rattle.std.specs.Prelude.{◌+◌, ◌⊎◌, ◌↔◌};
     ghost use Rattle.cluster_links.specs.Channels.{any_answer};
-    ghost use Rattle.cluster_core.specs.Links.{IsNamed, failures_in};
+    ghost use Rattle.round_core.specs.Links.{IsNamed, failures_in};
 
     ghost may_answer = { λ _ _ _. Unit {0} };
 

@@ -7,8 +7,8 @@ ghost use Rattle.node_core.specs.Workers.{IsCrew};
 ghost use Rattle.locked_node.specs.Passes.{Fits, opening_of, passes_of};
 ghost use Rattle.cluster_links.specs.Channels.{any_answer, IsChannelFault, failures_of, reached_by};
 ghost use Rattle.cluster_links.specs.Clusters.{address_in, AreAll, AreApart, AreFresh, given_to, HasNoNode, HasNoPost, HasRound, IsGivenUp, IsNotStarted, IsOfSeat, IsRoundBy, IsSeat, IsWhole, NoneHas, posts_of, Seats, IsStarted};
-ghost use Rattle.cluster_core.specs.Errors.{IsRoundRefusal};
-ghost use Rattle.cluster_core.specs.Parts.{Does, let_in};
+ghost use Rattle.round_core.specs.Errors.{IsRoundRefusal};
+ghost use Rattle.round_core.specs.Parts.{Does, let_in};
 ghost use Rattle.cluster_core.specs.Serving.{Serves};
 
 use crate::channel_links::{ChannelLink, Job, Post, ask_one, post_of, put};

@@ -3,7 +3,7 @@ ghost use Rattle.std.specs.Prelude.{◌≡◌, ◌≢◌, ◌⊎◌, ◌<◌, �
 ghost use Rattle.std.specs.Io.KnownBytes.{Appends};
 ghost use Rattle.cluster_links.specs.Limits.{IsStandard, limit_for};
 ghost use Rattle.cluster_links.specs.Sockets.{IsSocketOf, IsTooLong, failures_over, limits_of};
-ghost use Rattle.cluster_core.specs.Links.{IsNamed, fault_named};
+ghost use Rattle.round_core.specs.Links.{IsNamed, fault_named};
 
 use crate::deadlines::{Deadline, Timed};
 use change_core::Address;
@@ -194,7 +194,7 @@ impl<N: Net + Clock> TcpLink<N> {
 
 impl<N: Net + Clock> Link for TcpLink<N> {
     ghost use Rattle.std.specs.Prelude.{◌+◌, ◌↔◌};
-    ghost use Rattle.cluster_core.specs.Links.{failures_in};
+    ghost use Rattle.round_core.specs.Links.{failures_in};
     ghost use Rattle.cluster_links.specs.Channels.{any_answer};
     ghost use Rattle.cluster_links.specs.Sockets.{net_of};
 

@@ -13,13 +13,13 @@ use Rattle.message_core.specs.declared.kinds.Reason.{Reason}
 use Rattle.message_core.specs.declared.messages.Message.{Message}
 use Rattle.locked_node.specs.declared.node.LockedNode.{LockedNode}
 use Rattle.locked_node.specs.Passes.{NodePass}
-use Rattle.cluster_core.specs.Acts.{Makes}
-use Rattle.cluster_core.specs.Errors.{error_of_lock}
-use Rattle.cluster_core.specs.Links.{MayAnswer}
-use Rattle.cluster_core.specs.Parts.{Part, Does, Gives, let_in}
+use Rattle.round_core.specs.Acts.{Makes}
+use Rattle.round_core.specs.Errors.{error_of_lock}
+use Rattle.round_core.specs.Links.{MayAnswer}
+use Rattle.round_core.specs.Parts.{Part, Does, Gives, let_in}
 use Rattle.cluster_core.specs.Serving.{Refuses}
-use Rattle.cluster_core.proofs.Acts.{makes_as, makes_none, makes_then}
-use Rattle.cluster_core.proofs.Parts.{does_give, does_next, does_part, does_stop}
+use Rattle.round_core.proofs.Acts.{makes_as, makes_none, makes_then}
+use Rattle.round_core.proofs.Parts.{does_give, does_next, does_part, does_stop}
 use Rattle.serve_core.specs.Answering.{AnswersInput, AnswersLine, AnswersMessage, IsNotAnswered, IsRefusalLine, IsSentAs, IsSilent, IsTried, IsUnread, IsUnsent, Responds, SendsNothing, line_text, unread_as}
 use Rattle.serve_core.specs.declared.inputs.Input.{Input}
 use Rattle.serve_core.specs.declared.inputs.Input.TheVariants as input

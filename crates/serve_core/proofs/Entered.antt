@@ -5,7 +5,7 @@ use Rattle.std.proofs.lemmas.List.Elements.{All-pop}
 use Rattle.change_core.specs.declared.addresses.Address.{Address}
 use Rattle.locked_node.specs.declared.node.LockedNode.{LockedNode}
 use Rattle.locked_node.specs.Passes.{NodePass, IsNew, opening_of}
-use Rattle.cluster_core.specs.Links.{MayAnswer}
+use Rattle.round_core.specs.Links.{MayAnswer}
 use Rattle.cluster_links.specs.Clusters.{AreFresh}
 use Rattle.serve_core.specs.Service.{HasEntered, IsBorn, IsJoinedTo, IsThreadFault, LeavesServing, TellsEntry}
 use Rattle.serve_core.specs.declared.faults.ServeFault.{ServeFault}

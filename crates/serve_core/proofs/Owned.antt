@@ -2,7 +2,7 @@
 use Rattle.std.specs.Prelude.{ℕ, List, Option, Result, Ok, Err, IfErr}
 use Rattle.std.proofs.KnownBytes.{Keeps-refl}
 use Rattle.change_core.specs.declared.addresses.Address.{Address}
-use Rattle.cluster_core.specs.Links.{MayAnswer}
+use Rattle.round_core.specs.Links.{MayAnswer}
 use Rattle.serve_core.specs.Asking.{IsUnasked, LeavesReply, request}
 use Rattle.serve_core.specs.Owning.{IsOwner, IsUnanswered}
 use Rattle.serve_core.specs.declared.faults.AskFault.{AskFault}

@@ -19,7 +19,7 @@ use Rattle.cli_core.specs.Faults.{fault_of_wire}
 use Rattle.cli_core.specs.Input.{lines_of}
 use Rattle.cli_core.specs.declared.faults.LineFault.{LineFault}
 use Rattle.cli_core.specs.declared.faults.LineFault.TheVariants as line
-use Rattle.cluster_core.specs.Links.{MayAnswer}
+use Rattle.round_core.specs.Links.{MayAnswer}
 use Rattle.serve_core.specs.Telling.{Gives, HearsChange, IsNoNews, IsUntold, IsWrong, TakesTurn}
 use Rattle.serve_core.specs.declared.faults.AskFault.{AskFault}
 use Rattle.serve_core.specs.declared.faults.TellFault.{TellFault}

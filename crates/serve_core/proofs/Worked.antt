@@ -2,12 +2,12 @@
 use Rattle.std.proofs.Common.{◌≡◌, ℕ, List, Result, subst, sym, inl, inr}
 use Rattle.locked_node.specs.declared.node.LockedNode.{LockedNode}
 use Rattle.locked_node.specs.Passes.{NodePass}
-use Rattle.cluster_core.specs.declared.errors.ClusterError.{ClusterError}
-use Rattle.cluster_core.specs.declared.rounds.Round.{Round}
-use Rattle.cluster_core.specs.Acts.{Act, OfActs, Makes}
-use Rattle.cluster_core.specs.Parts.{Does}
-use Rattle.cluster_core.specs.Rounds.{IsRound}
-use Rattle.cluster_core.proofs.Acts.{makes_as, makes_none, makes_then}
+use Rattle.round_core.specs.declared.errors.ClusterError.{ClusterError}
+use Rattle.round_core.specs.declared.rounds.Round.{Round}
+use Rattle.round_core.specs.Acts.{Act, OfActs, Makes}
+use Rattle.round_core.specs.Parts.{Does}
+use Rattle.round_core.specs.Rounds.{IsRound}
+use Rattle.round_core.proofs.Acts.{makes_as, makes_none, makes_then}
 use Rattle.cluster_links.specs.Channels.{any_answer}
 use Rattle.serve_core.specs.Answering.{IsSilent, Responds}
 use Rattle.serve_core.specs.Working.{IsConnection, IsOneRound, IsTreated, Repeats}

@@ -14,10 +14,10 @@ use Rattle.message_core.specs.declared.messages.Message.{Message}
 use Rattle.turn_lock.specs.declared.errors.LockError.{LockError}
 use Rattle.locked_node.specs.declared.node.LockedNode.{LockedNode}
 use Rattle.locked_node.specs.Passes.{NodePass}
-use Rattle.cluster_core.specs.Acts.{OfActs, Nothing, Then}
-use Rattle.cluster_core.specs.Errors.{error_of_lock}
-use Rattle.cluster_core.specs.Links.{MayAnswer}
-use Rattle.cluster_core.specs.Parts.{Part, Does, Gives, Next, let_in}
+use Rattle.round_core.specs.Acts.{OfActs, Nothing, Then}
+use Rattle.round_core.specs.Errors.{error_of_lock}
+use Rattle.round_core.specs.Links.{MayAnswer}
+use Rattle.round_core.specs.Parts.{Part, Does, Gives, Next, let_in}
 use Rattle.cluster_core.specs.Serving.{Never, Refuses, Serves}
 use Rattle.serve_core.specs.Echoes.{MayEcho}
 use Rattle.serve_core.specs.declared.inputs.Input.{Input}

@@ -7,9 +7,9 @@ use Rattle.wire_json.specs.Input.{AppendsFront}
 use Rattle.message_core.specs.declared.messages.Content.{Content}
 use Rattle.message_core.specs.declared.messages.Content.TheVariants as content
 use Rattle.message_core.specs.declared.messages.Message.{Message}
-use Rattle.cluster_core.specs.declared.errors.LinkError.{LinkError}
-use Rattle.cluster_core.specs.declared.errors.LinkError.TheVariants as link
-use Rattle.cluster_core.specs.Links.{MayAnswer}
+use Rattle.round_core.specs.declared.errors.LinkError.{LinkError}
+use Rattle.round_core.specs.declared.errors.LinkError.TheVariants as link
+use Rattle.round_core.specs.Links.{MayAnswer}
 use Rattle.serve_core.specs.declared.faults.AskFault.{AskFault}
 use Rattle.serve_core.specs.declared.faults.AskFault.TheVariants as fault
 

@@ -2,7 +2,7 @@
 use Rattle.std.specs.Prelude.{◌≡◌, ℕ, List, ◌∷◌, ◌++◌, Ok, Err}
 use Rattle.change_core.specs.Address.{address_text}
 use Rattle.cluster_core.specs.Handling.{MayHandle}
-use Rattle.cluster_core.specs.declared.errors.HandlerFault.TheVariants.{Failed, Memory}
+use Rattle.round_core.specs.declared.errors.HandlerFault.TheVariants.{Failed, Memory}
 
 -- a node's address, a space and the body
 abbrev pub echo_text : ℕ → List ℕ → List ℕ

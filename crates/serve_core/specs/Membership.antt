@@ -15,7 +15,7 @@ use Rattle.message_core.specs.declared.messages.Content.TheVariants as content
 use Rattle.message_core.specs.declared.messages.News.{News}
 use Rattle.cli_core.specs.Changes.{change_of}
 use Rattle.cli_core.specs.Fold.{fold_text}
-use Rattle.cluster_core.specs.Links.{MayAnswer}
+use Rattle.round_core.specs.Links.{MayAnswer}
 use Rattle.serve_core.specs.Asking.{Asked}
 use Rattle.serve_core.specs.declared.faults.AskFault.{AskFault}
 use Rattle.serve_core.specs.declared.faults.AskFault.TheVariants as fault

@@ -5,7 +5,7 @@ use Rattle.message_core.specs.declared.kinds.Reason.TheVariants as reason
 use Rattle.message_core.specs.declared.messages.News.{News}
 use Rattle.hash_ring.specs.Points.{owner}
 use Rattle.hash_ring.specs.Serving.{servers_of}
-use Rattle.cluster_core.specs.Links.{MayAnswer}
+use Rattle.round_core.specs.Links.{MayAnswer}
 use Rattle.serve_core.specs.Asking.{IsReply, IsUnasked, request}
 use Rattle.serve_core.specs.Membership.{IsNotSeen, IsSeen, told_members}
 use Rattle.serve_core.specs.declared.faults.AskFault.{AskFault}

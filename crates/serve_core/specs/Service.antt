@@ -15,11 +15,11 @@ use Rattle.node_core.specs.Parts.{seen_of}
 use Rattle.node_core.specs.World.{newborn}
 use Rattle.locked_node.specs.declared.node.LockedNode.{LockedNode}
 use Rattle.locked_node.specs.Passes.{NodePass, IsNew, opening_of}
-use Rattle.cluster_core.specs.declared.errors.ClusterError.{ClusterError}
-use Rattle.cluster_core.specs.declared.errors.ClusterError.TheVariants as error
-use Rattle.cluster_core.specs.Joining.{IsJoin}
-use Rattle.cluster_core.specs.Links.{MayAnswer}
-use Rattle.cluster_core.specs.Parts.{Does}
+use Rattle.round_core.specs.declared.errors.ClusterError.{ClusterError}
+use Rattle.round_core.specs.declared.errors.ClusterError.TheVariants as error
+use Rattle.round_core.specs.Joining.{IsJoin}
+use Rattle.round_core.specs.Links.{MayAnswer}
+use Rattle.round_core.specs.Parts.{Does}
 use Rattle.cluster_links.specs.Channels.{any_answer}
 use Rattle.cluster_links.specs.Limits.{IsStandard}
 use Rattle.cli_core.specs.Owner.{hash_by}

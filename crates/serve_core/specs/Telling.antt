@@ -12,7 +12,7 @@ use Rattle.cli_core.specs.Changes.{AreChangeLines, IsChangeLine}
 use Rattle.cli_core.specs.Input.{lines_of}
 use Rattle.cli_core.specs.declared.faults.LineFault.{LineFault}
 use Rattle.cli_core.specs.declared.faults.LineFault.TheVariants as line
-use Rattle.cluster_core.specs.Links.{MayAnswer}
+use Rattle.round_core.specs.Links.{MayAnswer}
 use Rattle.serve_core.specs.Membership.{IsUnwritten, WritesSeen, told_members}
 use Rattle.serve_core.specs.declared.faults.TellFault.{TellFault}
 use Rattle.serve_core.specs.declared.faults.TellFault.TheVariants as tell

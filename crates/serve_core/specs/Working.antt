@@ -1,11 +1,11 @@
 -- What the threads of a server do to its node.
 use Rattle.std.specs.Prelude.{◌⊎◌, ℕ, List, [], ◌++◌, Result}
 use Rattle.turn_lock.specs.declared.errors.LockError.{LockError}
-use Rattle.cluster_core.specs.declared.errors.ClusterError.{ClusterError}
-use Rattle.cluster_core.specs.declared.rounds.Round.{Round}
-use Rattle.cluster_core.specs.Acts.{Act, OfActs, Nothing}
-use Rattle.cluster_core.specs.Parts.{let_in}
-use Rattle.cluster_core.specs.Rounds.{IsRound}
+use Rattle.round_core.specs.declared.errors.ClusterError.{ClusterError}
+use Rattle.round_core.specs.declared.rounds.Round.{Round}
+use Rattle.round_core.specs.Acts.{Act, OfActs, Nothing}
+use Rattle.round_core.specs.Parts.{let_in}
+use Rattle.round_core.specs.Rounds.{IsRound}
 use Rattle.cluster_links.specs.Channels.{any_answer}
 use Rattle.serve_core.specs.Answering.{Responds, StaysSilent}
 use Rattle.serve_core.specs.declared.inputs.Input.{Input}

@@ -3,8 +3,8 @@ ghost use Rattle.std.specs.Prelude.{◌≡◌, ◌≤◌, Ok, IfOk, IfErr, IfNon
 ghost use Rattle.wire_json.specs.Lines.{IsLine, max_line};
 ghost use Rattle.wire_json.specs.Messages.{MessageForm};
 ghost use Rattle.locked_node.specs.Passes.{Fits};
-ghost use Rattle.cluster_core.specs.Acts.{Makes};
-ghost use Rattle.cluster_core.specs.Parts.{Does, let_in};
+ghost use Rattle.round_core.specs.Acts.{Makes};
+ghost use Rattle.round_core.specs.Parts.{Does, let_in};
 ghost use Rattle.cluster_core.specs.Serving.{Refuses};
 ghost use Rattle.serve_core.specs.Answering.{AnswersInput, AnswersLine, AnswersMessage, IsNotAnswered, IsRefusalLine, IsSentAs, IsSilent, IsTried, IsUnread, IsUnsent, Responds, SendsNothing, line_text, unread_as};
 

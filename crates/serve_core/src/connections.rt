@@ -1,6 +1,6 @@
 //! One connection of a server: one line in and one line out.
 ghost use Rattle.locked_node.specs.Passes.{Fits};
-ghost use Rattle.cluster_core.specs.Acts.{Makes};
+ghost use Rattle.round_core.specs.Acts.{Makes};
 ghost use Rattle.serve_core.specs.Working.{IsConnection};
 
 use crate::answering::respond;

@@ -1,7 +1,7 @@
 //! What the threads of a server share, and what each of them does.
 ghost use Rattle.std.specs.Prelude.{◌≡◌};
 ghost use Rattle.locked_node.specs.Passes.{Fits};
-ghost use Rattle.cluster_core.specs.Acts.{Makes};
+ghost use Rattle.round_core.specs.Acts.{Makes};
 ghost use Rattle.serve_core.specs.Working.{IsConnection, IsOneRound, Repeats};
 
 use crate::connections::serve_connection;

@@ -1,8 +1,8 @@
 use Rattle.std.proofs.Common.{sym, ◌∙◌}
-use Rattle.cluster_core.specs.Errors.{error_of_lock}
+use Rattle.round_core.specs.Errors.{error_of_lock}
 use Rattle.cluster_core.specs.Forwarding.{IsRequestRefusal}
-use Rattle.cluster_core.proofs.Acts.{said_so}
-use Rattle.cluster_core.proofs.Parts.{does_next, does_stop_at}
+use Rattle.round_core.proofs.Acts.{said_so}
+use Rattle.round_core.proofs.Parts.{does_next, does_stop_at}
 use Rattle.cluster_core.proofs.Forwarded.{hears_so, judged_as, lock_in_request, same_request, sends_lent}
 use Rattle.cluster_core.proofs.forwarding.send.Goals as goal
 

@@ -1,7 +1,7 @@
 use Rattle.std.proofs.Common.{refl}
-use Rattle.cluster_core.specs.Errors.{error_of_forward}
+use Rattle.round_core.specs.Errors.{error_of_forward}
 use Rattle.cluster_core.specs.Forwarding.{IsRequestRefusal}
-use Rattle.cluster_core.proofs.Acts.{said_so}
+use Rattle.round_core.proofs.Acts.{said_so}
 use Rattle.cluster_core.proofs.Forwarded.{failed_names}
 use Rattle.cluster_core.proofs.Judged.{judged_refusal, rests_open}
 use Rattle.cluster_core.proofs.forwarding.try_again.Goals as goal

@@ -1,5 +1,5 @@
-use Rattle.cluster_core.specs.Asking.{Pinged}
-use Rattle.cluster_core.proofs.Parts.{barred_ask, did_ask, does_next, does_stop_locked}
+use Rattle.round_core.specs.Asking.{Pinged}
+use Rattle.round_core.proofs.Parts.{barred_ask, did_ask, does_next, does_stop_locked}
 use Rattle.cluster_core.proofs.serving.reach.Goals as goal
 
 pub returns-in_err-heard-clause-did : goal.returns-in_err-heard-clause-did

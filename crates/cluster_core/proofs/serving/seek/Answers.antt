@@ -1,6 +1,6 @@
 use Rattle.node_core.specs.declared.events.Event.TheVariants as call
 use Rattle.node_core.specs.declared.events.Reply.TheVariants as reply
-use Rattle.cluster_core.proofs.Parts.{barred_call, did_call, does_give, does_next, does_stop_locked}
+use Rattle.round_core.proofs.Parts.{barred_call, did_call, does_give, does_next, does_stop_locked}
 use Rattle.cluster_core.proofs.Served.{seeks_as}
 use Rattle.cluster_core.proofs.serving.seek.Goals as goal
 

@@ -1,5 +1,5 @@
 use Rattle.std.proofs.Common.{subst}
-use Rattle.cluster_core.specs.Parts.{Does, let_in}
+use Rattle.round_core.specs.Parts.{Does, let_in}
 use Rattle.cluster_core.specs.Serving.{Serves}
 use Rattle.cluster_links.specs.Channels.{any_answer}
 use Rattle.cluster_links.proofs.clusters.answer_one.Goals as goal

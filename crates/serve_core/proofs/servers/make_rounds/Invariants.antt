@@ -1,5 +1,5 @@
 use Rattle.locked_node.specs.Passes.{Fits}
-use Rattle.cluster_core.specs.Acts.{Makes}
+use Rattle.round_core.specs.Acts.{Makes}
 use Rattle.serve_core.specs.Working.{IsOneRound, Repeats}
 use Rattle.serve_core.proofs.servers.make_rounds.Given as goal
 

@@ -1,5 +1,5 @@
 use Rattle.locked_node.specs.Passes.{Fits}
-use Rattle.cluster_core.specs.Acts.{Makes}
+use Rattle.round_core.specs.Acts.{Makes}
 use Rattle.serve_core.specs.Working.{IsConnection, Repeats}
 use Rattle.serve_core.proofs.servers.work.Given as goal
 

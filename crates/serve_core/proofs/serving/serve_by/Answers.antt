@@ -1,5 +1,5 @@
 use Rattle.cluster_links.specs.Channels.{any_answer}
-use Rattle.cluster_core.proofs.Acts.{said_so}
+use Rattle.round_core.proofs.Acts.{said_so}
 use Rattle.serve_core.proofs.Entered.{MayFollow, cannot_begin, cannot_end, cannot_listen, cannot_serve, had_hosts, kept_out_by, let_in_by}
 use Rattle.serve_core.proofs.Written.{said_both, unsaid_first, unsaid_last}
 use Rattle.serve_core.proofs.serving.serve_by.Goals as goal

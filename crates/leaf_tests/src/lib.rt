@@ -2,10 +2,23 @@
 //! proved again with its tests.
 #![tactic(auto)]
 
+/// What a call answers, made once more where a growth was refused.
+#[cfg(test)]
+macro_rules! again {
+    ($error:ident, $call:expr) => {
+        match $call {
+            Err($error::Memory) => $call,
+            answer => answer,
+        }
+    };
+}
+
 #[cfg(test)]
 mod change_tests;
 #[cfg(test)]
 mod detector_tests;
+#[cfg(test)]
+mod given;
 #[cfg(test)]
 mod gossip_tests;
 #[cfg(test)]

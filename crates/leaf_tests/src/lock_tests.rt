@@ -1,10 +1,10 @@
 //! What no clause says: that the calls succeed, that threads take turns, and what a refused growth leaves.
-ghost use Rattle.std.specs.Prelude.{◌≡◌, ◌++◌, ◌∷◌, [], ℕ, Option, IfSome, IfOk};
+ghost use Rattle.std.specs.Prelude.{◌≡◌, ◌++◌, ◌∷◌, [], ℕ, Option, IfOk};
 ghost use Rattle.std.specs.List.{All, filter_map};
 ghost use Rattle.turn_lock.specs.History.{turn};
 ghost use Rattle.turn_lock.specs.Passes.{name_of, opening_of, number_of, seen, IsOutside, IsInside};
 
-use std::alloc::{AllocError, Global};
+use std::alloc::Global;
 use std::process::Abort;
 use std::sync::Wait;
 use std::thread;
@@ -51,64 +51,56 @@ fn has<R: Wait>(rt: &R, lock: &Shared, pass: &mut Entrant, number: u64) -> Resul
     Ok(found)
 }
 
-/// Adds a number a thousand times.
-fn add_often<R: Wait>(
-    rt: &R,
-    lock: &Shared,
-    mut pass: Entrant,
-    number: u64,
-) -> Result<Entrant, LockError>
-    requires { IsOutside lock.now pass }
-    ensures { IfOk result (IsOutside lock.now) }
-{
-    for _ in 0..1000 {
-        add(rt, lock, &mut pass, number)?;
-    }
-    Ok(pass)
-}
-
-/// Adds a number, and enters again until it reads the other.
-fn meet<R: Wait + Clock>(
+/// Adds a number so many times, and then enters so often at most until it reads the other; whether it did.
+fn add_and_look<R: Wait + Clock>(
     rt: &R,
     lock: &Shared,
     mut pass: Entrant,
     own: u64,
     other: u64,
-) -> Result<bool, LockError>
+    times: u32,
+    tries: u32,
+) -> Result<(Entrant, bool), LockError>
     requires { IsOutside lock.now pass }
+    ensures { IfOk result (λ r. IsOutside lock.now r.0) }
 {
-    add(rt, lock, &mut pass, own)?;
-    for _ in 0..TRIES {
+    'adds: for _ in 0..times {
+        add(rt, lock, &mut pass, own)?;
+    }
+    'looks: for _ in 0..tries {
         thread::sleep(rt, Duration::from_millis(1));
         if has(rt, lock, &mut pass, other)? {
-            return Ok(true);
+            return Ok((pass, true));
         }
     }
-    Ok(false)
+    Ok((pass, false))
 }
 
-/// A lock with two passes, and the list that they came in, now empty. There is none where memory was refused.
-fn try_pair(
+/// A new lock. Where memory was refused, it is asked for once more.
+fn made(
+    rt: &impl Abort,
     alloc: Global,
     name: u64,
+    passes: u32,
     turns: u32,
-) -> Result<Option<(Shared, Entrant, Entrant, Vec<Entrant>)>, AllocError>
-    ensures passes { IfOk result (λ r. IfSome r (λ t. IsOutside t.0 t.1 × IsOutside t.0 t.2)) }
-    ensures name { IfOk result (λ r. IfSome r (λ t. name_of t.0 ≡ name)) }
-    ensures room { IfOk result (λ r. IfSome r (λ t. t.3.items ≡ [])) }
+) -> (Shared, Vec<Entrant>)
+    ensures passes { All (IsOutside result.0) result.1.items }
+    ensures name { name_of result.0 ≡ name }
 {
-    let tally = Tally::with_room(alloc, 4096)?;
-    let Ok((lock, mut passes)) = TurnLock::new(alloc, name, tally, 2, turns) else {
-        return Ok(None);
-    };
-    let (Some(second), Some(first)) = (passes.pop(), passes.pop()) else {
-        return Ok(None);
-    };
-    passes.clear();
-    Ok(Some((lock, first, second, passes)))
+    let lock = again!(
+        NewError,
+        TurnLock::new(
+            alloc,
+            name,
+            Tally::with_room(rt, alloc, 4096),
+            passes,
+            turns
+        )
+    );
+    lock.ok().expect(rt, "a lock")
 }
 
-/// The same. Where memory was refused, it is asked for once more.
+/// A new lock with two passes, and the list that they came in, now empty.
 fn pair(
     rt: &impl Abort,
     alloc: Global,
@@ -119,15 +111,21 @@ fn pair(
     ensures name { name_of result.0 ≡ name }
     ensures room { result.3.items ≡ [] }
 {
-    match try_pair(alloc, name, turns) {
-        Ok(Some(made)) => return made,
-        Ok(None) => {}
-        Err(_) => panic!(rt; "no room"),
-    }
-    let Ok(Some(made)) = try_pair(alloc, name, turns) else {
-        panic!(rt; "no lock")
+    let (lock, mut passes) = made(rt, alloc, name, 2, turns);
+    let (Some(second), Some(first)) = (passes.pop(), passes.pop()) else {
+        panic!(rt; "no pass")
     };
-    made
+    passes.clear();
+    (lock, first, second, passes)
+}
+
+/// Puts a pass into a list with room for it.
+fn put(rt: &impl Abort, passes: &mut Vec<Entrant>, pass: Entrant)
+    ensures { passes.new.items ≡ passes.old.items ++ pass ∷ [] }
+{
+    let Ok(()) = passes.push(pass) else {
+        panic!(rt; "no room")
+    };
 }
 
 /// Closes a lock with its two passes.
@@ -141,74 +139,55 @@ fn close_pair(
     requires passes { IsOutside lock first × IsOutside lock second }
     requires room { room.items ≡ [] }
 {
-    let Ok(()) = room.push(first) else {
-        panic!(rt; "no room")
-    };
-    let Ok(()) = room.push(second) else {
-        panic!(rt; "no room")
-    };
+    put(rt, &mut room, first);
+    put(rt, &mut room, second);
     lock.close(room).ok().expect(rt, "it closes")
 }
 
-/// Adds a number a thousand times with each pass, in two threads.
-fn add_in_both<R: Threads + Wait + Sync>(
+/// `add_and_look` with each pass in a thread of its own, each for the number that the other adds.
+fn add_and_look_in_both<R: Abort + Threads + Wait + Clock + Sync>(
     rt: &R,
     lock: &Shared,
     first: Entrant,
     second: Entrant,
-) -> Result<(Entrant, Entrant), LockError>
+    times: u32,
+    tries: u32,
+) -> ((Entrant, bool), (Entrant, bool))
     requires { IsOutside lock.now first × IsOutside lock.now second }
-    ensures { IfOk result (λ r. IsOutside lock.now r.0 × IsOutside lock.now r.1) }
+    ensures { IsOutside lock.now result.0.0 × IsOutside lock.now result.1.0 }
 {
-    let (a, b) = join(
+    let (first, second) = join(
         rt,
-        move || -> Result<Entrant, LockError>
+        move || -> Result<(Entrant, bool), LockError>
             requires { IsOutside lock.now first }
-            ensures { IfOk result (IsOutside lock.entry.now) }
-        { add_often(rt, lock, first, 1) },
-        move || -> Result<Entrant, LockError>
+            ensures { IfOk result (λ r. IsOutside lock.entry.now r.0) }
+        { add_and_look(rt, lock, first, 1, 2, times, tries) },
+        move || -> Result<(Entrant, bool), LockError>
             requires { IsOutside lock.now second }
-            ensures { IfOk result (IsOutside lock.entry.now) }
-        { add_often(rt, lock, second, 2) },
+            ensures { IfOk result (λ r. IsOutside lock.entry.now r.0) }
+        { add_and_look(rt, lock, second, 2, 1, times, tries) },
     );
-    Ok((a?, b?))
+    let (Some(first), Some(second)) = (first.ok(), second.ok()) else {
+        panic!(rt; "a turn was refused")
+    };
+    (first, second)
 }
 
 #[test]
 fn two_threads_add_a_thousand_each(rt: HostRuntime) {
     let (lock, first, second, room) = pair(&rt, rt.alloc(), 7, 1000);
-    let Ok((first, second)) = add_in_both(&rt, &lock, first, second) else {
-        panic!(rt; "a turn was refused")
-    };
+    let ((first, _), (second, _)) = add_and_look_in_both(&rt, &lock, first, second, 1000, 0);
     let tally = close_pair(&rt, lock, first, second, room);
     assert!(rt; tally.numbers.len() == 2000 && tally.count(1) == 1000 && tally.count(2) == 1000);
-}
-
-/// Adds a number with each pass, in two threads; whether each reads the number of the other.
-fn meet_in_both<R: Threads + Wait + Clock + Sync>(
-    rt: &R,
-    lock: &Shared,
-    first: Entrant,
-    second: Entrant,
-) -> Result<(bool, bool), LockError>
-    requires { IsOutside lock.now first × IsOutside lock.now second }
-{
-    let (a, b) = join(
-        rt,
-        move || -> Result<bool, LockError>
-            requires { IsOutside lock.now first }
-        { meet(rt, lock, first, 1, 2) },
-        move || -> Result<bool, LockError>
-            requires { IsOutside lock.now second }
-        { meet(rt, lock, second, 2, 1) },
-    );
-    Ok((a?, b?))
 }
 
 #[test]
 fn each_of_two_threads_reads_the_others_entry(rt: HostRuntime) {
     let (lock, first, second, _) = pair(&rt, rt.alloc(), 7, 20_000);
-    assert!(rt; meet_in_both(&rt, &lock, first, second) == Ok((true, true)));
+    let ((_, first_reads), (_, second_reads)) = add_and_look_in_both(
+        &rt, &lock, first, second, 1, TRIES,
+    );
+    assert!(rt; first_reads && second_reads);
 }
 
 /// Rests inside, and then adds a number.
@@ -250,44 +229,22 @@ fn a_pass_waits_while_another_rests_inside(rt: HostRuntime) {
     assert!(rt; wait_for_a_number(&rt, &lock, first, second) == Ok(true));
 }
 
-/// A list with room for one number.
-fn small_tally(rt: &impl Abort, alloc: Global) -> Tally {
-    Tally::with_room(alloc, 1).ok().expect(rt, "room")
-}
-
-/// Makes no lock with so many passes and turns, and has the state back.
-fn count_out_of_range(rt: &impl Abort, alloc: Global, passes: u32, turns: u32) {
-    let mut tally = small_tally(rt, alloc);
-    tally.add(5);
-    let Err(NewError::BadCount(tally)) = TurnLock::new(alloc, 7, tally, passes, turns) else {
-        panic!(rt; "{passes} passes of {turns} turns")
-    };
-    assert!(rt; tally.count(5) == 1);
-}
-
 #[test]
 fn counts_out_of_range_hand_the_state_back(rt: HostRuntime) {
-    for (passes, turns) in [(0, 1), (MOST_PASSES + 1, 1), (1, 0)] {
-        count_out_of_range(&rt, rt.alloc(), passes, turns);
+    for (passes, turns) in &[(0, 1), (MOST_PASSES + 1, 1), (1, 0)] {
+        let mut tally = Tally::with_room(&rt, rt.alloc(), 1);
+        tally.add(5);
+        let refused = TurnLock::new(rt.alloc(), 7, tally, *passes, *turns).err();
+        let Some(NewError::BadCount(tally)) = refused else {
+            panic!(rt; "{passes} passes of {turns} turns")
+        };
+        assert!(rt; tally.count(5) == 1);
     }
-}
-
-/// A lock with as many passes and turns as there may be. Where memory was refused, it is asked for once more.
-fn greatest(rt: &impl Abort, alloc: Global) -> (Shared, Vec<Entrant>)
-    ensures { All (IsOutside result.0) result.1.items }
-{
-    let made = match TurnLock::new(alloc, 7, small_tally(rt, alloc), MOST_PASSES, u32::MAX) {
-        Err(NewError::Memory) => {
-            TurnLock::new(alloc, 7, small_tally(rt, alloc), MOST_PASSES, u32::MAX)
-        }
-        made => made,
-    };
-    made.ok().expect(rt, "a lock")
 }
 
 #[test]
 fn a_lock_with_the_most_passes_and_turns_closes(rt: HostRuntime) {
-    let (lock, passes) = greatest(&rt, rt.alloc());
+    let (lock, passes) = made(&rt, rt.alloc(), 7, MOST_PASSES, u32::MAX);
     assert!(rt; passes.len() == 1024);
     assert!(rt; lock.close(passes).is_ok());
 }
@@ -318,12 +275,8 @@ fn a_pass_of_another_lock_is_refused(rt: HostRuntime) {
     let (_other, mut foreign, _, _) = pair(&rt, rt.alloc(), 8, 2);
     let refused = lock.enter(&rt, &mut foreign).err();
     assert!(rt; refused == Some(LockError::ForeignPass));
-    let Ok(()) = passes.push(first) else {
-        panic!(rt; "no room")
-    };
-    let Ok(()) = passes.push(foreign) else {
-        panic!(rt; "no room")
-    };
+    put(&rt, &mut passes, first);
+    put(&rt, &mut passes, foreign);
     let Err(refused) = lock.close(passes) else {
         panic!(rt; "a pass is foreign")
     };
@@ -336,9 +289,7 @@ fn a_lock_does_not_close_without_a_pass(rt: HostRuntime) {
     let Ok(()) = add(&rt, &lock, &mut first, 5) else {
         panic!(rt; "a turn was refused")
     };
-    let Ok(()) = passes.push(first) else {
-        panic!(rt; "no room")
-    };
+    put(&rt, &mut passes, first);
     let Err(
         CloseRefused {
             lock,
@@ -350,9 +301,7 @@ fn a_lock_does_not_close_without_a_pass(rt: HostRuntime) {
         panic!(rt; "a pass is missing")
     };
     assert!(rt; cause == CloseError::MissingPass && passes.len() == 1);
-    let Ok(()) = passes.push(second) else {
-        panic!(rt; "no room")
-    };
+    put(&rt, &mut passes, second);
     let tally = lock.close(passes).ok().expect(&rt, "both passes are there");
     assert!(rt; tally.count(5) == 1);
 }

@@ -1,25 +1,12 @@
 ghost use Rattle.std.specs.Prelude.{◌≡◌, ◌≤◌, ◌<◌, ℕ, List, ◌%◌, ◌^◌, sum};
 ghost use Rattle.hash_ring.specs.RingModel.{HasRoom};
 
+use crate::given::{A, B, C, address, weight};
 use change_core::{Address, Weight};
 use hash_ring::*;
 use std::alloc::Global;
 use std::process::Abort;
 use std::sync::atomic::{AtomicU64, Ordering};
-
-const A: &str = "10.0.0.1:1";
-
-const B: &str = "10.0.0.2:1";
-
-const C: &str = "10.0.0.3:1";
-
-fn address(rt: &impl Abort, text: &str) -> Address {
-    Address::parse(text).ok().expect(rt, "an address")
-}
-
-fn weight(rt: &impl Abort, number: u8) -> Weight {
-    Weight::new(number).expect(rt, "a weight")
-}
 
 /// What is seen of a ring beside its room.
 fn seen<H: PointHash>(ring: &Ring<H>, server: Address) -> (usize, Option<Weight>, Option<Address>) {
@@ -47,7 +34,7 @@ fn add<H: PointHash>(rt: &impl Abort, ring: &mut Ring<H>, text: &str, number: u8
     ring.add(server, weight)
 }
 
-/// A ring of these servers.
+/// A ring of these servers, of weight 1.
 fn ring_of<H: PointHash>(
     rt: &impl Abort,
     alloc: Global,
@@ -56,15 +43,10 @@ fn ring_of<H: PointHash>(
     texts: &[&str],
 ) -> Ring<H> {
     let mut ring = Ring::new(alloc, hash, replicas).ok().expect(rt, "a ring");
-    fill(rt, &mut ring, texts);
-    ring
-}
-
-/// Adds servers that are not there, of weight 1.
-fn fill<H: PointHash>(rt: &impl Abort, ring: &mut Ring<H>, texts: &[&str]) {
     for text in texts {
-        assert!(rt; add(rt, ring, *text, 1));
+        assert!(rt; add(rt, &mut ring, *text, 1));
     }
+    ring
 }
 
 /// The owners of a key, at the second try where the first was refused. A refusal leaves the ring as it was.
@@ -73,8 +55,8 @@ fn owners<H: PointHash>(rt: &impl Abort, ring: &Ring<H>, key: &[u8], count: usiz
     let before = seen(ring, server);
     match ring.owners(key, count) {
         Ok(named) => named,
-        Err(refused) => {
-            assert!(rt; refused == RingError::Memory && seen(ring, server) == before);
+        Err(_) => {
+            assert!(rt; seen(ring, server) == before);
             ring.owners(key, count).ok().expect(rt, "owners")
         }
     }
@@ -86,8 +68,8 @@ fn copy<H: PointHash>(rt: &impl Abort, ring: &Ring<H>) -> Ring<H> {
     let before = seen(ring, server);
     match ring.copy() {
         Ok(copy) => copy,
-        Err(refused) => {
-            assert!(rt; refused == RingError::Memory && seen(ring, server) == before);
+        Err(_) => {
+            assert!(rt; seen(ring, server) == before);
             ring.copy().ok().expect(rt, "a copy")
         }
     }
@@ -96,28 +78,23 @@ fn copy<H: PointHash>(rt: &impl Abort, ring: &Ring<H>) -> Ring<H> {
 /// A key, how many owners are asked for, and their texts.
 type Row<'a> = (&'a str, usize, &'a [&'a str]);
 
-/// Whether these are the addresses of these texts.
-fn are_named(rt: &impl Abort, named: &[Address], texts: &[&str]) -> bool {
-    for (server, text) in named.iter().zip(texts.iter()) {
-        if *server != address(rt, *text) {
-            return false;
-        }
-    }
-    named.len() == texts.len()
-}
-
-/// Whether a ring names these owners of a key, in this order, and the first of them where it names one.
-fn names<H: PointHash>(rt: &impl Abort, ring: &Ring<H>, row: &Row) -> bool {
-    let (key, count, texts) = *row;
-    let named = owners(rt, ring, key.as_bytes(), count);
-    let owner = ring.owner(key.as_bytes());
-    are_named(rt, &named, texts) && (named.is_empty() || owner == named.first().copied())
-}
-
-/// Names the owners of each row.
+/// Names the owners of each row, in this order, and the first of them where there is one.
 fn check_rows<H: PointHash>(rt: &impl Abort, ring: &Ring<H>, rows: &[Row]) {
     for row in rows {
-        assert!(rt; names(rt, ring, row), "{}", row.0);
+        let (key, count, texts) = *row;
+        let named = owners(rt, ring, key.as_bytes(), count);
+        assert!(rt; named.len() == texts.len(), "{key}");
+        for place in 0..texts.len() {
+            assert!(rt;
+                named.get(place) == Some(&address(rt, texts[place])),
+                "{key}"
+            );
+        }
+        let owner = ring.owner(key.as_bytes());
+        assert!(rt;
+            named.is_empty() || owner == named.first().copied(),
+            "{key}"
+        );
     }
 }
 
@@ -138,21 +115,17 @@ const WEIGHTED: [Row<'static>; 3] = [
     ("zzzz3", 3, &[B, A, C]),
 ];
 
-/// Owners of a ring of three servers, with the second one heavier, and as before.
-fn check_weights(rt: &impl Abort, ring: &mut Ring<SumHash>) {
-    check_rows(rt, ring, &EVEN);
-    assert!(rt; add(rt, ring, B, 3));
-    assert!(rt; !add(rt, ring, B, 3));
-    assert!(rt; ring.weight(address(rt, B)) == Weight::new(3) && ring.len() == 3);
-    check_rows(rt, ring, &WEIGHTED);
-    assert!(rt; add(rt, ring, B, 1));
-    check_rows(rt, ring, &EVEN);
-}
-
+/// The second of three servers becomes heavier, and then as before.
 #[test]
 fn owners_by_sum_and_weight(rt: HostRuntime) {
     let mut ring = ring_of(&rt, rt.alloc(), SumHash, 2, &[C, A, B]);
-    check_weights(&rt, &mut ring);
+    check_rows(&rt, &ring, &EVEN);
+    assert!(rt; add(&rt, &mut ring, B, 3));
+    assert!(rt; !add(&rt, &mut ring, B, 3));
+    assert!(rt; ring.weight(address(&rt, B)) == Weight::new(3) && ring.len() == 3);
+    check_rows(&rt, &ring, &WEIGHTED);
+    assert!(rt; add(&rt, &mut ring, B, 1));
+    check_rows(&rt, &ring, &EVEN);
 }
 
 /// Gives a server that is there a weight that is not greater, with no room made before.
@@ -169,62 +142,38 @@ fn lighten<H: PointHash>(
     ring.add(server, light)
 }
 
-/// Adds a heavy server, and makes it lighter.
-fn add_and_lighten(rt: &impl Abort, ring: &mut Ring<SumHash>) {
-    assert!(rt; add(rt, ring, B, 3));
-    assert!(rt; lighten(rt, ring, address(rt, B), weight(rt, 1)));
-    check_rows(
-        rt,
-        ring,
-        &[("zzzz2", 3, &[C, A, B]), ("zzzz3", 3, &[A, B, C])],
-    );
-}
-
 #[test]
 fn a_lighter_server_needs_no_room(rt: HostRuntime) {
     let mut ring = ring_of(&rt, rt.alloc(), SumHash, 2, &[A, C]);
-    add_and_lighten(&rt, &mut ring);
+    assert!(rt; add(&rt, &mut ring, B, 3));
+    assert!(rt; lighten(&rt, &mut ring, address(&rt, B), weight(&rt, 1)));
+    let rows: [Row; 2] = [("zzzz2", 3, &[C, A, B]), ("zzzz3", 3, &[A, B, C])];
+    check_rows(&rt, &ring, &rows);
 }
 
-/// Removes the second server, once.
-fn remove_second(rt: &impl Abort, ring: &mut Ring<SumHash>) {
-    let server = address(rt, B);
-    assert!(rt; ring.contains(server) && ring.remove(server));
-    assert!(rt; !ring.contains(server) && !ring.remove(server));
-    check_rows(rt, ring, &[("zzzz0", 1, &[A]), ("zzzz1", 1, &[C])]);
-}
-
-/// Removes the others.
-fn remove_others(rt: &impl Abort, ring: &mut Ring<SumHash>) {
-    ring.remove(address(rt, A));
-    ring.remove(address(rt, C));
-    assert!(rt; ring.owner(b"zzzz1").is_none());
-    check_rows(rt, ring, &[("zzzz1", 3, &[])]);
-}
-
-/// Loses its servers; a copy keeps them.
-fn remove_beside_a_copy(rt: &impl Abort, ring: &mut Ring<SumHash>) {
-    let copy = copy(rt, ring);
-    remove_second(rt, ring);
-    check_rows(rt, &copy, &[("zzzz0", 1, &[A]), ("zzzz1", 1, &[B])]);
-    remove_others(rt, ring);
-}
-
+/// A ring loses its servers.
 #[test]
 fn a_copy_stays_as_it_was(rt: HostRuntime) {
     let mut ring = ring_of(&rt, rt.alloc(), SumHash, 2, &[A, B, C]);
-    remove_beside_a_copy(&rt, &mut ring);
+    let copy = copy(&rt, &ring);
+    let server = address(&rt, B);
+    assert!(rt; ring.contains(server) && ring.remove(server));
+    assert!(rt; !ring.contains(server) && !ring.remove(server));
+    check_rows(&rt, &ring, &[("zzzz0", 1, &[A]), ("zzzz1", 1, &[C])]);
+    check_rows(&rt, &copy, &[("zzzz0", 1, &[A]), ("zzzz1", 1, &[B])]);
+    drop(copy);
+    ring.remove(address(&rt, A));
+    ring.remove(address(&rt, C));
+    assert!(rt; ring.owner(b"zzzz1").is_none());
+    check_rows(&rt, &ring, &[("zzzz1", 3, &[])]);
 }
 
-/// Is copied, with no second try.
-fn copy_nothing(rt: &impl Abort, ring: &Ring<SumHash>) {
-    let copy = ring.copy().ok().expect(rt, "a copy");
-    assert!(rt; copy.len() == 0 && copy.owner(b"key").is_none());
-}
-
+/// It is copied, with no second try.
 #[test]
 fn a_copy_of_nothing_takes_no_memory(rt: HostRuntime) {
-    copy_nothing(&rt, &ring_of(&rt, rt.alloc(), SumHash, 2, &[]));
+    let ring = ring_of(&rt, rt.alloc(), SumHash, 2, &[]);
+    let copy = ring.copy().ok().expect(&rt, "a copy");
+    assert!(rt; copy.len() == 0 && copy.owner(b"key").is_none());
 }
 
 #[test]
@@ -252,31 +201,25 @@ fn server(rt: &impl Abort, text: &str, number: u8) -> Server {
     }
 }
 
-/// A ring of these servers at once, at the second try where the first was refused.
-fn at_once(rt: &impl Abort, alloc: Global, servers: &[Server]) -> Ring<SumHash> {
-    let made = match Ring::with_servers(alloc, SumHash, 2, servers) {
-        Err(_) => Ring::with_servers(alloc, SumHash, 2, servers),
-        made => made,
-    };
-    made.ok().expect(rt, "a ring")
-}
-
-/// Has three servers, the second one with the weight that came last.
-fn check_at_once(rt: &impl Abort, ring: &Ring<SumHash>) {
-    assert!(rt; ring.len() == 3 && ring.weight(address(rt, B)) == Weight::new(3));
-    check_rows(
-        rt,
-        ring,
-        &[("zzzz1", 3, &[B, C, A]), ("zzzz3", 3, &[B, A, C])],
-    );
-}
-
+/// Of two servers of one address the weight that came last holds.
 #[test]
 fn a_ring_of_many_servers_at_once(rt: HostRuntime) {
-    let servers = [(C, 1), (B, 8), (A, 1), (B, 3)].map(|(text, number)| server(&rt, text, number));
-    check_at_once(&rt, &at_once(&rt, rt.alloc(), &servers));
+    let servers = [
+        server(&rt, C, 1),
+        server(&rt, B, 8),
+        server(&rt, A, 1),
+        server(&rt, B, 3),
+    ];
     let refused = Ring::with_servers(rt.alloc(), SumHash, 0, &servers).err();
     assert!(rt; refused == Some(RingError::BadReplicas));
+    let made = again!(
+        RingError,
+        Ring::with_servers(rt.alloc(), SumHash, 2, &servers)
+    );
+    let ring = made.ok().expect(&rt, "a ring");
+    assert!(rt; ring.len() == 3 && ring.weight(address(&rt, B)) == Weight::new(3));
+    let rows: [Row; 2] = [("zzzz1", 3, &[B, C, A]), ("zzzz3", 3, &[B, A, C])];
+    check_rows(&rt, &ring, &rows);
 }
 
 #[test]
@@ -303,16 +246,6 @@ impl<'a> PointHash for CountingHash<'a> {
     }
 }
 
-/// A copy hashes nothing, and has the server with this weight alone.
-fn check_copy<'a>(rt: &impl Abort, ring: &Ring<CountingHash<'a>>, server: Address, light: Weight) {
-    let made = match ring.copy() {
-        Err(_) => ring.copy(),
-        made => made,
-    };
-    let copy = made.ok().expect(rt, "a copy");
-    assert!(rt; copy.len() == 1 && copy.weight(server) == Some(light));
-}
-
 /// An edit hashes the points that it brings.
 fn count_edits<'a>(rt: &impl Abort, ring: &mut Ring<CountingHash<'a>>, calls: &AtomicU64) {
     let server = address(rt, A);
@@ -327,13 +260,15 @@ fn count_edits<'a>(rt: &impl Abort, ring: &mut Ring<CountingHash<'a>>, calls: &A
     assert!(rt; calls.load(Ordering::SeqCst) == before.wrapping_add(70));
 }
 
-/// A look-up hashes the key, and what takes points away nothing.
+/// A look-up hashes the key, and what takes points away nothing, nor does a copy.
 fn count_others<'a>(rt: &impl Abort, ring: &mut Ring<CountingHash<'a>>, calls: &AtomicU64) {
     let server = address(rt, A);
     let before = calls.load(Ordering::SeqCst);
     ring.owner(b"key");
     assert!(rt; calls.load(Ordering::SeqCst) == before.wrapping_add(1));
-    check_copy(rt, ring, server, weight(rt, 2));
+    let copy = again!(RingError, ring.copy()).ok().expect(rt, "a copy");
+    assert!(rt; copy.len() == 1 && copy.weight(server) == Weight::new(2));
+    drop(copy);
     ring.remove(server);
     assert!(rt; calls.load(Ordering::SeqCst) == before.wrapping_add(1));
     assert!(rt; ring.len() == 0);
@@ -366,24 +301,23 @@ type Weights = [Option<Weight>; 6];
 
 /// The weight that the server of an address should have.
 fn weight_beside(weights: &Weights, server: Address) -> Option<Weight> {
-    let place = PORTS.iter().position(|port| *port == server.port())?;
-    *weights.get(place)?
+    for place in 0..6usize {
+        if PORTS[place] == server.port() {
+            return weights[place];
+        }
+    }
+    None
 }
 
-/// Whether the owners of a key are all servers, by their distance and then by address.
-fn are_nearest<H: PointHash>(weights: &Weights, hash: H, key: &[u8], named: &[Address]) -> bool {
-    let mut last = None;
-    for server in named {
-        let Some(weight) = weight_beside(weights, *server) else {
-            return false;
-        };
-        let here = Some((distance(hash, 3, *server, weight, key), *server));
-        if last >= here {
-            return false;
+/// How many servers there should be.
+fn count_beside(weights: &Weights) -> usize {
+    let mut count = 0usize;
+    for weight in weights {
+        if weight.is_some() {
+            count = count.wrapping_add(1);
         }
-        last = here;
     }
-    named.len() == weights.iter().filter(|weight| weight.is_some()).count()
+    count
 }
 
 /// Adds a server to a ring, or removes it.
@@ -401,7 +335,7 @@ fn edit<H: PointHash>(rt: &impl Abort, ring: &mut Ring<H>, weights: &mut Weights
     }
 }
 
-/// Names all servers as owners of a key, by their distance.
+/// Names all servers as owners of a key, by their distance and then by address.
 fn check_key<H: PointHash>(
     rt: &impl Abort,
     ring: &Ring<H>,
@@ -411,8 +345,15 @@ fn check_key<H: PointHash>(
 ) {
     let key = [b'z', b'z', b'z', b'z', draw(state, 256) as u8];
     let named = owners(rt, ring, &key, 9);
-    assert!(rt; are_nearest(weights, hash, &key, &named));
     assert!(rt; ring.owner(&key) == named.first().copied());
+    assert!(rt; named.len() == count_beside(weights));
+    let mut last = None;
+    for server in &named {
+        let weight = weight_beside(weights, *server).expect(rt, "a server");
+        let here = Some((distance(hash, 3, *server, weight, &key), *server));
+        assert!(rt; last < here);
+        last = here;
+    }
 }
 
 /// Twenty edits of a ring, and ten keys after each. By `SumHash` the points lie from 535 to 690, and the keys from 488 to
@@ -436,50 +377,34 @@ fn owners_are_the_servers_by_distance(rt: HostRuntime) {
     check_edits(&rt, &mut digests, Sha256Hash, 2);
 }
 
-/// Adds forty servers.
-fn add_forty(rt: &impl Abort, ring: &mut Ring<Sha256Hash>) {
-    let one = weight(rt, 1);
-    for port in 1..=40 {
-        let server = Address::new(0x0a00_0001, port).expect(rt, "a port");
-        reserve(rt, ring, server, one);
-        ring.add(server, one);
-    }
-}
-
-/// Names so many owners where so many are asked for, by their distance.
-fn name_many(rt: &impl Abort, ring: &Ring<Sha256Hash>, count: usize, wanted: usize) {
-    let named = owners(rt, ring, b"key", count);
-    assert!(rt; named.len() == wanted);
-    let one = weight(rt, 1);
-    let mut last = None;
-    for server in &named {
-        let here = Some((distance(Sha256Hash, 3, *server, one, b"key"), *server));
-        assert!(rt; last < here);
-        last = here;
-    }
-}
-
+/// So many are named where so many are asked for, by their distance.
 #[test]
 fn many_owners(rt: HostRuntime) {
     let mut ring = ring_of(&rt, rt.alloc(), Sha256Hash, 3, &[]);
-    add_forty(&rt, &mut ring);
-    for (count, wanted) in [(0, 0), (39, 39), (40, 40), (4096, 40)] {
-        name_many(&rt, &ring, count, wanted);
+    let one = weight(&rt, 1);
+    for port in 1..=40 {
+        let server = Address::new(0x0a00_0001, port).expect(&rt, "a port");
+        reserve(&rt, &mut ring, server, one);
+        ring.add(server, one);
+    }
+    for (count, wanted) in &[(0, 0), (39, 39), (40, 40), (4096, 40)] {
+        let named = owners(&rt, &ring, b"key", *count);
+        assert!(rt; named.len() == *wanted);
+        let mut last = None;
+        for server in &named {
+            let away = distance(Sha256Hash, 3, *server, one, b"key");
+            let here = Some((away, *server));
+            assert!(rt; last < here);
+            last = here;
+        }
     }
 }
 
-/// A ring and its copy name these owners of a key.
-fn answer_alike(
-    rt: &impl Abort,
-    late: &Ring<SumHash>,
-    copied: &Ring<SumHash>,
-    key: &[u8],
-    named: &[Address],
-) {
-    for ring in [late, copied] {
-        assert!(rt; owners(rt, ring, key, 40).as_slice() == named);
-        assert!(rt; ring.owner(key) == named.first().copied());
-    }
+/// A ring names the owners of a key that a settled one names.
+fn answer_alike(rt: &impl Abort, ring: &Ring<SumHash>, settled: &Ring<SumHash>, key: &[u8]) {
+    let named = owners(rt, settled, key, 40);
+    assert!(rt; owners(rt, ring, key, 40).as_slice() == named.as_slice());
+    assert!(rt; ring.owner(key) == named.first().copied());
 }
 
 /// Both rings answer alike, and so does a copy of the first.
@@ -487,8 +412,8 @@ fn check_alike(rt: &impl Abort, late: &Ring<SumHash>, settled: &Ring<SumHash>) {
     let copied = copy(rt, late);
     for place in 0..16u8 {
         let key = [b'z', b'z', b'z', b'z', place * 16];
-        let named = owners(rt, settled, &key, 40);
-        answer_alike(rt, late, &copied, &key, &named);
+        answer_alike(rt, late, settled, &key);
+        answer_alike(rt, &copied, settled, &key);
     }
 }
 
@@ -511,25 +436,20 @@ fn edit_both(
     settled.settle();
 }
 
-/// Sixty edits of both rings, of which one is settled at the end alone.
-fn settle_late(rt: &impl Abort, late: &mut Ring<SumHash>, settled: &mut Ring<SumHash>) {
-    let mut state = 7;
-    for turn in 0..60 {
-        edit_both(rt, late, settled, &mut state);
-        if turn % 20 == 15 {
-            check_alike(rt, late, settled);
-        }
-    }
-    late.settle();
-    late.settle();
-    check_alike(rt, late, settled);
-}
-
 /// One ring is settled at the end alone, and the other after each edit: servers are added, leave, and come back with other
 /// weights.
 #[test]
 fn a_ring_settles_late(rt: HostRuntime) {
     let mut late = ring_of(&rt, rt.alloc(), SumHash, 3, &[]);
     let mut settled = ring_of(&rt, rt.alloc(), SumHash, 3, &[]);
-    settle_late(&rt, &mut late, &mut settled);
+    let mut state = 7;
+    for turn in 0..60 {
+        edit_both(&rt, &mut late, &mut settled, &mut state);
+        if turn % 20 == 15 {
+            check_alike(&rt, &late, &settled);
+        }
+    }
+    late.settle();
+    late.settle();
+    check_alike(&rt, &late, &settled);
 }

@@ -1,5 +1,6 @@
 //! A list of numbers under a lock.
-use std::alloc::{AllocError, Global};
+use std::alloc::Global;
+use std::process::Abort;
 use turn_lock::{Kept, Pass, TurnLock};
 
 /// The numbers that were added, in their order. A turn adds a number, or none.
@@ -35,15 +36,23 @@ impl Tally {
     }
 
     // An empty list with room for so many. Where memory was refused, it is asked for once more.
-    pub(super) fn with_room(alloc: Global, room: usize) -> Result<Tally, AllocError> {
+    pub(super) fn with_room(rt: &impl Abort, alloc: Global, room: usize) -> Tally {
         let numbers = match Vec::with_capacity(alloc, room) {
-            Err(_) => Vec::with_capacity(alloc, room)?,
-            Ok(numbers) => numbers,
+            Err(_) => Vec::with_capacity(alloc, room),
+            numbers => numbers,
         };
-        Ok(Tally { numbers })
+        Tally {
+            numbers: numbers.ok().expect(rt, "room"),
+        }
     }
 
     pub(super) fn count(&self, number: u64) -> usize {
-        self.numbers.iter().filter(|n| **n == number).count()
+        let mut count = 0usize;
+        for held in &self.numbers {
+            if *held == number {
+                count = count.wrapping_add(1);
+            }
+        }
+        count
     }
 }

@@ -2,8 +2,6 @@
 mod changes;
 mod fakes;
 mod folds;
-mod hashes;
-mod owners;
 mod runs;
 mod scripts;
 mod subcommands;

@@ -1,5 +1,3 @@
 //! The tests of `locked_node`.
-mod messages;
 mod nodes;
-mod probes;
 mod tests;

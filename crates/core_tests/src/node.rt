@@ -2,8 +2,7 @@
 mod agreement;
 mod hash_tests;
 mod limit_tests;
-mod probe_tests;
+pub(crate) mod played;
 mod reconciling;
-mod run_tests;
-mod test_calls;
-mod tests;
+pub(crate) mod tests;
+pub(crate) mod view_tests;

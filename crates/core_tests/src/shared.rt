@@ -1,16 +1,29 @@
-//! What the tests of several crates speak of.
-ghost use Rattle.std.specs.Prelude.{◌%◌, ◌^◌, sum};
+//! What the tests of several crates speak of: members, changes and nodes. Where a growth is refused it is asked for again.
+ghost use Rattle.std.specs.Prelude.{◌≡◌, ◌%◌, ◌^◌, sum};
+ghost use Rattle.change_core.specs.Address.{address_of};
 
-use change_core::{Address, Moment};
+use change_core::{Address, Change, Incarnation, Moment, Sourced, Status, Weight};
 use hash_ring::{PointHash, SumHash};
+use node_core::{Config, NodeError, NodeState, StopCause, Stopped, Taken, View};
+use std::alloc::Global;
 use std::process::Abort;
 use std::sync::atomic::{AtomicU64, Ordering};
+use wire_json::Changes;
 
-pub(crate) const A: &str = "10.0.0.1:1";
+/// A member `10.0.0.n:1`, by its first number.
+pub(crate) type Ip = u32;
 
-pub(crate) const B: &str = "10.0.0.2:1";
+pub(crate) const A: Ip = 0x0a00_0001;
 
-pub(crate) const C: &str = "10.0.0.3:1";
+pub(crate) const B: Ip = 0x0a00_0002;
+
+pub(crate) const C: Ip = 0x0a00_0003;
+
+pub(crate) const D: Ip = 0x0a00_0004;
+
+pub(crate) const E: Ip = 0x0a00_0005;
+
+pub(crate) const F: Ip = 0x0a00_0006;
 
 /// The greatest incarnation, and the greatest moment.
 pub(crate) const LIMIT: u64 = 9_007_199_254_740_991;
@@ -18,12 +31,139 @@ pub(crate) const LIMIT: u64 = 9_007_199_254_740_991;
 /// The SHA-256 of the empty text: the digest of no members.
 pub(crate) const NOBODY: &str = "e3b0c44298fc1c149afbf4c8996fb92427ae41e4649b934ca495991b7852b855";
 
-pub(crate) fn address(rt: &impl Abort, text: &str) -> Address {
-    Address::parse(text).ok().expect(rt, "an address")
+pub(crate) fn address(rt: &impl Abort, ip: Ip) -> Address
+    ensures { result ≡ address_of ip 1 }
+{
+    Address::new(ip, 1).expect(rt, "an address")
 }
 
 pub(crate) fn moment(rt: &impl Abort, number: u64) -> Moment {
     Moment::new(number).expect(rt, "a moment")
+}
+
+pub(crate) fn incarnation(rt: &impl Abort, number: u64) -> Incarnation {
+    Incarnation::new(number).expect(rt, "an incarnation")
+}
+
+/// A change with weight 1: of a member, at an incarnation.
+pub(crate) type Row = (Ip, u64, Status);
+
+pub(crate) fn change(rt: &impl Abort, row: Row) -> Change {
+    let (ip, number, status) = row;
+    Change {
+        address: address(rt, ip),
+        incarnation: incarnation(rt, number),
+        status,
+        weight: Weight::new(1).expect(rt, "a weight"),
+    }
+}
+
+/// A change that its own member said.
+pub(crate) fn news(rt: &impl Abort, row: Row) -> Sourced {
+    let change = change(rt, row);
+    Sourced {
+        change,
+        source: change.address,
+        source_incarnation: change.incarnation,
+    }
+}
+
+/// These changes, each said by its own member.
+pub(crate) fn batch(rt: &impl Abort, alloc: Global, rows: &[Row]) -> Changes {
+    let mut list = vec_of(rt, alloc, rows.len());
+    for row in rows {
+        put(rt, &mut list, news(rt, *row));
+    }
+    Changes::from_vec(list).ok().expect(rt, "changes")
+}
+
+/// A list with room for so many.
+pub(crate) fn vec_of<T: Drop>(rt: &impl Abort, alloc: Global, count: usize) -> Vec<T> {
+    if let Ok(list) = Vec::with_capacity(alloc, count) {
+        return list;
+    }
+    Vec::with_capacity(alloc, count).ok().expect(rt, "room")
+}
+
+/// Puts one more into a list that has room for it.
+pub(crate) fn put<T: Drop>(rt: &impl Abort, list: &mut Vec<T>, one: T) {
+    list.push(one).ok().expect(rt, "room");
+}
+
+/// The standard configuration, with two points for each unit of weight and this many members.
+pub(crate) fn config(max_members: usize) -> Config {
+    let mut config = Config::standard();
+    config.replicas = 2;
+    config.max_members = max_members;
+    config
+}
+
+/// What a call of a node answers, made once more where a growth was refused.
+macro_rules! again {
+    ($call:expr) => {
+        match $call {
+            Err(NodeError::Memory) => $call,
+            answer => answer,
+        }
+    };
+}
+
+pub(crate) use again;
+
+/// A node of this configuration at moment 0.
+pub(crate) fn configured<H: PointHash>(
+    rt: &impl Abort,
+    alloc: Global,
+    config: &Config,
+    hash: H,
+    own: Ip,
+    number: u64,
+) -> NodeState<H>
+    ensures { result.node.own ≡ address_of own 1 }
+{
+    let own = address(rt, own);
+    let born = incarnation(rt, number);
+    let start = moment(rt, 0);
+    let made = again!(NodeState::new(alloc, *config, hash, own, born, 1, start));
+    made.ok().expect(rt, "a node")
+}
+
+/// A node with 4,096 members at most.
+pub(crate) fn node(rt: &impl Abort, alloc: Global, own: Ip, number: u64) -> NodeState<SumHash> {
+    configured(rt, alloc, &config(4096), SumHash, own, number)
+}
+
+/// Takes one change. Where a growth is refused the node is as before, and the next try goes on.
+fn take<H: PointHash>(
+    rt: &impl Abort,
+    node: &mut NodeState<H>,
+    given: &Sourced,
+    now: Moment,
+) -> Result<Taken, Stopped> {
+    let subject = given.change.address;
+    let before = (node.own(), node.len(), node.member(subject));
+    match node.take(&[*given], now) {
+        Err(
+            Stopped {
+                taken: 0,
+                cause: StopCause::Memory,
+            },
+        ) => {
+            assert!(rt; (node.own(), node.len(), node.member(subject)) == before);
+            node.take(&[*given], now)
+        }
+        answer => answer,
+    }
+}
+
+/// Takes one change at a moment, which is not refused.
+pub(crate) fn hear<H: PointHash>(rt: &impl Abort, node: &mut NodeState<H>, row: Row, now: u64) {
+    let answer = take(rt, node, &news(rt, row), moment(rt, now));
+    assert!(rt; answer.is_ok());
+}
+
+pub(crate) fn view<H: PointHash>(rt: &impl Abort, node: &mut NodeState<H>) -> View<H> {
+    again!(node.view()).ok().expect(rt, "a view")
 }
 
 /// A sum of bytes that counts how often it is asked for.

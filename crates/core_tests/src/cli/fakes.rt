@@ -1,34 +1,34 @@
-//! Readers and writers that take no memory, a byte at a time.
+//! A reader and a writer that take no memory, a byte at a time.
 use std::io;
 use std::io::{ErrorKind, Read, Write};
 use std::sync::atomic::{AtomicU64, Ordering};
 
+/// No end of bytes, or of room.
+pub const ALL: usize = usize::MAX;
+
 /// How many bytes a page holds.
 const PAGE: usize = 1024;
 
-/// Where a reader of lines stands.
-pub trait Place {
-    /// How many lines it has begun.
-    fn begun(&self) -> u64;
-
-    /// Whether it has given all.
-    fn is_done(&self) -> bool;
-}
-
-/// A writer that fails once it has so many bytes, or when it is flushed.
+/// A writer that fails once it has so many bytes.
 #[derive(Clone, Copy)]
-pub struct Page {
+pub struct Page<'a> {
     bytes: [u8; PAGE],
     len: usize,
     room: usize,
-    lines: u64,
-    can_flush: bool,
-    keeps_all: bool,
-    found_no_memory: bool,
+    /// How many lines were written, those that it did not keep among them.
+    pub lines: u64,
+    /// Whether it takes a flush, and does not fail then.
+    pub can_flush: bool,
+    /// Whether it keeps more than its last line.
+    pub keeps_all: bool,
+    /// Whether a line was written, though it may not be kept, that ends with a want of memory.
+    pub found_no_memory: bool,
+    /// Where it counts at each flush the lines that are on it by then: those are shown.
+    pub shown: Option<&'a AtomicU64>,
 }
 
-impl Page {
-    pub fn new(room: usize) -> Page {
+impl<'a> Page<'a> {
+    pub fn new(room: usize) -> Page<'a> {
         Page {
             bytes: [0; PAGE],
             len: 0,
@@ -37,31 +37,8 @@ impl Page {
             can_flush: true,
             keeps_all: true,
             found_no_memory: false,
+            shown: None,
         }
-    }
-
-    /// A page that takes all that fits, and fails at a flush.
-    pub fn without_flush() -> Page {
-        let mut page = Page::new(PAGE);
-        page.can_flush = false;
-        page
-    }
-
-    /// A page that keeps its last line alone.
-    pub fn of_last_line() -> Page {
-        let mut page = Page::new(PAGE);
-        page.keeps_all = false;
-        page
-    }
-
-    /// How many lines were written, those that it did not keep among them.
-    pub fn lines(&self) -> u64 {
-        self.lines
-    }
-
-    /// Whether a line was written, though it may not be kept, that ends with a want of memory.
-    pub fn found_no_memory(&self) -> bool {
-        self.found_no_memory
     }
 
     pub fn as_slice(&self) -> &[u8] {
@@ -73,7 +50,7 @@ impl Page {
     }
 }
 
-impl Write for Page {
+impl<'a> Write for Page<'a> {
     fn write(&mut self, buf: &[u8]) -> io::Result<usize> {
         let Some(&byte) = buf.first() else {
             return Ok(0);
@@ -96,70 +73,14 @@ impl Write for Page {
     }
 
     fn flush(&mut self) -> io::Result<()> {
+        if let Some(shown) = self.shown {
+            shown.store(self.lines, Ordering::SeqCst);
+        }
         if self.can_flush {
             Ok(())
         } else {
             Err(io::Error::from(ErrorKind::Other))
         }
-    }
-}
-
-/// Lines, each with its newline. The reader fails after so many bytes.
-#[derive(Clone, Copy)]
-pub struct Lines<'a> {
-    lines: &'a [&'a str],
-    line: usize,
-    place: usize,
-    left: usize,
-}
-
-impl<'a> Lines<'a> {
-    pub fn new(lines: &'a [&'a str], left: usize) -> Lines<'a> {
-        Lines {
-            lines,
-            line: 0,
-            place: 0,
-            left,
-        }
-    }
-}
-
-impl<'a> Place for Lines<'a> {
-    fn begun(&self) -> u64 {
-        let whole = self.line as u64;
-        if self.place > 0 {
-            whole.saturating_add(1)
-        } else {
-            whole
-        }
-    }
-
-    fn is_done(&self) -> bool {
-        self.lines.get(self.line).is_none()
-    }
-}
-
-impl<'a> Read for Lines<'a> {
-    fn read(&mut self, buf: &mut [u8]) -> io::Result<usize> {
-        if self.left == 0 {
-            return Err(io::Error::from(ErrorKind::Other));
-        }
-        let (Some(to), Some(line)) = (buf.first_mut(), self.lines.get(self.line)) else {
-            return Ok(0);
-        };
-        match line.as_bytes().get(self.place) {
-            Some(&byte) => {
-                *to = byte;
-                self.place += 1;
-            }
-            None => {
-                *to = b'\n';
-                self.line += 1;
-                self.place = 0;
-            }
-        }
-        self.left -= 1;
-        Ok(1)
     }
 }
 
@@ -180,175 +101,134 @@ pub enum Form {
     Take,
 }
 
-/// So many lines of one form.
+/// What a reader gives.
 #[derive(Clone, Copy)]
-pub struct Many {
-    form: Form,
-    count: u32,
-    left: u32,
-    line: Page,
-    place: usize,
+pub enum Source<'a> {
+    /// Lines, each with its newline.
+    Lines(&'a [&'a str]),
+    /// So many lines of one form.
+    Many(Form, usize),
+    /// One line of so many spaces, without a newline.
+    Long(usize),
 }
 
-impl Many {
-    pub fn new(form: Form, count: u32) -> Many {
-        Many {
-            form,
-            count,
-            left: count,
-            line: Page::new(PAGE),
-            place: 0,
-        }
-    }
-
-    /// What a line says before the two numbers of its address and behind them, or all of it.
-    fn parts(&self) -> (&'static str, Option<&'static str>) {
-        match self.form {
-            Form::Change => (
-                r#"{"address":"10.0."#,
-                Some(
-                    r#":1","incarnationNumber":1,"source":"10.0.0.1:1","sourceIncarnationNumber":1,"status":"alive"}"#,
-                ),
+/// What a line of a form says before the two numbers of its address and behind them, or all of it; so many come after it.
+fn parts(form: Form, is_first: bool, left: usize) -> (&'static str, Option<&'static str>) {
+    match form {
+        Form::Change => (
+            r#"{"address":"10.0."#,
+            Some(
+                r#":1","incarnationNumber":1,"source":"10.0.0.1:1","sourceIncarnationNumber":1,"status":"alive"}"#,
             ),
-            Form::Node => ("node 10.0.", Some(":1 1")),
-            Form::Again if self.left == 0 => ("node 10.0.0.1:1 1", None),
-            Form::Again => ("node 10.0.", Some(":1 1")),
-            _ if self.begun() == 1 => ("node 10.0.0.1:1 1", None),
-            Form::Ping => ("send 10.0.0.1:1 10.0.0.2:1", None),
-            Form::Delivery if self.left == 0 => ("deliver 1", None),
-            Form::Delivery => ("send 10.0.0.1:1 10.0.0.1:1", None),
-            Form::Take => ("take 10.0.0.1:1 10.0.", Some(":2 1 alive")),
-        }
-    }
-
-    fn next_line(&mut self) -> io::Result<()> {
-        self.left = self.left.saturating_sub(1);
-        self.place = 0;
-        self.line = Page::new(PAGE);
-        let (high, low) = (self.left / 256, self.left % 256);
-        match self.parts() {
-            (front, Some(back)) => writeln!(self.line, "{front}{high}.{low}{back}"),
-            (whole, None) => writeln!(self.line, "{whole}"),
-        }
+        ),
+        Form::Again if left == 0 => ("node 10.0.0.1:1 1", None),
+        Form::Node | Form::Again => ("node 10.0.", Some(":1 1")),
+        _ if is_first => ("node 10.0.0.1:1 1", None),
+        Form::Ping => ("send 10.0.0.1:1 10.0.0.2:1", None),
+        Form::Delivery if left == 0 => ("deliver 1", None),
+        Form::Delivery => ("send 10.0.0.1:1 10.0.0.1:1", None),
+        Form::Take => ("take 10.0.0.1:1 10.0.", Some(":2 1 alive")),
     }
 }
 
-impl Place for Many {
-    fn begun(&self) -> u64 {
-        u64::from(self.count.saturating_sub(self.left))
-    }
-
-    fn is_done(&self) -> bool {
-        self.left == 0 && self.place >= self.line.len
-    }
-}
-
-impl Read for Many {
-    fn read(&mut self, buf: &mut [u8]) -> io::Result<usize> {
-        if self.place >= self.line.len && self.left > 0 {
-            self.next_line()?;
-        }
-        match (buf.first_mut(), self.line.as_slice().get(self.place)) {
-            (Some(to), Some(&byte)) => {
-                *to = byte;
-                self.place += 1;
-                Ok(1)
-            }
-            _ => Ok(0),
-        }
-    }
-}
-
-/// One line of so many bytes.
+/// A reader that fails after so many bytes.
 #[derive(Clone, Copy)]
-pub struct Long {
-    pub left: usize,
+pub struct Reader<'a> {
+    source: Source<'a>,
+    line: usize,
+    place: usize,
+    left: usize,
+    /// The line of many that is read.
+    text: Page<'a>,
+    /// Where the lines are counted that are shown. Each line is begun once all before it are answered and shown, and the reader fails
+    /// where it is asked for one before that.
+    pub shown: Option<&'a AtomicU64>,
 }
 
-impl Place for Long {
-    fn begun(&self) -> u64 {
-        1
+impl<'a> Reader<'a> {
+    pub fn new(source: Source<'a>, left: usize) -> Reader<'a> {
+        Reader {
+            source,
+            line: 0,
+            place: 0,
+            left,
+            text: Page::new(ALL),
+            shown: None,
+        }
     }
 
-    fn is_done(&self) -> bool {
-        self.left == 0
+    /// How many lines it has begun.
+    pub fn begun(&self) -> u64 {
+        let whole = self.line as u64;
+        if self.place > 0 {
+            whole.saturating_add(1)
+        } else {
+            whole
+        }
+    }
+
+    /// The next byte; none once it has given all.
+    pub fn byte(&self) -> Option<u8> {
+        match self.source {
+            Source::Lines(lines) => {
+                let line = lines.get(self.line)?;
+                Some(line.as_bytes().get(self.place).copied().unwrap_or(b'\n'))
+            }
+            Source::Many(_, count) if self.line >= count => None,
+            Source::Many(_, _) => Some(
+                self.text
+                    .as_slice()
+                    .get(self.place)
+                    .copied()
+                    .unwrap_or(b'\n'),
+            ),
+            Source::Long(count) if self.place < count => Some(b' '),
+            Source::Long(_) => None,
+        }
+    }
+
+    /// Begins a line.
+    fn begin(&mut self) -> io::Result<()> {
+        if let Some(shown) = self.shown {
+            if shown.load(Ordering::SeqCst) != self.line as u64 {
+                return Err(io::Error::from(ErrorKind::Other));
+            }
+        }
+        let Source::Many(form, count) = self.source else {
+            return Ok(());
+        };
+        if self.line >= count {
+            return Ok(());
+        }
+        let left = count.wrapping_sub(self.line).wrapping_sub(1);
+        let (high, low) = (left / 256, left % 256);
+        self.text = Page::new(ALL);
+        match parts(form, self.line == 0, left) {
+            (front, Some(back)) => write!(self.text, "{front}{high}.{low}{back}"),
+            (whole, None) => write!(self.text, "{whole}"),
+        }
     }
 }
 
-impl Read for Long {
+impl<'a> Read for Reader<'a> {
     fn read(&mut self, buf: &mut [u8]) -> io::Result<usize> {
         if self.left == 0 {
-            return Ok(0);
-        }
-        let Some(to) = buf.first_mut() else {
-            return Ok(0);
-        };
-        *to = b' ';
-        self.left -= 1;
-        Ok(1)
-    }
-}
-
-/// Lines that are typed: each is begun once the lines before it are answered on the screen. The reader fails where it is asked for one
-/// before that.
-#[derive(Clone, Copy)]
-pub struct Typed<'a> {
-    lines: Lines<'a>,
-    shown: &'a AtomicU64,
-}
-
-impl<'a> Typed<'a> {
-    pub fn new(lines: &'a [&'a str], shown: &'a AtomicU64) -> Typed<'a> {
-        Typed {
-            lines: Lines::new(lines, usize::MAX),
-            shown,
-        }
-    }
-}
-
-impl<'a> Read for Typed<'a> {
-    fn read(&mut self, buf: &mut [u8]) -> io::Result<usize> {
-        let shown = self.shown.load(Ordering::SeqCst);
-        if self.lines.place == 0 && shown != self.lines.line as u64 {
             return Err(io::Error::from(ErrorKind::Other));
         }
-        self.lines.read(buf)
-    }
-}
-
-/// A page that counts at each flush the lines that are on it by then: those are shown.
-#[derive(Clone, Copy)]
-pub struct Screen<'a> {
-    page: Page,
-    shown: &'a AtomicU64,
-}
-
-impl<'a> Screen<'a> {
-    pub fn new(shown: &'a AtomicU64) -> Screen<'a> {
-        Screen {
-            page: Page::new(PAGE),
-            shown,
+        if self.place == 0 {
+            self.begin()?;
         }
-    }
-
-    /// Takes all lines off.
-    pub fn clear(&mut self) {
-        self.page = Page::new(PAGE);
-        self.shown.store(0, Ordering::SeqCst);
-    }
-
-    pub fn text(&self) -> &str {
-        self.page.text()
-    }
-}
-
-impl<'a> Write for Screen<'a> {
-    fn write(&mut self, buf: &[u8]) -> io::Result<usize> {
-        self.page.write(buf)
-    }
-
-    fn flush(&mut self) -> io::Result<()> {
-        self.shown.store(self.page.lines(), Ordering::SeqCst);
-        Ok(())
+        let (Some(to), Some(byte)) = (buf.first_mut(), self.byte()) else {
+            return Ok(0);
+        };
+        *to = byte;
+        self.left = self.left.saturating_sub(1);
+        if byte == b'\n' {
+            self.line = self.line.wrapping_add(1);
+            self.place = 0;
+        } else {
+            self.place = self.place.wrapping_add(1);
+        }
+        Ok(1)
     }
 }

@@ -1,14 +1,13 @@
-//! Change lines in, the digest text and the digest of their members out.
+//! Change lines in: the digest text and the digest of their members out, or the owners of a key among them.
 
-use crate::cli::changes::{ALIVE, HEAVIER, LATER, LEAVE, SUSPECT, TOMBSTONE};
-use crate::cli::fakes::{Form, Lines, Long, Many, Page, Place};
-use crate::cli::runs::{ALL, TWO_LINES, is_memory, is_placed, is_refused, is_stopped, read_failed};
-use cli_core::{RunFault, fold_run};
-use std::alloc::Global;
-use std::io::Read;
-use std::process::Abort;
+use crate::cli::changes::{
+    ALIVE, ELEVENTH, FAULTY, FIRST, HEAVIER, HEAVIEST, LATER, LEAVE, SUSPECT, THIRD, TOMBSTONE,
+};
+use crate::cli::fakes::{ALL, Form, Page, Reader, Source};
+use crate::cli::runs::{OWNER, TWO_OWNERS, check, check_lines, run};
+use cli_core::{OwnerWords, RunFault, Subcommand, SubcommandFault};
 
-const LATER_FOLDED: &str =
+pub const LATER_FOLDED: &str =
     "10.0.0.2:1alive6\n71f2e2fce762716835393b50a95728bc73ddc10927921dee7639cf34388c0cf7\n";
 
 const TOMBSTONE_FOLDED: &str =
@@ -94,30 +93,6 @@ const AT_FAULT: [(&str, &str); 20] = [
     ),
 ];
 
-/// Folds what the reader gives. After a refused growth nothing is written, and it is folded again.
-fn fold<R: Read + Place + Copy>(
-    rt: &impl Abort,
-    alloc: Global,
-    reader: R,
-    page: &mut Page,
-) -> Result<(), RunFault> {
-    let (mut first, mut second) = (reader, reader);
-    match fold_run(alloc, &mut first, page) {
-        Err(fault) if is_memory(fault) => {
-            assert!(rt; is_placed(fault, &first) && page.text() == "");
-            fold_run(alloc, &mut second, page)
-        }
-        ended => ended,
-    }
-}
-
-/// That folding what the reader gives is refused with this text.
-fn refuses<R: Read + Place + Copy>(rt: &impl Abort, alloc: Global, reader: R, text: &str) {
-    let mut page = Page::new(ALL);
-    let ended = fold(rt, alloc, reader, &mut page);
-    is_refused(rt, ended, &mut page, text);
-}
-
 /// Lines, and what they fold to.
 const FOLDED: [(&[&str], &str); 13] = [
     (
@@ -153,17 +128,10 @@ const FOLDED: [(&[&str], &str); 13] = [
     (&[LATER, HEAVIER], LATER_FOLDED),
 ];
 
-/// Whether lines fold to this text.
-fn folds_to(rt: &impl Abort, alloc: Global, lines: &[&str], text: &str) -> bool {
-    let mut page = Page::new(ALL);
-    let folded = fold(rt, alloc, Lines::new(lines, ALL), &mut page);
-    folded.is_ok() && page.text() == text
-}
-
 #[test]
 fn folds_in_any_order_and_number(rt: HostRuntime) {
-    for (i, (lines, text)) in FOLDED.iter().enumerate() {
-        assert!(rt; folds_to(&rt, rt.alloc(), *lines, *text), "case {i}");
+    for (lines, text) in &FOLDED {
+        check_lines(&rt, rt.alloc(), &Subcommand::Fold, *lines, (*text, ""));
     }
 }
 
@@ -171,68 +139,150 @@ fn folds_in_any_order_and_number(rt: HostRuntime) {
 fn refuses_a_line_at_fault(rt: HostRuntime) {
     for (line, text) in &AT_FAULT {
         let lines = [ALIVE, *line, "[]"];
-        refuses(&rt, rt.alloc(), Lines::new(&lines, ALL), *text);
+        check_lines(&rt, rt.alloc(), &Subcommand::Fold, &lines, ("", *text));
     }
+    check_lines(
+        &rt,
+        rt.alloc(),
+        &OWNER,
+        &[ALIVE, "[]"],
+        ("", "line 2: not an object"),
+    );
 }
+
+/// Subcommands, what they read, and what is said of that.
+const TOO_MUCH: [(Subcommand<'static>, Source<'static>, &str); 4] = [
+    (
+        Subcommand::Fold,
+        Source::Many(Form::Change, 4097),
+        "line 4097: too many members",
+    ),
+    (
+        Subcommand::Fold,
+        Source::Long(1_048_577),
+        "line 1: line too long",
+    ),
+    (
+        Subcommand::Fold,
+        Source::Long(1_048_576),
+        "line 1: not JSON",
+    ),
+    (
+        OWNER,
+        Source::Many(Form::Change, 4097),
+        "line 4097: too many members",
+    ),
+];
 
 #[test]
 fn refuses_too_many_and_too_long(rt: HostRuntime) {
-    refuses(
-        &rt,
-        rt.alloc(),
-        Many::new(Form::Change, 4097),
-        "line 4097: too many members",
-    );
-    refuses(
-        &rt,
-        rt.alloc(),
-        Long { left: 1_048_577 },
-        "line 1: line too long",
-    );
-    refuses(
-        &rt,
-        rt.alloc(),
-        Long { left: 1_048_576 },
-        "line 1: not JSON",
-    );
+    for (subcommand, source, text) in &TOO_MUCH {
+        let reader = Reader::new(*source, ALL);
+        check(
+            &rt,
+            rt.alloc(),
+            subcommand,
+            reader,
+            Page::new(ALL),
+            ("", *text),
+        );
+    }
 }
 
 /// The output is longer than a page, so 4,096 members are folded up to the failing write.
 #[test]
 fn holds_as_many_as_may_be(rt: HostRuntime) {
     let mut page = Page::new(ALL);
-    let ended = fold(&rt, rt.alloc(), Many::new(Form::Change, 4096), &mut page);
-    assert!(rt; ended == Err(RunFault::CannotWrite));
+    let reader = Reader::new(Source::Many(Form::Change, 4096), ALL);
+    let ended = run(&rt, rt.alloc(), &Subcommand::Fold, reader, &mut page);
+    assert!(rt; ended == Err(SubcommandFault::Run(RunFault::CannotWrite)));
     assert!(rt;
         page.text()
             .starts_with("10.0.0.0:1alive1;10.0.0.1:1alive1;")
     );
 }
 
+/// How many bytes the lines `ALIVE` and `LATER` have, with their newlines.
+const TWO_LINES: usize = ALIVE.len() + LATER.len() + 2;
+
+/// What is told of a reader of these two lines that fails after so many bytes.
+fn read_failed(left: usize) -> &'static str {
+    if left <= ALIVE.len() {
+        "line 1: read failed"
+    } else if left < TWO_LINES {
+        "line 2: read failed"
+    } else {
+        "line 3: read failed"
+    }
+}
+
 #[test]
 fn writes_nothing_after_a_failed_read(rt: HostRuntime) {
     for left in 0..=TWO_LINES {
-        refuses(
+        let reader = Reader::new(Source::Lines(&[ALIVE, LATER]), left);
+        let wanted = ("", read_failed(left));
+        check(
             &rt,
             rt.alloc(),
-            Lines::new(&[ALIVE, LATER], left),
-            read_failed(left),
+            &Subcommand::Fold,
+            reader,
+            Page::new(ALL),
+            wanted,
         );
+        check(&rt, rt.alloc(), &OWNER, reader, Page::new(ALL), wanted);
     }
 }
 
-#[test]
-fn writes_what_the_writer_takes(rt: HostRuntime) {
-    for room in 0..LATER_FOLDED.len() {
-        let mut page = Page::new(room);
-        let ended = fold(&rt, rt.alloc(), Lines::new(&[ALIVE, LATER], ALL), &mut page);
-        assert!(rt; is_stopped(ended, &page, LATER_FOLDED, room), "room {room}");
-    }
+const EACH: &[&str] = &[THIRD, FIRST, ALIVE];
+
+const HEAVY: &[&str] = &[THIRD, FIRST, HEAVIEST];
+
+const LIGHTER: &[&str] = &[HEAVIEST, LATER, FIRST, THIRD];
+
+/// Lines, how many owners are asked for, the key, and the owners.
+const OWNERS: [(&[&str], u8, &str, &str); 13] = [
+    (EACH, 3, "zzzz1", "10.0.0.2:1\n10.0.0.3:1\n10.0.0.1:1\n"),
+    (EACH, 3, "zzzz2", "10.0.0.3:1\n10.0.0.1:1\n10.0.0.2:1\n"),
+    (EACH, 3, "zzzz3", "10.0.0.1:1\n10.0.0.2:1\n10.0.0.3:1\n"),
+    (EACH, 0, "zzzz1", ""),
+    (EACH, 1, "", "10.0.0.1:1\n"),
+    (EACH, 9, "", "10.0.0.1:1\n10.0.0.2:1\n10.0.0.3:1\n"),
+    (&[], 1, "zzzz1", ""),
+    (HEAVY, 3, "zzzz1", "10.0.0.2:1\n10.0.0.3:1\n10.0.0.1:1\n"),
+    (HEAVY, 3, "zzzz2", "10.0.0.2:1\n10.0.0.3:1\n10.0.0.1:1\n"),
+    (HEAVY, 3, "zzzz3", "10.0.0.2:1\n10.0.0.1:1\n10.0.0.3:1\n"),
+    (LIGHTER, 3, "zzzz2", "10.0.0.3:1\n10.0.0.1:1\n10.0.0.2:1\n"),
+    (LIGHTER, 3, "zzzz3", "10.0.0.1:1\n10.0.0.2:1\n10.0.0.3:1\n"),
+    (
+        &[FAULTY, FIRST, THIRD],
+        9,
+        "zzzz0",
+        "10.0.0.1:1\n10.0.0.3:1\n",
+    ),
+];
+
+/// So many owners of a key, by sum.
+fn owners(count: u8, key: &str) -> Subcommand<'_> {
+    Subcommand::Owner(OwnerWords {
+        count: usize::from(count),
+        replicas: 2,
+        sum: true,
+        key,
+    })
 }
 
+/// By SHA-256 the first point of one server is the last key's own hash, and so is the eleventh of the other.
 #[test]
-fn tells_of_a_failed_flush(rt: HostRuntime) {
-    let mut page = Page::without_flush();
-    let ended = fold(&rt, rt.alloc(), Lines::new(&[LATER], ALL), &mut page);
-    assert!(rt; ended == Err(RunFault::CannotWrite) && page.text() == LATER_FOLDED);
+fn names_the_owners_of_a_key(rt: HostRuntime) {
+    for (lines, count, key, text) in &OWNERS {
+        check_lines(&rt, rt.alloc(), &owners(*count, *key), *lines, (*text, ""));
+    }
+    let lesser_first = ("10.0.0.1:1\n10.0.0.1:11\n", "");
+    check_lines(
+        &rt,
+        rt.alloc(),
+        &TWO_OWNERS,
+        &[ELEVENTH, FIRST],
+        lesser_first,
+    );
 }

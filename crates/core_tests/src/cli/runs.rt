@@ -1,64 +1,114 @@
-//! What is asked of any run that ended.
+//! A subcommand that is run, and what it is to write and to end with.
 
-use crate::cli::changes::{ALIVE, LATER};
-use crate::cli::fakes::{Page, Place};
-use cli_core::{LineFault, RunFault};
+use crate::cli::fakes::{ALL, Page, Reader, Source};
+use cli_core::{
+    LineFault, OwnerWords, RunFault, ScriptFault, SimFault, SimWords, Subcommand, SubcommandFault,
+    subcommand_run,
+};
+use std::alloc::Global;
 use std::io::Write;
 use std::process::Abort;
 
-/// No end of bytes, or of room.
-pub const ALL: usize = usize::MAX;
+/// Scripts for small rings that hash by the sum of bytes.
+pub const SIM: Subcommand<'static> = Subcommand::Sim(SimWords {
+    replicas: 2,
+    sum: true,
+});
 
-/// How many bytes the lines `ALIVE` and `LATER` have, with their newlines.
-pub const TWO_LINES: usize = ALIVE.len() + LATER.len() + 2;
+/// The one owner of a key by the sum of bytes.
+pub const OWNER: Subcommand<'static> = Subcommand::Owner(OwnerWords {
+    count: 1,
+    replicas: 2,
+    sum: true,
+    key: "zzzz1",
+});
 
-/// What is told of a reader of these two lines that fails after so many bytes.
-pub fn read_failed(left: usize) -> &'static str {
-    if left <= ALIVE.len() {
-        "line 1: read failed"
-    } else if left < TWO_LINES {
-        "line 2: read failed"
-    } else {
-        "line 3: read failed"
-    }
-}
+/// Two owners of a key that is hashed by SHA-256.
+pub const TWO_OWNERS: Subcommand<'static> = Subcommand::Owner(OwnerWords {
+    count: 2,
+    replicas: 100,
+    sum: false,
+    key: "10.0.0.1:110",
+});
 
-/// Whether the fault is a want of memory.
-pub fn is_memory(fault: RunFault) -> bool {
-    matches!(
-        fault,
-        RunFault::NoMemory | RunFault::AtLine(_, LineFault::OutOfMemory)
-    )
-}
-
-/// Whether a want of memory is told of the line that the reader has begun, or of none once it has given all.
-pub fn is_placed(fault: RunFault, reader: &impl Place) -> bool {
-    match fault {
-        RunFault::AtLine(number, _) => number == reader.begun(),
-        _ => reader.is_done(),
-    }
-}
-
-/// Whether a run wrote as much of a text as the page takes, and was stopped where that is not the whole.
-pub fn is_stopped(ended: Result<(), RunFault>, page: &Page, whole: &str, room: usize) -> bool {
-    let wanted = if room < whole.len() {
-        Err(RunFault::CannotWrite)
-    } else {
-        Ok(())
+/// Whether a growth was refused. That is told of the line that the reader had begun, or of none once it has given all; a script has
+/// answered all lines before that one, and nothing else has written anything.
+fn is_refused_memory(
+    rt: &impl Abort,
+    subcommand: &Subcommand<'_>,
+    ended: Result<(), SubcommandFault>,
+    reader: &Reader<'_>,
+    page: &Page<'_>,
+) -> bool {
+    let is_placed = match ended {
+        Err(SubcommandFault::Run(RunFault::NoMemory)) => {
+            let reads = !matches!(subcommand, Subcommand::Hash(_));
+            page.text() == "" && (!reads || reader.byte().is_none())
+        }
+        Err(SubcommandFault::Run(RunFault::AtLine(number, LineFault::OutOfMemory))) => {
+            page.text() == "" && number == reader.begun()
+        }
+        Err(SubcommandFault::Sim(SimFault::AtLine(number, ScriptFault::OutOfMemory))) => {
+            page.lines.saturating_add(1) == number && number == reader.begun()
+        }
+        _ => return page.found_no_memory,
     };
-    ended == wanted && page.text().len() == room && whole.starts_with(page.text())
+    assert!(rt; is_placed);
+    true
 }
 
-/// Whether a fault is told so, on a page that is empty.
-fn is_told(fault: RunFault, page: &mut Page, text: &str) -> bool {
-    write!(page, "{fault}").is_ok() && page.text() == text
+/// Runs a subcommand. After a refused growth it is run again, on a page as it was.
+pub fn run<'a>(
+    rt: &impl Abort,
+    alloc: Global,
+    subcommand: &Subcommand<'_>,
+    reader: Reader<'_>,
+    page: &mut Page<'a>,
+) -> Result<(), SubcommandFault> {
+    let (mut first, mut second) = (reader, reader);
+    let before = *page;
+    let ended = subcommand_run(alloc, subcommand, &mut first, page);
+    if !is_refused_memory(rt, subcommand, ended, &first, page) {
+        return ended;
+    }
+    *page = before;
+    // What was shown is shown no more.
+    let _ = page.flush();
+    subcommand_run(alloc, subcommand, &mut second, page)
 }
 
-/// That a run wrote nothing, and ended with a fault of this text.
-pub fn is_refused(rt: &impl Abort, ended: Result<(), RunFault>, page: &mut Page, text: &str) {
-    let Err(fault) = ended else {
-        panic!(rt; "not refused: {text}")
-    };
-    assert!(rt; page.text() == "", "{text}");
-    assert!(rt; is_told(fault, page, text), "{text}");
+/// Checks what a subcommand writes to a page, and the text of the fault that it ends with, or of none where that is empty.
+pub fn check(
+    rt: &impl Abort,
+    alloc: Global,
+    subcommand: &Subcommand<'_>,
+    reader: Reader<'_>,
+    page: Page<'_>,
+    wanted: (&str, &str),
+) {
+    let (output, text) = wanted;
+    let mut page = page;
+    let ended = run(rt, alloc, subcommand, reader, &mut page);
+    let mut said = Page::new(ALL);
+    if let Err(fault) = ended {
+        let _ = write!(said, "{fault}");
+    }
+    assert!(rt;
+        page.text() == output && said.text() == text && ended.is_ok() == text.is_empty(),
+        "{output}{text} came: {}{}",
+        page.text(),
+        said.text()
+    );
+}
+
+/// Checks what a subcommand does with lines.
+pub fn check_lines(
+    rt: &impl Abort,
+    alloc: Global,
+    subcommand: &Subcommand<'_>,
+    lines: &[&str],
+    wanted: (&str, &str),
+) {
+    let reader = Reader::new(Source::Lines(lines), ALL);
+    check(rt, alloc, subcommand, reader, Page::new(ALL), wanted);
 }

@@ -1,18 +1,10 @@
 //! The lines of a script in, their answers out.
 
-use crate::cli::fakes::{Form, Lines, Long, Many, Page, Place, Screen, Typed};
-use crate::cli::runs::ALL;
-use cli_core::{ScriptFault, SimFault, SimWords, sim_run};
+use crate::cli::fakes::{ALL, Form, Page, Reader, Source};
+use crate::cli::runs::{SIM, check, check_lines};
 use std::alloc::Global;
-use std::io::{Read, Write};
 use std::process::Abort;
 use std::sync::atomic::AtomicU64;
-
-/// The words of `sim` for small rings that hash by the sum of bytes.
-const SMALL: SimWords = SimWords {
-    replicas: 2,
-    sum: true,
-};
 
 const SUSPICION: [&str; 11] = [
     "node 10.0.0.1:1 7",
@@ -100,86 +92,12 @@ const OTHERS: [&str; 25] = [
 const OTHERS_ANSWERED: &str =
     "ok\nok\nok\ntaken 1 0\nok\nnone\n10.0.0.1:1 10.0.0.2:1\n10.0.0.2:1\nok\n10.0.0.2:1faulty1*8\n10.0.0.1:1leave7\nAlreadyLeft\nnone\n10.0.0.1:1alive8\nNotLeft\nok\n10.0.0.3:1alive1*2\n102d23bd842cbc64e2c06fd4e2afab809640e435c3010d50384240bb7d8b754a\nok\n10.0.0.3:1alive2*3\nok\nnone\n10.0.0.3:1\nmessage 1\nlost\n";
 
-/// The line at which a growth was refused, if that ended a script.
-fn refused_at(ended: Result<(), SimFault>) -> Option<u64> {
-    match ended {
-        Err(SimFault::AtLine(number, ScriptFault::OutOfMemory)) => Some(number),
-        _ => None,
-    }
-}
-
-/// Runs a script. Where a growth was refused it was at the line that the reader had begun, with all lines before it answered, and it is
-/// run again.
-fn sim<R: Read + Place + Copy>(
-    rt: &impl Abort,
-    alloc: Global,
-    script: R,
-    page: &mut Page,
-) -> Result<(), SimFault> {
-    let (mut first, mut second) = (script, script);
-    let empty = *page;
-    let ended = sim_run(alloc, &SMALL, &mut first, page);
-    if let Some(number) = refused_at(ended) {
-        assert!(rt; number == first.begun() && page.lines().saturating_add(1) == number);
-    } else if !page.found_no_memory() {
-        return ended;
-    }
-    *page = empty;
-    sim_run(alloc, &SMALL, &mut second, page)
-}
-
-/// That a script ends with these answers.
-fn answers(rt: &impl Abort, alloc: Global, lines: &[&str], text: &str) {
-    let mut page = Page::new(ALL);
-    let ended = sim(rt, alloc, Lines::new(lines, ALL), &mut page);
-    assert!(rt;
-        ended.is_ok() && page.text() == text,
-        "{text} came: {}",
-        page.text()
-    );
-}
-
 #[test]
 fn answers_scripts(rt: HostRuntime) {
-    answers(&rt, rt.alloc(), &SUSPICION, SUSPICION_ANSWERED);
-    answers(&rt, rt.alloc(), &LOSSES, LOSSES_ANSWERED);
-    answers(&rt, rt.alloc(), &EXHAUSTED, EXHAUSTED_ANSWERED);
-}
-
-#[test]
-fn answers_late_nodes_keys_and_weights(rt: HostRuntime) {
-    answers(&rt, rt.alloc(), &OTHERS, OTHERS_ANSWERED);
-}
-
-/// That a script ended with a fault of this text, or with none where that is empty.
-fn tells(rt: &impl Abort, ended: Result<(), SimFault>, text: &str) {
-    let mut page = Page::new(ALL);
-    if let Err(fault) = ended {
-        let _ = write!(page, "{fault}");
-    }
-    assert!(rt; page.text() == text, "{text} came: {}", page.text());
-}
-
-/// That a script is refused with this text after these answers.
-fn refuses<R: Read + Place + Copy>(
-    rt: &impl Abort,
-    alloc: Global,
-    script: R,
-    answers: &str,
-    text: &str,
-) {
-    let mut page = Page::new(ALL);
-    let ended = sim(rt, alloc, script, &mut page);
-    assert!(rt; page.text() == answers, "{text} came: {}", page.text());
-    tells(rt, ended, text);
-}
-
-/// That a script ends with this answer, and a fault of this text, or none where that is empty.
-fn refuses_in_the_end(rt: &impl Abort, alloc: Global, script: Many, answer: &str, text: &str) {
-    let mut page = Page::of_last_line();
-    let ended = sim(rt, alloc, script, &mut page);
-    assert!(rt; page.text() == answer, "{text} came: {}", page.text());
-    tells(rt, ended, text);
+    check_lines(&rt, rt.alloc(), &SIM, &SUSPICION, (SUSPICION_ANSWERED, ""));
+    check_lines(&rt, rt.alloc(), &SIM, &LOSSES, (LOSSES_ANSWERED, ""));
+    check_lines(&rt, rt.alloc(), &SIM, &EXHAUSTED, (EXHAUSTED_ANSWERED, ""));
+    check_lines(&rt, rt.alloc(), &SIM, &OTHERS, (OTHERS_ANSWERED, ""));
 }
 
 /// Lines of which the last is at fault, and what is said of it.
@@ -219,47 +137,6 @@ const AT_FAULT: [(&[&str], &str, &str); 9] = [
     ),
 ];
 
-#[test]
-fn refuses_lines_at_fault(rt: HostRuntime) {
-    for (lines, answers, text) in &AT_FAULT {
-        refuses(&rt, rt.alloc(), Lines::new(*lines, ALL), *answers, *text);
-    }
-}
-
-#[test]
-fn refuses_too_many_nodes(rt: HostRuntime) {
-    let (new, again) = (Many::new(Form::Node, 65), Many::new(Form::Again, 65));
-    refuses_in_the_end(&rt, rt.alloc(), new, "ok\n", "line 65: too many nodes");
-    refuses_in_the_end(&rt, rt.alloc(), again, "ok\n", "line 65: node exists");
-}
-
-#[test]
-fn stops_where_a_node_is_full(rt: HostRuntime) {
-    let script = Many::new(Form::Take, 4_097);
-    refuses_in_the_end(&rt, rt.alloc(), script, "stopped 0 Full\n", "");
-}
-
-#[test]
-fn refuses_too_many_messages(rt: HostRuntime) {
-    let script = Many::new(Form::Ping, 65_538);
-    let text = "line 65538: too many messages";
-    refuses_in_the_end(&rt, rt.alloc(), script, "message 65536\n", text);
-}
-
-#[test]
-fn refuses_an_answer_too_many(rt: HostRuntime) {
-    let script = Many::new(Form::Delivery, 65_538);
-    let text = "line 65538: too many messages";
-    refuses_in_the_end(&rt, rt.alloc(), script, "message 65536\n", text);
-}
-
-#[test]
-fn refuses_too_long_a_line(rt: HostRuntime) {
-    let (longer, longest) = (Long { left: 1_048_577 }, Long { left: 1_048_576 });
-    refuses(&rt, rt.alloc(), longer, "", "line 1: line too long");
-    refuses(&rt, rt.alloc(), longest, "", "line 1: bad command");
-}
-
 /// Lines that are no commands.
 const NO_COMMANDS: [&str; 33] = [
     "",
@@ -298,82 +175,122 @@ const NO_COMMANDS: [&str; 33] = [
 ];
 
 #[test]
-fn refuses_what_is_no_command(rt: HostRuntime) {
+fn refuses_lines_at_fault(rt: HostRuntime) {
+    for (lines, answers, text) in &AT_FAULT {
+        check_lines(&rt, rt.alloc(), &SIM, *lines, (*answers, *text));
+    }
     for line in &NO_COMMANDS {
-        let lines = [*line];
-        let script = Lines::new(&lines, ALL);
-        refuses(&rt, rt.alloc(), script, "", "line 1: bad command");
+        check_lines(&rt, rt.alloc(), &SIM, &[*line], ("", "line 1: bad command"));
     }
 }
 
-/// A script, and how many bytes its answers have after each line.
-const SHORT: [&str; 3] = [
+/// Checks what so many lines of a form end with: the last answer, and the text of the fault, or of none where that is empty.
+fn check_last(rt: &impl Abort, alloc: Global, form: Form, count: usize, wanted: (&str, &str)) {
+    let reader = Reader::new(Source::Many(form, count), ALL);
+    let mut page = Page::new(ALL);
+    page.keeps_all = false;
+    check(rt, alloc, &SIM, reader, page, wanted);
+}
+
+#[test]
+fn refuses_too_many_nodes(rt: HostRuntime) {
+    check_last(
+        &rt,
+        rt.alloc(),
+        Form::Node,
+        65,
+        ("ok\n", "line 65: too many nodes"),
+    );
+    check_last(
+        &rt,
+        rt.alloc(),
+        Form::Again,
+        65,
+        ("ok\n", "line 65: node exists"),
+    );
+}
+
+#[test]
+fn stops_where_a_node_is_full(rt: HostRuntime) {
+    check_last(&rt, rt.alloc(), Form::Take, 4_097, ("stopped 0 Full\n", ""));
+}
+
+/// The last answer to too many messages, and what is said of the line behind it.
+const TOO_MANY: (&str, &str) = ("message 65536\n", "line 65538: too many messages");
+
+#[test]
+fn refuses_too_many_messages(rt: HostRuntime) {
+    check_last(&rt, rt.alloc(), Form::Ping, 65_538, TOO_MANY);
+}
+
+#[test]
+fn refuses_an_answer_too_many(rt: HostRuntime) {
+    check_last(&rt, rt.alloc(), Form::Delivery, 65_538, TOO_MANY);
+}
+
+#[test]
+fn refuses_too_long_a_line(rt: HostRuntime) {
+    let longer = Reader::new(Source::Long(1_048_577), ALL);
+    check(
+        &rt,
+        rt.alloc(),
+        &SIM,
+        longer,
+        Page::new(ALL),
+        ("", "line 1: line too long"),
+    );
+    let longest = Reader::new(Source::Long(1_048_576), ALL);
+    check(
+        &rt,
+        rt.alloc(),
+        &SIM,
+        longest,
+        Page::new(ALL),
+        ("", "line 1: bad command"),
+    );
+}
+
+/// A script of three lines.
+pub const SHORT: [&str; 3] = [
     "node 10.0.0.1:1 7",
     "members 10.0.0.1:1",
     "leave 10.0.0.1:1",
 ];
 
-const SHORT_ANSWERED: &str = "ok\n10.0.0.1:1alive7\n10.0.0.1:1leave7\n";
+pub const SHORT_ANSWERED: &str = "ok\n10.0.0.1:1alive7\n10.0.0.1:1leave7\n";
 
-/// The line that is read when the reader fails after so many bytes, and how many bytes are answered by then.
-fn failed_after(left: usize) -> (u64, usize) {
+/// What is answered when the reader fails after so many bytes, and what is said of that.
+fn failed_after(left: usize) -> (&'static str, &'static str) {
     match left {
-        0..18 => (1, 0),
-        18..37 => (2, 3),
-        37..54 => (3, 20),
-        _ => (4, 37),
+        0..18 => ("", "line 1: read failed"),
+        18..37 => ("ok\n", "line 2: read failed"),
+        37..54 => ("ok\n10.0.0.1:1alive7\n", "line 3: read failed"),
+        _ => (SHORT_ANSWERED, "line 4: read failed"),
     }
-}
-
-/// Whether a page holds so many bytes of the answers.
-fn is_answered(page: &Page, written: usize) -> bool {
-    Some(page.as_slice()) == SHORT_ANSWERED.as_bytes().get(..written)
 }
 
 #[test]
 fn answers_whole_lines_before_a_failed_read(rt: HostRuntime) {
     for left in 0..=54 {
-        let mut page = Page::new(ALL);
-        let ended = sim(&rt, rt.alloc(), Lines::new(&SHORT, left), &mut page);
-        let (number, written) = failed_after(left);
-        let fault = SimFault::AtLine(number, ScriptFault::ReadFailed);
-        assert!(rt;
-            ended == Err(fault) && is_answered(&page, written),
-            "left {left}"
+        let reader = Reader::new(Source::Lines(&SHORT), left);
+        check(
+            &rt,
+            rt.alloc(),
+            &SIM,
+            reader,
+            Page::new(ALL),
+            failed_after(left),
         );
     }
-}
-
-#[test]
-fn writes_what_the_writer_takes_of_answers(rt: HostRuntime) {
-    for room in 0..SHORT_ANSWERED.len() {
-        let mut page = Page::new(room);
-        let ended = sim(&rt, rt.alloc(), Lines::new(&SHORT, ALL), &mut page);
-        assert!(rt;
-            ended == Err(SimFault::CannotWrite) && is_answered(&page, room),
-            "room {room}"
-        );
-    }
-}
-
-#[test]
-fn tells_of_an_answer_that_was_not_flushed(rt: HostRuntime) {
-    let mut page = Page::without_flush();
-    let ended = sim(&rt, rt.alloc(), Lines::new(&SHORT, ALL), &mut page);
-    assert!(rt; ended == Err(SimFault::CannotWrite) && page.text() == "ok\n");
 }
 
 /// Each line is typed once the answer to the one before it is shown.
 #[test]
 fn shows_each_answer_before_it_reads_on(rt: HostRuntime) {
     let shown = AtomicU64::new(0);
-    let mut screen = Screen::new(&shown);
-    let mut script = Typed::new(&SHORT, &shown);
-    let mut ended = sim_run(rt.alloc(), &SMALL, &mut script, &mut screen);
-    if refused_at(ended).is_some() {
-        screen.clear();
-        script = Typed::new(&SHORT, &shown);
-        ended = sim_run(rt.alloc(), &SMALL, &mut script, &mut screen);
-    }
-    assert!(rt; ended.is_ok() && screen.text() == SHORT_ANSWERED);
+    let mut page = Page::new(ALL);
+    page.shown = Some(&shown);
+    let mut reader = Reader::new(Source::Lines(&SHORT), ALL);
+    reader.shown = Some(&shown);
+    check(&rt, rt.alloc(), &SIM, reader, page, (SHORT_ANSWERED, ""));
 }

@@ -1,132 +1,136 @@
-//! Each subcommand by its words.
+//! Each subcommand by its words, and writers that fail.
 
-use crate::cli::changes::{ALIVE, LATER};
-use crate::cli::fakes::{Lines, Page};
-use crate::cli::runs::ALL;
-use cli_core::{
-    LineFault, OwnerWords, RunFault, ScriptFault, SimFault, SimWords, Subcommand, SubcommandFault,
-    subcommand_run,
-};
+use crate::cli::changes::{ALIVE, ELEVENTH, FIRST, LATER};
+use crate::cli::fakes::{ALL, Page, Reader, Source};
+use crate::cli::folds::LATER_FOLDED;
+use crate::cli::runs::{OWNER, SIM, TWO_OWNERS, check, check_lines};
+use crate::cli::scripts::{SHORT, SHORT_ANSWERED};
+use cli_core::{SimWords, Subcommand};
 use std::alloc::Global;
-use std::io::Write;
 use std::process::Abort;
 
-/// The one owner of a key.
-const OWNER: Subcommand<'static> = Subcommand::Owner(OwnerWords {
-    count: 1,
-    replicas: 100,
-    sum: false,
-    key: "k",
-});
-
-/// The answers to a script.
-const SIM: Subcommand<'static> = Subcommand::Sim(SimWords {
+/// Scripts for rings of 100 points that hash by SHA-256.
+const SHA_SIM: Subcommand<'static> = Subcommand::Sim(SimWords {
     replicas: 100,
     sum: false,
 });
-
-/// The subcommands that are run.
-#[derive(Clone, Copy)]
-enum Named {
-    Fold,
-    HashOfAbc,
-    Owner,
-    Sim,
-}
-
-/// The subcommand of this name, with its words.
-fn subcommand(named: Named) -> Subcommand<'static> {
-    match named {
-        Named::Fold => Subcommand::Fold,
-        Named::HashOfAbc => Subcommand::Hash("abc"),
-        Named::Owner => OWNER,
-        Named::Sim => SIM,
-    }
-}
 
 /// A subcommand and its input, what is written, and what is said of the fault if there is one.
-const RUNS: [(Named, &[&str], &str, &str); 8] = [
+const RUNS: [(Subcommand<'static>, &[&str], &str, &str); 12] = [
+    (Subcommand::Fold, &[ALIVE, LATER], LATER_FOLDED, ""),
+    (Subcommand::Hash("abc"), &["[]"], "ba7816bf8f01cfea\n", ""),
+    (Subcommand::Hash(""), &[], "e3b0c44298fc1c14\n", ""),
+    (OWNER, &[ALIVE], "10.0.0.2:1\n", ""),
     (
-        Named::Fold,
-        &[ALIVE, LATER],
-        "10.0.0.2:1alive6\n71f2e2fce762716835393b50a95728bc73ddc10927921dee7639cf34388c0cf7\n",
-        "",
-    ),
-    (Named::HashOfAbc, &["[]"], "ba7816bf8f01cfea\n", ""),
-    (Named::Owner, &[ALIVE], "10.0.0.2:1\n", ""),
-    (
-        Named::Sim,
+        SIM,
         &["node 10.0.0.1:1 7", "members 10.0.0.1:1"],
         "ok\n10.0.0.1:1alive7\n",
         "",
     ),
-    (Named::Fold, &[ALIVE, "[]"], "", "line 2: not an object"),
-    (Named::Owner, &[""], "", "line 1: not JSON"),
-    (Named::Sim, &["at 5", "at"], "ok\n", "line 2: bad command"),
     (
-        Named::Sim,
-        &["leave 10.0.0.1:1"],
+        Subcommand::Fold,
+        &[ALIVE, "[]"],
         "",
-        "line 1: unknown node",
+        "line 2: not an object",
+    ),
+    (OWNER, &[""], "", "line 1: not JSON"),
+    (SIM, &["at 5", "at"], "ok\n", "line 2: bad command"),
+    (SIM, &["leave 10.0.0.1:1"], "", "line 1: unknown node"),
+    (TWO_OWNERS, &[ALIVE], "10.0.0.2:1\n", ""),
+    (OWNER, &[LATER], "10.0.0.2:1\n", ""),
+    (
+        SHA_SIM,
+        &["node 10.0.0.1:1 7", "owners 10.0.0.1:1 1 k"],
+        "ok\n10.0.0.1:1\n",
+        "",
     ),
 ];
 
-/// Whether the fault is a want of memory.
-fn is_memory(fault: SubcommandFault) -> bool {
-    matches!(
-        fault,
-        SubcommandFault::Run(RunFault::NoMemory)
-            | SubcommandFault::Run(RunFault::AtLine(_, LineFault::OutOfMemory))
-            | SubcommandFault::Sim(SimFault::AtLine(_, ScriptFault::OutOfMemory))
-    )
-}
-
-/// Runs a subcommand on lines. After a refused growth it is run again, on a page as it was.
-fn run(
-    alloc: Global,
-    named: Named,
-    lines: &[&str],
-    page: &mut Page,
-) -> Result<(), SubcommandFault> {
-    let before = *page;
-    let subcommand = subcommand(named);
-    match subcommand_run(alloc, &subcommand, &mut Lines::new(lines, ALL), page) {
-        Err(fault) if is_memory(fault) => {
-            *page = before;
-            subcommand_run(alloc, &subcommand, &mut Lines::new(lines, ALL), page)
-        }
-        ended => ended,
-    }
-}
-
-/// That this is said of the fault, or that there is none where nothing is said.
-fn says(rt: &impl Abort, ended: Result<(), SubcommandFault>, text: &str) {
-    let mut said = Page::new(ALL);
-    if let Err(fault) = ended {
-        let written = write!(said, "{fault}").is_ok();
-        assert!(rt; written);
-    }
-    assert!(rt; said.text() == text, "{text} came: {}", said.text());
-}
-
 #[test]
 fn runs_the_subcommand_that_is_named(rt: HostRuntime) {
-    for (i, (named, lines, output, text)) in RUNS.iter().enumerate() {
-        let mut page = Page::new(ALL);
-        let ended = run(rt.alloc(), *named, *lines, &mut page);
-        assert!(rt; page.text() == *output, "case {i}");
-        says(&rt, ended, *text);
+    for (subcommand, lines, output, text) in &RUNS {
+        check_lines(&rt, rt.alloc(), subcommand, *lines, (*output, *text));
+    }
+}
+
+/// A subcommand and its input, what it writes, and what it writes before a flush that fails.
+type Written = (
+    Subcommand<'static>,
+    &'static [&'static str],
+    &'static str,
+    &'static str,
+);
+
+const FOLDED: Written = (
+    Subcommand::Fold,
+    &[ALIVE, LATER],
+    LATER_FOLDED,
+    LATER_FOLDED,
+);
+
+/// Besides the one that folds.
+const WRITTEN: [Written; 3] = [
+    (
+        Subcommand::Hash(""),
+        &[],
+        "e3b0c44298fc1c14\n",
+        "e3b0c44298fc1c14\n",
+    ),
+    (
+        TWO_OWNERS,
+        &[ELEVENTH, FIRST],
+        "10.0.0.1:1\n10.0.0.1:11\n",
+        "10.0.0.1:1\n10.0.0.1:11\n",
+    ),
+    (SIM, &SHORT, SHORT_ANSWERED, "ok\n"),
+];
+
+/// The first bytes of a text.
+fn front(text: &str, len: usize) -> &str {
+    str::from_utf8(text.as_bytes().get(..len).unwrap_or(b"")).unwrap_or("")
+}
+
+/// Checks what is written to each page that has not room for all, and to one that has just that.
+fn check_rooms(rt: &impl Abort, alloc: Global, written: &Written) {
+    let (subcommand, lines, whole, _) = written;
+    for room in 0..=whole.len() {
+        let reader = Reader::new(Source::Lines(*lines), ALL);
+        let text = if room < whole.len() {
+            "cannot write"
+        } else {
+            ""
+        };
+        let wanted = (front(whole, room), text);
+        check(rt, alloc, subcommand, reader, Page::new(room), wanted);
     }
 }
 
 #[test]
-fn tells_of_a_failed_write(rt: HostRuntime) {
-    for (named, lines, _, text) in &RUNS {
-        if text.is_empty() {
-            let mut page = Page::new(0);
-            let ended = run(rt.alloc(), *named, *lines, &mut page);
-            assert!(rt; page.text() == "");
-            says(&rt, ended, "cannot write");
-        }
+fn folds_what_the_writer_takes(rt: HostRuntime) {
+    check_rooms(&rt, rt.alloc(), &FOLDED);
+}
+
+#[test]
+fn writes_what_the_writer_takes(rt: HostRuntime) {
+    for written in &WRITTEN {
+        check_rooms(&rt, rt.alloc(), written);
+    }
+}
+
+/// Checks what is written to a page that fails to flush.
+fn check_flush(rt: &impl Abort, alloc: Global, written: &Written) {
+    let (subcommand, lines, _, flushed) = written;
+    let mut page = Page::new(ALL);
+    page.can_flush = false;
+    let reader = Reader::new(Source::Lines(*lines), ALL);
+    let wanted = (*flushed, "cannot write");
+    check(rt, alloc, subcommand, reader, page, wanted);
+}
+
+#[test]
+fn tells_of_a_failed_flush(rt: HostRuntime) {
+    check_flush(&rt, rt.alloc(), &FOLDED);
+    for written in &WRITTEN {
+        check_flush(&rt, rt.alloc(), written);
     }
 }

@@ -1,5 +1,5 @@
-use crate::forward::views::{Views, keys, view, views_of};
-use crate::shared::{A, B, C, CountingHash, LIMIT, address, moment};
+use crate::forward::views::{Views, keys, view_of, views_of};
+use crate::shared::{A, B, C, CountingHash, Ip, LIMIT, address, moment};
 use change_core::Status;
 use forward_core::{Attempt, Decision, ForwardError, MOST_SENDS, Route, route_keys};
 use hash_ring::SumHash;
@@ -7,7 +7,6 @@ use node_core::View;
 use std::alloc::Global;
 use std::process::Abort;
 use std::sync::atomic::{AtomicU64, Ordering};
-use wire_json::Keys;
 
 /// Checks where keys go by a view.
 fn check_route(
@@ -25,8 +24,8 @@ fn check_route(
 }
 
 /// The route to this member.
-fn route_to(rt: &impl Abort, text: &str) -> Result<Route, ForwardError> {
-    Ok(Route::To(address(rt, text)))
+fn route_to(rt: &impl Abort, ip: Ip) -> Result<Route, ForwardError> {
+    Ok(Route::To(address(rt, ip)))
 }
 
 /// Checks the keys of each view.
@@ -64,8 +63,8 @@ enum Call<'a> {
 }
 
 /// The step that sends to this member.
-fn to(rt: &impl Abort, text: &str) -> Result<Decision, ForwardError> {
-    Ok(Decision::Send(address(rt, text)))
+fn to(rt: &impl Abort, ip: Ip) -> Result<Decision, ForwardError> {
+    Ok(Decision::Send(address(rt, ip)))
 }
 
 /// Checks what `ready` answers, and that a `Send` counts one send, and every other answer none.
@@ -267,7 +266,7 @@ fn each_key_is_hashed_once(rt: HostRuntime) {
     let calls = AtomicU64::new(0);
     let hash = CountingHash { calls: &calls };
     let two = [(B, Status::Faulty), (C, Status::Alive)];
-    let view = view(&rt, rt.alloc(), hash, A, &two);
+    let view = view_of(&rt, rt.alloc(), hash, A, &two);
     count(&rt, rt.alloc(), &view, &calls);
     drop(view);
 }

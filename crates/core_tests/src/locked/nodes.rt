@@ -1,122 +1,25 @@
 //! Nodes that are shared, and calls of them. Where a growth is refused the node is as before, and the next try goes on.
-ghost use Rattle.std.specs.Prelude.{◌≡◌, ◌+◌, []};
+ghost use Rattle.std.specs.Prelude.{◌≡◌, []};
 ghost use Rattle.std.specs.List.{All};
 ghost use Rattle.change_core.specs.Address.{address_of};
 ghost use Rattle.turn_lock.specs.Passes.{lock_name};
 ghost use Rattle.locked_node.specs.Passes.{name_of, Fits, IsNew};
 
-use crate::shared::moment;
-use locked_node::{
-    Address, Change, Config, Incarnation, LockError, LockedNode, NodeError, NodePass, NodeState,
-    Sourced, Status, StopCause, Stopped, SumHash, Taken, Weight,
-};
+use crate::calls::{Call, Calls, Told, event, read, tells, wanted_again};
+use crate::cases::{A_AT_7, Case, Start};
+use crate::node::played::begun;
+use crate::shared::{Ip, Row, moment, news};
+use locked_node::{LockedNode, NodePass, StopCause, Stopped, SumHash};
+use node_core::{Event, Reply};
 use std::alloc::Global;
 use std::process::Abort;
 use std::sync::Wait;
-
-/// What a call of the node answers, made once more where it found no memory.
-macro_rules! tried {
-    ($rt:expr, $call:expr) => {
-        match $call {
-            Ok(Err(locked_node::NodeError::Memory)) => $call,
-            answer => answer,
-        }
-        .ok()
-        .expect($rt, "a turn")
-    };
-}
-
-pub(crate) use tried;
-
-/// What a call of the node gives; none where it found no memory, and is to be made once more.
-pub(crate) fn value_of<T: Drop>(
-    rt: &impl Abort,
-    answer: Result<Result<T, NodeError>, LockError>,
-) -> Option<T> {
-    match answer.ok().expect(rt, "a turn") {
-        Ok(value) => Some(value),
-        Err(fault) => {
-            assert!(rt; fault == NodeError::Memory);
-            None
-        }
-    }
-}
-
-/// What a call of the node gives, made once more where it found no memory.
-macro_rules! made {
-    ($rt:expr, $call:expr) => {
-        match crate::locked::nodes::value_of($rt, $call) {
-            Some(value) => value,
-            None => crate::locked::nodes::value_of($rt, $call).expect($rt, "memory"),
-        }
-    };
-}
-
-pub(crate) use made;
 
 pub(crate) type Shared = LockedNode<SumHash>;
 
 pub(crate) type Caller = NodePass<SumHash>;
 
-/// The member 10.0.0.`number`:1.
-pub(crate) fn member(rt: &impl Abort, number: u8) -> Address
-    ensures { result ≡ address_of (167772160 + number) 1 }
-{
-    Address::new(0x0a00_0000 + u32::from(number), 1).expect(rt, "an address")
-}
-
-/// A change with weight 1.
-pub(crate) fn change(rt: &impl Abort, number: u8, incarnation: u64, status: Status) -> Change {
-    Change {
-        address: member(rt, number),
-        incarnation: Incarnation::new(incarnation).expect(rt, "an incarnation"),
-        status,
-        weight: Weight::new(1).expect(rt, "a weight"),
-    }
-}
-
-/// A change that its own member said.
-pub(crate) fn news(rt: &impl Abort, number: u8, incarnation: u64, status: Status) -> Sourced {
-    let change = change(rt, number, incarnation, status);
-    Sourced {
-        change,
-        source: change.address,
-        source_incarnation: change.incarnation,
-    }
-}
-
-/// The standard configuration, with two points for each unit of weight and this many members.
-fn config(max: usize) -> Config {
-    let mut config = Config::standard();
-    config.replicas = 2;
-    config.max_members = max;
-    config
-}
-
-/// How a node begins.
-#[derive(Clone, Copy)]
-pub(crate) struct Start {
-    pub(crate) own: Address,
-    pub(crate) incarnation: u64,
-    pub(crate) max: usize,
-}
-
-/// A node at moment 0.
-pub(crate) fn node(rt: &impl Abort, alloc: Global, start: &Start) -> NodeState<SumHash>
-    ensures { result.node.own ≡ start.now.own }
-{
-    let first = Incarnation::new(start.incarnation).expect(rt, "an incarnation");
-    let now = moment(rt, 0);
-    let own = start.own;
-    let max = start.max;
-    if let Ok(node) = NodeState::new(alloc, config(max), SumHash, own, first, 1, now) {
-        return node;
-    }
-    let again = NodeState::new(alloc, config(max), SumHash, own, first, 1, now);
-    again.ok().expect(rt, "a node")
-}
-
-/// The node, shared by so many passes.
+/// A node that begins so, shared by so many passes.
 fn share(
     rt: &impl Abort,
     alloc: Global,
@@ -125,33 +28,23 @@ fn share(
     turns: u32,
 ) -> (Shared, Vec<Caller>)
     ensures passes { All (IsNew result.0 turns) result.1.items }
-    ensures name { name_of result.0 ≡ start.now.own }
+    ensures name { name_of result.0 ≡ address_of start.now.own 1 }
 {
-    if let Ok(made) = LockedNode::new(alloc, node(rt, alloc, start), passes, turns) {
+    if let Ok(made) = LockedNode::new(alloc, begun(rt, alloc, start, SumHash), passes, turns) {
         return made;
     }
-    let Ok(made) = LockedNode::new(alloc, node(rt, alloc, start), passes, turns) else {
+    let again = begun(rt, alloc, start, SumHash);
+    let Ok(made) = LockedNode::new(alloc, again, passes, turns) else {
         panic!(rt; "a locked node")
     };
     made
 }
 
-/// The node 10.0.0.`number`:1 at this incarnation, with one pass.
-pub(crate) fn shared_node(
-    rt: &impl Abort,
-    alloc: Global,
-    number: u8,
-    incarnation: u64,
-    max: usize,
-) -> (Shared, Caller)
+/// A node that begins so, with one pass.
+fn shared_node(rt: &impl Abort, alloc: Global, start: &Start) -> (Shared, Caller)
     ensures { Fits result.0 result.1 }
 {
-    let start = Start {
-        own: member(rt, number),
-        incarnation,
-        max,
-    };
-    let (shared, mut passes) = share(rt, alloc, &start, 1, 1000);
+    let (shared, mut passes) = share(rt, alloc, start, 1, 1000);
     let pass = passes.pop().expect(rt, "a pass");
     (shared, pass)
 }
@@ -160,7 +53,7 @@ pub(crate) fn shared_node(
 pub(crate) fn alone(rt: &impl Abort, alloc: Global) -> (Shared, Caller)
     ensures { Fits result.0 result.1 }
 {
-    shared_node(rt, alloc, 1, 7, 4096)
+    shared_node(rt, alloc, &A_AT_7)
 }
 
 /// Lets go of a node and its pass.
@@ -173,19 +66,16 @@ pub(crate) fn let_go(shared: Shared, pass: Caller) {
 pub(crate) fn pair(
     rt: &impl Abort,
     alloc: Global,
-    own: Address,
+    own: Ip,
     turns: u32,
 ) -> (Shared, Caller, Caller, Vec<Caller>)
     ensures first { Fits result.0 result.1 }
     ensures second { Fits result.0 result.2 }
     ensures room { result.3.items ≡ [] }
-    ensures names { (name_of result.0 ≡ own) × (lock_name result.1 ≡ own) }
+    ensures names { (name_of result.0 ≡ address_of own 1) × (lock_name result.1 ≡ address_of own 1) }
 {
-    let start = Start {
-        own,
-        incarnation: 7,
-        max: 4096,
-    };
+    let mut start = A_AT_7;
+    start.own = own;
     let (shared, mut passes) = share(rt, alloc, &start, 2, turns);
     let second = passes.pop().expect(rt, "a pass");
     let first = passes.pop().expect(rt, "another");
@@ -193,79 +83,142 @@ pub(crate) fn pair(
     (shared, first, second, passes)
 }
 
-/// Takes one change.
-pub(crate) fn take<R: Wait + Abort>(
-    rt: &R,
-    shared: &Shared,
-    pass: &mut Caller,
-    given: &Sourced,
-    now: u64,
-) -> Result<Taken, Stopped>
+/// Takes a change that its own member says, which is not refused.
+pub(crate) fn hear<R: Wait + Abort>(rt: &R, shared: &Shared, pass: &mut Caller, row: Row)
     requires { Fits shared.now pass.old }
     ensures { Fits shared.now pass.new }
 {
-    let now = moment(rt, now);
-    let answer = shared.take(rt, pass, &[*given], now);
+    let given = [news(rt, row)];
+    let now = moment(rt, 0);
     let refused = Stopped {
         taken: 0,
         cause: StopCause::Memory,
     };
+    let mut answer = shared.take(rt, pass, &given, now);
     if answer == Ok(Err(refused)) {
-        let again = shared.take(rt, pass, &[*given], now);
-        return again.ok().expect(rt, "a turn");
+        answer = shared.take(rt, pass, &given, now);
     }
-    answer.ok().expect(rt, "a turn")
+    assert!(rt; matches!(answer, Ok(Ok(_))));
 }
 
-/// Takes one change, which is not refused.
-pub(crate) fn hear<R: Wait + Abort>(
+/// The reply of this kind to a call of the node, which is let in.
+macro_rules! let_in {
+    ($rt:expr, $reply:ident, $call:expr) => {
+        Reply::$reply($call.ok().expect($rt, "a turn"))
+    };
+}
+
+/// What a node answers to an event.
+fn ask<R: Wait + Abort>(rt: &R, node: &Shared, pass: &mut Caller, event: &Event) -> Reply
+    requires { Fits node.now pass.old }
+    ensures { Fits node.now pass.new }
+{
+    match event {
+        Event::Take(given, now) => let_in!(rt, Take, node.take(rt, pass, given.as_slice(), *now)),
+        Event::Receive(message, now) => let_in!(rt, Receive, node.receive(rt, pass, message, *now)),
+        Event::JoinMessage => let_in!(rt, JoinMessage, node.join_message(rt, pass)),
+        Event::PingTo(target) => let_in!(rt, PingTo, node.ping_to(rt, pass, *target)),
+        Event::PingReqTo { helper, target } => {
+            let_in!(rt, PingReqTo, node.ping_req_to(rt, pass, *helper, *target))
+        }
+        Event::PingReqAckTo {
+            requester,
+            target,
+            reached,
+        } => {
+            let made = node.ping_req_ack_to(rt, pass, *requester, *target, *reached);
+            let_in!(rt, PingReqAckTo, made)
+        }
+        Event::Leave => let_in!(rt, Leave, node.leave(rt, pass)),
+        Event::Rejoin => let_in!(rt, Rejoin, node.rejoin(rt, pass)),
+        Event::Expire(now) => let_in!(rt, Expire, node.expire(rt, pass, *now)),
+        Event::Probe => let_in!(rt, Probe, node.probe(rt, pass)),
+        Event::Acked(number) => let_in!(rt, Acked, node.acked(rt, pass, *number)),
+        Event::Lost(number, now) => let_in!(rt, Lost, node.lost(rt, pass, *number, *now)),
+        Event::HelperSaid {
+            number,
+            helper,
+            said,
+            moment,
+        } => {
+            let heard = node.helper_said(rt, pass, *number, *helper, *said, *moment);
+            let_in!(rt, HelperSaid, heard)
+        }
+        Event::Running => let_in!(rt, Running, node.running(rt, pass)),
+        Event::Own => let_in!(rt, Own, node.own(rt, pass)),
+        Event::Member(address) => let_in!(rt, Member, node.member(rt, pass, *address)),
+        Event::Len => let_in!(rt, Len, node.len(rt, pass)),
+        Event::Owner(key) => let_in!(rt, Owner, node.owner(rt, pass, key.as_slice())),
+        Event::Owners(key, count) => {
+            let_in!(rt, Owners, node.owners(rt, pass, key.as_slice(), *count))
+        }
+        Event::Members => let_in!(rt, Members, node.members(rt, pass)),
+        Event::DigestText => let_in!(rt, DigestText, node.digest_text(rt, pass)),
+        Event::Digest => let_in!(rt, Digest, node.digest(rt, pass)),
+    }
+}
+
+/// Whether an event is answered so. Where that found no memory it comes once more.
+fn answers<R: Wait + Abort>(
     rt: &R,
     shared: &Shared,
     pass: &mut Caller,
-    given: &Sourced,
-    now: u64,
+    event: &Event,
+    wanted: Told<'_>,
+) -> bool
+    requires { Fits shared.now pass.old }
+    ensures { Fits shared.now pass.new }
+{
+    let reply = ask(rt, shared, pass, event);
+    let again = wanted_again(read(&reply), wanted);
+    let is_so = tells(reply, wanted);
+    match again {
+        Some(wanted) => tells(ask(rt, shared, pass, event), wanted),
+        None => is_so,
+    }
+}
+
+/// Whether a call is answered so.
+fn is_answered<R: Wait + Abort>(
+    rt: &R,
+    alloc: Global,
+    shared: &Shared,
+    pass: &mut Caller,
+    row: (Call, Told<'_>),
+) -> bool
+    requires { Fits shared.now pass.old }
+    ensures { Fits shared.now pass.new }
+{
+    let event = event(rt, alloc, row.0);
+    let is_so = answers(rt, shared, pass, &event, row.1);
+    drop(event);
+    is_so
+}
+
+/// Checks what a pass is answered to calls, one after another.
+pub(crate) fn check_calls<R: Wait + Abort>(
+    rt: &R,
+    alloc: Global,
+    shared: &Shared,
+    pass: &mut Caller,
+    calls: Calls,
 )
     requires { Fits shared.now pass.old }
     ensures { Fits shared.now pass.new }
 {
-    let answer = take(rt, shared, pass, given, now);
-    assert!(rt; answer.is_ok());
-}
-
-pub(crate) fn own<R: Wait + Abort>(rt: &R, shared: &Shared, pass: &mut Caller) -> Change
-    requires { Fits shared.now pass.old }
-    ensures { Fits shared.now pass.new }
-{
-    shared.own(rt, pass).ok().expect(rt, "a turn")
-}
-
-pub(crate) fn status_of<R: Wait + Abort>(
-    rt: &R,
-    shared: &Shared,
-    pass: &mut Caller,
-    number: u8,
-) -> Option<Status>
-    requires { Fits shared.now pass.old }
-    ensures { Fits shared.now pass.new }
-{
-    let held = shared.member(rt, pass, member(rt, number));
-    match held.ok().expect(rt, "a turn") {
-        Some(entry) => Some(entry.status),
-        None => None,
+    let (name, rows) = calls;
+    for (place, row) in rows.iter().enumerate() {
+        assert!(rt;
+            is_answered(rt, alloc, shared, pass, *row),
+            "{name}: call {place}"
+        );
     }
 }
 
-pub(crate) fn owner<R: Wait + Abort>(
-    rt: &R,
-    shared: &Shared,
-    pass: &mut Caller,
-    key: &str,
-) -> Option<Address>
-    requires { Fits shared.now pass.old }
-    ensures { Fits shared.now pass.new }
-{
-    shared
-        .owner(rt, pass, key.as_bytes())
-        .ok()
-        .expect(rt, "a turn")
+/// Checks an example by the pass of a new node.
+pub(crate) fn check<R: Wait + Abort>(rt: &R, alloc: Global, case: &Case) {
+    let (start, calls) = (&case.0, case.1);
+    let (shared, mut pass) = shared_node(rt, alloc, start);
+    check_calls(rt, alloc, &shared, &mut pass, calls);
+    let_go(shared, pass);
 }

@@ -4,12 +4,13 @@ ghost use Rattle.change_core.specs.Members.{HaveSameChanges};
 ghost use Rattle.node_core.specs.Agreement.{Agree};
 ghost use Rattle.node_core.specs.Run.{log};
 
-use crate::node::test_calls::*;
-use crate::shared::{A, B, C, moment};
-use change_core::{Moment, Sourced, Status};
+use crate::calls::{Call, Calls, Told};
+use crate::node::played::{check_calls, events, tell};
+use crate::shared::{A, B, C, node};
+use change_core::Status;
 use hash_ring::{PointHash, SumHash};
 use node_core::laws::agreement;
-use node_core::{Event, NodeState, Reply, Run, run};
+use node_core::{Event, NodeState, Run, run};
 use std::alloc::Global;
 use std::process::Abort;
 
@@ -44,35 +45,29 @@ fn both_runs<H: PointHash>(
     }
 }
 
-/// The call by which a node hears these changes.
-fn hearing(rt: &impl Abort, alloc: Global, given: &[Sourced], now: Moment) -> Event {
-    Event::Take(changes(rt, alloc, given), now)
-}
+/// A hears of the others at once, and B of them one after another in another order.
+const AT_ONCE: Calls = (
+    "at once",
+    &[(
+        Call::TakeAll(&[(B, 1, Status::Alive), (C, 2, Status::Suspect)]),
+        Told::Taken(2, 0),
+    )],
+);
 
-/// Whether all was taken.
-fn is_taken(finished: &Run<SumHash>) -> bool {
-    for reply in finished.replies.as_slice() {
-        if !matches!(reply, Reply::Take(Ok(_))) {
-            return false;
-        }
-    }
-    true
-}
+const IN_TURN: Calls = (
+    "in turn",
+    &[
+        (Call::Take((C, 2, Status::Suspect), 3), Told::Taken(1, 0)),
+        (Call::Take((A, 7, Status::Alive), 3), Told::Taken(1, 0)),
+    ],
+);
 
-/// A hears of the others at once, and B of them one after another in another order. None where a growth was refused.
+/// Both runs. None where a growth was refused.
 fn runs(rt: &impl Abort, alloc: Global) -> Option<(Run<SumHash>, Run<SumHash>)> {
-    let now = moment(rt, 3);
-    let second = news(rt, B, 1, Status::Alive);
-    let third = news(rt, C, 2, Status::Suspect);
-    let at_once = [hearing(rt, alloc, &[second, third], now)];
-    let third = news(rt, C, 2, Status::Suspect);
-    let first = news(rt, A, 7, Status::Alive);
-    let in_turn = [
-        hearing(rt, alloc, &[third], now),
-        hearing(rt, alloc, &[first], now),
-    ];
-    let one = node(rt, alloc, SumHash, A, 7, 4096);
-    let other = node(rt, alloc, SumHash, B, 1, 4096);
+    let at_once = events(rt, alloc, AT_ONCE);
+    let in_turn = events(rt, alloc, IN_TURN);
+    let one = node(rt, alloc, A, 7);
+    let other = node(rt, alloc, B, 1);
     let both = both_runs(alloc, one, &at_once, other, &in_turn);
     drop(at_once);
     drop(in_turn);
@@ -80,26 +75,35 @@ fn runs(rt: &impl Abort, alloc: Global) -> Option<(Run<SumHash>, Run<SumHash>)> 
 }
 
 /// What both nodes hold in the end.
-const HELD: &str = "10.0.0.1:1alive7;10.0.0.2:1alive1;10.0.0.3:1suspect2";
+const HELD: Calls = (
+    "held",
+    &[
+        (
+            Call::Text,
+            Told::Text("10.0.0.1:1alive7;10.0.0.2:1alive1;10.0.0.3:1suspect2"),
+        ),
+        (Call::Owner("zzzz1"), Told::Owner(B)),
+    ],
+);
 
-/// Checks both nodes after runs by which all was taken; whether it was.
-fn check_runs(rt: &impl Abort, one: &Run<SumHash>, other: &Run<SumHash>) -> bool {
-    if !is_taken(one) || !is_taken(other) {
-        return false;
+/// Checks a node after a run by which all was taken; whether it was.
+fn check_run(rt: &impl Abort, alloc: Global, run: Run<SumHash>, calls: Calls) -> bool {
+    let mut run = run;
+    let told = tell(run.replies.as_slice(), calls);
+    if told.is_some() {
+        check_calls(rt, alloc, &mut run.node, HELD);
     }
-    check_node(rt, &one.node, HELD, "zzzz1", B);
-    check_node(rt, &other.node, HELD, "zzzz1", B);
-    true
+    drop(run);
+    assert!(rt; told != Some(false));
+    told.is_some()
 }
 
 /// Makes both runs, and checks their nodes; whether no growth was refused.
 fn agree(rt: &impl Abort, alloc: Global) -> bool {
     match runs(rt, alloc) {
         Some((one, other)) => {
-            let is_whole = check_runs(rt, &one, &other);
-            drop(one);
-            drop(other);
-            is_whole
+            let is_whole = check_run(rt, alloc, one, AT_ONCE);
+            check_run(rt, alloc, other, IN_TURN) && is_whole
         }
         None => false,
     }

@@ -1,12 +1,13 @@
 //! Reconciliation from end to end: two nodes that tell each other all that they hold, and the law that ties them.
-ghost use Rattle.std.specs.Prelude.{◌≡◌, ◌≢◌, IfOk, IfSome, map};
+ghost use Rattle.std.specs.Prelude.{◌≡◌, ◌≢◌, IfSome, map};
 ghost use Rattle.member_core.specs.Membership.{said_by};
 ghost use Rattle.node_core.specs.Agreement.{Agree};
 ghost use Rattle.change_core.specs.Change.{change_of};
 ghost use Rattle.reconciliation.specs.Reconciliation.{TakesAllOf};
 
-use crate::node::test_calls::*;
-use crate::shared::{A, B, C, moment};
+use crate::calls::{Call, Calls, Told};
+use crate::node::played::check_calls;
+use crate::shared::{A, B, C, D, E, Row, hear, moment, node};
 use change_core::{Change, Moment, Sourced, Status};
 use hash_ring::{PointHash, SumHash};
 use node_core::{NodeState, Taken};
@@ -14,10 +15,6 @@ use reconciliation::laws::reconciliation;
 use std::alloc::Global;
 use std::process::Abort;
 use wire_json::Changes;
-
-const D: &str = "10.0.0.4:1";
-
-const E: &str = "10.0.0.5:1";
 
 /// Each of these changes as one node says it.
 fn said_by(alloc: Global, own: &Change, changes: &[Change]) -> Option<Vec<Sourced>>
@@ -90,23 +87,23 @@ fn came_to(applied: usize, refuted: usize) -> Taken {
 }
 
 /// What 10.0.0.1:1 hears at first.
-const HEARD_BY_ONE: [(&str, u64, Status); 3] = [
+const HEARD_BY_ONE: [Row; 3] = [
     (B, 1, Status::Suspect),
     (C, 2, Status::Suspect),
     (D, 4, Status::Alive),
 ];
 
 /// What 10.0.0.2:1 hears at first.
-const HEARD_BY_OTHER: [(&str, u64, Status); 3] = [
+const HEARD_BY_OTHER: [Row; 3] = [
     (A, 7, Status::Faulty),
     (C, 3, Status::Alive),
     (E, 1, Status::Leave),
 ];
 
 /// Hears these.
-fn hear_all(rt: &impl Abort, node: &mut NodeState<SumHash>, rumours: &[(&str, u64, Status)]) {
-    for (text, number, status) in rumours {
-        hear(rt, node, &news(rt, *text, *number, *status), 0);
+fn hear_all(rt: &impl Abort, node: &mut NodeState<SumHash>, rumours: &[Row]) {
+    for row in rumours {
+        hear(rt, node, *row, 0);
     }
 }
 
@@ -130,18 +127,29 @@ fn reconcile_after_rumours(
 }
 
 /// What both nodes hold in the end.
-const HELD: &str =
-    "10.0.0.1:1alive8;10.0.0.2:1alive2;10.0.0.3:1alive3;10.0.0.4:1alive4;10.0.0.5:1leave1";
+const HELD: Calls = (
+    "held",
+    &[
+        (
+            Call::Text,
+            Told::Text(
+                "10.0.0.1:1alive8;10.0.0.2:1alive2;10.0.0.3:1alive3;10.0.0.4:1alive4;10.0.0.5:1leave1",
+            ),
+        ),
+        (Call::Owner("zzzz3"), Told::Owner(D)),
+    ],
+);
 
 #[test]
 fn two_nodes_reconcile(rt: HostRuntime) {
-    let mut one = first_node(&rt, rt.alloc());
-    let mut other = node(&rt, rt.alloc(), SumHash, B, 1, 4096);
+    let alloc = rt.alloc();
+    let mut one = node(&rt, alloc, A, 7);
+    let mut other = node(&rt, alloc, B, 1);
     hear_all(&rt, &mut one, &HEARD_BY_ONE);
     hear_all(&rt, &mut other, &HEARD_BY_OTHER);
-    reconcile_after_rumours(&rt, rt.alloc(), &mut one, &mut other);
-    check_node(&rt, &one, HELD, "zzzz3", D);
-    check_node(&rt, &other, HELD, "zzzz3", D);
+    reconcile_after_rumours(&rt, alloc, &mut one, &mut other);
+    check_calls(&rt, alloc, &mut one, HELD);
+    check_calls(&rt, alloc, &mut other, HELD);
     drop(one);
     drop(other);
 }

@@ -1,0 +1,418 @@
+//! The calls of a node and what it answers to them, as plain data, so that they stand in tables.
+use crate::shared::{Ip, Row, address, batch, incarnation, moment, news, put, vec_of};
+// What `locked_node` names besides is taken from there, since its user names that crate alone.
+use locked_node::{
+    Address, Change, Changes, Content, Digest, Entry, Kind, Message, News, NodeError, NodeLost,
+    NodeOutcome, Received, Running, Said, Sourced, Status, StopCause, Weight,
+};
+use node_core::{Event, KeyBytes, Reply};
+use std::alloc::Global;
+use std::process::Abort;
+
+/// A call of a node, at moment 0 where none is told.
+#[derive(Clone, Copy)]
+pub(crate) enum Call {
+    /// Takes a change that its own member says, at a moment.
+    Take(Row, u64),
+    /// Takes a change that another says at its incarnation.
+    TakeFrom(Ip, u64, Row),
+    /// Takes a change with this weight that its own member says.
+    TakeWeighty(Row, u8),
+    /// Takes these as one batch, each said by its own member.
+    TakeAll(&'static [Row]),
+    /// Receives the Join of a member that is alive so, at a moment.
+    Join(Row, u64),
+    /// Receives a Ping without changes, of a member at an incarnation that has this digest.
+    Ping(Ip, u64, &'static str),
+    /// Makes a Join.
+    MakeJoin,
+    /// Makes a Ping to a member.
+    MakePing(Ip),
+    /// Makes a PingReq to a helper, of a target.
+    MakePingReq(Ip, Ip),
+    /// Makes a PingReqAck to who asked, of a target that was reached.
+    MakePingReqAck(Ip, Ip),
+    Leave,
+    Rejoin,
+    Expire(u64),
+    Probe,
+    Acked(u64),
+    Lost(u64),
+    HelperSaid(u64, Ip, Said),
+    Running,
+    Own,
+    Member(Ip),
+    Len,
+    Owner(&'static str),
+    Owners(&'static str, usize),
+    Members,
+    Text,
+    Digest,
+}
+
+/// A change as a message carries it, and who said it at which incarnation.
+pub(crate) type Carried = (Row, Ip, u64);
+
+/// What a call is answered. A member that is none of `10.0.0.n:1` is told as 0.
+#[derive(Clone, Copy, PartialEq, Eq)]
+pub(crate) enum Told<'a> {
+    /// How many changes were applied, and how many of these refuted; where a refuted one was answered, no more is told.
+    Taken(usize, usize),
+    /// After how many changes it stopped, and why.
+    Stopped(usize, StopCause),
+    /// How many changes were applied, and a message of this member and kind, with so many changes, of which these are the first.
+    Message(usize, Ip, Kind, usize, [Option<Carried>; 3]),
+    /// How many changes were applied, before the answer found no memory.
+    NoAnswer(usize),
+    Refused(NodeError),
+    /// A change with weight 1.
+    Change(Row),
+    /// A change with this weight.
+    Weighty(Row, u8),
+    Done,
+    Nothing,
+    /// A probe's number and target.
+    Probe(u64, Ip),
+    /// The number and target of the probe that runs, and the helper that it waits for.
+    Running(u64, Ip, Option<Ip>),
+    /// What is held of a member, with weight 1. Of another weight it is told as a change of none of these members.
+    Held(u64, Status),
+    Owner(Ip),
+    /// How many members are named, and the first three.
+    Named(usize, [Option<Ip>; 3]),
+    /// Another helper has a word yet.
+    Waiting,
+    Reached,
+    Inconclusive,
+    Len(usize),
+    /// How many members are held, and the first.
+    Members(usize, Option<Row>),
+    Text(&'a str),
+    Digest([u8; 32]),
+}
+
+/// What an example is called, its calls, and what each is answered.
+pub(crate) type Calls = (&'static str, &'static [(Call, Told<'static>)]);
+
+fn key(rt: &impl Abort, alloc: Global, text: &str) -> KeyBytes {
+    let mut bytes = vec_of(rt, alloc, text.len());
+    for byte in text.as_bytes() {
+        put(rt, &mut bytes, *byte);
+    }
+    KeyBytes::from_vec(bytes)
+}
+
+/// The taking of one change.
+fn taking(rt: &impl Abort, alloc: Global, given: &Sourced, now: u64) -> Event {
+    let now = moment(rt, now);
+    let mut list = vec_of(rt, alloc, 1);
+    put(rt, &mut list, *given);
+    Event::Take(Changes::from_vec(list).ok().expect(rt, "changes"), now)
+}
+
+/// The change as another says it at an incarnation.
+fn said_by(rt: &impl Abort, source: Ip, at: u64, row: Row) -> Sourced {
+    let mut given = news(rt, row);
+    given.source = address(rt, source);
+    given.source_incarnation = incarnation(rt, at);
+    given
+}
+
+/// The change with this weight.
+fn weighty(rt: &impl Abort, row: Row, weight: u8) -> Sourced {
+    let mut given = news(rt, row);
+    given.change.weight = Weight::new(weight).expect(rt, "a weight");
+    given
+}
+
+/// The Join of a member.
+fn join(rt: &impl Abort, alloc: Global, row: Row) -> Message {
+    let source = address(rt, row.0);
+    let source_incarnation = incarnation(rt, row.1);
+    let checksum = Digest::new([0; 32]);
+    let changes = batch(rt, alloc, &[row]);
+    Message {
+        source,
+        source_incarnation,
+        content: Content::Join(News { checksum, changes }),
+    }
+}
+
+/// A Ping without changes.
+fn ping(rt: &impl Abort, alloc: Global, source: Ip, at: u64, checksum: &str) -> Message {
+    let source = address(rt, source);
+    let source_incarnation = incarnation(rt, at);
+    let checksum = Digest::parse(checksum).expect(rt, "a digest");
+    let changes = batch(rt, alloc, &[]);
+    Message {
+        source,
+        source_incarnation,
+        content: Content::Ping(News { checksum, changes }),
+    }
+}
+
+/// The making of a PingReq.
+fn ping_req(rt: &impl Abort, helper: Ip, target: Ip) -> Event {
+    Event::PingReqTo {
+        helper: address(rt, helper),
+        target: address(rt, target),
+    }
+}
+
+/// The making of a PingReqAck.
+fn ping_req_ack(rt: &impl Abort, requester: Ip, target: Ip) -> Event {
+    Event::PingReqAckTo {
+        requester: address(rt, requester),
+        target: address(rt, target),
+        reached: true,
+    }
+}
+
+/// The event of a call.
+pub(crate) fn event(rt: &impl Abort, alloc: Global, call: Call) -> Event {
+    let start = moment(rt, 0);
+    match call {
+        Call::Take(row, now) => taking(rt, alloc, &news(rt, row), now),
+        Call::TakeFrom(source, at, row) => taking(rt, alloc, &said_by(rt, source, at, row), 0),
+        Call::TakeWeighty(row, weight) => taking(rt, alloc, &weighty(rt, row, weight), 0),
+        Call::TakeAll(rows) => Event::Take(batch(rt, alloc, rows), start),
+        Call::Join(row, now) => Event::Receive(join(rt, alloc, row), moment(rt, now)),
+        Call::Ping(source, at, checksum) => {
+            Event::Receive(ping(rt, alloc, source, at, checksum), start)
+        }
+        Call::MakeJoin => Event::JoinMessage,
+        Call::MakePing(target) => Event::PingTo(address(rt, target)),
+        Call::MakePingReq(helper, target) => ping_req(rt, helper, target),
+        Call::MakePingReqAck(requester, target) => ping_req_ack(rt, requester, target),
+        Call::Leave => Event::Leave,
+        Call::Rejoin => Event::Rejoin,
+        Call::Expire(now) => Event::Expire(moment(rt, now)),
+        Call::Probe => Event::Probe,
+        Call::Acked(number) => Event::Acked(number),
+        Call::Lost(number) => Event::Lost(number, start),
+        Call::HelperSaid(number, helper, said) => Event::HelperSaid {
+            number,
+            helper: address(rt, helper),
+            said,
+            moment: start,
+        },
+        Call::Running => Event::Running,
+        Call::Own => Event::Own,
+        Call::Member(ip) => Event::Member(address(rt, ip)),
+        Call::Len => Event::Len,
+        Call::Owner(text) => Event::Owner(key(rt, alloc, text)),
+        Call::Owners(text, count) => Event::Owners(key(rt, alloc, text), count),
+        Call::Members => Event::Members,
+        Call::Text => Event::DigestText,
+        Call::Digest => Event::Digest,
+    }
+}
+
+fn ip(address: Address) -> Ip {
+    if address.port() == 1 { address.ip() } else { 0 }
+}
+
+fn row(change: &Change) -> Row {
+    (
+        ip(change.address),
+        change.incarnation.number(),
+        change.status,
+    )
+}
+
+/// The change, if it has weight 1.
+fn light(change: &Change) -> Option<Row> {
+    match change.weight.number() {
+        1 => Some(row(change)),
+        _ => None,
+    }
+}
+
+fn changed(change: &Change) -> Told<'static> {
+    match light(change) {
+        Some(row) => Told::Change(row),
+        None => Told::Weighty(row(change), change.weight.number()),
+    }
+}
+
+/// What may have changed.
+fn maybe(change: &Option<Change>) -> Told<'static> {
+    match change {
+        Some(change) => changed(change),
+        None => Told::Nothing,
+    }
+}
+
+/// The member at a place of a list.
+fn named_at(list: &[Address], place: usize) -> Option<Ip> {
+    match list.get(place) {
+        Some(address) => Some(ip(*address)),
+        None => None,
+    }
+}
+
+fn named(list: &[Address]) -> Told<'static> {
+    Told::Named(
+        list.len(),
+        [named_at(list, 0), named_at(list, 1), named_at(list, 2)],
+    )
+}
+
+fn listed(list: &[Change]) -> Told<'static> {
+    match list.first() {
+        Some(first) => Told::Members(list.len(), light(first)),
+        None => Told::Members(0, None),
+    }
+}
+
+/// The change at a place of a message's, if it has weight 1.
+fn carried_at(list: &[Sourced], place: usize) -> Option<Carried> {
+    let one = list.get(place)?;
+    let row = light(&one.change)?;
+    Some((row, ip(one.source), one.source_incarnation.number()))
+}
+
+/// The changes that a message of the membership carries.
+fn carried(message: &Message) -> &[Sourced] {
+    match &message.content {
+        Content::Join(news) | Content::Joined(news) => news.changes.as_slice(),
+        Content::Ping(news) | Content::Ack(news) => news.changes.as_slice(),
+        Content::PingReq(news, _) => news.changes.as_slice(),
+        Content::PingReqAck(news, _, _) => news.changes.as_slice(),
+        _ => &[],
+    }
+}
+
+fn sent(applied: usize, message: &Message) -> Told<'static> {
+    let list = carried(message);
+    let first = [
+        carried_at(list, 0),
+        carried_at(list, 1),
+        carried_at(list, 2),
+    ];
+    Told::Message(
+        applied,
+        ip(message.source),
+        message.content.kind(),
+        list.len(),
+        first,
+    )
+}
+
+fn received(received: &Received) -> Told<'static> {
+    match received {
+        Received::Done(taken) => Told::Taken(taken.applied, taken.refuted),
+        Received::Answer(taken, _) if taken.refuted > 0 => {
+            Told::Taken(taken.applied, taken.refuted)
+        }
+        Received::Answer(taken, message) => sent(taken.applied, message),
+        Received::NoAnswer(taken) => Told::NoAnswer(taken.applied),
+        Received::Stopped(stopped) => Told::Stopped(stopped.taken, stopped.cause),
+        Received::NotGossip => Told::Nothing,
+    }
+}
+
+/// What an answer tells that may be a refusal.
+macro_rules! unless_refused {
+    ($answer:expr, $value:ident => $told:expr) => {
+        match $answer {
+            Ok($value) => $told,
+            Err(fault) => Told::Refused(*fault),
+        }
+    };
+}
+
+fn lost(lost: &NodeLost) -> Told<'static> {
+    match lost {
+        NodeLost::Ask(helpers) => named(helpers.as_slice()),
+        NodeLost::Suspect(change) => maybe(change),
+    }
+}
+
+fn heard(outcome: &NodeOutcome) -> Told<'static> {
+    match outcome {
+        NodeOutcome::Waiting => Told::Waiting,
+        NodeOutcome::Reached => Told::Reached,
+        NodeOutcome::Inconclusive => Told::Inconclusive,
+        NodeOutcome::Suspect(change) => maybe(change),
+    }
+}
+
+fn running(probe: &Running) -> Told<'static> {
+    let waiting = match probe.waiting {
+        Some(helper) => Some(ip(helper)),
+        None => None,
+    };
+    Told::Running(probe.number, ip(probe.target), waiting)
+}
+
+fn held(entry: &Entry) -> Told<'static> {
+    let incarnation = entry.incarnation.number();
+    match entry.weight.number() {
+        1 => Told::Held(incarnation, entry.status),
+        weight => Told::Weighty((0, incarnation, entry.status), weight),
+    }
+}
+
+/// What a reply tells; of a text no more than that it is one.
+pub(crate) fn read(reply: &Reply) -> Told<'static> {
+    match reply {
+        Reply::Take(Ok(taken)) => Told::Taken(taken.applied, taken.refuted),
+        Reply::Take(Err(stopped)) => Told::Stopped(stopped.taken, stopped.cause),
+        Reply::Receive(what) => received(what),
+        Reply::JoinMessage(made)
+        | Reply::PingTo(made)
+        | Reply::PingReqTo(made)
+        | Reply::PingReqAckTo(made) => unless_refused!(made, message => sent(0, message)),
+        Reply::Leave(own) | Reply::Rejoin(own) => unless_refused!(own, own => changed(own)),
+        Reply::Expire(due) => unless_refused!(due, due => maybe(due)),
+        Reply::Probe(Ok(Some(probe))) => Told::Probe(probe.number, ip(probe.target)),
+        Reply::Probe(Ok(None)) => Told::Nothing,
+        Reply::Probe(Err(fault)) => Told::Refused(*fault),
+        Reply::Acked(ended) => unless_refused!(ended, _ended => Told::Done),
+        Reply::Lost(what) => unless_refused!(what, what => lost(what)),
+        Reply::HelperSaid(outcome) => unless_refused!(outcome, outcome => heard(outcome)),
+        Reply::Running(Some(probe)) => running(probe),
+        Reply::Running(None) | Reply::Member(None) | Reply::Owner(None) => Told::Nothing,
+        Reply::Own(own) => changed(own),
+        Reply::Member(Some(entry)) => held(entry),
+        Reply::Len(count) => Told::Len(*count),
+        Reply::Owner(Some(owner)) => Told::Owner(ip(*owner)),
+        Reply::Owners(owners) => unless_refused!(owners, owners => named(owners.as_slice())),
+        Reply::Members(list) => unless_refused!(list, list => listed(list.as_slice())),
+        Reply::DigestText(text) => unless_refused!(text, _text => Told::Text("")),
+        Reply::Digest(digest) => unless_refused!(digest, digest => Told::Digest(digest.bytes())),
+    }
+}
+
+/// Whether a reply tells this, to the text.
+pub(crate) fn is_told(reply: &Reply, wanted: Told<'_>) -> bool {
+    match reply {
+        Reply::DigestText(Ok(text)) => match wanted {
+            Told::Text(said) => text.as_str() == said,
+            _ => false,
+        },
+        _ => read(reply) == wanted,
+    }
+}
+
+/// Whether a reply tells this; it is let go.
+pub(crate) fn tells(reply: Reply, wanted: Told<'_>) -> bool {
+    let is_so = is_told(&reply, wanted);
+    drop(reply);
+    is_so
+}
+
+/// What a call is to be answered when it is made once more, where it found no memory: what it applied by then it does not apply again.
+pub(crate) fn wanted_again<'a>(told: Told<'_>, wanted: Told<'a>) -> Option<Told<'a>> {
+    match told {
+        Told::Refused(NodeError::Memory) | Told::Stopped(_, StopCause::Memory) => Some(wanted),
+        Told::NoAnswer(before) => match wanted {
+            Told::Message(applied, source, kind, count, first) if applied == before => {
+                Some(Told::Message(0, source, kind, count, first))
+            }
+            _ => None,
+        },
+        _ => None,
+    }
+}

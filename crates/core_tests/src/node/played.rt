@@ -1,0 +1,169 @@
+//! A node that is asked the calls of a table: one after another, or in one run.
+ghost use Rattle.std.specs.Prelude.{◌≡◌};
+ghost use Rattle.change_core.specs.Address.{address_of};
+
+use crate::calls::{Call, Calls, Told, event, is_told, read, tells, wanted_again};
+use crate::cases::{Case, Start};
+use crate::shared::{config, configured, put, vec_of};
+use change_core::{Change, Entry, Weight};
+use hash_ring::{PointHash, SumHash};
+use node_core::{Event, NodeState, Reply, Run, run};
+use std::alloc::Global;
+use std::process::Abort;
+
+/// A node that begins so.
+pub(crate) fn begun<H: PointHash>(
+    rt: &impl Abort,
+    alloc: Global,
+    start: &Start,
+    hash: H,
+) -> NodeState<H>
+    ensures { result.node.own ≡ address_of start.now.own 1 }
+{
+    let mut config = config(start.max);
+    config.weight = Weight::new(start.weight).expect(rt, "a weight");
+    configured(rt, alloc, &config, hash, start.own, start.born)
+}
+
+/// What is held of a node, how many it holds, and what of the member that an event first speaks of.
+fn held<H: PointHash>(node: &NodeState<H>, event: &Event) -> (Change, usize, Option<Entry>) {
+    let own = node.own();
+    let mut subject = own.address;
+    if let Event::Take(changes, _) = event {
+        if let Some(first) = changes.as_slice().first() {
+            subject = first.change.address;
+        }
+    }
+    (own, node.len(), node.member(subject))
+}
+
+/// Whether an event is answered so. Where it is refused the node is as before; where that was for want of memory it comes once more.
+pub(crate) fn answers<H: PointHash>(
+    rt: &impl Abort,
+    node: &mut NodeState<H>,
+    event: &Event,
+    wanted: Told<'_>,
+) -> bool {
+    let before = held(node, event);
+    let reply = node.apply(event);
+    let told = read(&reply);
+    let is_refused = matches!(told, Told::Refused(_) | Told::Stopped(0, _));
+    let again = wanted_again(told, wanted);
+    let is_so = tells(reply, wanted);
+    assert!(rt; !is_refused || held(node, event) == before);
+    match again {
+        Some(wanted) => tells(node.apply(event), wanted),
+        None => is_so,
+    }
+}
+
+/// Whether a call is answered so.
+pub(crate) fn is_answered<H: PointHash>(
+    rt: &impl Abort,
+    alloc: Global,
+    node: &mut NodeState<H>,
+    call: Call,
+    wanted: Told<'_>,
+) -> bool {
+    let event = event(rt, alloc, call);
+    let is_so = answers(rt, node, &event, wanted);
+    drop(event);
+    is_so
+}
+
+/// Checks what a node answers to calls, one after another.
+pub(crate) fn check_calls<H: PointHash>(
+    rt: &impl Abort,
+    alloc: Global,
+    node: &mut NodeState<H>,
+    calls: Calls,
+) {
+    let (name, rows) = calls;
+    for (place, (call, wanted)) in rows.iter().enumerate() {
+        assert!(rt;
+            is_answered(rt, alloc, node, *call, *wanted),
+            "{name}: call {place}"
+        );
+    }
+}
+
+/// The events of calls.
+pub(crate) fn events(rt: &impl Abort, alloc: Global, calls: Calls) -> Vec<Event> {
+    let mut events = vec_of(rt, alloc, calls.1.len());
+    for (call, _) in calls.1 {
+        put(rt, &mut events, event(rt, alloc, *call));
+    }
+    events
+}
+
+/// Whether these replies tell what calls are to be answered; none where one was refused memory.
+pub(crate) fn tell(replies: &[Reply], calls: Calls) -> Option<bool> {
+    let mut is_so = replies.len() == calls.1.len();
+    for (reply, (_, wanted)) in replies.iter().zip(calls.1.iter()) {
+        if wanted_again(read(reply), *wanted).is_some() {
+            return None;
+        }
+        is_so = is_so && is_told(reply, *wanted);
+    }
+    Some(is_so)
+}
+
+/// Makes these calls of a node, which comes back where its replies find no memory.
+fn try_run(
+    alloc: Global,
+    node: NodeState<SumHash>,
+    events: &[Event],
+) -> Result<Run<SumHash>, NodeState<SumHash>> {
+    match run(alloc, node, events) {
+        Ok(finished) => Ok(finished),
+        Err(refused) => Err(refused.node),
+    }
+}
+
+/// Makes these calls of a new node, which comes back as it was where its replies find no memory.
+fn finish(rt: &impl Abort, alloc: Global, start: &Start, events: &[Event]) -> Run<SumHash> {
+    let node = begun(rt, alloc, start, SumHash);
+    let own = node.own();
+    match try_run(alloc, node, events) {
+        Ok(finished) => finished,
+        Err(node) => {
+            assert!(rt; node.own() == own && node.len() == 1);
+            try_run(alloc, node, events).ok().expect(rt, "a run")
+        }
+    }
+}
+
+/// Whether a new node answers a run of these events so; none where one was refused memory.
+fn runs(
+    rt: &impl Abort,
+    alloc: Global,
+    start: &Start,
+    events: &[Event],
+    calls: Calls,
+) -> Option<bool> {
+    let finished = finish(rt, alloc, start, events);
+    let answer = tell(finished.replies.as_slice(), calls);
+    drop(finished);
+    answer
+}
+
+/// Checks what a node answers to a run of calls; where one was refused memory, a new node makes them all.
+fn check_run(rt: &impl Abort, alloc: Global, start: &Start, calls: Calls) {
+    let events = events(rt, alloc, calls);
+    let answer = match runs(rt, alloc, start, &events, calls) {
+        None => runs(rt, alloc, start, &events, calls),
+        answer => answer,
+    };
+    drop(events);
+    let name = calls.0;
+    assert!(rt; answer == Some(true), "{name}: in a run");
+}
+
+/// Checks an example by calls one after another, and by a run of them.
+pub(crate) fn check(rt: &impl Abort, alloc: Global, case: &Case) {
+    let (start, calls) = (&case.0, case.1);
+    let mut node = begun(rt, alloc, start, SumHash);
+    check_calls(rt, alloc, &mut node, calls);
+    drop(node);
+    check_run(rt, alloc, start, calls);
+}

@@ -1,10 +1,10 @@
 //! Nodes of one process that serve one another, by threads. A helper answers false where a growth was refused; the test then goes
 //! on with another cluster, once.
-ghost use Rattle.std.specs.Prelude.{◌≡◌, IfSome};
+ghost use Rattle.std.specs.Prelude.{◌≡◌, IfOk, IfSome};
 ghost use Rattle.cluster_links.specs.Clusters.{IsWhole};
 
 use crate::fakes::{Echo, Mood, worded};
-use crate::messages::{content, member, message, moment, news, request};
+use crate::messages::{content, member, message, moment, news, number_of, request};
 use crate::nodes::state;
 use change_core::{Address, Status};
 use cluster_core::{ClusterError, Handler, HandlerFault, Link, LinkError, Round};
@@ -59,24 +59,13 @@ where
     }
 }
 
-/// The nodes of a cluster that is stopped; none where a growth was refused.
-fn stop<R: Threads + Wait>(
-    rt: &R,
-    alloc: Global,
-    cluster: Cluster<SumHash>,
-) -> Option<Vec<NodeState<SumHash>>>
-    requires { IsWhole cluster }
-{
-    cluster.stop(rt, alloc).ok()
-}
-
 /// What comes back for a message.
 #[derive(Clone, Copy, PartialEq, Eq)]
 enum Heard {
-    /// An Ack of this node.
-    Ack(Address),
-    /// Whether this target was reached.
-    Word(Address, bool),
+    /// An Ack of the node of this number.
+    Ack(u32),
+    /// Whether the target of this number was reached.
+    Word(u32, bool),
     /// A Reply of the text `one`.
     One,
     /// A Reply of the text `two`.
@@ -100,25 +89,17 @@ impl Heard {
     }
 }
 
-fn heard_in(message: &Message) -> Heard {
-    match &message.content {
-        Content::Ack(_) => Heard::Ack(message.source),
-        Content::PingReqAck(_, target, reached) => Heard::Word(*target, *reached),
-        Content::Reply(text) if text.as_str() == "one" => Heard::One,
-        Content::Reply(text) if text.as_str() == "two" => Heard::Two,
-        Content::Refused(Reason::Memory) => Heard::Starved,
-        _ => Heard::Other,
-    }
-}
-
-fn hear(answer: Result<Message, LinkError>) -> Heard {
+fn heard_in(answer: &Result<Message, LinkError>) -> Heard {
     match answer {
-        Ok(message) => {
-            let heard = heard_in(&message);
-            drop(message);
-            heard
-        }
-        Err(fault) => Heard::Fault(fault),
+        Ok(message) => match &message.content {
+            Content::Ack(_) => Heard::Ack(number_of(message.source)),
+            Content::PingReqAck(_, target, reached) => Heard::Word(number_of(*target), *reached),
+            Content::Reply(text) if text.as_str() == "one" => Heard::One,
+            Content::Reply(text) if text.as_str() == "two" => Heard::Two,
+            Content::Refused(Reason::Memory) => Heard::Starved,
+            _ => Heard::Other,
+        },
+        Err(fault) => Heard::Fault(*fault),
     }
 }
 
@@ -164,11 +145,6 @@ fn wait_for(clock: &HostRuntime, stage: &AtomicU64) -> bool {
     false
 }
 
-/// A link to a cluster; none where a growth was refused.
-fn link_to(cluster: &Cluster<SumHash>) -> Option<ChannelLink> {
-    cluster.link().ok()
-}
-
 /// What comes back over a link for a message.
 fn call_once<R: Wait>(
     rt: &R,
@@ -177,7 +153,10 @@ fn call_once<R: Wait>(
     to: Address,
     message: &Message,
 ) -> Heard {
-    hear(link.call(rt, alloc, to, message))
+    let answer = link.call(rt, alloc, to, message);
+    let heard = heard_in(&answer);
+    drop(answer);
+    heard
 }
 
 /// What a cluster answers.
@@ -188,22 +167,26 @@ fn ask_once<R: Wait>(
     to: Address,
     message: &Message,
 ) -> Heard {
-    hear(cluster.ask(rt, alloc, to, message))
+    let answer = cluster.ask(rt, alloc, to, message);
+    let heard = heard_in(&answer);
+    drop(answer);
+    heard
 }
 
-/// The same; where there was no memory, what it answers then.
+/// What a cluster answers to a message, which is let go; where there was no memory, what it answers then.
 fn ask<R: Wait>(
     rt: &R,
     alloc: Global,
     cluster: &Cluster<SumHash>,
     to: Address,
-    message: &Message,
+    message: Message,
 ) -> Heard {
-    let first = ask_once(rt, alloc, cluster, to, message);
-    if first.lacks_memory() {
-        return ask_once(rt, alloc, cluster, to, message);
+    let mut heard = ask_once(rt, alloc, cluster, to, &message);
+    if heard.lacks_memory() {
+        heard = ask_once(rt, alloc, cluster, to, &message);
     }
-    first
+    drop(message);
+    heard
 }
 
 /// Asks by a link, and notes that there is an answer.
@@ -231,20 +214,12 @@ fn ask_first<R: Threads + Wait + Abort + Copy + Send + 'static>(
     stage: &Arc<AtomicU64, Global>,
 ) -> Option<JoinHandle<Heard>> {
     let (runtime, to) = (*rt, member(rt, 1));
-    let (theirs, link) = Arc::try_clone(stage).ok().zip(link_to(cluster))?;
+    let (theirs, link) = Arc::try_clone(stage).ok().zip(cluster.link().ok())?;
     let first = request(rt, alloc, ONE, "1");
     thread::spawn(rt, move || {
         ask_by(&runtime, alloc, link, to, first, theirs)
     })
     .ok()
-}
-
-/// What a cluster answers to the request `2`.
-fn ask_second<R: Wait + Abort>(rt: &R, alloc: Global, cluster: &Cluster<SumHash>) -> Heard {
-    let second = request(rt, alloc, ONE, "2");
-    let heard = ask(rt, alloc, cluster, member(rt, 1), &second);
-    drop(second);
-    heard
 }
 
 /// Checks that the request `2` is answered while the request `1` is held, and then that one; none where a growth was refused.
@@ -257,7 +232,8 @@ fn check_both<R: Threads + Wait + Abort + Copy + Send + 'static>(
 ) -> Option<()> {
     let caller = ask_first(rt, alloc, cluster, stage)?;
     assert!(rt; wait_for(clock, &**stage));
-    let second = ask_second(rt, alloc, cluster);
+    let asked = request(rt, alloc, ONE, "2");
+    let second = ask(rt, alloc, cluster, member(rt, 1), asked);
     let first = caller.join(rt);
     if first.lacks_memory() || second.lacks_memory() {
         return None;
@@ -307,7 +283,7 @@ fn holds_up_no_other<R: Threads + Wait + Abort + Copy + Send + 'static>(
     };
     let done = check_both(rt, &clock, alloc, &cluster, &stage);
     drop(stage);
-    let nodes = stop(rt, alloc, cluster)?;
+    let nodes = cluster.stop(rt, alloc).ok()?;
     check_nodes(rt, nodes.as_slice(), &[1]);
     drop(nodes);
     done
@@ -328,24 +304,22 @@ enum Cause {
 }
 
 /// The nodes that came back, and why; none where the cluster was started, or its nodes were given up.
-fn nodes_back(
-    answer: Result<Cluster<SumHash>, StartError<SumHash>>,
-) -> Option<(Cause, Vec<NodeState<SumHash>>)> {
-    match answer {
-        Err(StartError::BadCount(nodes)) => Some((Cause::BadCount, nodes)),
-        Err(StartError::SameAddress(nodes)) => Some((Cause::SameAddress, nodes)),
-        _ => None,
-    }
-}
-
-/// The nodes that so many workers do not serve, and why.
-fn not_started<R: Threads + Wait + Copy + Send + 'static>(
+fn nodes_back<R: Threads + Wait>(
     rt: &R,
     alloc: Global,
-    nodes: Vec<NodeState<SumHash>>,
-    workers: u32,
-) -> Option<(Cause, Vec<NodeState<SumHash>>)> {
-    nodes_back(Cluster::start(rt, alloc, nodes, workers, WILLING))
+    answer: Result<Cluster<SumHash>, StartError<SumHash>>,
+) -> Option<(Cause, Vec<NodeState<SumHash>>)>
+    requires { IfOk answer IsWhole }
+{
+    match answer {
+        Ok(cluster) => {
+            drop(cluster.stop(rt, alloc));
+            None
+        }
+        Err(StartError::BadCount(nodes)) => Some((Cause::BadCount, nodes)),
+        Err(StartError::SameAddress(nodes)) => Some((Cause::SameAddress, nodes)),
+        Err(_) => None,
+    }
 }
 
 /// Checks that so many workers do not serve these nodes, for this cause, and the nodes come back.
@@ -357,8 +331,8 @@ fn check_not_started<R: Threads + Wait + Abort + Copy + Send + 'static>(
     wanted: Cause,
 ) {
     let nodes = states(rt, alloc, numbers);
-    let back = not_started(rt, alloc, nodes, workers);
-    let (cause, nodes) = back.expect(rt, "nodes that come back");
+    let answer = Cluster::start(rt, alloc, nodes, workers, WILLING);
+    let (cause, nodes) = nodes_back(rt, alloc, answer).expect(rt, "nodes that come back");
     assert!(rt; cause == wanted);
     check_nodes(rt, nodes.as_slice(), numbers);
     drop(nodes);
@@ -378,54 +352,38 @@ fn ping(rt: &impl Abort, alloc: Global, number: u8, status: Status) -> Message {
     message(rt, number, Content::Ping(told))
 }
 
-/// What comes back over a link for a message; where there was no memory, once more.
-fn call<R: Wait>(
-    rt: &R,
-    alloc: Global,
-    link: &mut ChannelLink,
-    to: Address,
-    message: &Message,
-) -> Heard {
-    let first = call_once(rt, alloc, link, to, message);
-    if first.lacks_memory() {
-        return call_once(rt, alloc, link, to, message);
-    }
-    first
-}
-
-/// What comes back over a link from 10.0.0.`number`:1 for a ping that tells of 10.0.0.9:1.
+/// What comes back over a link from 10.0.0.`number`:1 for a ping that tells of 10.0.0.9:1; where there was no memory, once more.
 fn pinged<R: Wait + Abort>(rt: &R, alloc: Global, link: &mut ChannelLink, number: u8) -> Heard {
     let ping = ping(rt, alloc, 9, Status::Alive);
-    let heard = call(rt, alloc, link, member(rt, number), &ping);
+    let to = member(rt, number);
+    let mut heard = call_once(rt, alloc, link, to, &ping);
+    if heard.lacks_memory() {
+        heard = call_once(rt, alloc, link, to, &ping);
+    }
     drop(ping);
     heard
 }
 
-/// Checks that a node of the cluster answers a ping by an Ack of its own.
-fn check_ack<R: Wait + Abort>(rt: &R, alloc: Global, link: &mut ChannelLink, number: u8) {
-    assert!(rt; pinged(rt, alloc, link, number) == Heard::Ack(member(rt, number)));
-}
-
-/// Checks that nobody answers at an address any more, or ever did.
-fn check_closed<R: Wait + Abort>(rt: &R, alloc: Global, link: &mut ChannelLink, number: u8) {
-    assert!(rt; pinged(rt, alloc, link, number) == Heard::Fault(LinkError::Closed));
-}
+const CLOSED: Heard = Heard::Fault(LinkError::Closed);
 
 /// Checks whom a link reaches.
 fn check_link<R: Wait + Abort>(rt: &R, alloc: Global, link: &mut ChannelLink) {
-    check_ack(rt, alloc, link, 1);
-    check_ack(rt, alloc, link, 2);
-    check_closed(rt, alloc, link, 3);
+    assert!(rt; pinged(rt, alloc, link, 1) == Heard::Ack(1));
+    assert!(rt; pinged(rt, alloc, link, 2) == Heard::Ack(2));
+    assert!(rt; pinged(rt, alloc, link, 3) == CLOSED);
     assert!(rt; link.failures() == 1);
 }
 
-/// Checks what the cluster answers at an address without a node, and tells one node of the other.
-fn check_ask<R: Wait + Abort>(rt: &R, alloc: Global, cluster: &Cluster<SumHash>) {
-    let ping = ping(rt, alloc, 2, Status::Alive);
-    let nobody = ask(rt, alloc, cluster, member(rt, 3), &ping);
-    let told = ask(rt, alloc, cluster, member(rt, 1), &ping);
-    drop(ping);
-    assert!(rt; nobody == Heard::Fault(LinkError::Closed) && told.is_answer());
+/// What a node answers to a ping that tells of 10.0.0.2:1.
+fn told<R: Wait + Abort>(
+    rt: &R,
+    alloc: Global,
+    cluster: &Cluster<SumHash>,
+    number: u8,
+    status: Status,
+) -> Heard {
+    let ping = ping(rt, alloc, 2, status);
+    ask(rt, alloc, cluster, member(rt, number), ping)
 }
 
 /// A round of a node at a moment.
@@ -461,7 +419,6 @@ fn check_rounds<R: Wait + Abort>(
     requires { IsWhole cluster.old }
     ensures { IsWhole cluster.new }
 {
-    assert!(rt; round(rt, alloc, cluster, 3, 0) == Err(ClusterError::NoNode));
     let first = round(rt, alloc, cluster, number, 0);
     let second = round(rt, alloc, cluster, number, 0);
     if is_hindered(first) || is_hindered(second) {
@@ -474,62 +431,21 @@ fn check_rounds<R: Wait + Abort>(
     true
 }
 
-/// Whether a node holds an address.
-fn has_heard(node: Option<&NodeState<SumHash>>, of: Address) -> bool {
-    match node {
-        Some(node) => node.member(of).is_some(),
-        None => false,
-    }
-}
-
-/// A link to two nodes that ping each other over channels; none where a growth was refused.
+/// Two nodes ping each other, and at a third address there is nobody.
 fn reach<R: Wait + Abort>(
     rt: &R,
     alloc: Global,
     cluster: &mut Cluster<SumHash>,
-) -> Option<ChannelLink>
+    link: &mut ChannelLink,
+) -> bool
     requires { IsWhole cluster.old }
     ensures { IsWhole cluster.new }
 {
-    let mut link = link_to(cluster)?;
-    check_link(rt, alloc, &mut link);
-    check_ask(rt, alloc, cluster);
-    let are_reached = check_rounds(rt, alloc, cluster, 1, 2)
-        && check_rounds(rt, alloc, cluster, 2, 1);
-    if are_reached {
-        return Some(link);
-    }
-    drop(link);
-    None
-}
-
-/// Checks that a link reaches nobody any more.
-fn check_cut_off<R: Wait + Abort>(rt: &R, alloc: Global, link: &mut ChannelLink) {
-    check_closed(rt, alloc, link, 1);
-    assert!(rt; link.failures() == 2);
-}
-
-/// Two nodes that ping each other over channels, until they are stopped; none where a growth was refused.
-fn reach_each_other<R: Threads + Wait + Abort + Copy + Send + 'static>(
-    rt: &R,
-    alloc: Global,
-) -> Option<()> {
-    let mut cluster = start(rt, alloc, &[2, 1], 1, WILLING)?;
-    let link = reach(rt, alloc, &mut cluster);
-    let (nodes, mut link) = stop(rt, alloc, cluster).zip(link)?;
-    check_nodes(rt, nodes.as_slice(), &[2, 1]);
-    assert!(rt; has_heard(nodes.first(), member(rt, 1)));
-    drop(nodes);
-    check_cut_off(rt, alloc, &mut link);
-    drop(link);
-    Some(())
-}
-
-#[test]
-fn nodes_of_a_cluster_reach_each_other(rt: HostRuntime) {
-    let alloc: Global = rt.alloc();
-    let done = reach_each_other(&rt, alloc);
-    assert!(&rt; done.is_some() || reach_each_other(&rt, alloc).is_some());
+    check_link(rt, alloc, link);
+    assert!(rt; told(rt, alloc, cluster, 3, Status::Alive) == CLOSED);
+    assert!(rt; told(rt, alloc, cluster, 1, Status::Alive).is_answer());
+    assert!(rt; round(rt, alloc, cluster, 3, 0) == Err(ClusterError::NoNode));
+    check_rounds(rt, alloc, cluster, 1, 2) && check_rounds(rt, alloc, cluster, 2, 1)
 }
 
 /// Whether a worker of 10.0.0.1:1 says that 10.0.0.`number`:1 was reached, or that it was not, as is wanted.
@@ -542,86 +458,12 @@ fn tells_of<R: Wait + Abort>(
 ) -> bool {
     let target = member(rt, number);
     let asked = message(rt, 9, Content::PingReq(content(rt, alloc, &[]), target));
-    let heard = ask(rt, alloc, cluster, member(rt, 1), &asked);
-    drop(asked);
-    heard == Heard::Word(target, reached)
-}
-
-/// Whether a worker asks another node of the cluster, and none that is not there: false also where a question found no memory, none
-/// where the cluster did.
-fn worker_asks<R: Threads + Wait + Abort + Copy + Send + 'static>(
-    rt: &R,
-    alloc: Global,
-) -> Option<bool> {
-    let cluster = start(rt, alloc, &[2, 1], 1, WILLING)?;
-    let tells_reached = tells_of(rt, alloc, &cluster, 2, true);
-    let tells_missed = tells_of(rt, alloc, &cluster, 3, false);
-    let nodes = stop(rt, alloc, cluster)?;
-    drop(nodes);
-    Some(tells_reached && tells_missed)
-}
-
-#[test]
-fn a_worker_asks_the_other_nodes(rt: HostRuntime) {
-    let alloc: Global = rt.alloc();
-    let done = worker_asks(&rt, alloc) == Some(true);
-    assert!(&rt; done || worker_asks(&rt, alloc) == Some(true));
-}
-
-/// Checks that a link that is spent asks nobody; none where a growth was refused.
-fn check_spent<R: Wait + Abort>(rt: &R, alloc: Global, cluster: &Cluster<SumHash>) -> Option<()> {
-    let mut link = link_to(cluster)?.after_failures(u64::MAX);
-    let ping = ping(rt, alloc, 9, Status::Alive);
-    let heard = call_once(rt, alloc, &mut link, member(rt, 1), &ping);
-    drop(ping);
-    let failures = link.failures();
-    drop(link);
-    assert!(rt; heard == Heard::Fault(LinkError::Spent) && failures == u64::MAX);
-    Some(())
-}
-
-/// A link that is spent tells a node nothing; none where a growth was refused.
-fn tells_nothing<R: Threads + Wait + Abort + Copy + Send + 'static>(
-    rt: &R,
-    alloc: Global,
-) -> Option<()> {
-    let cluster = start(rt, alloc, &[1], 1, WILLING)?;
-    let done = check_spent(rt, alloc, &cluster);
-    let nodes = stop(rt, alloc, cluster)?;
-    check_nodes(rt, nodes.as_slice(), &[1]);
-    assert!(rt; !has_heard(nodes.first(), member(rt, 9)));
-    drop(nodes);
-    done
-}
-
-#[test]
-fn a_spent_link_asks_nobody(rt: HostRuntime) {
-    let alloc: Global = rt.alloc();
-    let done = tells_nothing(&rt, alloc);
-    assert!(&rt; done.is_some() || tells_nothing(&rt, alloc).is_some());
-}
-
-/// How many nodes come back from a cluster of nobody; none where a growth was refused.
-fn count_empty<R: Threads + Wait + Abort + Copy + Send + 'static>(
-    rt: &R,
-    alloc: Global,
-) -> Option<usize> {
-    let cluster = start(rt, alloc, &[], 1, WILLING)?;
-    let nodes = stop(rt, alloc, cluster)?;
-    let count = nodes.len();
-    drop(nodes);
-    Some(count)
-}
-
-#[test]
-fn a_cluster_may_be_empty(rt: HostRuntime) {
-    let alloc: Global = rt.alloc();
-    let done = count_empty(&rt, alloc) == Some(0);
-    assert!(&rt; done || count_empty(&rt, alloc) == Some(0));
+    let heard = ask(rt, alloc, cluster, member(rt, 1), asked);
+    heard == Heard::Word(u32::from(number), reached)
 }
 
 /// Tells 10.0.0.1:1 by a worker that 10.0.0.2:1, where nobody is, is suspect, and makes its rounds before and at the end of the
-/// suspicion. False where a growth was refused.
+/// suspicion.
 fn suspect_to_the_end<R: Wait + Abort>(
     rt: &R,
     alloc: Global,
@@ -630,10 +472,7 @@ fn suspect_to_the_end<R: Wait + Abort>(
     requires { IsWhole cluster.old }
     ensures { IsWhole cluster.new }
 {
-    let told = ping(rt, alloc, 2, Status::Suspect);
-    let heard = ask(rt, alloc, cluster, member(rt, 1), &told);
-    drop(told);
-    assert!(rt; heard.is_answer());
+    assert!(rt; told(rt, alloc, cluster, 1, Status::Suspect).is_answer());
     let before = round(rt, alloc, cluster, 1, 4_999);
     let after = round(rt, alloc, cluster, 1, 5_000);
     if is_hindered(before) || is_hindered(after) {
@@ -644,34 +483,172 @@ fn suspect_to_the_end<R: Wait + Abort>(
     true
 }
 
-/// Whether the first node holds 10.0.0.2:1 as faulty.
-fn holds_faulty(rt: &impl Abort, nodes: &[NodeState<SumHash>]) -> bool {
-    let Some(node) = nodes.first() else {
-        return false;
-    };
-    matches!(node.member(member(rt, 2)), Some(entry) if entry.status == Status::Faulty)
+/// What is done with a cluster.
+#[derive(Clone, Copy)]
+enum Act {
+    Nothing,
+    Reach,
+    AskWorker,
+    Suspect,
+    AskBySpentLink,
 }
 
-/// A node holds another as faulty once a suspicion is over; none where a growth was refused.
-fn faults_in_time<R: Threads + Wait + Abort + Copy + Send + 'static>(
+/// Does it, by a link of its own; false where a growth was refused.
+fn perform<R: Wait + Abort>(
     rt: &R,
     alloc: Global,
-) -> Option<()> {
-    let mut cluster = start(rt, alloc, &[1], 1, WILLING)?;
-    let is_over = suspect_to_the_end(rt, alloc, &mut cluster);
-    let nodes = stop(rt, alloc, cluster)?;
-    let is_faulty = holds_faulty(rt, nodes.as_slice());
-    drop(nodes);
-    if !is_over {
-        return None;
+    cluster: &mut Cluster<SumHash>,
+    link: &mut ChannelLink,
+    act: Act,
+) -> bool
+    requires { IsWhole cluster.old }
+    ensures { IsWhole cluster.new }
+{
+    match act {
+        Act::Nothing => true,
+        Act::Reach => reach(rt, alloc, cluster, link),
+        Act::AskWorker => {
+            tells_of(rt, alloc, cluster, 2, true) && tells_of(rt, alloc, cluster, 3, false)
+        }
+        Act::Suspect => suspect_to_the_end(rt, alloc, cluster),
+        Act::AskBySpentLink => {
+            let heard = pinged(rt, alloc, link, 1);
+            assert!(rt; heard == Heard::Fault(LinkError::Spent) && link.failures() == u64::MAX);
+            true
+        }
     }
-    assert!(rt; is_faulty);
+}
+
+/// A link that has failed so often, once this is done; none where a growth was refused.
+fn link_after<R: Wait + Abort>(
+    rt: &R,
+    alloc: Global,
+    cluster: &mut Cluster<SumHash>,
+    scene: &Scene,
+) -> Option<ChannelLink>
+    requires { IsWhole cluster.old }
+    ensures { IsWhole cluster.new }
+{
+    let mut link = cluster.link().ok()?.after_failures(scene.failures);
+    if perform(rt, alloc, cluster, &mut link, scene.act) {
+        return Some(link);
+    }
+    drop(link);
+    None
+}
+
+/// Checks that a link to a cluster that has stopped reaches nobody.
+fn check_cut_off<R: Wait + Abort>(rt: &R, alloc: Global, link: &mut ChannelLink) {
+    let failures = link.failures();
+    let heard = pinged(rt, alloc, link, 1);
+    if failures == u64::MAX {
+        assert!(rt; heard == Heard::Fault(LinkError::Spent) && link.failures() == failures);
+    } else {
+        assert!(rt; heard == CLOSED && link.failures() == failures + 1);
+    }
+}
+
+/// The nodes of a cluster, what is done with it by a link that has failed so often, and in which status its first node, if it has one,
+/// then holds a member.
+struct Scene {
+    nodes: &'static [u8],
+    act: Act,
+    failures: u64,
+    held: Option<(u8, Option<Status>)>,
+}
+
+/// Checks in which status the first node holds a member.
+fn check_held(rt: &impl Abort, nodes: &[NodeState<SumHash>], held: &Option<(u8, Option<Status>)>) {
+    if let Some((number, wanted)) = held {
+        let entry = nodes
+            .first()
+            .expect(rt, "a node")
+            .member(member(rt, *number));
+        let status = match entry {
+            Some(entry) => Some(entry.status),
+            None => None,
+        };
+        assert!(rt; status == *wanted);
+    }
+}
+
+/// Plays a scene, and stops the cluster; none where a growth was refused.
+fn play<R: Threads + Wait + Abort + Copy + Send + 'static>(
+    rt: &R,
+    alloc: Global,
+    scene: &Scene,
+) -> Option<()> {
+    let mut cluster = start(rt, alloc, scene.nodes, 1, WILLING)?;
+    let link = link_after(rt, alloc, &mut cluster, scene);
+    let (nodes, mut link) = cluster.stop(rt, alloc).ok().zip(link)?;
+    check_nodes(rt, nodes.as_slice(), scene.nodes);
+    check_held(rt, nodes.as_slice(), &scene.held);
+    drop(nodes);
+    check_cut_off(rt, alloc, &mut link);
+    drop(link);
     Some(())
 }
 
+fn check<R: Threads + Wait + Abort + Copy + Send + 'static>(rt: &R, alloc: Global, scene: &Scene) {
+    assert!(rt; play(rt, alloc, scene).is_some() || play(rt, alloc, scene).is_some());
+}
+
+static REACH: Scene = Scene {
+    nodes: &[2, 1],
+    act: Act::Reach,
+    failures: 0,
+    held: Some((1, Some(Status::Alive))),
+};
+
+#[test]
+fn nodes_of_a_cluster_reach_each_other(rt: HostRuntime) {
+    check(&rt, rt.alloc(), &REACH);
+}
+
+static ASK_WORKER: Scene = Scene {
+    nodes: &[2, 1],
+    act: Act::AskWorker,
+    failures: 0,
+    held: Some((1, Some(Status::Alive))),
+};
+
+#[test]
+fn a_worker_asks_the_other_nodes(rt: HostRuntime) {
+    check(&rt, rt.alloc(), &ASK_WORKER);
+}
+
+static ASK_BY_SPENT_LINK: Scene = Scene {
+    nodes: &[1],
+    act: Act::AskBySpentLink,
+    failures: u64::MAX,
+    held: Some((9, None)),
+};
+
+#[test]
+fn a_spent_link_asks_nobody(rt: HostRuntime) {
+    check(&rt, rt.alloc(), &ASK_BY_SPENT_LINK);
+}
+
+static EMPTY: Scene = Scene {
+    nodes: &[],
+    act: Act::Nothing,
+    failures: 0,
+    held: None,
+};
+
+#[test]
+fn a_cluster_may_be_empty(rt: HostRuntime) {
+    check(&rt, rt.alloc(), &EMPTY);
+}
+
+static SUSPECT: Scene = Scene {
+    nodes: &[1],
+    act: Act::Suspect,
+    failures: 0,
+    held: Some((2, Some(Status::Faulty))),
+};
+
 #[test]
 fn a_suspect_is_faulty_in_time(rt: HostRuntime) {
-    let alloc: Global = rt.alloc();
-    let done = faults_in_time(&rt, alloc);
-    assert!(&rt; done.is_some() || faults_in_time(&rt, alloc).is_some());
+    check(&rt, rt.alloc(), &SUSPECT);
 }

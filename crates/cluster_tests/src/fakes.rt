@@ -23,20 +23,16 @@ pub(crate) enum Mood {
 /// changes, where they are willing.
 #[derive(Drop)]
 pub(crate) struct Fake {
-    mood: Mood,
+    first: Mood,
     later: Mood,
     pub(crate) calls: u64,
     failures: u64,
 }
 
 impl Fake {
-    pub(crate) fn new(mood: Mood) -> Fake {
-        Fake::turning(mood, mood)
-    }
-
-    pub(crate) fn turning(mood: Mood, later: Mood) -> Fake {
+    pub(crate) fn new(first: Mood, later: Mood) -> Fake {
         Fake {
-            mood,
+            first,
             later,
             calls: 0,
             failures: 0,
@@ -96,7 +92,7 @@ impl Link for Fake {
             return Err(LinkError::Spent);
         }
         let mood = if self.calls == 0 {
-            self.mood
+            self.first
         } else {
             self.later
         };

@@ -1,12 +1,14 @@
 //! Requests that are handled here, answered by their owner, or given up, by a clock that moves only where it is waited for.
+ghost use Rattle.std.specs.Prelude.{◌≡◌};
 ghost use Rattle.locked_node.specs.Passes.{Fits};
 
 use crate::fakes::{Counting, Mood};
-use crate::messages::{keys, member, text};
-use crate::shared::{Caller, Shared, among, leave, let_go, met};
+use crate::messages::{keys, number_of, text};
+use crate::shared::{ALONE, AMONG_ONE, Caller, Shared, Start, let_go, met};
 use change_core::{Address, Moment};
 use cluster_core::{Clock, ClusterError, Link, LinkError, handle_or_forward};
 use std::alloc::Global;
+use std::env::Env;
 use std::process::Abort;
 use std::sync::Wait;
 use std::sync::atomic::{AtomicU64, Ordering};
@@ -33,38 +35,43 @@ impl Clock for Still {
     }
 }
 
-/// One sending: when, to whom, and from whom.
-#[derive(Clone, Copy, PartialEq, Eq)]
-pub(crate) struct Sending {
-    moment: u64,
-    to: Address,
-    from: Address,
-}
-
-/// A link whose peers answer by a Reply `x` once so many sendings have gone wrong in this mood, each after so many
-/// milliseconds, and that notes them.
+/// A link from 10.0.0.1:1 to 10.0.0.2:1, which answers by a Reply `x` once so many sendings have gone wrong in this mood, each after
+/// so many milliseconds, and that notes the moment of each.
 #[derive(Drop)]
 struct Noted<'a> {
     clock: &'a Still,
-    mood: Mood,
-    wrong: usize,
-    takes: u64,
-    sendings: Vec<Sending>,
+    asked: &'a Asked,
+    sent: usize,
+    moments: [u64; 4],
     failures: u64,
 }
 
-/// What a peer answers where it goes wrong in this mood; none where it never answers.
-fn wrong_content(mood: Mood) -> Option<Content> {
+/// What a peer answers in this mood; none where there is no memory for it, or it never answers.
+fn content_in(mood: Mood, alloc: Global) -> Option<Content> {
     match mood {
-        Mood::Willing | Mood::Failing => Some(Content::NotOwner),
+        Mood::Willing => Some(Content::Reply(Text::new(alloc, "x").ok()?)),
+        Mood::Failing => Some(Content::NotOwner),
         Mood::Broken | Mood::Starved => None,
     }
 }
 
-/// A Reply `x`, if there is memory for it.
-fn reply(alloc: Global) -> Option<Content> {
-    let body = Text::new(alloc, "x").ok()?;
-    Some(Content::Reply(body))
+impl<'a> Noted<'a> {
+    /// Notes a sending, one between others at no moment that there is, and tells in which mood it is answered.
+    fn note(&mut self, is_meant: bool) -> Mood
+        ensures { self.new.failures ≡ self.old.failures }
+    {
+        let now = self.clock.now().number();
+        if let Some(moment) = self.moments.get_mut(self.sent) {
+            *moment = if is_meant { now } else { u64::MAX };
+        }
+        self.sent = self.sent.wrapping_add(1);
+        self.clock.now.fetch_add(self.asked.takes, Ordering::SeqCst);
+        if self.sent <= self.asked.wrong {
+            self.asked.link
+        } else {
+            Mood::Willing
+        }
+    }
 }
 
 impl<'a> Link for Noted<'a> {
@@ -86,26 +93,13 @@ impl<'a> Link for Noted<'a> {
         if self.failures == u64::MAX {
             return Err(LinkError::Spent);
         }
-        let sending = Sending {
-            moment: self.clock.now().number(),
-            to,
-            from: message.source,
-        };
-        if self.sendings.push(sending).is_err() {
-            return Err(LinkError::Memory);
-        }
-        self.clock.now.fetch_add(self.takes, Ordering::SeqCst);
-        let is_wrong = self.sendings.len() <= self.wrong;
-        if is_wrong && self.mood == Mood::Broken {
+        let is_meant = number_of(message.source) == 1 && number_of(to) == 2;
+        let mood = self.note(is_meant);
+        if mood == Mood::Broken {
             self.failures += 1;
             return Err(LinkError::Io);
         }
-        let content = if is_wrong {
-            wrong_content(self.mood)
-        } else {
-            reply(alloc)
-        };
-        match content {
+        match content_in(mood, alloc) {
             Some(content) => Ok(Message {
                 source: to,
                 source_incarnation: message.source_incarnation,
@@ -116,9 +110,10 @@ impl<'a> Link for Noted<'a> {
     }
 }
 
-/// What is asked, and of whom.
+/// What is asked of a node that begins so.
 #[derive(Clone, Copy)]
 pub(crate) struct Asked {
+    pub(crate) start: Start,
     keys: (&'static str, &'static str),
     /// How the link answers so many sendings.
     link: Mood,
@@ -126,45 +121,73 @@ pub(crate) struct Asked {
     /// How many milliseconds each answer takes.
     takes: u64,
     handler: Mood,
-    /// Whether the node has left before.
-    has_left: bool,
 }
 
-const ONE: (&str, &str) = ("zzzz1", "zzzz1");
+/// A request for one key, of a node that owns it.
+pub(crate) const HERE: Asked = Asked {
+    start: ALONE,
+    keys: ("zzzz1", "zzzz1"),
+    link: Mood::Willing,
+    wrong: 0,
+    takes: 0,
+    handler: Mood::Willing,
+};
 
-/// A request for one key that the handler would answer.
-pub(crate) fn plain(link: Mood, wrong: usize) -> Asked {
+/// The same of a node that does not.
+pub(crate) const THERE: Asked = Asked {
+    start: AMONG_ONE,
+    ..HERE
+};
+
+/// The same, all of whose sendings go wrong in this mood.
+fn wrong(link: Mood) -> Asked {
     Asked {
-        keys: ONE,
         link,
-        wrong,
-        takes: 0,
-        handler: Mood::Willing,
-        has_left: false,
+        wrong: 9,
+        ..THERE
     }
 }
 
-/// What a request came to, what was sent for it, and how often the handler was asked.
-#[derive(Drop)]
+/// What a request came to, how often it was sent, at which moments, and how often the handler was asked.
+#[derive(Clone, Copy, PartialEq, Eq)]
 pub(crate) struct Came {
-    pub(crate) answer: Result<Text, ClusterError>,
-    pub(crate) sendings: Vec<Sending>,
+    pub(crate) answer: Result<&'static str, ClusterError>,
+    pub(crate) sent: usize,
+    moments: [u64; 4],
     pub(crate) handled: u64,
 }
 
-impl Came {
-    /// Whether it was refused so with nothing sent, and the handler was not asked.
-    fn is_untried(&self, wanted: ClusterError) -> bool {
-        let refused = matches!(&self.answer, Err(error) if *error == wanted);
-        refused && self.sendings.is_empty() && self.handled == 0
-    }
+/// The answer of the handler.
+pub(crate) const HANDLED: Came = Came {
+    answer: Ok("body"),
+    sent: 0,
+    moments: [0; 4],
+    handled: 1,
+};
 
-    /// Whether it was refused memory by other than a link or a handler that never has any.
-    fn lacks_memory(&self, asked: &Asked) -> bool {
-        let of_link = asked.link == Mood::Starved && !self.sendings.is_empty();
-        let of_handler = asked.handler == Mood::Starved && self.handled != 0;
-        let refused = matches!(&self.answer, Err(ClusterError::Memory));
-        refused && !of_link && !of_handler
+/// The owner's answer to the first sending.
+pub(crate) const REPLIED: Came = Came {
+    answer: Ok("x"),
+    sent: 1,
+    moments: [0; 4],
+    handled: 0,
+};
+
+/// The end of a request that was not sent.
+fn untried(error: ClusterError) -> Came {
+    Came {
+        answer: Err(error),
+        sent: 0,
+        ..REPLIED
+    }
+}
+
+fn words_in(answer: &Result<Text, ClusterError>) -> Result<&'static str, ClusterError> {
+    match answer {
+        Ok(text) if text.as_str() == "x" => Ok("x"),
+        Ok(text) if text.as_str() == "body" => Ok("body"),
+        Ok(_) => Ok("another"),
+        Err(error) => Err(*error),
     }
 }
 
@@ -184,10 +207,9 @@ pub(crate) fn try_request<R: Wait + Abort>(
     };
     let mut link = Noted {
         clock: &clock,
-        mood: asked.link,
-        wrong: asked.wrong,
-        takes: asked.takes,
-        sendings: Vec::new(alloc),
+        asked,
+        sent: 0,
+        moments: [0; 4],
         failures: 0,
     };
     let handler = Counting::new(asked.handler);
@@ -196,144 +218,125 @@ pub(crate) fn try_request<R: Wait + Abort>(
     let answer = handle_or_forward(
         rt, alloc, shared, pass, &mut link, &handler, &clock, keys, body,
     );
+    let words = words_in(&answer);
+    drop(answer);
     Came {
-        answer,
-        sendings: link.sendings,
+        answer: words,
+        sent: link.sent,
+        moments: link.moments,
         handled: handler.calls(),
     }
 }
 
-fn leave_and_request<R: Wait + Abort>(
-    rt: &R,
-    alloc: Global,
-    shared: &Shared,
-    pass: &mut Caller,
-    asked: &Asked,
-) -> Came
-    requires { Fits shared.now pass.old }
-{
-    if asked.has_left {
-        leave(rt, shared, pass);
-    }
-    try_request(rt, alloc, shared, pass, asked)
-}
-
-/// What a request comes to at a node among so many others.
-fn first_request<R: Wait + Abort>(rt: &R, alloc: Global, others: u8, asked: &Asked) -> Came {
-    let (shared, mut pass) = met(rt, alloc, &among(others));
-    let came = leave_and_request(rt, alloc, &shared, &mut pass, asked);
+/// What it comes to at a new node.
+fn first_request<R: Wait + Env + Abort>(rt: &R, alloc: Global, asked: &Asked) -> Came {
+    let (shared, mut pass) = met(rt, alloc, &asked.start);
+    let came = try_request(rt, alloc, &shared, &mut pass, asked);
     let_go(shared, pass);
     came
 }
 
-/// The same; where there was no memory, but for that of a link or a handler that never has any, what it comes to at another
-/// node.
-fn request<R: Wait + Abort>(rt: &R, alloc: Global, others: u8, asked: &Asked) -> Came {
-    let first = first_request(rt, alloc, others, asked);
-    if first.lacks_memory(asked) {
-        drop(first);
-        return first_request(rt, alloc, others, asked);
+/// Checks what it comes to; where it was refused memory, what it does at another node.
+fn check<R: Wait + Env + Abort>(rt: &R, alloc: Global, asked: &Asked, wanted: &Came) {
+    let mut came = first_request(rt, alloc, asked);
+    if came != *wanted && came.answer == Err(ClusterError::Memory) {
+        came = first_request(rt, alloc, asked);
     }
-    first
+    assert!(rt; came == *wanted);
 }
 
-/// A sending to 10.0.0.2:1 at this moment.
-fn sent_at(rt: &impl Abort, moment: u64) -> Sending {
-    Sending {
-        moment,
-        to: member(rt, 2),
-        from: member(rt, 1),
-    }
-}
-
-/// Checks that the sendings went to 10.0.0.2:1 in their moments.
-fn check_sendings(rt: &impl Abort, sendings: &[Sending], moments: [u64; 4]) {
-    let [first, second, third, fourth] = moments;
-    let wanted = [
-        sent_at(rt, first),
-        sent_at(rt, second),
-        sent_at(rt, third),
-        sent_at(rt, fourth),
-    ];
-    assert!(rt; sendings == wanted.as_slice());
-}
+const GIVEN_UP: Came = Came {
+    answer: Err(ClusterError::RetriesSpent),
+    sent: 4,
+    moments: [0, 3_000, 9_000, 21_000],
+    handled: 0,
+};
 
 #[test]
 fn a_request_is_sent_four_times_and_given_up(rt: HostRuntime) {
-    for &mood in &[Mood::Broken, Mood::Failing] {
-        let came = request(&rt, rt.alloc(), 1, &plain(mood, 9));
-        assert!(&rt; came.answer.err() == Some(ClusterError::RetriesSpent));
-        assert!(&rt; came.handled == 0);
-        check_sendings(&rt, came.sendings.as_slice(), [0, 3_000, 9_000, 21_000]);
-    }
+    check(&rt, rt.alloc(), &wrong(Mood::Broken), &GIVEN_UP);
+    check(&rt, rt.alloc(), &wrong(Mood::Failing), &GIVEN_UP);
 }
 
 #[test]
 fn a_failure_is_noted_when_it_is_known(rt: HostRuntime) {
-    let mut asked = plain(Mood::Broken, 9);
+    let mut asked = wrong(Mood::Broken);
     asked.takes = 100;
-    let came = request(&rt, rt.alloc(), 1, &asked);
-    check_sendings(&rt, came.sendings.as_slice(), [0, 3_100, 9_200, 21_300]);
-    drop(came);
+    let mut wanted = GIVEN_UP;
+    wanted.moments = [0, 3_100, 9_200, 21_300];
+    check(&rt, rt.alloc(), &asked, &wanted);
 }
 
-/// Whether a text is this one.
-fn is_text(answer: &Result<Text, ClusterError>, wanted: &str) -> bool {
-    match answer {
-        Ok(text) => text.as_str() == wanted,
-        Err(_) => false,
-    }
-}
+/// How many sendings go wrong, and what the request comes to.
+static REPLIES: [(usize, Came); 4] = [
+    (0, REPLIED),
+    (
+        1,
+        Came {
+            sent: 2,
+            moments: [0, 3_000, 0, 0],
+            ..REPLIED
+        },
+    ),
+    (
+        2,
+        Came {
+            sent: 3,
+            moments: [0, 3_000, 9_000, 0],
+            ..REPLIED
+        },
+    ),
+    (
+        3,
+        Came {
+            sent: 4,
+            moments: [0, 3_000, 9_000, 21_000],
+            ..REPLIED
+        },
+    ),
+];
 
 #[test]
 fn the_owner_answers_a_request(rt: HostRuntime) {
-    for wrong in 0..4 {
-        let came = request(&rt, rt.alloc(), 1, &plain(Mood::Broken, wrong));
-        assert!(&rt; is_text(&came.answer, "x") && came.sendings.len() == wrong + 1);
-        assert!(&rt; came.handled == 0);
-        drop(came);
+    let mut asked = wrong(Mood::Broken);
+    for (wrong, wanted) in &REPLIES {
+        asked.wrong = *wrong;
+        check(&rt, rt.alloc(), &asked, wanted);
     }
 }
 
-const HANDLERS: [(Mood, Option<ClusterError>); 3] = [
-    (Mood::Willing, None),
-    (Mood::Failing, Some(ClusterError::HandlerFault)),
-    (Mood::Starved, Some(ClusterError::Memory)),
+/// How the handler answers, and what the request comes to.
+static HANDLERS: [(Mood, Result<&'static str, ClusterError>); 3] = [
+    (Mood::Willing, Ok("body")),
+    (Mood::Failing, Err(ClusterError::HandlerFault)),
+    (Mood::Starved, Err(ClusterError::Memory)),
 ];
 
 #[test]
 fn a_request_is_handled_here(rt: HostRuntime) {
-    for &(mood, wanted) in &HANDLERS {
-        let mut asked = plain(Mood::Broken, 9);
-        asked.handler = mood;
-        let came = request(&rt, rt.alloc(), 0, &asked);
-        assert!(&rt; came.sendings.is_empty() && came.handled == 1);
-        assert!(&rt; is_text(&came.answer, "body") == wanted.is_none());
-        assert!(&rt; came.answer.err() == wanted);
+    for &(handler, answer) in &HANDLERS {
+        let asked = Asked { handler, ..HERE };
+        check(&rt, rt.alloc(), &asked, &Came { answer, ..HANDLED });
     }
 }
 
 #[test]
 fn keys_of_two_owners_are_not_sent(rt: HostRuntime) {
-    let mut asked = plain(Mood::Willing, 0);
+    let mut asked = THERE;
     asked.keys = ("zzzz0", "zzzz1");
-    let came = request(&rt, rt.alloc(), 1, &asked);
-    assert!(&rt; came.is_untried(ClusterError::Diverged));
-    drop(came);
+    check(&rt, rt.alloc(), &asked, &untried(ClusterError::Diverged));
 }
 
 #[test]
 fn a_request_that_nobody_owns_is_not_sent(rt: HostRuntime) {
-    let mut asked = plain(Mood::Willing, 0);
-    asked.has_left = true;
-    let came = request(&rt, rt.alloc(), 0, &asked);
-    assert!(&rt; came.is_untried(ClusterError::Nobody));
-    drop(came);
+    let mut asked = HERE;
+    asked.start.has_left = true;
+    check(&rt, rt.alloc(), &asked, &untried(ClusterError::Nobody));
 }
 
 #[test]
 fn no_memory_of_a_link_ends_a_request(rt: HostRuntime) {
-    let came = request(&rt, rt.alloc(), 1, &plain(Mood::Starved, 9));
-    assert!(&rt; came.answer.err() == Some(ClusterError::Memory));
-    assert!(&rt; came.sendings.len() == 1 && came.handled == 0);
+    let mut wanted = untried(ClusterError::Memory);
+    wanted.sent = 1;
+    check(&rt, rt.alloc(), &wrong(Mood::Starved), &wanted);
 }

@@ -62,14 +62,15 @@ enum Call {
 }
 
 /// What a call of four bytes comes to; by a flush, of none.
-fn answer<S: Read + Write>(stream: &mut S, call: Call) -> io::Result<usize> {
-    match call {
+fn answer<S: Read + Write>(stream: &mut S, call: Call) -> Result<usize, ErrorKind> {
+    let answer = match call {
         Call::Read => stream.read(&mut [0u8; 4]),
         Call::Write => stream.write(b"aaaa"),
-        Call::Flush => {
-            stream.flush()?;
-            Ok(0)
-        }
+        Call::Flush => stream.flush().and(Ok(0)),
+    };
+    match answer {
+        Ok(count) => Ok(count),
+        Err(error) => Err(error.kind()),
     }
 }
 
@@ -79,21 +80,20 @@ fn answer_within<R: Clock + Abort>(
     limit: Duration,
     left: u64,
     call: Call,
-) -> io::Result<usize> {
+) -> Result<usize, ErrorKind> {
     let deadline = Deadline::after(rt, limit).ok().expect(rt, "a clock");
     answer(&mut Timed::new(Interrupted { left }, deadline), call)
 }
 
 /// Each call, and what it comes to in the end.
-const CALLS: [(Call, usize); 3] = [(Call::Read, 4), (Call::Write, 4), (Call::Flush, 0)];
+static CALLS: [(Call, usize); 3] = [(Call::Read, 4), (Call::Write, 4), (Call::Flush, 0)];
 
 #[test]
 fn what_is_interrupted_is_tried_again(rt: HostRuntime) {
     let hour = Duration::from_secs(3_600);
     for &left in &[0, 1, 2, 1_000] {
         for &(call, wanted) in &CALLS {
-            let answer = answer_within(&rt, hour, left, call);
-            assert!(&rt; answer.ok() == Some(wanted));
+            assert!(&rt; answer_within(&rt, hour, left, call) == Ok(wanted));
         }
     }
 }
@@ -103,9 +103,8 @@ fn what_is_always_interrupted_ends_at_its_deadline(rt: HostRuntime) {
     let limit = Duration::from_millis(20);
     for &(call, _) in &CALLS {
         let start = Instant::now(&rt).ok().expect(&rt, "a clock");
-        let fault = answer_within(&rt, limit, u64::MAX, call).err();
-        let fault = fault.expect(&rt, "a fault");
+        let answer = answer_within(&rt, limit, u64::MAX, call);
         let spent = start.elapsed(&rt).ok().expect(&rt, "a clock");
-        assert!(&rt; fault.kind() == ErrorKind::TimedOut && spent >= limit);
+        assert!(&rt; answer == Err(ErrorKind::TimedOut) && spent >= limit);
     }
 }

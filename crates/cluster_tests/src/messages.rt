@@ -9,6 +9,15 @@ pub(crate) fn member(rt: &impl Abort, number: u8) -> Address {
     Address::new(0x0a00_0000 + u32::from(number), 1).expect(rt, "an address")
 }
 
+/// The number of such a member, and 0 of another.
+pub(crate) fn number_of(address: Address) -> u32 {
+    if address.port() == 1 {
+        address.ip().wrapping_sub(0x0a00_0000)
+    } else {
+        0
+    }
+}
+
 pub(crate) fn moment(rt: &impl Abort, number: u64) -> Moment {
     Moment::new(number).expect(rt, "a moment")
 }

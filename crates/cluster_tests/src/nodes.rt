@@ -2,9 +2,10 @@
 use crate::messages::{member, moment};
 use change_core::{Incarnation, Moment};
 use hash_ring::SumHash;
-use node_core::{Config, NodeState};
+use node_core::{Config, NodeState, Received};
 use std::alloc::Global;
 use std::process::Abort;
+use wire_json::Message;
 
 /// The standard configuration, with two points for each unit of weight and this many members.
 pub(crate) fn config(max: usize) -> Config {
@@ -36,4 +37,15 @@ pub(crate) fn born(
 pub(crate) fn state(rt: &impl Abort, alloc: Global, number: u8, max: usize) -> NodeState<SumHash> {
     let first = Incarnation::new(7).expect(rt, "an incarnation");
     born(rt, alloc, number, &config(max), first, 1, moment(rt, 0))
+}
+
+/// The answer to a message, if there is one.
+pub(crate) fn answer_in(received: Received) -> Option<Message> {
+    match received {
+        Received::Answer(_, answer) => Some(answer),
+        other => {
+            drop(other);
+            None
+        }
+    }
 }

@@ -1,225 +1,152 @@
 //! How rounds of gossip and joins go, by the mood of the peers. A helper answers false where it was refused a growth that its
 //! test does not ask for; the test then goes on with new nodes, once.
-ghost use Rattle.std.specs.Prelude.{◌≡◌, []};
+ghost use Rattle.std.specs.Prelude.{[]};
 ghost use Rattle.std.specs.List.{All};
 ghost use Rattle.locked_node.specs.Passes.{Fits};
 
 use crate::fakes::{Fake, Mood};
-use crate::messages::{member, moment, news};
+use crate::messages::{member, moment, number_of};
 use crate::nodes::state;
-use crate::shared::{Caller, Shared, Start, among, let_go, met, status, try_share};
+use crate::shared::{
+    ALONE, AMONG_ONE, AMONG_THREE, Caller, Shared, Start, let_go, met, share, status,
+};
 use change_core::{Address, Moment, Status};
 use cluster_core::{ClusterError, Link, LinkError, Round, gossip_round, join};
 use detector_core::Running;
 use hash_ring::SumHash;
 use node_core::{NodeError, NodeState, Received, StopCause};
 use std::alloc::Global;
+use std::env::Env;
 use std::process::Abort;
 use std::sync::Wait;
 use turn_lock::LockError;
 use wire_json::Message;
 
-/// How a round ended, without whom it was about.
+/// How a round ended.
 #[derive(Clone, Copy, PartialEq, Eq)]
 pub(crate) enum End {
     Idle,
     Reached,
     Suspected,
     Inconclusive,
-}
-
-fn end_of(round: Round) -> End {
-    match round {
-        Round::Idle => End::Idle,
-        Round::Reached(_) => End::Reached,
-        Round::Suspected(_) => End::Suspected,
-        Round::Inconclusive(_) => End::Inconclusive,
-    }
+    /// It was about none of the others.
+    Astray,
 }
 
 /// How a round ended, how often its link was asked, and how often that failed.
-#[derive(Clone, Copy, PartialEq, Eq)]
-pub(crate) struct Ended {
-    pub(crate) end: Result<End, ClusterError>,
-    pub(crate) calls: u64,
-    failures: u64,
+pub(crate) type Ended = (Result<End, ClusterError>, u64, u64);
+
+/// How a round among so many others ended.
+fn end_of(round: Round, others: u8) -> End {
+    let (end, about) = match round {
+        Round::Idle => return End::Idle,
+        Round::Reached(about) => (End::Reached, about),
+        Round::Suspected(about) => (End::Suspected, about),
+        Round::Inconclusive(about) => (End::Inconclusive, about),
+    };
+    let number = number_of(about);
+    if number >= 2 && number < u32::from(others) + 2 {
+        end
+    } else {
+        End::Astray
+    }
 }
 
-/// A round by way of this link.
-fn round_by<R: Wait + Abort>(
-    rt: &R,
-    alloc: Global,
-    shared: &Shared,
-    pass: &mut Caller,
-    link: &mut Fake,
-) -> Result<Round, ClusterError>
-    requires { Fits shared.now pass.old }
-    ensures { Fits shared.now pass.new }
-{
-    let now = moment(rt, 0);
-    gossip_round(rt, alloc, shared, pass, link, now)
-}
-
-/// A round whose peers are first in one mood, and then in another.
+/// A round among so many others, who answer first in one mood, and then in another.
 pub(crate) fn round_in<R: Wait + Abort>(
     rt: &R,
     alloc: Global,
     shared: &Shared,
     pass: &mut Caller,
+    others: u8,
     moods: (Mood, Mood),
 ) -> Ended
     requires { Fits shared.now pass.old }
     ensures { Fits shared.now pass.new }
 {
-    let mut link = Fake::turning(moods.0, moods.1);
-    let round = round_by(rt, alloc, shared, pass, &mut link);
-    Ended {
-        end: match round {
-            Ok(round) => Ok(end_of(round)),
-            Err(error) => Err(error),
-        },
-        calls: link.calls,
-        failures: link.failures(),
-    }
+    let mut link = Fake::new(moods.0, moods.1);
+    let now = moment(rt, 0);
+    let end = match gossip_round(rt, alloc, shared, pass, &mut link, now) {
+        Ok(round) => Ok(end_of(round, others)),
+        Err(error) => Err(error),
+    };
+    (end, link.calls, link.failures())
 }
 
-/// How many others there are, their mood, and how a round is to end.
-#[derive(Clone, Copy)]
-struct Row {
-    others: u8,
-    mood: Mood,
-    wanted: Ended,
-}
+/// How a node begins, in which mood the others are, and how its first round is to end.
+type Row = (Start, Mood, Ended);
 
-fn came_to(end: Result<End, ClusterError>, calls: u64, failures: u64) -> Ended {
-    Ended {
-        end,
-        calls,
-        failures,
-    }
-}
-
-/// How the first round of a node that so starts ends, with all others in one mood.
-fn first_round<R: Wait + Abort>(rt: &R, alloc: Global, start: &Start, mood: Mood) -> Ended {
+fn first_round<R: Wait + Env + Abort>(rt: &R, alloc: Global, row: &Row) -> Ended {
+    let (start, mood, _) = row;
     let (shared, mut pass) = met(rt, alloc, start);
-    let came = round_in(rt, alloc, &shared, &mut pass, (mood, mood));
+    let ended = round_in(rt, alloc, &shared, &mut pass, start.others, (*mood, *mood));
     let_go(shared, pass);
-    came
+    ended
 }
 
-/// Checks how a round ends; where it was refused memory before it came so far, how that of another node does.
-fn check_end<R: Wait + Abort>(rt: &R, alloc: Global, row: &Row) {
-    let start = among(row.others);
-    let mut found = first_round(rt, alloc, &start, row.mood);
-    if found != row.wanted && found.end == Err(ClusterError::Memory) {
-        found = first_round(rt, alloc, &start, row.mood);
+/// Checks how rounds end; where one was refused memory before it came so far, how that of another node does.
+fn check_rounds<R: Wait + Env + Abort>(rt: &R, alloc: Global, rows: &[Row]) {
+    for row in rows {
+        let mut found = first_round(rt, alloc, row);
+        if found != row.2 && found.0 == Err(ClusterError::Memory) {
+            found = first_round(rt, alloc, row);
+        }
+        assert!(rt; found == row.2);
     }
-    assert!(rt; found == row.wanted);
 }
 
-/// The others, their mood, and how the round ends, how often its link is asked and how often that fails.
-const ROUNDS: [(u8, Mood, Result<End, ClusterError>, u64, u64); 7] = [
-    (0, Mood::Willing, Ok(End::Idle), 0, 0),
-    (1, Mood::Willing, Ok(End::Reached), 1, 0),
-    (1, Mood::Failing, Ok(End::Suspected), 1, 0),
-    (1, Mood::Broken, Ok(End::Suspected), 1, 1),
-    (3, Mood::Willing, Ok(End::Reached), 1, 0),
-    (3, Mood::Broken, Ok(End::Inconclusive), 3, 3),
-    (3, Mood::Starved, Err(ClusterError::Memory), 1, 0),
+static ROUNDS: [Row; 7] = [
+    (ALONE, Mood::Willing, (Ok(End::Idle), 0, 0)),
+    (AMONG_ONE, Mood::Willing, (Ok(End::Reached), 1, 0)),
+    (AMONG_ONE, Mood::Failing, (Ok(End::Suspected), 1, 0)),
+    (AMONG_ONE, Mood::Broken, (Ok(End::Suspected), 1, 1)),
+    (AMONG_THREE, Mood::Willing, (Ok(End::Reached), 1, 0)),
+    (AMONG_THREE, Mood::Broken, (Ok(End::Inconclusive), 3, 3)),
+    (
+        AMONG_THREE,
+        Mood::Starved,
+        (Err(ClusterError::Memory), 1, 0),
+    ),
 ];
 
 #[test]
 fn a_round_ends_by_what_the_peers_answer(rt: HostRuntime) {
-    for &(others, mood, end, calls, failures) in &ROUNDS {
-        let row = Row {
-            others,
-            mood,
-            wanted: came_to(end, calls, failures),
-        };
-        check_end(&rt, rt.alloc(), &row);
-    }
+    check_rounds(&rt, rt.alloc(), &ROUNDS);
 }
 
-/// How a round ends with three others that all fail, by a pass that may make so many calls, of which three are for the others.
-fn end_within<R: Wait + Abort>(rt: &R, alloc: Global, turns: u32) -> Result<End, ClusterError> {
-    let start = Start {
-        max: 4096,
-        turns,
-        others: 3,
-    };
-    first_round(rt, alloc, &start, Mood::Broken).end
-}
+const SEVEN_TURNS: Start = Start {
+    turns: 7,
+    ..AMONG_THREE
+};
 
-/// How many calls the pass may make, and how the round then ends.
-const CALLS: [(u32, Result<End, ClusterError>); 2] = [
-    (10, Err(ClusterError::PassSpent)),
-    (11, Ok(End::Inconclusive)),
+const EIGHT_TURNS: Start = Start {
+    turns: 8,
+    ..AMONG_THREE
+};
+
+static SPENT: [Row; 2] = [
+    (
+        SEVEN_TURNS,
+        Mood::Broken,
+        (Err(ClusterError::PassSpent), 3, 3),
+    ),
+    (EIGHT_TURNS, Mood::Broken, (Ok(End::Inconclusive), 3, 3)),
 ];
 
 /// Eight calls: expire, probe, a ping, lost, and for each of two helpers a ping-req and that it failed. A second `lost` would be
 /// a ninth.
 #[test]
 fn a_probe_is_lost_once(rt: HostRuntime) {
-    for &(turns, wanted) in &CALLS {
-        let mut found = end_within(&rt, rt.alloc(), turns);
-        if found != wanted {
-            found = end_within(&rt, rt.alloc(), turns);
-        }
-        assert!(&rt; found == wanted);
-    }
+    check_rounds(&rt, rt.alloc(), &SPENT);
 }
 
-/// The number of the probe that runs, and whom it waits for.
-fn running<R: Wait + Abort>(
-    rt: &R,
-    shared: &Shared,
-    pass: &mut Caller,
-) -> Option<(u64, Option<Address>)>
+/// The number of the probe that runs, and whether it waits for a helper.
+fn running<R: Wait + Abort>(rt: &R, shared: &Shared, pass: &mut Caller) -> Option<(u64, bool)>
     requires { Fits shared.now pass.old }
     ensures { Fits shared.now pass.new }
 {
     let found = shared.running(rt, pass).ok().expect(rt, "a turn")?;
-    Some((found.number, found.waiting))
-}
-
-/// Checks that nobody is suspected where all helpers failed.
-fn check_all_failed<R: Wait + Abort>(
-    rt: &R,
-    alloc: Global,
-    shared: &Shared,
-    pass: &mut Caller,
-) -> bool
-    requires { Fits shared.now pass.old }
-{
-    let found = round_in(rt, alloc, shared, pass, (Mood::Broken, Mood::Broken));
-    if found.end == Err(ClusterError::Memory) {
-        return false;
-    }
-    assert!(rt; found == came_to(Ok(End::Inconclusive), 3, 3));
-    for number in 2..5 {
-        assert!(rt; status(rt, shared, pass, number) == Some(Status::Alive));
-    }
-    assert!(rt; running(rt, shared, pass).is_none());
-    true
-}
-
-/// Checks that a target without helpers is suspect at once.
-fn check_suspected<R: Wait + Abort>(
-    rt: &R,
-    alloc: Global,
-    shared: &Shared,
-    pass: &mut Caller,
-) -> bool
-    requires { Fits shared.now pass.old }
-{
-    let mut link = Fake::new(Mood::Broken);
-    let round = round_by(rt, alloc, shared, pass, &mut link);
-    if round == Err(ClusterError::Memory) {
-        return false;
-    }
-    assert!(rt; round == Ok(Round::Suspected(member(rt, 2))) && link.failures() == 1);
-    assert!(rt; status(rt, shared, pass, 2) == Some(Status::Suspect));
-    true
+    Some((found.number, found.waiting.is_some()))
 }
 
 /// Whether a probe can't begin since another runs.
@@ -231,153 +158,175 @@ fn is_busy<R: Wait + Abort>(rt: &R, shared: &Shared, pass: &mut Caller) -> bool
     answer == Err(NodeError::Busy)
 }
 
-/// Checks that the next round pings the target of a probe once more, of which nobody was asked.
-fn check_pinged_anew<R: Wait + Abort>(
+/// How the others answer a round, how it is to end, and the number of the probe that then runs, and whether that waits for a helper.
+type Step = ((Mood, Mood), Ended, Option<(u64, bool)>);
+
+fn take_step<R: Wait + Abort>(
     rt: &R,
     alloc: Global,
     shared: &Shared,
     pass: &mut Caller,
+    others: u8,
+    step: &Step,
 ) -> bool
     requires { Fits shared.now pass.old }
+    ensures { Fits shared.now pass.new }
 {
-    let first = round_in(rt, alloc, shared, pass, (Mood::Starved, Mood::Starved));
-    if first.calls == 0 {
+    let (moods, wanted, left) = step;
+    let found = round_in(rt, alloc, shared, pass, others, *moods);
+    if found != *wanted && found.0 == Err(ClusterError::Memory) {
         return false;
     }
-    assert!(rt; first == came_to(Err(ClusterError::Memory), 1, 0));
-    assert!(rt; running(rt, shared, pass) == Some((1, None)));
-    assert!(rt; is_busy(rt, shared, pass));
-    let mut link = Fake::new(Mood::Willing);
-    let round = round_by(rt, alloc, shared, pass, &mut link);
-    if round == Err(ClusterError::Memory) {
-        return false;
-    }
-    assert!(rt; round == Ok(Round::Reached(member(rt, 2))) && link.calls == 2);
-    assert!(rt; running(rt, shared, pass).is_none());
+    assert!(rt; found == *wanted && running(rt, shared, pass) == *left);
+    assert!(rt; left.is_none() || is_busy(rt, shared, pass));
     true
 }
 
-/// Checks that the next round asks nobody whom a probe waits for.
-fn check_given_up<R: Wait + Abort>(
+/// Takes another step, if there is one.
+fn take_another<R: Wait + Abort>(
     rt: &R,
     alloc: Global,
     shared: &Shared,
     pass: &mut Caller,
+    others: u8,
+    step: &Option<Step>,
+) -> bool
+    requires { Fits shared.now pass.old }
+    ensures { Fits shared.now pass.new }
+{
+    match step {
+        Some(step) => take_step(rt, alloc, shared, pass, others, step),
+        None => true,
+    }
+}
+
+/// Checks as what a node holds the others.
+fn check_held<R: Wait + Abort>(
+    rt: &R,
+    shared: &Shared,
+    pass: &mut Caller,
+    others: u8,
+    wanted: Status,
+)
+    requires { Fits shared.now pass.old }
+{
+    for number in 0..others {
+        let held = status(rt, shared, pass, number.wrapping_add(2));
+        assert!(rt; held == Some(wanted));
+    }
+}
+
+/// How many others there are, a round, perhaps another, and as what the others are held at the end.
+type Scene = (u8, Step, Option<Step>, Status);
+
+fn play_scene<R: Wait + Abort>(
+    rt: &R,
+    alloc: Global,
+    shared: &Shared,
+    pass: &mut Caller,
+    scene: &Scene,
 ) -> bool
     requires { Fits shared.now pass.old }
 {
-    let first = round_in(rt, alloc, shared, pass, (Mood::Broken, Mood::Starved));
-    if first.calls < 2 {
+    let (others, first, second, held) = scene;
+    if !take_step(rt, alloc, shared, pass, *others, first) {
         return false;
     }
-    assert!(rt; first == came_to(Err(ClusterError::Memory), 2, 1));
-    assert!(rt; matches!(running(rt, shared, pass), Some((1, Some(_)))));
-    let second = round_in(rt, alloc, shared, pass, (Mood::Willing, Mood::Willing));
-    if second.end == Err(ClusterError::Memory) {
+    if !take_another(rt, alloc, shared, pass, *others, second) {
         return false;
     }
-    assert!(rt; second == came_to(Ok(End::Reached), 1, 0));
-    assert!(rt; running(rt, shared, pass).is_none());
+    check_held(rt, shared, pass, *others, *held);
     true
 }
 
-/// What is checked of a new node.
-#[derive(Clone, Copy)]
-enum Scene {
-    AllFailed,
-    Suspected,
-    PingedAnew,
-    GivenUp,
-}
-
-fn check_scene<R: Wait + Abort>(
-    rt: &R,
-    alloc: Global,
-    shared: &Shared,
-    pass: &mut Caller,
-    scene: Scene,
-) -> bool
-    requires { Fits shared.now pass.old }
-{
-    match scene {
-        Scene::AllFailed => check_all_failed(rt, alloc, shared, pass),
-        Scene::Suspected => check_suspected(rt, alloc, shared, pass),
-        Scene::PingedAnew => check_pinged_anew(rt, alloc, shared, pass),
-        Scene::GivenUp => check_given_up(rt, alloc, shared, pass),
-    }
-}
-
-/// Checks this of a new node among so many others.
-fn plays<R: Wait + Abort>(rt: &R, alloc: Global, others: u8, scene: Scene) -> bool {
-    let (shared, mut pass) = met(rt, alloc, &among(others));
-    let came = check_scene(rt, alloc, &shared, &mut pass, scene);
+fn plays<R: Wait + Env + Abort>(rt: &R, alloc: Global, scene: &Scene) -> bool {
+    let start = Start {
+        others: scene.0,
+        ..ALONE
+    };
+    let (shared, mut pass) = met(rt, alloc, &start);
+    let came = play_scene(rt, alloc, &shared, &mut pass, scene);
     let_go(shared, pass);
     came
 }
 
+fn check_scene<R: Wait + Env + Abort>(rt: &R, alloc: Global, scene: &Scene) {
+    assert!(rt; plays(rt, alloc, scene) || plays(rt, alloc, scene));
+}
+
+const BROKEN: (Mood, Mood) = (Mood::Broken, Mood::Broken);
+
+const STARVED: (Mood, Mood) = (Mood::Starved, Mood::Starved);
+
+const WILLING: (Mood, Mood) = (Mood::Willing, Mood::Willing);
+
+const NO_MEMORY: Result<End, ClusterError> = Err(ClusterError::Memory);
+
+static ALL_FAILED: Scene = (
+    3,
+    (BROKEN, (Ok(End::Inconclusive), 3, 3), None),
+    None,
+    Status::Alive,
+);
+
 #[test]
 fn helpers_that_all_failed_leave_the_target_alive(rt: HostRuntime) {
-    let (alloc, scene) = (rt.alloc(), Scene::AllFailed);
-    assert!(&rt; plays(&rt, alloc, 3, scene) || plays(&rt, alloc, 3, scene));
+    check_scene(&rt, rt.alloc(), &ALL_FAILED);
 }
+
+static SUSPECTED: Scene = (
+    1,
+    (BROKEN, (Ok(End::Suspected), 1, 1), None),
+    None,
+    Status::Suspect,
+);
 
 #[test]
 fn a_suspected_target_is_held_so(rt: HostRuntime) {
-    let (alloc, scene) = (rt.alloc(), Scene::Suspected);
-    assert!(&rt; plays(&rt, alloc, 1, scene) || plays(&rt, alloc, 1, scene));
+    check_scene(&rt, rt.alloc(), &SUSPECTED);
 }
+
+/// The second round pings the target of the first one, of which nobody was asked, once more.
+static PINGED_ANEW: Scene = (
+    1,
+    (STARVED, (NO_MEMORY, 1, 0), Some((1, false))),
+    Some((WILLING, (Ok(End::Reached), 2, 0), None)),
+    Status::Alive,
+);
 
 #[test]
 fn a_probe_of_which_nobody_was_asked_is_pinged_anew(rt: HostRuntime) {
-    let (alloc, scene) = (rt.alloc(), Scene::PingedAnew);
-    assert!(&rt; plays(&rt, alloc, 1, scene) || plays(&rt, alloc, 1, scene));
+    check_scene(&rt, rt.alloc(), &PINGED_ANEW);
 }
+
+/// The second round asks nobody whom the first one waits for.
+static GIVEN_UP: Scene = (
+    3,
+    (
+        (Mood::Broken, Mood::Starved),
+        (NO_MEMORY, 2, 1),
+        Some((1, true)),
+    ),
+    Some((WILLING, (Ok(End::Reached), 1, 0), None)),
+    Status::Alive,
+);
 
 #[test]
 fn helpers_that_a_probe_waits_for_have_failed(rt: HostRuntime) {
-    let (alloc, scene) = (rt.alloc(), Scene::GivenUp);
-    assert!(&rt; plays(&rt, alloc, 3, scene) || plays(&rt, alloc, 3, scene));
+    check_scene(&rt, rt.alloc(), &GIVEN_UP);
 }
 
-/// A node that holds 10.0.0.2:1 as alive.
-fn of_two(rt: &impl Abort, alloc: Global) -> NodeState<SumHash> {
-    let mut node = state(rt, alloc, 1, 4096);
-    hear_of_another(rt, &mut node);
-    node
-}
-
-fn hear_of_another(rt: &impl Abort, node: &mut NodeState<SumHash>) {
-    let given = [news(rt, 2, 1, Status::Alive)];
-    let now = moment(rt, 0);
-    if node.take(&given, now).is_err() {
-        assert!(rt; node.take(&given, now).is_ok());
-    }
-}
-
-/// The node of two with two passes for two calls each, in their list.
-fn share_two(rt: &impl Abort, alloc: Global) -> (Shared, Vec<Caller>)
-    ensures { All (Fits result.0) result.1.items }
+/// Makes a round by a pass of two turns; false where that was refused memory before they were spent.
+fn spend<R: Wait + Abort>(rt: &R, alloc: Global, shared: &Shared, pass: &mut Caller) -> bool
+    requires { Fits shared.now pass.old }
+    ensures { Fits shared.now pass.new }
 {
-    if let Ok(made) = try_share(alloc, of_two(rt, alloc), 2, 2) {
-        return made;
+    let ended = round_in(rt, alloc, shared, pass, 1, WILLING);
+    if ended == (NO_MEMORY, 0, 0) {
+        return false;
     }
-    let Ok(made) = try_share(alloc, of_two(rt, alloc), 2, 2) else {
-        panic!(rt; "a locked node")
-    };
-    made
-}
-
-/// The same with the passes apart, and the list that they came in, now empty.
-fn pair(rt: &impl Abort, alloc: Global) -> (Shared, Caller, Caller, Vec<Caller>)
-    ensures first { Fits result.0 result.1 }
-    ensures second { Fits result.0 result.2 }
-    ensures room { result.3.items ≡ [] }
-{
-    let (shared, mut passes) = share_two(rt, alloc);
-    let second = passes.pop().expect(rt, "a pass");
-    let first = passes.pop().expect(rt, "another");
-    passes.clear();
-    (shared, first, second, passes)
+    assert!(rt; ended == (Err(ClusterError::PassSpent), 0, 0));
+    true
 }
 
 /// The probe of 10.0.0.2:1 of which nobody was asked.
@@ -389,71 +338,35 @@ fn unasked(rt: &impl Abort) -> Option<Running> {
     })
 }
 
-/// Checks that a round ends once its pass is spent.
-fn spend<R: Wait + Abort>(rt: &R, alloc: Global, shared: &Shared, pass: &mut Caller) -> bool
+/// Checks by another pass of two turns that a probe was left, where the first pass came so far.
+fn look_at_rest<R: Wait + Abort>(rt: &R, shared: &Shared, pass: &mut Caller, is_left: bool)
     requires { Fits shared.now pass.old }
     ensures { Fits shared.now pass.new }
 {
-    let mut link = Fake::new(Mood::Willing);
-    let round = round_by(rt, alloc, shared, pass, &mut link);
-    assert!(rt; link.calls == 0);
-    if round == Err(ClusterError::Memory) {
-        return false;
-    }
-    assert!(rt; round == Err(ClusterError::PassSpent));
-    true
-}
-
-/// Checks that another pass finds the probe that was left, until it is spent too.
-fn look_at_rest<R: Wait + Abort>(rt: &R, shared: &Shared, pass: &mut Caller)
-    requires { Fits shared.now pass.old }
-    ensures { Fits shared.now pass.new }
-{
-    assert!(rt; shared.running(rt, pass) == Ok(unasked(rt)));
-    assert!(rt; is_busy(rt, shared, pass));
-    assert!(rt; shared.len(rt, pass) == Err(LockError::PassSpent));
-}
-
-/// Spends the first pass in a round, and then looks by the second at what was left; whether the round came so far.
-fn spend_both<R: Wait + Abort>(
-    rt: &R,
-    alloc: Global,
-    shared: &Shared,
-    first: &mut Caller,
-    second: &mut Caller,
-) -> bool
-    requires first { Fits shared.now first.old }
-    requires second { Fits shared.now second.old }
-    ensures first { Fits shared.now first.new }
-    ensures second { Fits shared.now second.new }
-{
-    let is_spent = spend(rt, alloc, shared, first);
-    if is_spent {
-        look_at_rest(rt, shared, second);
-    }
-    is_spent
-}
-
-/// The probe that runs once a node is closed.
-fn closed_with(rt: &impl Abort, shared: Shared, passes: Vec<Caller>) -> Option<Running>
-    requires { All (Fits shared) passes.items }
-{
-    let closed = shared
-        .close(passes)
-        .ok()
-        .expect(rt, "both passes are there");
-    let running = closed.running();
-    drop(closed);
-    running
+    let found = shared.running(rt, pass);
+    let is_busy = is_busy(rt, shared, pass);
+    let rest = shared.len(rt, pass);
+    assert!(rt; rest == Err(LockError::PassSpent));
+    assert!(rt; !is_left || is_busy && found == Ok(unasked(rt)));
 }
 
 /// Checks that the closed node has the probe still that a spent pass has left.
-fn leaves_a_probe<R: Wait + Abort>(rt: &R, alloc: Global) -> bool {
-    let (shared, mut first, mut second, mut passes) = pair(rt, alloc);
-    let is_left = spend_both(rt, alloc, &shared, &mut first, &mut second);
+fn leaves_a_probe<R: Wait + Env + Abort>(rt: &R, alloc: Global) -> bool {
+    let start = Start {
+        turns: 2,
+        ..AMONG_ONE
+    };
+    let (shared, mut passes) = share(rt, alloc, &start, 2);
+    let mut second = passes.pop().expect(rt, "a pass");
+    let mut first = passes.pop().expect(rt, "another");
+    passes.clear();
+    let is_left = spend(rt, alloc, &shared, &mut first);
+    look_at_rest(rt, &shared, &mut second, is_left);
     passes.push(first).ok().expect(rt, "room");
     passes.push(second).ok().expect(rt, "room");
-    let running = closed_with(rt, shared, passes);
+    let closed = shared.close(passes).ok().expect(rt, "a node");
+    let running = closed.running();
+    drop(closed);
     assert!(rt; !is_left || running == unasked(rt));
     is_left
 }
@@ -507,76 +420,57 @@ impl Link for Direct {
     }
 }
 
-/// How many hosts are asked, their mood, and what the join is to come to.
-#[derive(Clone, Copy)]
-pub(crate) struct Joining {
-    pub(crate) hosts: usize,
-    pub(crate) mood: Mood,
-    pub(crate) wanted: Result<u32, ClusterError>,
-    /// How often the link is asked.
-    pub(crate) calls: u64,
-}
-
-/// What a join comes to, and how often the link was asked.
+/// What a join of two hosts or none comes to, and how often the link was asked.
 pub(crate) fn join_hosts<R: Wait + Abort>(
     rt: &R,
     alloc: Global,
     shared: &Shared,
     pass: &mut Caller,
-    row: &Joining,
+    has_hosts: bool,
+    mood: Mood,
 ) -> (Result<u32, ClusterError>, u64)
     requires { Fits shared.now pass.old }
     ensures { Fits shared.now pass.new }
 {
     let all = [member(rt, 2), member(rt, 3)];
-    let hosts = if row.hosts == 2 { &all[..] } else { &all[..0] };
-    let mut link = Fake::new(row.mood);
+    let hosts = if has_hosts { &all[..] } else { &all[..0] };
+    let mut link = Fake::new(mood, mood);
     let now = moment(rt, 0);
     let joined = join(rt, alloc, shared, pass, &mut link, hosts, now);
     (joined, link.calls)
 }
 
-/// What the join of a new node comes to.
-fn first_join<R: Wait + Abort>(
+/// Whether there are hosts, in which mood they are, what the join is to come to, and how often the link is asked.
+type Joining = (bool, Mood, (Result<u32, ClusterError>, u64));
+
+fn first_join<R: Wait + Env + Abort>(
     rt: &R,
     alloc: Global,
     row: &Joining,
 ) -> (Result<u32, ClusterError>, u64) {
-    let (shared, mut pass) = met(rt, alloc, &among(0));
-    let came = join_hosts(rt, alloc, &shared, &mut pass, row);
+    let (shared, mut pass) = met(rt, alloc, &ALONE);
+    let came = join_hosts(rt, alloc, &shared, &mut pass, row.0, row.1);
     let_go(shared, pass);
     came
 }
 
-/// Checks what a join comes to; where it was refused memory, but for that of a link which never has any, what that of another
-/// node does.
-fn check_joining<R: Wait + Abort>(rt: &R, alloc: Global, row: &Joining) {
-    let mut joined = first_join(rt, alloc, row);
-    let is_links = row.mood == Mood::Starved && joined.1 != 0;
-    if joined.0 == Err(ClusterError::Memory) && !is_links {
-        joined = first_join(rt, alloc, row);
-    }
-    assert!(rt; joined == (row.wanted, row.calls));
-}
-
-const JOININGS: [(usize, Mood, Result<u32, ClusterError>, u64); 5] = [
-    (2, Mood::Willing, Ok(2), 2),
-    (2, Mood::Failing, Err(ClusterError::NoneJoined), 2),
-    (2, Mood::Broken, Err(ClusterError::NoneJoined), 2),
-    (2, Mood::Starved, Err(ClusterError::Memory), 1),
-    (0, Mood::Willing, Err(ClusterError::NoneJoined), 0),
+static JOININGS: [Joining; 5] = [
+    (true, Mood::Willing, (Ok(2), 2)),
+    (true, Mood::Failing, (Err(ClusterError::NoneJoined), 2)),
+    (true, Mood::Broken, (Err(ClusterError::NoneJoined), 2)),
+    (true, Mood::Starved, (Err(ClusterError::Memory), 1)),
+    (false, Mood::Willing, (Err(ClusterError::NoneJoined), 0)),
 ];
 
+/// Where a join was refused memory that its link had, that of another node is looked at.
 #[test]
 fn a_join_counts_the_hosts_that_answer(rt: HostRuntime) {
-    for &(hosts, mood, wanted, calls) in &JOININGS {
-        let row = Joining {
-            hosts,
-            mood,
-            wanted,
-            calls,
-        };
-        check_joining(&rt, rt.alloc(), &row);
+    for row in &JOININGS {
+        let mut joined = first_join(&rt, rt.alloc(), row);
+        if joined != row.2 && joined.0 == Err(ClusterError::Memory) {
+            joined = first_join(&rt, rt.alloc(), row);
+        }
+        assert!(&rt; joined == row.2);
     }
 }
 
@@ -612,12 +506,12 @@ fn check_meeting<R: Wait + Abort>(
     true
 }
 
-fn meets<R: Wait + Abort>(rt: &R, alloc: Global) -> bool {
+fn meets<R: Wait + Env + Abort>(rt: &R, alloc: Global) -> bool {
     let mut link = Direct {
         node: state(rt, alloc, 2, 4096),
         failures: 0,
     };
-    let (shared, mut pass) = met(rt, alloc, &among(0));
+    let (shared, mut pass) = met(rt, alloc, &ALONE);
     let met = check_meeting(rt, alloc, &shared, &mut pass, &mut link);
     let_go(shared, pass);
     drop(link);

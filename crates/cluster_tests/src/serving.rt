@@ -2,15 +2,16 @@
 ghost use Rattle.locked_node.specs.Passes.{Fits};
 
 use crate::fakes::{Counting, Fake, Mood};
-use crate::messages::{content, member, message, moment, news, request, text};
-use crate::shared::{Caller, Shared, Start, among, leave, let_go, met, status};
-use change_core::{Address, Sourced, Status};
+use crate::messages::{content, keys, member, message, moment, news, number_of, text};
+use crate::shared::{ALONE, AMONG_ONE, Caller, Shared, Start, check_refused, let_go, met, status};
+use change_core::Status;
 use cluster_core::serve_one;
 use std::alloc::Global;
+use std::env::Env;
 use std::process::Abort;
 use std::sync::Wait;
 use turn_lock::LockError;
-use wire_json::{Content, Message, Reason};
+use wire_json::{Content, Message, News, Reason};
 
 const LIMIT: u64 = 9_007_199_254_740_991;
 
@@ -19,25 +20,95 @@ type Moods = (Mood, Mood);
 
 const WILLING: Moods = (Mood::Willing, Mood::Willing);
 
-/// What an answer is.
-#[derive(Clone, Copy, PartialEq, Eq)]
-enum Said {
+/// A member, its incarnation and its status, as it says them itself.
+type Told = (u8, u64, Status);
+
+/// A message of 10.0.0.2:1.
+#[derive(Clone, Copy)]
+enum Given {
+    Join(Told),
+    Ping(Told),
+    /// A ping-req about this member.
+    PingReq(Told, u8),
+    /// For two keys, with the body `body`.
+    Request(&'static str, &'static str),
     Joined,
     Ack,
-    /// Whether this target was reached.
-    Word(Address, bool),
+    Word,
+    Reply,
+    NotOwner,
+    Refused,
+}
+
+const ONE_KEY: Given = Given::Request("zzzz1", "zzzz1");
+
+fn told(rt: &impl Abort, alloc: Global, change: Told) -> News {
+    let (number, incarnation, status) = change;
+    content(rt, alloc, &[news(rt, number, incarnation, status)])
+}
+
+/// That 10.0.0.2:1 is alive at 1.
+fn alive(rt: &impl Abort, alloc: Global) -> News {
+    told(rt, alloc, (2, 1, Status::Alive))
+}
+
+/// The content of each.
+fn content_of(rt: &impl Abort, alloc: Global, given: &Given) -> Content {
+    match *given {
+        Given::Join(news) => Content::Join(told(rt, alloc, news)),
+        Given::Ping(news) => Content::Ping(told(rt, alloc, news)),
+        Given::PingReq(news, target) => {
+            Content::PingReq(told(rt, alloc, news), member(rt, target))
+        }
+        Given::Joined => Content::Joined(alive(rt, alloc)),
+        Given::Ack => Content::Ack(alive(rt, alloc)),
+        Given::Word => Content::PingReqAck(alive(rt, alloc), member(rt, 3), true),
+        Given::Reply => Content::Reply(text(rt, alloc, "body")),
+        Given::Refused => Content::Refused(Reason::Full),
+        Given::NotOwner => Content::NotOwner,
+        Given::Request(first, second) => {
+            let keys = keys(rt, alloc, (first, second));
+            Content::Forward(keys, text(rt, alloc, "body"))
+        }
+    }
+}
+
+/// What is answered.
+#[derive(Clone, Copy, PartialEq, Eq)]
+enum Said {
+    /// A Joined of both members, and nothing else.
+    Joined,
+    /// An Ack with what the node says of itself, and nothing else.
+    Ack,
+    /// Whether the target of this number was reached.
+    Word(u32, bool),
     /// A Reply of the text `body`.
     Body,
     NotOwner,
     Refused(Reason),
     Other,
+    /// Nothing, since the pass is spent.
+    Spent,
 }
 
-fn kind_of(content: &Content) -> Said {
+/// What is answered, and how often the link and the handler were asked.
+type Answer = (Said, u64, u64);
+
+/// Whether this is what 10.0.0.1:1 says of itself at 7, and then of 10.0.0.2:1 at 5 where it is to tell of both.
+fn tells(rt: &impl Abort, said: &News, of_both: bool) -> bool {
+    let own = news(rt, 1, 7, Status::Alive);
+    let mut other = own;
+    other.change = news(rt, 2, 5, Status::Alive).change;
+    let all = [own, other];
+    let wanted = if of_both { &all[..] } else { &all[..1] };
+    said.changes.as_slice() == wanted
+}
+
+fn said_in(rt: &impl Abort, content: &Content) -> Said {
     match content {
-        Content::Joined(_) => Said::Joined,
-        Content::Ack(_) => Said::Ack,
-        Content::PingReqAck(_, target, reached) => Said::Word(*target, *reached),
+        Content::Joined(news) if tells(rt, news, true) => Said::Joined,
+        Content::Ack(news) if tells(rt, news, false) => Said::Ack,
+        Content::PingReqAck(_, target, reached) => Said::Word(number_of(*target), *reached),
         Content::Reply(text) if text.as_str() == "body" => Said::Body,
         Content::NotOwner => Said::NotOwner,
         Content::Refused(reason) => Said::Refused(*reason),
@@ -45,62 +116,22 @@ fn kind_of(content: &Content) -> Said {
     }
 }
 
-/// What is answered to a message, and how often the link and the handler were asked.
-#[derive(Clone, Copy, PartialEq, Eq)]
-pub(crate) struct Answer {
-    said: Said,
-    pub(crate) sent: u64,
-    pub(crate) handled: u64,
-}
-
-/// An answer for which neither the link nor the handler was asked.
-fn own(said: Said) -> Answer {
-    Answer {
-        said,
-        sent: 0,
-        handled: 0,
-    }
-}
-
-impl Answer {
-    /// Why the message was refused, if it was.
-    pub(crate) fn reason(&self) -> Option<Reason> {
-        match self.said {
-            Said::Refused(reason) => Some(reason),
-            _ => None,
+/// What the node 10.0.0.1:1 has answered.
+fn said_by(rt: &impl Abort, answer: &Result<Message, LockError>) -> Said {
+    match answer {
+        Ok(message) => {
+            assert!(rt; number_of(message.source) == 1);
+            said_in(rt, &message.content)
+        }
+        Err(error) => {
+            assert!(rt; *error == LockError::PassSpent);
+            Said::Spent
         }
     }
-
-    /// Whether it lacks memory, other than that of a link or a handler that never has any.
-    fn lacks_memory(&self, moods: Moods) -> bool {
-        let of_link = moods.0 == Mood::Starved && self.sent != 0;
-        let of_handler = moods.1 == Mood::Starved && self.handled != 0;
-        self.reason() == Some(Reason::Memory) && !of_link && !of_handler
-    }
-}
-
-/// What is answered to a message, by way of this link and this handler.
-fn serve_by<R: Wait + Abort>(
-    rt: &R,
-    alloc: Global,
-    shared: &Shared,
-    pass: &mut Caller,
-    by: (&mut Fake, &Counting),
-    given: &Message,
-) -> Content
-    requires { Fits shared.now pass.old }
-    ensures { Fits shared.now pass.new }
-{
-    let now = moment(rt, 0);
-    let (link, handler) = by;
-    let answer = serve_one(rt, alloc, shared, pass, link, handler, now, given);
-    let answer = answer.ok().expect(rt, "a turn");
-    assert!(rt; answer.source == member(rt, 1));
-    answer.content
 }
 
 /// What is answered to a message.
-pub(crate) fn serve<R: Wait + Abort>(
+fn serve<R: Wait + Abort>(
     rt: &R,
     alloc: Global,
     shared: &Shared,
@@ -111,463 +142,279 @@ pub(crate) fn serve<R: Wait + Abort>(
     requires { Fits shared.now pass.old }
     ensures { Fits shared.now pass.new }
 {
-    let mut link = Fake::new(moods.0);
+    let mut link = Fake::new(moods.0, moods.0);
     let handler = Counting::new(moods.1);
-    let content = serve_by(rt, alloc, shared, pass, (&mut link, &handler), given);
-    let said = kind_of(&content);
-    drop(content);
-    Answer {
-        said,
-        sent: link.calls,
-        handled: handler.calls(),
-    }
+    let now = moment(rt, 0);
+    let answer = serve_one(rt, alloc, shared, pass, &mut link, &handler, now, given);
+    let said = said_by(rt, &answer);
+    drop(answer);
+    (said, link.calls, handler.calls())
 }
 
-/// The same; where there was no memory, but for that of a link or a handler that never has any, what is answered to the
-/// message when it comes again.
-fn ask<R: Wait + Abort>(
+/// A member, and as what it is held.
+type Held = (u8, Option<Status>);
+
+/// A node that begins so, what it is sent, how its link and its handler answer, what it answers, and as what it then holds a member.
+type Row = (Start, Given, Moods, Answer, Held);
+
+/// Checks what is answered to a message. Where it is refused memory the link and the handler were asked no more than else, and it is
+/// answered so when it comes again.
+fn check_row<R: Wait + Env + Abort>(
     rt: &R,
     alloc: Global,
     shared: &Shared,
     pass: &mut Caller,
-    moods: Moods,
-    given: &Message,
-) -> Answer
-    requires { Fits shared.now pass.old }
-    ensures { Fits shared.now pass.new }
-{
-    let first = serve(rt, alloc, shared, pass, moods, given);
-    if first.lacks_memory(moods) {
-        return serve(rt, alloc, shared, pass, moods, given);
-    }
-    first
-}
-
-/// What is answered to a message of 10.0.0.2:1 by a willing link and handler.
-fn answer_to<R: Wait + Abort>(
-    rt: &R,
-    alloc: Global,
-    shared: &Shared,
-    pass: &mut Caller,
-    content: Content,
-) -> Answer
-    requires { Fits shared.now pass.old }
-    ensures { Fits shared.now pass.new }
-{
-    let given = message(rt, 2, content);
-    let answer = ask(rt, alloc, shared, pass, WILLING, &given);
-    drop(given);
-    answer
-}
-
-/// The changes that a Joined or an Ack carries.
-fn carried(content: &Content) -> &[Sourced] {
-    match content {
-        Content::Joined(news) | Content::Ack(news) => news.changes.as_slice(),
-        _ => &[],
-    }
-}
-
-/// What is answered to a message with neither the link nor the handler asked.
-fn serve_own<R: Wait + Abort>(
-    rt: &R,
-    alloc: Global,
-    shared: &Shared,
-    pass: &mut Caller,
-    given: &Message,
-) -> Content
-    requires { Fits shared.now pass.old }
-    ensures { Fits shared.now pass.new }
-{
-    let mut link = Fake::new(Mood::Willing);
-    let handler = Counting::new(Mood::Willing);
-    let content = serve_by(rt, alloc, shared, pass, (&mut link, &handler), given);
-    assert!(rt; link.calls == 0 && handler.calls() == 0);
-    content
-}
-
-/// Whether an answer is this, with these changes; none where there was no memory.
-fn brings(content: Content, wanted: &Said, changes: &[Sourced]) -> Option<bool> {
-    let said = kind_of(&content);
-    let is_so = said == *wanted && carried(&content) == changes;
-    drop(content);
-    if said == Said::Refused(Reason::Memory) {
-        None
-    } else {
-        Some(is_so)
-    }
-}
-
-/// Whether a message is answered so; where there was no memory, when it comes again.
-fn is_answered<R: Wait + Abort>(
-    rt: &R,
-    alloc: Global,
-    shared: &Shared,
-    pass: &mut Caller,
-    given: &Message,
-    wanted: (Said, &[Sourced]),
-) -> bool
-    requires { Fits shared.now pass.old }
-{
-    let (said, changes) = wanted;
-    let first = brings(serve_own(rt, alloc, shared, pass, given), &said, changes);
-    match first {
-        Some(is_so) => is_so,
-        None => {
-            let again = serve_own(rt, alloc, shared, pass, given);
-            brings(again, &said, changes) == Some(true)
-        }
-    }
-}
-
-/// Checks that a join is answered by all members, as this node says them.
-fn check_join<R: Wait + Abort>(rt: &R, alloc: Global, shared: &Shared, pass: &mut Caller)
-    requires { Fits shared.now pass.old }
-{
-    let other = news(rt, 2, 5, Status::Alive);
-    let own = news(rt, 1, 7, Status::Alive);
-    let mut told = own;
-    told.change = other.change;
-    let all = [own, told];
-    let given = message(rt, 2, Content::Join(content(rt, alloc, &[other])));
-    assert!(rt;
-        is_answered(
-            rt,
-            alloc,
-            shared,
-            pass,
-            &given,
-            (Said::Joined, all.as_slice())
-        )
-    );
-    drop(given);
-}
-
-#[test]
-fn a_join_is_answered_by_all_members(rt: HostRuntime) {
-    let alloc = rt.alloc();
-    let (shared, mut pass) = met(&rt, alloc, &among(0));
-    check_join(&rt, alloc, &shared, &mut pass);
-    let_go(shared, pass);
-}
-
-/// Checks that a ping is answered by an Ack with what its sender has not said.
-fn check_ping<R: Wait + Abort>(rt: &R, alloc: Global, shared: &Shared, pass: &mut Caller)
-    requires { Fits shared.now pass.old }
-{
-    let other = news(rt, 2, 5, Status::Alive);
-    let own = [news(rt, 1, 7, Status::Alive)];
-    let given = message(rt, 2, Content::Ping(content(rt, alloc, &[other])));
-    assert!(rt; is_answered(rt, alloc, shared, pass, &given, (Said::Ack, own.as_slice())));
-    drop(given);
-}
-
-#[test]
-fn a_ping_is_answered_by_an_ack(rt: HostRuntime) {
-    let alloc = rt.alloc();
-    let (shared, mut pass) = met(&rt, alloc, &among(0));
-    check_ping(&rt, alloc, &shared, &mut pass);
-    let_go(shared, pass);
-}
-
-/// A change that stops its taking, and how that is refused.
-#[derive(Clone, Copy)]
-struct Stop {
-    number: u8,
-    incarnation: u64,
-    status: Status,
-    reason: Reason,
-}
-
-const STOPS: [Stop; 2] = [
-    Stop {
-        number: 2,
-        incarnation: 1,
-        status: Status::Alive,
-        reason: Reason::Full,
-    },
-    Stop {
-        number: 1,
-        incarnation: LIMIT,
-        status: Status::Faulty,
-        reason: Reason::Exhausted,
-    },
-];
-
-/// Checks that a message is refused so, with neither the link nor the handler asked.
-fn check_refused<R: Wait + Abort>(
-    rt: &R,
-    alloc: Global,
-    shared: &Shared,
-    pass: &mut Caller,
-    content: Content,
-    reason: Reason,
-)
-    requires { Fits shared.now pass.old }
-    ensures { Fits shared.now pass.new }
-{
-    let answer = answer_to(rt, alloc, shared, pass, content);
-    assert!(rt; answer == own(Said::Refused(reason)));
-}
-
-/// Checks how messages with this change are refused.
-fn check_stop<R: Wait + Abort>(
-    rt: &R,
-    alloc: Global,
-    shared: &Shared,
-    pass: &mut Caller,
-    stop: &Stop,
+    row: &Row,
 )
     requires { Fits shared.now pass.old }
 {
-    let reason = stop.reason;
-    let told = [news(rt, stop.number, stop.incarnation, stop.status)];
-    let join = Content::Join(content(rt, alloc, &told));
-    check_refused(rt, alloc, shared, pass, join, reason);
-    let ping = Content::Ping(content(rt, alloc, &told));
-    check_refused(rt, alloc, shared, pass, ping, reason);
-    let asked = Content::PingReq(content(rt, alloc, &told), member(rt, 3));
-    check_refused(rt, alloc, shared, pass, asked, reason);
+    let (_, given, moods, wanted, held) = row;
+    let given = message(rt, 2, content_of(rt, alloc, given));
+    let mut answer = serve(rt, alloc, shared, pass, *moods, &given);
+    if answer != *wanted && answer.0 == Said::Refused(Reason::Memory) {
+        check_refused(rt);
+        assert!(rt; answer.1 <= wanted.1 && answer.2 <= wanted.2);
+        answer = serve(rt, alloc, shared, pass, *moods, &given);
+    }
+    drop(given);
+    assert!(rt; answer == *wanted);
+    assert!(rt; status(rt, shared, pass, held.0) == held.1);
 }
 
-#[test]
-fn a_taking_that_stops_is_refused_by_its_cause(rt: HostRuntime) {
-    let alloc = rt.alloc();
-    let start = Start {
-        max: 1,
-        turns: 99,
-        others: 0,
-    };
-    for row in &STOPS {
-        let (shared, mut pass) = met(&rt, alloc, &start);
-        check_stop(&rt, alloc, &shared, &mut pass, row);
+fn check<R: Wait + Env + Abort>(rt: &R, alloc: Global, rows: &[Row]) {
+    for row in rows {
+        let (shared, mut pass) = met(rt, alloc, &row.0);
+        check_row(rt, alloc, &shared, &mut pass, row);
         let_go(shared, pass);
     }
 }
 
-/// Whom a PingReq is about, how the link answers, what is said of the target (nothing where there is no memory), and how
-/// often the link is asked.
-#[derive(Clone, Copy)]
-struct Sought {
-    target: u8,
-    mood: Mood,
-    reached: Option<bool>,
-    calls: u64,
+const ITSELF: Held = (1, Some(Status::Alive));
+
+const SECOND: Held = (2, Some(Status::Alive));
+
+const NO_SECOND: Held = (2, None);
+
+const THIRD: Held = (3, Some(Status::Alive));
+
+const JOIN: Row = (
+    ALONE,
+    Given::Join((2, 5, Status::Alive)),
+    WILLING,
+    (Said::Joined, 0, 0),
+    SECOND,
+);
+
+#[test]
+fn a_join_is_answered_by_all_members(rt: HostRuntime) {
+    check(&rt, rt.alloc(), &[JOIN]);
 }
 
-/// Checks what is said of the target of a PingReq.
-fn check_target<R: Wait + Abort>(
-    rt: &R,
-    alloc: Global,
-    shared: &Shared,
-    pass: &mut Caller,
-    row: &Sought,
-)
-    requires { Fits shared.now pass.old }
-{
-    let target = member(rt, row.target);
-    let told = content(rt, alloc, &[news(rt, 3, 1, Status::Alive)]);
-    let given = message(rt, 2, Content::PingReq(told, target));
-    let answer = ask(rt, alloc, shared, pass, (row.mood, Mood::Willing), &given);
-    drop(given);
-    let wanted = Answer {
-        said: match row.reached {
-            Some(reached) => Said::Word(target, reached),
-            None => Said::Refused(Reason::Memory),
-        },
-        sent: row.calls,
-        handled: 0,
-    };
-    assert!(rt; answer == wanted);
+const PING: Row = (
+    ALONE,
+    Given::Ping((2, 5, Status::Alive)),
+    WILLING,
+    (Said::Ack, 0, 0),
+    SECOND,
+);
+
+#[test]
+fn a_ping_is_answered_by_an_ack(rt: HostRuntime) {
+    check(&rt, rt.alloc(), &[PING]);
 }
 
-const TARGETS: [(u8, Mood, Option<bool>, u64); 5] = [
-    (3, Mood::Willing, Some(true), 1),
-    (3, Mood::Failing, Some(false), 1),
-    (3, Mood::Broken, Some(false), 1),
-    (3, Mood::Starved, None, 1),
-    (1, Mood::Broken, Some(true), 0),
+/// With room for one member.
+const FULL: Start = Start { max: 1, ..ALONE };
+
+/// A change that is one too many.
+const ONE_MORE: Told = (2, 1, Status::Alive);
+
+/// A change that can't be refuted.
+const LAST: Told = (1, LIMIT, Status::Faulty);
+
+const IS_FULL: Answer = (Said::Refused(Reason::Full), 0, 0);
+
+const IS_EXHAUSTED: Answer = (Said::Refused(Reason::Exhausted), 0, 0);
+
+static STOPS: [Row; 6] = [
+    (FULL, Given::Join(ONE_MORE), WILLING, IS_FULL, NO_SECOND),
+    (FULL, Given::Ping(ONE_MORE), WILLING, IS_FULL, NO_SECOND),
+    (
+        FULL,
+        Given::PingReq(ONE_MORE, 3),
+        WILLING,
+        IS_FULL,
+        NO_SECOND,
+    ),
+    (FULL, Given::Join(LAST), WILLING, IS_EXHAUSTED, ITSELF),
+    (FULL, Given::Ping(LAST), WILLING, IS_EXHAUSTED, ITSELF),
+    (FULL, Given::PingReq(LAST, 3), WILLING, IS_EXHAUSTED, ITSELF),
+];
+
+#[test]
+fn a_taking_that_stops_is_refused_by_its_cause(rt: HostRuntime) {
+    check(&rt, rt.alloc(), &STOPS);
+}
+
+/// A change that is new.
+const NEW: Told = (3, 1, Status::Alive);
+
+const ABOUT: Given = Given::PingReq(NEW, 3);
+
+const ABOUT_ITSELF: Given = Given::PingReq(NEW, 1);
+
+const FAILING_LINK: Moods = (Mood::Failing, Mood::Willing);
+
+const BROKEN_LINK: Moods = (Mood::Broken, Mood::Willing);
+
+const STARVED_LINK: Moods = (Mood::Starved, Mood::Willing);
+
+const REACHED: Answer = (Said::Word(3, true), 1, 0);
+
+const MISSED: Answer = (Said::Word(3, false), 1, 0);
+
+static TARGETS: [Row; 5] = [
+    (ALONE, ABOUT, WILLING, REACHED, THIRD),
+    (ALONE, ABOUT, FAILING_LINK, MISSED, THIRD),
+    (ALONE, ABOUT, BROKEN_LINK, MISSED, THIRD),
+    (
+        ALONE,
+        ABOUT,
+        STARVED_LINK,
+        (Said::Refused(Reason::Memory), 1, 0),
+        THIRD,
+    ),
+    (
+        ALONE,
+        ABOUT_ITSELF,
+        BROKEN_LINK,
+        (Said::Word(1, true), 0, 0),
+        THIRD,
+    ),
 ];
 
 #[test]
 fn a_ping_req_tells_whether_its_target_was_reached(rt: HostRuntime) {
-    let alloc = rt.alloc();
-    for &(target, mood, reached, calls) in &TARGETS {
-        let row = Sought {
-            target,
-            mood,
-            reached,
-            calls,
-        };
-        let (shared, mut pass) = met(&rt, alloc, &among(0));
-        check_target(&rt, alloc, &shared, &mut pass, &row);
-        let_go(shared, pass);
-    }
+    check(&rt, rt.alloc(), &TARGETS);
 }
 
-const ONE: (&str, &str) = ("zzzz1", "zzzz1");
+const REPLY: Answer = (Said::Body, 0, 1);
 
-/// Checks what is answered to a request for these keys, with the body `body`.
-fn check_request<R: Wait + Abort>(
-    rt: &R,
-    alloc: Global,
-    shared: &Shared,
-    pass: &mut Caller,
-    keys: (&str, &str),
-    handler: Mood,
-    wanted: Answer,
-)
-    requires { Fits shared.now pass.old }
-    ensures { Fits shared.now pass.new }
-{
-    let given = request(rt, alloc, keys, "body");
-    let answer = ask(rt, alloc, shared, pass, (Mood::Willing, handler), &given);
-    drop(given);
-    assert!(rt; answer == wanted);
-}
-
-/// An answer for which the handler was asked once.
-fn handled(said: Said) -> Answer {
-    Answer {
-        said,
-        sent: 0,
-        handled: 1,
-    }
-}
-
-/// Checks what is answered to a request that is handled here.
-fn check_here<R: Wait + Abort>(rt: &R, alloc: Global, shared: &Shared, pass: &mut Caller)
-    requires { Fits shared.now pass.old }
-{
-    let reply = handled(Said::Body);
-    check_request(rt, alloc, shared, pass, ONE, Mood::Willing, reply);
-    let failed = handled(Said::Refused(Reason::Failed));
-    check_request(rt, alloc, shared, pass, ONE, Mood::Failing, failed);
-    let refused = handled(Said::Refused(Reason::Memory));
-    check_request(rt, alloc, shared, pass, ONE, Mood::Starved, refused);
-}
+static HANDLED: [Row; 3] = [
+    (ALONE, ONE_KEY, WILLING, REPLY, NO_SECOND),
+    (
+        ALONE,
+        ONE_KEY,
+        (Mood::Willing, Mood::Failing),
+        (Said::Refused(Reason::Failed), 0, 1),
+        NO_SECOND,
+    ),
+    (
+        ALONE,
+        ONE_KEY,
+        (Mood::Willing, Mood::Starved),
+        (Said::Refused(Reason::Memory), 0, 1),
+        NO_SECOND,
+    ),
+];
 
 #[test]
 fn a_request_is_handled_by_the_owner_of_its_keys(rt: HostRuntime) {
-    let alloc = rt.alloc();
-    let (shared, mut pass) = met(&rt, alloc, &among(0));
-    check_here(&rt, alloc, &shared, &mut pass);
-    let_go(shared, pass);
+    check(&rt, rt.alloc(), &HANDLED);
 }
 
-/// Checks what is answered to requests that another node owns, or two.
-fn check_elsewhere<R: Wait + Abort>(rt: &R, alloc: Global, shared: &Shared, pass: &mut Caller)
-    requires { Fits shared.now pass.old }
-{
-    let mood = Mood::Willing;
-    check_request(rt, alloc, shared, pass, ONE, mood, own(Said::NotOwner));
-    let split = own(Said::Refused(Reason::Diverged));
-    check_request(rt, alloc, shared, pass, ("zzzz0", "zzzz1"), mood, split);
-}
+static ELSEWHERE: [Row; 2] = [
+    (AMONG_ONE, ONE_KEY, WILLING, (Said::NotOwner, 0, 0), SECOND),
+    (
+        AMONG_ONE,
+        Given::Request("zzzz0", "zzzz1"),
+        WILLING,
+        (Said::Refused(Reason::Diverged), 0, 0),
+        SECOND,
+    ),
+];
 
 #[test]
 fn a_request_for_others_is_not_handled(rt: HostRuntime) {
-    let alloc = rt.alloc();
-    let (shared, mut pass) = met(&rt, alloc, &among(1));
-    check_elsewhere(&rt, alloc, &shared, &mut pass);
-    let_go(shared, pass);
+    check(&rt, rt.alloc(), &ELSEWHERE);
 }
 
-/// Checks what is answered to a request where nobody serves.
-fn check_nobody<R: Wait + Abort>(rt: &R, alloc: Global, shared: &Shared, pass: &mut Caller)
-    requires { Fits shared.now pass.old }
-{
-    leave(rt, shared, pass);
-    let nobody = own(Said::Refused(Reason::Nobody));
-    check_request(rt, alloc, shared, pass, ONE, Mood::Willing, nobody);
-}
+const LEFT: Start = Start {
+    has_left: true,
+    ..ALONE
+};
+
+const TO_NOBODY: Row = (
+    LEFT,
+    ONE_KEY,
+    WILLING,
+    (Said::Refused(Reason::Nobody), 0, 0),
+    NO_SECOND,
+);
 
 #[test]
 fn a_request_to_nobody_is_refused(rt: HostRuntime) {
-    let alloc = rt.alloc();
-    let (shared, mut pass) = met(&rt, alloc, &among(0));
-    check_nobody(&rt, alloc, &shared, &mut pass);
-    let_go(shared, pass);
+    check(&rt, rt.alloc(), &[TO_NOBODY]);
 }
 
-const UNEXPECTED: Reason = Reason::Unexpected;
+const UNEXPECTED: Answer = (Said::Refused(Reason::Unexpected), 0, 0);
 
-/// Checks that answers with news are refused, and nothing of them is taken.
-fn check_news<R: Wait + Abort>(rt: &R, alloc: Global, shared: &Shared, pass: &mut Caller)
-    requires { Fits shared.now pass.old }
-{
-    let told = [news(rt, 2, 1, Status::Alive)];
-    let joined = Content::Joined(content(rt, alloc, &told));
-    check_refused(rt, alloc, shared, pass, joined, UNEXPECTED);
-    let ack = Content::Ack(content(rt, alloc, &told));
-    check_refused(rt, alloc, shared, pass, ack, UNEXPECTED);
-    let word = Content::PingReqAck(content(rt, alloc, &told), member(rt, 3), true);
-    check_refused(rt, alloc, shared, pass, word, UNEXPECTED);
-    assert!(rt; status(rt, shared, pass, 2).is_none());
-}
-
-/// Checks that other answers are refused.
-fn check_answers<R: Wait + Abort>(rt: &R, alloc: Global, shared: &Shared, pass: &mut Caller)
-    requires { Fits shared.now pass.old }
-{
-    let reply = Content::Reply(text(rt, alloc, "body"));
-    check_refused(rt, alloc, shared, pass, reply, UNEXPECTED);
-    check_refused(rt, alloc, shared, pass, Content::NotOwner, UNEXPECTED);
-    let refused = Content::Refused(Reason::Full);
-    check_refused(rt, alloc, shared, pass, refused, UNEXPECTED);
-}
+static ANSWERS: [Row; 6] = [
+    (ALONE, Given::Joined, WILLING, UNEXPECTED, NO_SECOND),
+    (ALONE, Given::Ack, WILLING, UNEXPECTED, NO_SECOND),
+    (ALONE, Given::Word, WILLING, UNEXPECTED, NO_SECOND),
+    (ALONE, Given::Reply, WILLING, UNEXPECTED, NO_SECOND),
+    (ALONE, Given::NotOwner, WILLING, UNEXPECTED, NO_SECOND),
+    (ALONE, Given::Refused, WILLING, UNEXPECTED, NO_SECOND),
+];
 
 #[test]
 fn answers_are_unexpected(rt: HostRuntime) {
-    let alloc = rt.alloc();
-    let (shared, mut pass) = met(&rt, alloc, &among(0));
-    check_news(&rt, alloc, &shared, &mut pass);
-    let_go(shared, pass);
-    let (shared, mut pass) = met(&rt, alloc, &among(0));
-    check_answers(&rt, alloc, &shared, &mut pass);
-    let_go(shared, pass);
+    check(&rt, rt.alloc(), &ANSWERS);
 }
 
-/// Whether a message is refused since the pass is spent.
-fn is_refused<R: Wait + Abort>(
-    rt: &R,
-    alloc: Global,
-    shared: &Shared,
-    pass: &mut Caller,
-    given: &Message,
-) -> bool
-    requires { Fits shared.now pass.old }
-{
-    let mut link = Fake::new(Mood::Willing);
-    let handler = Counting::new(Mood::Willing);
-    let now = moment(rt, 0);
-    let answer = serve_one(rt, alloc, shared, pass, &mut link, &handler, now, given);
-    assert!(rt; link.calls == 0);
-    answer.err() == Some(LockError::PassSpent)
-}
+/// How many turns a pass has, and what is answered to a request: a turn to look up who owns its keys, and one for the answer.
+static TURNS: [(u32, Answer); 2] = [(1, (Said::Spent, 0, 1)), (2, REPLY)];
 
-/// Whether a request is refused since the pass is spent.
-fn is_spent<R: Wait + Abort>(rt: &R, alloc: Global, shared: &Shared, pass: &mut Caller) -> bool
-    requires { Fits shared.now pass.old }
-{
-    let given = request(rt, alloc, ONE, "body");
-    let is_refused = is_refused(rt, alloc, shared, pass, &given);
+/// What is answered to a request by a pass of so many turns.
+fn answer_within<R: Wait + Env + Abort>(rt: &R, alloc: Global, turns: u32) -> Answer {
+    let (shared, mut pass) = met(rt, alloc, &Start { turns, ..ALONE });
+    let given = message(rt, 2, content_of(rt, alloc, &ONE_KEY));
+    let answer = serve(rt, alloc, &shared, &mut pass, WILLING, &given);
     drop(given);
-    is_refused
+    let_go(shared, pass);
+    answer
 }
 
+/// Where memory is refused before the last turn is spent, what another pass answers is looked at.
 #[test]
 fn a_spent_pass_is_refused(rt: HostRuntime) {
     let alloc = rt.alloc();
-    for &(turns, wanted) in &[(1, true), (2, false)] {
-        let start = Start {
-            max: 4096,
-            turns,
-            others: 0,
-        };
-        let (shared, mut pass) = met(&rt, alloc, &start);
-        let spent = is_spent(&rt, alloc, &shared, &mut pass);
-        let_go(shared, pass);
-        assert!(rt; spent == wanted);
+    for (turns, wanted) in &TURNS {
+        let mut answer = answer_within(&rt, alloc, *turns);
+        if answer != *wanted {
+            check_refused(&rt);
+            answer = answer_within(&rt, alloc, *turns);
+        }
+        assert!(&rt; answer == *wanted);
     }
+}
+
+/// A message of each kind that is answered.
+static MESSAGES: [Row; 4] = [
+    JOIN,
+    PING,
+    (
+        ALONE,
+        Given::PingReq((2, 5, Status::Alive), 3),
+        WILLING,
+        REACHED,
+        SECOND,
+    ),
+    (ALONE, ONE_KEY, WILLING, REPLY, NO_SECOND),
+];
+
+#[test]
+fn a_message_that_is_refused_memory_is_answered_when_it_comes_again(rt: HostRuntime) {
+    check(&rt, rt.alloc(), &MESSAGES);
 }

@@ -1,5 +1,5 @@
 //! A link over sockets, and a peer of the test's own.
-use crate::messages::{content, member, message, news, request};
+use crate::messages::{content, member, message, news, number_of, request};
 use change_core::{Address, Status};
 use cluster_core::{Link, LinkError};
 use cluster_links::{Limits, TcpLink, send_line, socket_address};
@@ -95,10 +95,17 @@ fn answer_once<R: Clock>(
     line
 }
 
-/// Connects and hangs up, so that a peer that waits still is done.
-fn knock<R: Net<Listener = TcpListener, Stream = TcpStream>>(rt: &R, to: Address) {
+/// Connects, writes these bytes and hangs up.
+fn knock<R: Net<Listener = TcpListener, Stream = TcpStream>>(
+    rt: &R,
+    to: Address,
+    bytes: &[u8],
+) -> Option<()> {
     let wait = Duration::from_secs(10);
-    let _stream = TcpStream::connect_timeout(rt, &socket_address(to), wait);
+    let mut stream = TcpStream::connect_timeout(rt, &socket_address(to), wait).ok()?;
+    let written = stream.write_all(bytes);
+    drop(stream);
+    written.ok()
 }
 
 /// A port of this machine that is listened at; none where there was none.
@@ -119,35 +126,32 @@ fn address_of(listener: &TcpListener) -> Option<Address> {
 /// What comes back for a message.
 #[derive(Clone, Copy, PartialEq, Eq)]
 enum Said {
-    /// An Ack of this node.
-    Ack(Address),
+    /// An Ack of 10.0.0.3:1.
+    Ack,
     /// Another answer.
     Other,
     /// No answer.
     Fault(LinkError),
 }
 
-fn said_in(answer: Result<Message, LinkError>) -> Said {
+fn said_in(answer: &Result<Message, LinkError>) -> Said {
     match answer {
         Ok(message) => {
             let is_ack = matches!(&message.content, Content::Ack(_));
-            let from = message.source;
-            drop(message);
-            if is_ack { Said::Ack(from) } else { Said::Other }
+            if is_ack && number_of(message.source) == 3 {
+                Said::Ack
+            } else {
+                Said::Other
+            }
         }
-        Err(fault) => Said::Fault(fault),
+        Err(fault) => Said::Fault(*fault),
     }
 }
 
 /// The answer of a link, and how often it then has failed.
 type Answered = (Said, u64);
 
-/// What a call came to, and the line that the peer has read.
-#[derive(Drop)]
-struct Called {
-    answered: Answered,
-    line: Vec<u8>,
-}
+const NO_MEMORY: Said = Said::Fault(LinkError::Memory);
 
 /// A peer in a thread of its own that answers one connection by these bytes; none where a growth or the thread was refused.
 fn start_peer<R: Threads + Clock + Copy + Send + 'static>(
@@ -175,11 +179,22 @@ fn answer_of<N: Net + Clock, R: Wait>(
     message: &Message,
 ) -> Answered {
     let answer = link.call(rt, alloc, to, message);
-    (said_in(answer), link.failures())
+    let said = said_in(&answer);
+    drop(answer);
+    (said, link.failures())
 }
 
-/// What a link with these limits answers to a message where the peer drips and then writes these bytes; none where a growth
-/// was refused.
+/// Whether a peer has read this message; none where a growth was refused.
+fn has_read(alloc: Global, line: Option<Vec<u8>>, message: &Message) -> Option<bool> {
+    let (line, wanted) = line.zip(encode(alloc, message).ok())?;
+    let is_read = line.as_slice() == wanted.as_slice();
+    drop(line);
+    drop(wanted);
+    Some(is_read)
+}
+
+/// What a link with these limits answers to a message, which a peer reads, where the peer then drips and writes these bytes; none where
+/// a growth was refused.
 fn try_call<
     R: Net<Listener = TcpListener, Stream = TcpStream>
         + Threads
@@ -187,6 +202,7 @@ fn try_call<
         + Clock
         + Copy
         + Send
+        + Abort
         + 'static,
 >(
     rt: &R,
@@ -195,30 +211,25 @@ fn try_call<
     message: &Message,
     drip: Drip,
     bytes: &[u8],
-) -> Option<Called> {
+) -> Option<Answered> {
     let (listener, to) = listen(rt)?;
     let peer = start_peer(rt, alloc, listener, drip, bytes)?;
     let mut link = TcpLink::with_limits(rt, limits);
     let answered = answer_of(rt, alloc, &mut link, to, message);
     drop(link);
-    if answered.0 == Said::Fault(LinkError::Memory) {
-        knock(rt, to);
+    if answered.0 == NO_MEMORY {
+        let _knocked = knock(rt, to, b"");
     }
-    called_so(answered, peer.join(rt))
-}
-
-/// What a call came to; none where a growth was refused.
-fn called_so(answered: Answered, line: Option<Vec<u8>>) -> Option<Called> {
-    let line = line?;
-    if answered.0 == Said::Fault(LinkError::Memory) {
-        drop(line);
+    let is_read = has_read(alloc, peer.join(rt), message)?;
+    if answered.0 == NO_MEMORY {
         return None;
     }
-    Some(Called { answered, line })
+    assert!(rt; is_read);
+    Some(answered)
 }
 
-/// The same; where a growth was refused, of another peer.
-fn call<
+/// Checks what a link answers, the message let go; where a growth was refused, with another peer.
+fn check<
     R: Net<Listener = TcpListener, Stream = TcpStream>
         + Threads
         + Wait
@@ -227,25 +238,30 @@ fn call<
         + Send
         + Abort
         + 'static,
->(rt: &R, alloc: Global, limits: Limits, message: &Message, drip: Drip, bytes: &[u8]) -> Called {
-    match try_call(rt, alloc, limits, message, drip, bytes) {
-        Some(called) => called,
-        None => try_call(rt, alloc, limits, message, drip, bytes).expect(rt, "an answer"),
+>(
+    rt: &R,
+    alloc: Global,
+    limits: Limits,
+    message: Message,
+    drip: Drip,
+    bytes: &[u8],
+    wanted: Answered,
+) {
+    let mut answered = try_call(rt, alloc, limits, &message, drip, bytes);
+    if answered.is_none() {
+        answered = try_call(rt, alloc, limits, &message, drip, bytes);
     }
-}
-
-/// The line of a message, without its newline.
-fn line_of(rt: &impl Abort, alloc: Global, message: &Message) -> Vec<u8> {
-    match encode(alloc, message) {
-        Ok(line) => line,
-        Err(_) => encode(alloc, message).ok().expect(rt, "a line"),
-    }
+    drop(message);
+    assert!(rt; answered == Some(wanted));
 }
 
 /// An Ack of 10.0.0.3:1, as a line.
 fn ack_line(rt: &impl Abort, alloc: Global) -> Vec<u8> {
     let ack = message(rt, 3, Content::Ack(content(rt, alloc, &[])));
-    let mut line = line_of(rt, alloc, &ack);
+    let mut line = match encode(alloc, &ack) {
+        Ok(line) => line,
+        Err(_) => encode(alloc, &ack).ok().expect(rt, "a line"),
+    };
     drop(ack);
     if line.push(b'\n').is_err() {
         line.push(b'\n').ok().expect(rt, "room");
@@ -253,13 +269,13 @@ fn ack_line(rt: &impl Abort, alloc: Global) -> Vec<u8> {
     line
 }
 
-/// Checks that a peer has read this message, and has answered by an Ack of its own.
-fn check_called(rt: &impl Abort, alloc: Global, called: &Called, ping: &Message) {
-    assert!(rt; called.answered == (Said::Ack(member(rt, 3)), 0));
-    let line = line_of(rt, alloc, ping);
-    let is_read = called.line.as_slice() == line.as_slice();
-    drop(line);
-    assert!(rt; is_read);
+const HEARD: Answered = (Said::Ack, 0);
+
+const LEFT: Answered = (Said::Fault(LinkError::Io), 1);
+
+/// A line that is no answer.
+fn faulty(error: WireError) -> Answered {
+    (Said::Fault(LinkError::Wire(error)), 0)
 }
 
 #[test]
@@ -267,60 +283,29 @@ fn a_line_goes_out_and_a_line_comes_back(rt: HostRuntime) {
     let alloc: Global = rt.alloc();
     let line = ack_line(&rt, alloc);
     let ping = ping(&rt, alloc);
-    let called = call(&rt, alloc, patient(), &ping, AT_ONCE, line.as_slice());
-    check_called(&rt, alloc, &called, &ping);
-    drop(called);
-    drop(ping);
-}
-
-/// Why a call came to no answer, if it did not, and how often its link has failed.
-type Came = (Option<LinkError>, u64);
-
-fn outcome(called: Called) -> Came {
-    let came = (fault_in(&called.answered.0), called.answered.1);
-    drop(called);
-    came
-}
-
-fn fault_in(said: &Said) -> Option<LinkError> {
-    match said {
-        Said::Fault(fault) => Some(*fault),
-        _ => None,
-    }
-}
-
-/// What a ping comes to.
-fn ping_outcome<
-    R: Net<Listener = TcpListener, Stream = TcpStream>
-        + Threads
-        + Wait
-        + Clock
-        + Copy
-        + Send
-        + Abort
-        + 'static,
->(rt: &R, alloc: Global, limits: Limits, drip: Drip, bytes: &[u8]) -> Came {
-    let ping = ping(rt, alloc);
-    let came = outcome(call(rt, alloc, limits, &ping, drip, bytes));
-    drop(ping);
-    came
+    check(&rt, alloc, patient(), ping, AT_ONCE, line.as_slice(), HEARD);
 }
 
 #[test]
 fn what_is_no_answer_is_a_fault(rt: HostRuntime) {
     let rows = [
-        ("", LinkError::Closed, 1),
-        ("[]\n", LinkError::Wire(WireError::NotObject), 0),
-        ("{", LinkError::Wire(WireError::BadJson), 0),
-        (
-            "{}\n",
-            LinkError::Wire(WireError::MissingField(Field::Kind)),
-            0,
-        ),
+        ("", (Said::Fault(LinkError::Closed), 1)),
+        ("[]\n", faulty(WireError::NotObject)),
+        ("{", faulty(WireError::BadJson)),
+        ("{}\n", faulty(WireError::MissingField(Field::Kind))),
     ];
-    for &(text, fault, counted) in &rows {
-        let came = ping_outcome(&rt, rt.alloc(), patient(), AT_ONCE, text.as_bytes());
-        assert!(&rt; came == (Some(fault), counted));
+    let alloc: Global = rt.alloc();
+    for &(text, wanted) in &rows {
+        let ping = ping(&rt, alloc);
+        check(
+            &rt,
+            alloc,
+            patient(),
+            ping,
+            AT_ONCE,
+            text.as_bytes(),
+            wanted,
+        );
     }
 }
 
@@ -328,13 +313,20 @@ fn what_is_no_answer_is_a_fault(rt: HostRuntime) {
 fn an_answer_may_be_cut_anywhere(rt: HostRuntime) {
     let alloc: Global = rt.alloc();
     let mut line = ack_line(&rt, alloc);
-    let _newline = line.pop();
-    let whole = ping_outcome(&rt, alloc, patient(), AT_ONCE, line.as_slice());
-    assert!(&rt; whole == (None, 0));
+    let mut wanted = HEARD;
     for _ in 1..line.len() {
         let _last = line.pop();
-        let came = ping_outcome(&rt, alloc, patient(), AT_ONCE, line.as_slice());
-        assert!(&rt; came == (Some(LinkError::Wire(WireError::BadJson)), 0));
+        let ping = ping(&rt, alloc);
+        check(
+            &rt,
+            alloc,
+            patient(),
+            ping,
+            AT_ONCE,
+            line.as_slice(),
+            wanted,
+        );
+        wanted = faulty(WireError::BadJson);
     }
 }
 
@@ -350,8 +342,16 @@ fn slowly() -> Drip {
 fn a_peer_that_drips_is_left_at_the_limit(rt: HostRuntime) {
     let alloc: Global = rt.alloc();
     let line = ack_line(&rt, alloc);
-    let came = ping_outcome(&rt, alloc, short_pings(), slowly(), line.as_slice());
-    assert!(&rt; came == (Some(LinkError::Io), 1));
+    let ping = ping(&rt, alloc);
+    check(
+        &rt,
+        alloc,
+        short_pings(),
+        ping,
+        slowly(),
+        line.as_slice(),
+        LEFT,
+    );
 }
 
 #[test]
@@ -359,17 +359,16 @@ fn a_helper_has_longer_than_a_pinged_node(rt: HostRuntime) {
     let alloc: Global = rt.alloc();
     let line = ack_line(&rt, alloc);
     let wanted = content(&rt, alloc, &[]);
-    let request = message(&rt, 9, Content::PingReq(wanted, member(&rt, 3)));
-    let called = call(
+    let asked = message(&rt, 9, Content::PingReq(wanted, member(&rt, 3)));
+    check(
         &rt,
         alloc,
         short_pings(),
-        &request,
+        asked,
         slowly(),
         line.as_slice(),
+        HEARD,
     );
-    assert!(&rt; outcome(called) == (None, 0));
-    drop(request);
 }
 
 /// So many letters.
@@ -385,26 +384,22 @@ fn letters(rt: &impl Abort, alloc: Global, count: usize) -> Vec<u8> {
 fn an_answer_may_be_too_long(rt: HostRuntime) {
     let alloc: Global = rt.alloc();
     let endless = letters(&rt, alloc, 1_048_577);
-    let request = message(&rt, 9, Content::NotOwner);
-    let called = call(&rt, alloc, patient(), &request, AT_ONCE, endless.as_slice());
-    let too_long = LinkError::Wire(WireError::LineTooLong);
-    assert!(&rt; outcome(called) == (Some(too_long), 0));
-    drop(request);
+    let asked = message(&rt, 9, Content::NotOwner);
+    let too_long = faulty(WireError::LineTooLong);
+    check(
+        &rt,
+        alloc,
+        patient(),
+        asked,
+        AT_ONCE,
+        endless.as_slice(),
+        too_long,
+    );
 }
 
-/// The address of a port where nobody listens.
-fn closed_port<R: Net<Listener = TcpListener, Stream = TcpStream>>(rt: &R) -> Option<Address> {
-    let (listener, to) = listen(rt)?;
-    drop(listener);
-    Some(to)
-}
-
-/// The same, with a second try where the first found none.
-fn nobody_at<R: Net<Listener = TcpListener, Stream = TcpStream> + Abort>(rt: &R) -> Address {
-    match closed_port(rt) {
-        Some(to) => to,
-        None => closed_port(rt).expect(rt, "a port"),
-    }
+/// The first port of this machine, where nobody listens.
+fn nobody(rt: &impl Abort) -> Address {
+    Address::new(0x7f00_0001, 1).expect(rt, "an address")
 }
 
 /// What a link answers to a message, and how often it then has failed; where there was no memory, when it is asked again.
@@ -416,66 +411,35 @@ fn answer_again<N: Net + Clock, R: Wait>(
     message: &Message,
 ) -> Answered {
     let answered = answer_of(rt, alloc, link, to, message);
-    if answered.0 == Said::Fault(LinkError::Memory) {
+    if answered.0 == NO_MEMORY {
         return answer_of(rt, alloc, link, to, message);
     }
     answered
 }
 
-/// Checks that each call of a link fails, and that it counts them.
-fn check_failing<R: Net<Listener = TcpListener, Stream = TcpStream> + Wait + Clock + Abort>(
+/// Checks what a link that has failed so often answers to a message, which is let go.
+fn check_link<R: Net<Listener = TcpListener, Stream = TcpStream> + Wait + Clock + Abort>(
     rt: &R,
     alloc: Global,
+    failures: u64,
     to: Address,
+    message: Message,
+    wanted: Answered,
 ) {
-    let mut link = TcpLink::new(rt);
-    let ping = ping(rt, alloc);
-    for failures in 1..3 {
-        let answered = answer_again(rt, alloc, &mut link, to, &ping);
-        assert!(rt; answered == (Said::Fault(LinkError::Io), failures));
-    }
-    drop(ping);
+    let mut link = TcpLink::new(rt).after_failures(failures);
+    let answered = answer_again(rt, alloc, &mut link, to, &message);
+    drop(message);
     drop(link);
+    assert!(rt; answered == wanted);
 }
 
 #[test]
 fn nobody_listens(rt: HostRuntime) {
-    check_failing(&rt, rt.alloc(), nobody_at(&rt));
-}
-
-/// Checks that a link that is spent asks nobody.
-fn check_spent<R: Net<Listener = TcpListener, Stream = TcpStream> + Wait + Clock + Abort>(
-    rt: &R,
-    alloc: Global,
-    to: Address,
-) {
-    let mut link = TcpLink::new(rt).after_failures(u64::MAX);
-    let ping = ping(rt, alloc);
-    let answered = answer_of(rt, alloc, &mut link, to, &ping);
-    drop(ping);
-    drop(link);
-    assert!(rt; answered == (Said::Fault(LinkError::Spent), u64::MAX));
-}
-
-/// Connects, says `knock`, and hangs up.
-fn say_knock<R: Net<Listener = TcpListener, Stream = TcpStream>>(
-    rt: &R,
-    to: Address,
-) -> Option<()> {
-    let wait = Duration::from_secs(10);
-    let mut stream = TcpStream::connect_timeout(rt, &socket_address(to), wait).ok()?;
-    let said = stream.write_all(b"knock\n");
-    drop(stream);
-    said.ok()
-}
-
-/// Whether the first that connects to a listener says `knock`.
-fn is_knocked_at(alloc: Global, listener: &TcpListener) -> Option<bool> {
-    let (first, _) = listener.accept().ok()?;
-    let line = heard(alloc, first)?;
-    let is_knock = line.as_slice() == b"knock".as_slice();
-    drop(line);
-    Some(is_knock)
+    let alloc: Global = rt.alloc();
+    for failures in 0..2 {
+        let wanted = (Said::Fault(LinkError::Io), failures + 1);
+        check_link(&rt, alloc, failures, nobody(&rt), ping(&rt, alloc), wanted);
+    }
 }
 
 /// Whether the first that connects where a spent link was to send is one that knocks.
@@ -484,13 +448,17 @@ fn sends_nothing<R: Net<Listener = TcpListener, Stream = TcpStream> + Wait + Clo
     alloc: Global,
 ) -> Option<bool> {
     let (listener, to) = listen(rt)?;
-    check_spent(rt, alloc, to);
-    let is_first = match say_knock(rt, to) {
-        Some(()) => is_knocked_at(alloc, &listener),
+    let spent = (Said::Fault(LinkError::Spent), u64::MAX);
+    check_link(rt, alloc, u64::MAX, to, ping(rt, alloc), spent);
+    let line = match knock(rt, to, b"knock\n") {
+        Some(()) => answer_once(rt, alloc, &listener, AT_ONCE, b""),
         None => None,
     };
     drop(listener);
-    is_first
+    let line = line?;
+    let is_first = line.as_slice() == b"knock".as_slice();
+    drop(line);
+    Some(is_first)
 }
 
 #[test]
@@ -509,12 +477,8 @@ fn a_message_too_long_is_not_sent(rt: HostRuntime) {
     let body = letters(&rt, alloc, 1_048_577);
     let body = str::from_utf8(body.as_slice()).ok().expect(&rt, "letters");
     let request = request(&rt, alloc, ("a", "b"), body);
-    let mut link = TcpLink::new(&rt);
-    let answered = answer_again(&rt, alloc, &mut link, nobody_at(&rt), &request);
-    drop(request);
-    drop(link);
-    let too_long = LinkError::Wire(WireError::LineTooLong);
-    assert!(&rt; answered == (Said::Fault(too_long), 0));
+    let too_long = faulty(WireError::LineTooLong);
+    check_link(&rt, alloc, 0, nobody(&rt), request, too_long);
 }
 
 /// A writer that takes all that it is given, and counts how often and how much that is.
@@ -552,7 +516,7 @@ fn made_of(rt: &impl Abort, alloc: Global, length: usize) -> Tally {
 }
 
 /// How long a line is, and how long it is with its newline.
-const LENGTHS: [(usize, usize); 5] = [
+static LENGTHS: [(usize, usize); 5] = [
     (0, 1),
     (1, 2),
     (8_191, 8_192),

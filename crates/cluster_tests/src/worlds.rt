@@ -1,12 +1,12 @@
 //! Three nodes over a link that loses, repeats and holds back messages, as a seed says, some of which start anew. Nobody holds of
 //! another what that one has not said of itself, and once all is told to all they hold the same. Each thing that may happen happens in
 //! each world. A helper answers none or false where a growth was refused; the world is then played again, once.
-ghost use Rattle.std.specs.Prelude.{◌≡◌, [], IfSome};
+ghost use Rattle.std.specs.Prelude.{IfSome};
 ghost use Rattle.locked_node.specs.Passes.{Fits};
 
 use crate::fakes::{Echo, Fake, Mood};
 use crate::messages::{member, moment};
-use crate::nodes::{born, config};
+use crate::nodes::{answer_in, born, config};
 use crate::shared::{Caller, Shared, try_share};
 use change_core::{Address, Change, Incarnation, Moment, Status};
 use cluster_core::{ClusterError, Link, LinkError, Round, gossip_round, join, serve_one};
@@ -30,63 +30,31 @@ struct Held {
     line: Vec<u8>,
 }
 
-/// What happened in a world so far.
-#[derive(Clone, Copy, PartialEq, Eq)]
-struct Happened {
+/// What may happen in a world.
+#[derive(Clone, Copy)]
+enum Happening {
     /// A message was lost.
-    lost: bool,
+    Lost,
     /// One that had been held back was answered.
-    late: bool,
+    Late,
     /// A message was answered, and the answer was lost.
-    unheard: bool,
+    Unheard,
     /// A message was answered twice.
-    repeated: bool,
+    Repeated,
     /// A message between a helper and a target was lost.
-    lost_by_helper: bool,
+    LostByHelper,
     /// A node started anew, and another let it join.
-    restarted: bool,
-    left: bool,
-    returned: bool,
-    reached: bool,
-    suspected: bool,
-    inconclusive: bool,
+    Restarted,
+    Left,
+    Returned,
+    Reached,
+    Suspected,
+    Inconclusive,
     /// A node was told what is wrong about itself, and said so.
-    refuted: bool,
+    Refuted,
     /// A node holds another as a tombstone.
-    buried: bool,
+    Buried,
 }
-
-const NOTHING: Happened = Happened {
-    lost: false,
-    late: false,
-    unheard: false,
-    repeated: false,
-    lost_by_helper: false,
-    restarted: false,
-    left: false,
-    returned: false,
-    reached: false,
-    suspected: false,
-    inconclusive: false,
-    refuted: false,
-    buried: false,
-};
-
-const EVERYTHING: Happened = Happened {
-    lost: true,
-    late: true,
-    unheard: true,
-    repeated: true,
-    lost_by_helper: true,
-    restarted: true,
-    left: true,
-    returned: true,
-    reached: true,
-    suspected: true,
-    inconclusive: true,
-    refuted: true,
-    buried: true,
-};
 
 /// The nodes that make no call just now, what is on its way between them, what each has said of itself, and what happened.
 #[derive(Drop)]
@@ -94,12 +62,21 @@ struct World {
     nodes: Vec<NodeState<SumHash>>,
     held: Vec<Held>,
     said: Vec<Change>,
-    happened: Happened,
+    /// Whether each of what may happen has happened.
+    happened: [bool; Happening::Buried as usize + 1],
+    /// Whether a growth was refused, or a message came of one who never said anything of itself.
+    is_starved: bool,
     dice: Pcg32,
     now: Moment,
 }
 
 impl World {
+    fn happens(&mut self, what: Happening) {
+        if let Some(has_happened) = self.happened.get_mut(what as usize) {
+            *has_happened = true;
+        }
+    }
+
     /// Takes the node of an address out, to make a call.
     fn call_away(&mut self, address: Address) -> Option<NodeState<SumHash>> {
         for i in 0..self.nodes.len() {
@@ -111,17 +88,18 @@ impl World {
     }
 
     /// Puts a node back, and notes what it says of itself.
-    fn come_back(&mut self, node: NodeState<SumHash>) -> bool {
-        if self.say(node.own()) {
-            return self.nodes.push(node).ok().is_some();
+    fn come_back(&mut self, node: NodeState<SumHash>) {
+        self.say(node.own());
+        if self.nodes.push(node).ok().is_none() {
+            self.is_starved = true;
         }
-        drop(node);
-        false
     }
 
     /// Notes what a member says of itself.
-    fn say(&mut self, change: Change) -> bool {
-        self.said.contains(&change) || self.said.push(change).is_ok()
+    fn say(&mut self, change: Change) {
+        if !self.said.contains(&change) && self.said.push(change).is_err() {
+            self.is_starved = true;
+        }
     }
 
     /// What a member said of itself last for the first time.
@@ -136,45 +114,41 @@ impl World {
     }
 
     /// Notes what a member says of itself in a message that it has made: what it said last, at the incarnation that the message names.
-    fn note(&mut self, message: &Message) -> bool {
+    fn note(&mut self, message: &Message) {
         let incarnation = message.source_incarnation;
-        match self.last(message.source) {
-            Some(last) => self.say(Change {
+        if let Some(last) = self.last(message.source) {
+            self.say(Change {
                 incarnation,
                 ..last
-            }),
-            None => false,
+            });
+        } else {
+            self.is_starved = true;
         }
     }
 
-    /// Holds a message back.
-    fn hold(&mut self, alloc: Global, to: Address, message: &Message) -> bool {
-        match encode(alloc, message) {
-            Ok(line) => self.held.push(Held { to, line }).ok().is_some(),
-            Err(_) => false,
+    /// Holds a message back, or loses it where a growth is refused.
+    fn hold(&mut self, alloc: Global, to: Address, message: &Message) {
+        if let Ok(line) = encode(alloc, message) {
+            let _held = self.held.push(Held { to, line }).ok();
         }
     }
 }
 
-/// A node that is shared by one pass of 99 turns, its pass, and the list that the pass came in, now empty.
+/// A node that is shared by one pass of 99 turns, its pass, and the list that the pass came in.
 fn lock(alloc: Global, node: NodeState<SumHash>) -> Option<(Shared, Caller, Vec<Caller>)>
-    ensures fits { IfSome result (λ r. Fits r.0 r.1) }
-    ensures room { IfSome result (λ r. r.2.items ≡ []) }
+    ensures { IfSome result (λ r. Fits r.0 r.1) }
 {
-    let Ok((shared, mut passes)) = try_share(alloc, node, 1, 99) else {
-        return None;
-    };
+    let (shared, mut passes) = try_share(alloc, node, 1, 99)?;
     let pass = passes.pop()?;
-    passes.clear();
     Some((shared, pass, passes))
 }
 
-/// The node again.
+/// The node again, when its one pass is back in its list.
 fn unlock(shared: Shared, pass: Caller, passes: Vec<Caller>) -> Option<NodeState<SumHash>>
-    requires fits { Fits shared pass }
-    requires room { passes.items ≡ [] }
+    requires { Fits shared pass }
 {
     let mut passes = passes;
+    passes.clear();
     passes.push(pass).ok()?;
     shared.close(passes).ok()
 }
@@ -219,13 +193,10 @@ fn answer_near<R: Wait>(
 ) -> Option<Message> {
     let node = world.call_away(to)?;
     let now = world.now;
-    let mut nobody = Fake::new(Mood::Broken);
+    let mut nobody = Fake::new(Mood::Broken, Mood::Broken);
     let (node, answer) = serve_by(rt, alloc, node, &mut nobody, now, message)?;
-    if world.come_back(node) {
-        return Some(answer);
-    }
-    drop(answer);
-    None
+    world.come_back(node);
+    Some(answer)
 }
 
 /// How a helper reaches a target: one message in four is lost.
@@ -254,11 +225,9 @@ impl<'a> Link for Near<'a> {
         if self.failures == u64::MAX {
             return Err(LinkError::Spent);
         }
-        if !self.world.note(message) {
-            return Err(LinkError::Memory);
-        }
+        self.world.note(message);
         if self.world.dice.next_u32() % 4 == 0 {
-            self.world.happened.lost_by_helper = true;
+            self.world.happens(Happening::LostByHelper);
         } else if let Some(answer) = answer_near(rt, alloc, self.world, to, message) {
             return Ok(answer);
         }
@@ -284,13 +253,10 @@ fn answer_far<R: Wait>(
     };
     let (node, answer) = serve_by(rt, alloc, node, &mut near, now, message)?;
     if node.own() != before {
-        world.happened.refuted = true;
+        world.happens(Happening::Refuted);
     }
-    if world.come_back(node) {
-        return Some(answer);
-    }
-    drop(answer);
-    None
+    world.come_back(node);
+    Some(answer)
 }
 
 /// What comes of a message: it is lost, held back, answered in vain, answered twice, or answered.
@@ -303,21 +269,21 @@ fn deliver<R: Wait>(
 ) -> Option<Message> {
     match world.dice.next_u32() % 8 {
         0 => {
-            world.happened.lost = true;
+            world.happens(Happening::Lost);
             None
         }
         1 => {
-            let _held = world.hold(alloc, to, message);
+            world.hold(alloc, to, message);
             None
         }
         2 => {
             drop(answer_far(rt, alloc, world, to, message));
-            world.happened.unheard = true;
+            world.happens(Happening::Unheard);
             None
         }
         3 => {
             drop(answer_far(rt, alloc, world, to, message));
-            world.happened.repeated = true;
+            world.happens(Happening::Repeated);
             answer_far(rt, alloc, world, to, message)
         }
         _ => answer_far(rt, alloc, world, to, message),
@@ -350,9 +316,7 @@ impl<'a> Link for Far<'a> {
         if self.failures == u64::MAX {
             return Err(LinkError::Spent);
         }
-        if !self.world.note(message) {
-            return Err(LinkError::Memory);
-        }
+        self.world.note(message);
         if let Some(answer) = deliver(rt, alloc, self.world, to, message) {
             return Ok(answer);
         }
@@ -361,26 +325,19 @@ impl<'a> Link for Far<'a> {
     }
 }
 
-/// Notes how a round ended. Whether it was not refused.
-fn note_round(world: &mut World, round: Result<Round, ClusterError>) -> bool {
+/// Notes how a round ended.
+fn note_round(world: &mut World, round: Result<Round, ClusterError>) {
     match round {
         Ok(Round::Idle) => {}
-        Ok(Round::Reached(_)) => world.happened.reached = true,
-        Ok(Round::Suspected(_)) => world.happened.suspected = true,
-        Ok(Round::Inconclusive(_)) => world.happened.inconclusive = true,
-        Err(_) => return false,
+        Ok(Round::Reached(_)) => world.happens(Happening::Reached),
+        Ok(Round::Suspected(_)) => world.happens(Happening::Suspected),
+        Ok(Round::Inconclusive(_)) => world.happens(Happening::Inconclusive),
+        Err(_) => world.is_starved = true,
     }
-    true
 }
 
-/// A round by way of this world. Whether it was not refused.
-fn round_far<R: Wait>(
-    rt: &R,
-    alloc: Global,
-    shared: &Shared,
-    pass: &mut Caller,
-    world: &mut World,
-) -> bool
+/// A round by way of this world.
+fn round_far<R: Wait>(rt: &R, alloc: Global, shared: &Shared, pass: &mut Caller, world: &mut World)
     requires { Fits shared.now pass.old }
     ensures { Fits shared.now pass.new }
 {
@@ -390,7 +347,7 @@ fn round_far<R: Wait>(
         failures: 0,
     };
     let round = gossip_round(rt, alloc, shared, pass, &mut link, now);
-    note_round(world, round)
+    note_round(world, round);
 }
 
 /// A round of a node, and the node after it.
@@ -401,13 +358,8 @@ fn round_by<R: Wait>(
     world: &mut World,
 ) -> Option<NodeState<SumHash>> {
     let (shared, mut pass, passes) = lock(alloc, node)?;
-    let is_ended = round_far(rt, alloc, &shared, &mut pass, world);
-    let node = unlock(shared, pass, passes);
-    if is_ended {
-        return node;
-    }
-    drop(node);
-    None
+    round_far(rt, alloc, &shared, &mut pass, world);
+    unlock(shared, pass, passes)
 }
 
 /// A join by way of this world.
@@ -430,7 +382,7 @@ fn join_far<R: Wait>(
     };
     let joined = join(rt, alloc, shared, pass, &mut link, hosts, now);
     if joined.is_ok() {
-        world.happened.restarted = true;
+        world.happens(Happening::Restarted);
     }
 }
 
@@ -447,17 +399,12 @@ fn join_by<R: Wait>(
     unlock(shared, pass, passes)
 }
 
-/// The nodes of these worlds.
-fn all(rt: &impl Abort) -> [Address; 3] {
-    [member(rt, 1), member(rt, 2), member(rt, 3)]
-}
-
 /// Has a message that was held back come.
 fn deliver_held<R: Wait>(rt: &R, alloc: Global, world: &mut World, to: Address, line: &[u8]) {
     if let Ok(message) = decode(alloc, line) {
         drop(answer_far(rt, alloc, world, to, &message));
         drop(message);
-        world.happened.late = true;
+        world.happens(Happening::Late);
     }
 }
 
@@ -492,14 +439,17 @@ fn restarted(
     born(rt, alloc, number, &hasty(), next, seed, world.now)
 }
 
-/// Leaves, or comes back. Whether that was not refused.
-fn turn_round(world: &mut World, node: &mut NodeState<SumHash>) -> bool {
-    if node.own().status == Status::Leave {
-        world.happened.returned = true;
-        node.rejoin().is_ok()
+/// Leaves, or comes back.
+fn turn_round(world: &mut World, node: &mut NodeState<SumHash>) {
+    let turned = if node.own().status == Status::Leave {
+        world.happens(Happening::Returned);
+        node.rejoin()
     } else {
-        world.happened.left = true;
-        node.leave().is_ok()
+        world.happens(Happening::Left);
+        node.leave()
+    };
+    if turned.is_err() {
+        world.is_starved = true;
     }
 }
 
@@ -525,46 +475,42 @@ fn start_anew<R: Wait + Abort>(
 ) -> Option<NodeState<SumHash>> {
     let node = restarted(rt, alloc, number, &old, world);
     drop(old);
-    if world.say(node.own()) {
-        return join_by(rt, alloc, node, world, &all(rt));
+    world.say(node.own());
+    let all = [member(rt, 1), member(rt, 2), member(rt, 3)];
+    join_by(rt, alloc, node, world, &all)
+}
+
+/// A node after its step: it starts anew and joins, leaves or comes back, or makes a round.
+fn moved<R: Wait + Abort>(
+    rt: &R,
+    alloc: Global,
+    number: u8,
+    node: NodeState<SumHash>,
+    world: &mut World,
+) -> Option<NodeState<SumHash>> {
+    match world.dice.next_u32() % 64 {
+        0 => start_anew(rt, alloc, number, node, world),
+        1 => {
+            let mut node = node;
+            turn_round(world, &mut node);
+            Some(node)
+        }
+        _ => round_by(rt, alloc, node, world),
     }
-    drop(node);
-    None
 }
 
-/// The node after it left or came back; none where that was refused.
-fn turned(world: &mut World, node: NodeState<SumHash>) -> Option<NodeState<SumHash>> {
-    let mut node = node;
-    if turn_round(world, &mut node) {
-        return Some(node);
-    }
-    drop(node);
-    None
-}
-
-/// Puts a node back after its step. Whether all three are there.
-fn end_step(world: &mut World, node: NodeState<SumHash>) -> bool {
-    world.happened.buried = world.happened.buried || has_buried(world, &node);
-    world.come_back(node) && world.nodes.len() == 3
-}
-
-/// One step of a node: it starts anew and joins, leaves or comes back, or makes a round.
-fn step<R: Wait + Abort>(rt: &R, alloc: Global, world: &mut World, number: u8) -> bool {
+/// One step of a node; none where a growth was refused.
+fn step<R: Wait + Abort>(rt: &R, alloc: Global, world: &mut World, number: u8) -> Option<()> {
     let later = world.now.number().wrapping_add(200);
     world.now = moment(rt, later);
     release(rt, alloc, world);
-    let Some(node) = world.call_away(member(rt, number)) else {
-        return false;
-    };
-    let after = match world.dice.next_u32() % 64 {
-        0 => start_anew(rt, alloc, number, node, world),
-        1 => turned(world, node),
-        _ => round_by(rt, alloc, node, world),
-    };
-    match after {
-        Some(node) => end_step(world, node),
-        None => false,
+    let node = world.call_away(member(rt, number))?;
+    let node = moved(rt, alloc, number, node, world)?;
+    if has_buried(world, &node) {
+        world.happens(Happening::Buried);
     }
+    world.come_back(node);
+    Some(())
 }
 
 /// Whether what one node holds of another is no newer than that other, and was said by it: as it stands where it is alive or has left,
@@ -599,14 +545,6 @@ fn are_founded(world: &World) -> bool {
     true
 }
 
-/// The answer to a message, if there is one.
-fn answered(received: Received) -> Option<Message> {
-    match received {
-        Received::Answer(_, answer) => Some(answer),
-        _ => None,
-    }
-}
-
 /// How many changes of an answer altered an entry; none where that was not taken.
 fn applied(received: Received) -> Option<usize> {
     let applied = match &received {
@@ -617,26 +555,27 @@ fn applied(received: Received) -> Option<usize> {
     applied
 }
 
-/// What a node makes of a message; none where there is no such node.
-fn receive(world: &mut World, at: usize, message: &Message) -> Option<Received> {
+/// What a node makes of a message, which is let go; none where there is no such node.
+fn receive(world: &mut World, at: usize, message: Message) -> Option<Received> {
     let now = world.now;
-    Some(world.nodes.get_mut(at)?.receive(message, now))
+    let received = match world.nodes.get_mut(at) {
+        Some(node) => Some(node.receive(&message, now)),
+        None => None,
+    };
+    drop(message);
+    received
 }
 
 /// All that a node holds, as it answers a join of another; none where a growth was refused.
 fn joined_by(world: &mut World, from: usize, to: usize) -> Option<Message> {
     let join = world.nodes.get(to)?.join_message().ok()?;
-    let joined = receive(world, from, &join);
-    drop(join);
-    answered(joined?)
+    answer_in(receive(world, from, join)?)
 }
 
 /// Has a node take all that another holds: how many changes altered an entry; none where a growth was refused.
 fn synchronise(world: &mut World, from: usize, to: usize) -> Option<usize> {
     let joined = joined_by(world, from, to)?;
-    let received = receive(world, to, &joined);
-    drop(joined);
-    applied(received?)
+    applied(receive(world, to, joined)?)
 }
 
 /// Synchronises each two nodes once: whether that altered anything.
@@ -663,37 +602,42 @@ fn agree(world: &World) -> Option<bool> {
     Some(true)
 }
 
-/// Puts three nodes into a world that know of nobody. Whether no growth was refused.
-fn settle(rt: &impl Abort, alloc: Global, world: &mut World, seed: u64) -> bool {
-    let first = Incarnation::new(7).expect(rt, "an incarnation");
-    for number in 1..4 {
-        let node = born(rt, alloc, number, &hasty(), first, seed, world.now);
-        if !world.come_back(node) {
-            return false;
-        }
-    }
-    true
-}
-
 /// Three nodes that know of nobody.
-fn begin(rt: &impl Abort, alloc: Global, seed: u64) -> Option<World> {
+fn begin(rt: &impl Abort, alloc: Global, seed: u64) -> World {
     let mut world = World {
         nodes: Vec::new(alloc),
         held: Vec::new(alloc),
         said: Vec::new(alloc),
-        happened: NOTHING,
+        happened: [false; Happening::Buried as usize + 1],
+        is_starved: false,
         dice: Pcg32::seed_from_u64(seed),
         now: moment(rt, 0),
     };
-    if settle(rt, alloc, &mut world, seed) {
-        return Some(world);
+    let first = Incarnation::new(7).expect(rt, "an incarnation");
+    for number in 1..4 {
+        let node = born(rt, alloc, number, &hasty(), first, seed, world.now);
+        world.come_back(node);
     }
-    drop(world);
-    None
+    world
 }
 
-/// Makes so many steps, after each of which nobody holds what was not said, and checks that everything happened; none where a growth
-/// was refused.
+/// Checks that a world is not wrong so, at a step.
+fn check(rt: &impl Abort, is_right: bool, seed: u64, at: u32, wrong: &str) {
+    assert!(rt; is_right, "seed {seed}, step {at}: {wrong}");
+}
+
+/// Synchronises until nothing is altered: whether all then hold the same; none where a growth was refused.
+fn come_to_agree(world: &mut World) -> Option<bool> {
+    for _ in 0..9 {
+        if !mingle(world)? {
+            break;
+        }
+    }
+    agree(world)
+}
+
+/// Makes so many steps, after each of which nobody holds what was not said, checks that everything happened, and comes to agree; none
+/// where a growth was refused.
 fn play<R: Wait + Abort>(
     rt: &R,
     alloc: Global,
@@ -703,48 +647,29 @@ fn play<R: Wait + Abort>(
 ) -> Option<()> {
     for at in 0..steps {
         let number = (at % 3) as u8 + 1;
-        if !step(rt, alloc, world, number) {
+        step(rt, alloc, world, number)?;
+        if world.is_starved || world.nodes.len() != 3 {
             return None;
         }
-        if !are_founded(world) {
-            panic!(rt; "seed {seed}, step {at}: an entry that nobody said");
-        }
+        check(
+            rt,
+            are_founded(world),
+            seed,
+            at,
+            "an entry that nobody said",
+        );
     }
-    if world.happened != EVERYTHING {
-        panic!(rt; "seed {seed}: too little happened");
-    }
+    let all_happened = !world.happened.contains(&false);
+    check(rt, all_happened, seed, steps, "too little happened");
+    let agreed = come_to_agree(world)?;
+    check(rt, agreed, seed, steps, "the digests differ");
     Some(())
-}
-
-/// Synchronises until nothing is altered, and checks that all hold the same; none where a growth was refused.
-fn come_to_agree(rt: &impl Abort, world: &mut World, seed: u64) -> Option<()> {
-    for _ in 0..9 {
-        if !mingle(world)? {
-            break;
-        }
-    }
-    if !agree(world)? {
-        panic!(rt; "seed {seed}: the digests differ");
-    }
-    Some(())
-}
-
-/// So many steps of a world, then synchronisations until nothing is altered; none where a growth was refused.
-fn play_to_the_end<R: Wait + Abort>(
-    rt: &R,
-    alloc: Global,
-    world: &mut World,
-    seed: u64,
-    steps: u32,
-) -> Option<()> {
-    play(rt, alloc, world, seed, steps)?;
-    come_to_agree(rt, world, seed)
 }
 
 /// The same of a new world.
 fn run<R: Wait + Abort>(rt: &R, alloc: Global, seed: u64, steps: u32) -> Option<()> {
-    let mut world = begin(rt, alloc, seed)?;
-    let done = play_to_the_end(rt, alloc, &mut world, seed, steps);
+    let mut world = begin(rt, alloc, seed);
+    let done = play(rt, alloc, &mut world, seed, steps);
     drop(world);
     done
 }

@@ -1,36 +1,73 @@
-//! What `ask`, `ask --any` and `members` make of answers.
-use crate::peers::{Held, Mood, OF_ALONE, OF_NOBODY, OF_TWO, Page, Peer, Word, digest};
-use change_core::Address;
-use serve_core::{AskAnyWords, AskFault, ask_any_over, ask_over, members_over};
+//! What `ask`, `ask --any`, `members` and `tell` make of answers, and `tell` of change lines.
+use crate::peers::{Answer, Lines, Page, Peers};
+use change_core::{Address, MOST_MEMBERS};
+use cli_core::LineFault;
+use serve_core::{
+    AskAnyWords, AskFault, TellFault, ask_any_over, ask_over, members_over, tell_over,
+};
 use std::alloc::Global;
+use std::io::Write;
 use std::process::Abort;
 use std::sync::Wait;
-use wire_json::Reason;
+use wire_json::{Reason, WireError};
 
-/// What is asked of a peer.
+/// What is asked.
 #[derive(Clone, Copy)]
 enum Question {
     Ask,
     /// By this key.
     AskAny(&'static str),
+    /// Whether as change lines.
     Members(bool),
+    /// So many change lines of 10.0.0.1:1, and then this, by a reader that fails after so many bytes.
+    Tell(usize, &'static str, usize),
 }
 
-/// More than is ever written.
-const ALL: usize = 1024;
+/// How it ends.
+type Ended = Result<(), TellFault>;
 
-/// What the answers of a peer come to.
-fn ask_peer<R: Wait + Abort>(
+/// What is asked, what is answered to each call, how it ends, and what is written.
+type Row = (Question, &'static [Answer], Ended, &'static str);
+
+const UNEXPECTED: Ended = Err(TellFault::Asked(AskFault::Unexpected));
+
+const NO_ANSWER: Ended = Err(TellFault::Asked(AskFault::NoAnswer));
+
+const NO_MEMORY: Ended = Err(TellFault::Asked(AskFault::NoMemory));
+
+const CANNOT_WRITE: Ended = Err(TellFault::Asked(AskFault::CannotWrite));
+
+const NOT_OWNED: Ended = Err(TellFault::Asked(AskFault::NotOwner));
+
+const REFUSED_NOBODY: Ended = Err(TellFault::Asked(AskFault::Refused(Reason::Nobody)));
+
+const REFUSED_MALFORMED: Ended = Err(TellFault::Asked(AskFault::Refused(Reason::Malformed)));
+
+const REFUSED_FAILED: Ended = Err(TellFault::Asked(AskFault::Refused(Reason::Failed)));
+
+const REFUSED_FULL: Ended = Err(TellFault::Asked(AskFault::Refused(Reason::Full)));
+
+/// A reader that does not fail.
+const ALL: usize = usize::MAX;
+
+/// Asks peers, and writes what their answers come to.
+fn ask_peers<R: Wait, W: Write>(
     rt: &R,
     alloc: Global,
-    question: Question,
-    peer: &mut Peer,
-    page: &mut Page,
-) -> Result<(), AskFault> {
-    let host = Address::new(0x0a00_0001, 1).expect(rt, "an address");
-    match question {
-        Question::Ask => ask_over(rt, alloc, peer, host, "k", "b", page),
-        Question::Members(lines) => members_over(rt, alloc, peer, host, lines, page),
+    question: &Question,
+    peers: &mut Peers,
+    page: &mut W,
+) -> Ended {
+    let Some(host) = Address::new(0x0a00_0001, 1) else {
+        return NO_ANSWER;
+    };
+    match *question {
+        Question::Ask => ask_over(rt, alloc, peers, host, "k", "b", page)?,
+        Question::Members(lines) => members_over(rt, alloc, peers, host, lines, page)?,
+        Question::Tell(times, last, left) => {
+            let mut lines = Lines::new(FIRST, times, last, left);
+            tell_over(rt, alloc, peers, host, &mut lines, page)?
+        }
         Question::AskAny(key) => {
             let words = AskAnyWords {
                 host,
@@ -39,253 +76,335 @@ fn ask_peer<R: Wait + Abort>(
                 key,
                 body: "b",
             };
-            ask_any_over(rt, alloc, peer, &words, page)
+            ask_any_over(rt, alloc, peers, &words, page)?
         }
     }
+    Ok(())
 }
 
-/// What asking comes to.
-#[derive(Clone, Copy)]
-struct Asked {
-    ended: Result<(), AskFault>,
-    /// Whether what is wanted was written.
-    is_written: bool,
-    /// Whether less was written than the writer takes.
-    is_short: bool,
-    /// How often the peer was asked.
-    calls: u32,
-}
-
-/// What it comes to with a peer of this mood and a writer with so much room.
-fn ask_once<R: Wait + Abort>(
-    rt: &R,
-    alloc: Global,
-    question: Question,
-    mood: Mood,
-    room: usize,
-    wanted: &[u8],
-) -> Asked {
-    let mut peer = Peer::new(mood);
-    let mut page = Page::new(alloc, room);
-    let ended = ask_peer(rt, alloc, question, &mut peer, &mut page);
-    let is_written = page.bytes.as_slice() == wanted;
-    let is_short = page.bytes.len() < room;
-    drop(page);
-    Asked {
-        ended,
-        is_written,
-        is_short,
-        calls: peer.calls,
-    }
-}
-
-/// The same, and once more where there was no memory.
-fn ask<R: Wait + Abort>(
-    rt: &R,
-    alloc: Global,
-    question: Question,
-    mood: Mood,
-    room: usize,
-    wanted: &[u8],
-) -> Asked {
-    let asked = ask_once(rt, alloc, question, mood, room, wanted);
-    let is_starved = match asked.ended {
-        Err(AskFault::NoMemory) => true,
-        Err(AskFault::CannotWrite) => asked.is_short,
-        _ => false,
+/// How asking ends over a writer that takes what is wanted, whether all of that was written, and how many calls were made.
+fn ask_once<R: Wait>(rt: &R, alloc: Global, row: &Row, wanted: &str) -> (Ended, bool, usize) {
+    let mut peers = Peers::new(row.1);
+    let mut page = Page {
+        left: wanted.as_bytes(),
     };
-    if is_starved {
-        return ask_once(rt, alloc, question, mood, room, wanted);
-    }
-    asked
+    let ended = ask_peers(rt, alloc, &row.0, &mut peers, &mut page);
+    (ended, page.left.is_empty(), peers.calls)
 }
 
-/// Asks, once more where there was no memory, and checks the end and the bytes written; answers how often the peer was asked.
-fn check_end<R: Wait + Abort>(
+/// The same, and once more where a growth was refused, so that it did not end so.
+fn ask<R: Wait>(
     rt: &R,
     alloc: Global,
-    question: Question,
-    mood: Mood,
-    wanted: Result<(), AskFault>,
-    text: &str,
-) -> u32 {
-    let asked = ask(rt, alloc, question, mood, ALL, text.as_bytes());
-    assert!(rt; asked.ended == wanted && asked.is_written);
-    asked.calls
+    row: &Row,
+    ended: Ended,
+    wanted: &str,
+) -> (Ended, bool, usize) {
+    let asked = ask_once(rt, alloc, row, wanted);
+    match asked.0 {
+        Err(TellFault::AtLine(_, LineFault::OutOfMemory)) => {}
+        Err(TellFault::Asked(AskFault::NoMemory)) if ended != NO_MEMORY => {}
+        _ => return asked,
+    }
+    ask_once(rt, alloc, row, wanted)
 }
 
-#[test]
-fn ask_writes_the_reply_alone(rt: HostRuntime) {
-    let rows = [
-        (Mood::Says("hi"), Ok(()), "hi\n"),
-        (Mood::Says(""), Ok(()), "\n"),
-        (Mood::NotOwner, Err(AskFault::NotOwner), ""),
-        (
-            Mood::Refuses(Reason::Nobody),
-            Err(AskFault::Refused(Reason::Nobody)),
-            "",
-        ),
-        (
-            Mood::Refuses(Reason::Malformed),
-            Err(AskFault::Refused(Reason::Malformed)),
-            "",
-        ),
-        (
-            Mood::Welcomes(digest(&rt, OF_NOBODY)),
-            Err(AskFault::Unexpected),
-            "",
-        ),
-        (Mood::Broken, Err(AskFault::NoAnswer), ""),
-        (Mood::Starved, Err(AskFault::NoMemory), ""),
-    ];
-    for &(mood, wanted, text) in &rows {
-        let calls = check_end(&rt, rt.alloc(), Question::Ask, mood, wanted, text);
-        assert!(&rt; calls <= 1);
+/// That a row ends so over a writer that takes what is wanted, with that written and all calls made; a request that has no memory may
+/// make none.
+fn check<R: Wait + Abort>(rt: &R, alloc: Global, row: &Row, ended: Ended, wanted: &str) {
+    let (outcome, is_written, calls) = ask(rt, alloc, row, ended, wanted);
+    assert!(rt; outcome == ended && is_written);
+    let may_ask_nobody = ended == NO_MEMORY && matches!(row.0, Question::Ask);
+    assert!(rt; calls == row.1.len() || may_ask_nobody && calls == 0);
+}
+
+/// The same of each row.
+fn check_all<R: Wait + Abort>(rt: &R, alloc: Global, rows: &[Row]) {
+    for row in rows {
+        check(rt, alloc, row, row.2, row.3);
+    }
+}
+
+/// The same with each front of what a row writes, where it fails behind that.
+fn check_fronts<R: Wait + Abort>(rt: &R, alloc: Global, rows: &[Row]) {
+    for row in rows {
+        for room in 0..row.3.len() {
+            let front = row.3.get(..room).expect(rt, "so much of it");
+            check(rt, alloc, row, CANNOT_WRITE, front);
+        }
     }
 }
 
 /// What is written of nobody.
-const NOBODY: &str = "\ne3b0c44298fc1c149afbf4c8996fb92427ae41e4649b934ca495991b7852b855\n";
+const NOBODY_TEXT: &str = "\ne3b0c44298fc1c149afbf4c8996fb92427ae41e4649b934ca495991b7852b855\n";
 
-/// What is written of the peer alone.
-const ALONE: &str =
+/// Of 10.0.0.1:1.
+const ALONE_TEXT: &str =
     "10.0.0.1:1alive7\n114cdd273aed4efee25e37eb2d6f8902516de89bfb099e3deb7cd6f372fa39df\n";
 
-/// Its change line.
-const ALONE_LINE: &str =
-    "{\"address\":\"10.0.0.1:1\",\"incarnationNumber\":7,\"source\":\"10.0.0.1:1\",\"sourceIncarnationNumber\":7,\"status\":\"alive\"}\n";
-
-/// What is written of two members.
-const TWO: &str =
+/// Of both.
+const TWO_TEXT: &str =
     "10.0.0.1:1alive7;10.0.0.2:1suspect3*2\n96236e70e85ed04fd1686bcf8c49d8c26e86a4cb4a04b7988c05563b2fa13c5b\n";
 
-/// Their change lines.
-const TWO_LINES: &str =
+/// The change line of 10.0.0.1:1.
+const FIRST: &str =
+    "{\"address\":\"10.0.0.1:1\",\"incarnationNumber\":7,\"source\":\"10.0.0.1:1\",\"sourceIncarnationNumber\":7,\"status\":\"alive\"}\n";
+
+/// That of 10.0.0.2:1, without a newline.
+const SECOND: &str =
+    "{\"address\":\"10.0.0.2:1\",\"incarnationNumber\":3,\"source\":\"10.0.0.2:1\",\"sourceIncarnationNumber\":3,\"status\":\"suspect\",\"weight\":2}";
+
+/// Those of both.
+const BOTH: &str =
     "{\"address\":\"10.0.0.1:1\",\"incarnationNumber\":7,\"source\":\"10.0.0.1:1\",\"sourceIncarnationNumber\":7,\"status\":\"alive\"}\n{\"address\":\"10.0.0.2:1\",\"incarnationNumber\":3,\"source\":\"10.0.0.2:1\",\"sourceIncarnationNumber\":3,\"status\":\"suspect\",\"weight\":2}\n";
 
-/// That members are looked at with this end and this text, by digest text or by lines.
-fn shows<R: Wait + Abort>(
-    rt: &R,
-    alloc: Global,
-    lines: bool,
-    mood: Mood,
-    wanted: Result<(), AskFault>,
-    text: &str,
-) {
-    let calls = check_end(rt, alloc, Question::Members(lines), mood, wanted, text);
-    assert!(rt; calls == 1);
+/// 10.0.0.1:1 is suspect.
+const AGAIN: &str =
+    "{\"address\":\"10.0.0.1:1\",\"incarnationNumber\":7,\"source\":\"10.0.0.2:1\",\"sourceIncarnationNumber\":3,\"status\":\"suspect\"}\n";
+
+const ASKS: [Row; 8] = [
+    (Question::Ask, &[Answer::Hi], Ok(()), "hi\n"),
+    (Question::Ask, &[Answer::Empty], Ok(()), "\n"),
+    (Question::Ask, &[Answer::NotOwner], NOT_OWNED, ""),
+    (Question::Ask, &[Answer::RefusesNobody], REFUSED_NOBODY, ""),
+    (
+        Question::Ask,
+        &[Answer::RefusesMalformed],
+        REFUSED_MALFORMED,
+        "",
+    ),
+    (Question::Ask, &[Answer::Nobody], UNEXPECTED, ""),
+    (Question::Ask, &[Answer::Broken], NO_ANSWER, ""),
+    (Question::Ask, &[Answer::Starved], NO_MEMORY, ""),
+];
+
+#[test]
+fn ask_writes_the_reply_alone(rt: HostRuntime) {
+    check_all(&rt, rt.alloc(), &ASKS);
 }
+
+const MEMBERS: [Row; 11] = [
+    (
+        Question::Members(false),
+        &[Answer::Nobody],
+        Ok(()),
+        NOBODY_TEXT,
+    ),
+    (Question::Members(true), &[Answer::Nobody], Ok(()), ""),
+    (
+        Question::Members(false),
+        &[Answer::Alone],
+        Ok(()),
+        ALONE_TEXT,
+    ),
+    (Question::Members(true), &[Answer::Alone], Ok(()), FIRST),
+    (Question::Members(false), &[Answer::Two], Ok(()), TWO_TEXT),
+    (Question::Members(true), &[Answer::Two], Ok(()), BOTH),
+    (Question::Members(true), &[Answer::TwoAmiss], UNEXPECTED, ""),
+    (Question::Members(true), &[Answer::NotOwner], UNEXPECTED, ""),
+    (
+        Question::Members(true),
+        &[Answer::RefusesFull],
+        REFUSED_FULL,
+        "",
+    ),
+    (Question::Members(true), &[Answer::Broken], NO_ANSWER, ""),
+    (Question::Members(true), &[Answer::Starved], NO_MEMORY, ""),
+];
 
 #[test]
 fn members_are_written_where_their_digest_fits(rt: HostRuntime) {
-    let rows = [
-        (Held::Nobody, OF_NOBODY, false, NOBODY),
-        (Held::Nobody, OF_NOBODY, true, ""),
-        (Held::Alone, OF_ALONE, false, ALONE),
-        (Held::Alone, OF_ALONE, true, ALONE_LINE),
-        (Held::Two, OF_TWO, false, TWO),
-        (Held::Two, OF_TWO, true, TWO_LINES),
-    ];
-    for &(held, digits, lines, text) in &rows {
-        let mood = Mood::Holds(held, digest(&rt, digits), Word::Broken);
-        shows(&rt, rt.alloc(), lines, mood, Ok(()), text);
-    }
-    let other = Mood::Holds(Held::Two, digest(&rt, OF_ALONE), Word::Broken);
-    let refusals = [
-        (other, AskFault::Unexpected),
-        (Mood::NotOwner, AskFault::Unexpected),
-        (Mood::Refuses(Reason::Full), AskFault::Refused(Reason::Full)),
-        (Mood::Broken, AskFault::NoAnswer),
-        (Mood::Starved, AskFault::NoMemory),
-    ];
-    for &(mood, fault) in &refusals {
-        shows(&rt, rt.alloc(), true, mood, Err(fault), "");
-    }
+    check_all(&rt, rt.alloc(), &MEMBERS);
 }
 
-/// A membership of the peer alone or of two, and what is answered to a request.
-fn holds(rt: &impl Abort, held: Held, word: Word) -> Mood {
-    let digits = match held {
-        Held::Two => OF_TWO,
-        _ => OF_ALONE,
-    };
-    Mood::Holds(held, digest(rt, digits), word)
-}
+const BY_K: Question = Question::AskAny("k");
+
+const OWNERS: [Row; 10] = [
+    (
+        BY_K,
+        &[Answer::Alone, Answer::Mine],
+        Ok(()),
+        "mine 10.0.0.1:1\n",
+    ),
+    (
+        BY_K,
+        &[Answer::Alone, Answer::NotOwner, Answer::Alone, Answer::Mine],
+        Ok(()),
+        "mine 10.0.0.1:1\n",
+    ),
+    (
+        BY_K,
+        &[
+            Answer::Alone,
+            Answer::NotOwner,
+            Answer::Alone,
+            Answer::NotOwner,
+        ],
+        NOT_OWNED,
+        "",
+    ),
+    (
+        BY_K,
+        &[Answer::Two, Answer::Theirs],
+        Ok(()),
+        "mine 10.0.0.2:1\n",
+    ),
+    (
+        Question::AskAny("b"),
+        &[Answer::Two, Answer::Mine],
+        Ok(()),
+        "mine 10.0.0.1:1\n",
+    ),
+    // alone at first, and then one of two
+    (
+        BY_K,
+        &[Answer::Alone, Answer::NotOwner, Answer::Two, Answer::Theirs],
+        Ok(()),
+        "mine 10.0.0.2:1\n",
+    ),
+    (BY_K, &[Answer::Nobody], REFUSED_NOBODY, ""),
+    (BY_K, &[Answer::AloneAmiss], UNEXPECTED, ""),
+    (BY_K, &[Answer::Alone, Answer::Broken], NO_ANSWER, ""),
+    (
+        BY_K,
+        &[Answer::Alone, Answer::RefusesFailed],
+        REFUSED_FAILED,
+        "",
+    ),
+];
 
 #[test]
 fn the_owner_is_asked_twice_at_most(rt: HostRuntime) {
-    let rows = [
-        (Held::Alone, 0, Ok(()), "mine 10.0.0.1:1\n", 2),
-        (Held::Alone, 2, Ok(()), "mine 10.0.0.1:1\n", 4),
-        (Held::Alone, 4, Err(AskFault::NotOwner), "", 4),
-        (Held::Two, 0, Ok(()), "mine 10.0.0.2:1\n", 2),
-    ];
-    for &(held, declined, wanted, text, asked) in &rows {
-        let mood = holds(&rt, held, Word::Mine(declined));
-        let calls = check_end(&rt, rt.alloc(), Question::AskAny("k"), mood, wanted, text);
-        assert!(&rt; calls == asked);
-    }
-    let mood = holds(&rt, Held::Two, Word::Mine(0));
-    let by_b = Question::AskAny("b");
-    check_end(&rt, rt.alloc(), by_b, mood, Ok(()), "mine 10.0.0.1:1\n");
+    check_all(&rt, rt.alloc(), &OWNERS);
 }
+
+const TELLS: [Row; 5] = [
+    (Question::Tell(0, "", ALL), &[Answer::Alone], Ok(()), "1\n"),
+    (Question::Tell(0, "", ALL), &[Answer::Nobody], Ok(()), "0\n"),
+    (
+        Question::Tell(1, SECOND, ALL),
+        &[Answer::ToldTwo],
+        Ok(()),
+        "2\n",
+    ),
+    (
+        Question::Tell(2, AGAIN, ALL),
+        &[Answer::ToldSuspect],
+        Ok(()),
+        "1\n",
+    ),
+    (
+        Question::Tell(MOST_MEMBERS, "", ALL),
+        &[Answer::ToldAlone],
+        Ok(()),
+        "1\n",
+    ),
+];
 
 #[test]
-fn the_second_try_asks_the_owner_by_the_second_membership(rt: HostRuntime) {
-    let mood = Mood::Learns(digest(&rt, OF_ALONE), digest(&rt, OF_TWO));
-    let by_k = Question::AskAny("k");
-    let calls = check_end(&rt, rt.alloc(), by_k, mood, Ok(()), "mine 10.0.0.2:1\n");
-    assert!(&rt; calls == 4);
-}
-
-#[test]
-fn no_request_is_sent_twice_but_to_another_owner(rt: HostRuntime) {
-    let nobody = Mood::Holds(Held::Nobody, digest(&rt, OF_NOBODY), Word::Mine(0));
-    let other = Mood::Holds(Held::Alone, digest(&rt, OF_NOBODY), Word::Mine(0));
-    let failed = Word::Refuses(Reason::Failed);
-    let rows = [
-        (nobody, AskFault::Refused(Reason::Nobody), 1),
-        (other, AskFault::Unexpected, 1),
-        (holds(&rt, Held::Alone, Word::Broken), AskFault::NoAnswer, 2),
-        (
-            holds(&rt, Held::Alone, failed),
-            AskFault::Refused(Reason::Failed),
-            2,
-        ),
-    ];
-    for &(mood, fault, asked) in &rows {
-        let calls = check_end(&rt, rt.alloc(), Question::AskAny("k"), mood, Err(fault), "");
-        assert!(&rt; calls == asked);
-    }
-}
-
-/// Checks that a writer with this room fails with a front of the text.
-fn check_front<R: Wait + Abort>(
-    rt: &R,
-    alloc: Global,
-    question: Question,
-    mood: Mood,
-    text: &str,
-    room: usize,
-) {
-    let front = text.as_bytes().get(..room).expect(rt, "so much of it");
-    let asked = ask(rt, alloc, question, mood, room, front);
-    assert!(rt; asked.ended == Err(AskFault::CannotWrite));
-    assert!(rt; asked.is_written);
+fn tell_writes_how_many_members_there_are(rt: HostRuntime) {
+    check_all(&rt, rt.alloc(), &TELLS);
 }
 
 #[test]
 fn a_writer_that_fails_has_a_front(rt: HostRuntime) {
-    let two = holds(&rt, Held::Two, Word::Mine(0));
-    let rows = [
-        (Question::Ask, Mood::Says("hi"), "hi\n"),
-        (Question::AskAny("b"), two, "mine 10.0.0.1:1\n"),
-        (Question::Members(false), two, TWO),
-        (Question::Members(true), two, TWO_LINES),
-    ];
-    for &(question, mood, text) in &rows {
-        for room in 0..text.len() {
-            check_front(&rt, rt.alloc(), question, mood, text, room);
-        }
-    }
+    check_fronts(&rt, rt.alloc(), &ASKS);
+    check_fronts(&rt, rt.alloc(), &MEMBERS);
+    check_fronts(&rt, rt.alloc(), &OWNERS);
+    // but for that of all lines
+    let tells = TELLS.get(..4).expect(&rt, "four rows");
+    check_fronts(&rt, rt.alloc(), tells);
+}
+
+const NO_OBJECT: LineFault = LineFault::Wire(WireError::NotObject);
+
+const NO_JSON: LineFault = LineFault::Wire(WireError::BadJson);
+
+const FAULTS: [Row; 6] = [
+    (
+        Question::Tell(1, "[]\n{", ALL),
+        &[],
+        Err(TellFault::AtLine(2, NO_OBJECT)),
+        "",
+    ),
+    (
+        Question::Tell(2, "{", ALL),
+        &[],
+        Err(TellFault::AtLine(3, NO_JSON)),
+        "",
+    ),
+    (
+        Question::Tell(0, "\n[]", ALL),
+        &[],
+        Err(TellFault::AtLine(1, NO_JSON)),
+        "",
+    ),
+    (
+        // the first byte of the second line
+        Question::Tell(2, "", FIRST.len() + 1),
+        &[],
+        Err(TellFault::AtLine(2, LineFault::ReadFailed)),
+        "",
+    ),
+    (
+        Question::Tell(MOST_MEMBERS, SECOND, ALL),
+        &[],
+        Err(TellFault::TooManyChanges),
+        "",
+    ),
+    (
+        Question::Tell(MOST_MEMBERS, "[]", ALL),
+        &[],
+        Err(TellFault::AtLine(4097, NO_OBJECT)),
+        "",
+    ),
+];
+
+#[test]
+fn nobody_is_asked_where_a_line_is_at_fault(rt: HostRuntime) {
+    check_all(&rt, rt.alloc(), &FAULTS);
+}
+
+const TOLD: [Row; 6] = [
+    (
+        Question::Tell(1, SECOND, ALL),
+        &[Answer::TwoAmiss],
+        UNEXPECTED,
+        "",
+    ),
+    (
+        Question::Tell(1, SECOND, ALL),
+        &[Answer::Hi],
+        UNEXPECTED,
+        "",
+    ),
+    (
+        Question::Tell(1, SECOND, ALL),
+        &[Answer::NotOwner],
+        UNEXPECTED,
+        "",
+    ),
+    (
+        Question::Tell(1, SECOND, ALL),
+        &[Answer::RefusesFull],
+        REFUSED_FULL,
+        "",
+    ),
+    (
+        Question::Tell(1, SECOND, ALL),
+        &[Answer::Broken],
+        NO_ANSWER,
+        "",
+    ),
+    (
+        Question::Tell(1, SECOND, ALL),
+        &[Answer::Starved],
+        NO_MEMORY,
+        "",
+    ),
+];
+
+#[test]
+fn what_a_node_answers_to_changes_is_told(rt: HostRuntime) {
+    check_all(&rt, rt.alloc(), &TOLD);
 }

@@ -11,7 +11,7 @@ use std::time::{Clock, Duration};
 pub(crate) const NEVER: u64 = 1_000_000_000;
 
 /// How a peer hears and speaks. Times are in milliseconds.
-#[derive(Clone, Copy, Debug)]
+#[derive(Clone, Copy)]
 pub(crate) struct Manner {
     /// How long it takes to be connected to.
     pub(crate) connects: u64,
@@ -35,9 +35,11 @@ pub(crate) const SILENT: Manner = Manner {
 #[derive(Drop)]
 pub(crate) struct Peer {
     manner: Manner,
-    now: Cell<u64>,
+    /// The millisecond that it is.
+    pub(crate) now: Cell<u64>,
     said: Cell<usize>,
-    taken: Cell<usize>,
+    /// How many bytes it has taken.
+    pub(crate) taken: Cell<usize>,
     /// For how long a read of its stream waits.
     reading: Cell<Option<Duration>>,
     /// For how long a write waits.
@@ -57,60 +59,18 @@ impl Peer {
         }
     }
 
-    /// The millisecond that it is.
-    pub(crate) fn now(&self) -> u64 {
-        self.now.get()
-    }
-
-    /// How many bytes it has taken.
-    pub(crate) fn taken(&self) -> usize {
-        self.taken.get()
-    }
-
-    /// Waits until a moment, if that comes before so long a wait ends; else for so long, in vain. Nothing waits without an end.
-    fn wait(&self, until: u64, limit: Option<Duration>) -> io::Result<()> {
+    /// Waits for so long, if so long a wait does not end before; else until it ends, in vain. Nothing waits without an end.
+    fn wait(&self, time: u64, limit: Option<Duration>) -> io::Result<()> {
         let Some(limit) = limit else {
             return Err(io::Error::from(ErrorKind::Other));
         };
-        let now = self.now();
-        let end = now.saturating_add(u64::try_from(limit.as_millis()).unwrap_or(NEVER));
-        self.now.set(until.min(end).max(now));
-        if until < end {
+        let limit = u64::try_from(limit.as_millis()).unwrap_or(NEVER);
+        self.now.set(self.now.get().saturating_add(time.min(limit)));
+        if time < limit {
             Ok(())
         } else {
             Err(io::Error::from(ErrorKind::WouldBlock))
         }
-    }
-
-    /// When it says the byte at this place.
-    fn comes(&self, place: usize) -> u64 {
-        let count = self.manner.says.len();
-        if place < count {
-            self.manner.by.saturating_mul(place as u64 + 1) / count as u64
-        } else {
-            NEVER
-        }
-    }
-
-    /// The next byte that it says.
-    fn say(&self) -> io::Result<u8> {
-        let said = self.said.get();
-        self.wait(self.comes(said), self.reading.get())?;
-        match self.manner.says.as_bytes().get(said) {
-            Some(&byte) => {
-                self.said.set(said.wrapping_add(1));
-                Ok(byte)
-            }
-            None => Err(io::Error::from(ErrorKind::WouldBlock)),
-        }
-    }
-
-    /// It takes a byte.
-    fn take(&self) -> io::Result<()> {
-        let takes = self.now().saturating_add(self.manner.takes);
-        self.wait(takes, self.writing.get())?;
-        self.taken.set(self.taken().wrapping_add(1));
-        Ok(())
     }
 }
 
@@ -125,7 +85,20 @@ impl<'a> Read for Wire<'a> {
         let Some(to) = buf.first_mut() else {
             return Ok(0);
         };
-        *to = self.peer.say()?;
+        let peer = self.peer;
+        let (says, said) = (peer.manner.says.as_bytes(), peer.said.get());
+        let count = says.len();
+        let comes = if said < count {
+            peer.manner.by.saturating_mul(said as u64 + 1) / count as u64
+        } else {
+            NEVER
+        };
+        peer.wait(comes.saturating_sub(peer.now.get()), peer.reading.get())?;
+        let Some(&byte) = says.get(said) else {
+            return Err(io::Error::from(ErrorKind::WouldBlock));
+        };
+        peer.said.set(said.wrapping_add(1));
+        *to = byte;
         Ok(1)
     }
 }
@@ -135,7 +108,9 @@ impl<'a> Write for Wire<'a> {
         if buf.is_empty() {
             return Ok(0);
         }
-        self.peer.take()?;
+        let peer = self.peer;
+        peer.wait(peer.manner.takes, peer.writing.get())?;
+        peer.taken.set(peer.taken.get().wrapping_add(1));
         Ok(1)
     }
 
@@ -156,19 +131,8 @@ impl<'a> OpenStream for Wire<'a> {
     }
 }
 
-impl<'a> AsRawFd for Wire<'a> {
-    fn as_raw_fd(&self) -> RawFd {
-        -1
-    }
-}
-
 /// Where nobody comes.
-#[derive(Drop)]
-pub(crate) struct Deserted<'a> {
-    peer: &'a Peer,
-}
-
-impl<'a> OpenListener for Deserted<'a> {
+impl<'a> OpenListener for Wire<'a> {
     type Stream = Wire<'a>;
 
     fn accept(&self) -> io::Result<(Wire<'a>, SocketAddr)> {
@@ -176,7 +140,7 @@ impl<'a> OpenListener for Deserted<'a> {
     }
 }
 
-impl<'a> AsRawFd for Deserted<'a> {
+impl<'a> AsRawFd for Wire<'a> {
     fn as_raw_fd(&self) -> RawFd {
         -1
     }
@@ -192,10 +156,10 @@ pub(crate) struct Town<'a, R> {
 impl<'a, R> Net for Town<'a, R> {
     type Stream = Wire<'a>;
 
-    type Listener = Deserted<'a>;
+    type Listener = Wire<'a>;
 
-    fn bind(&self, _addr: SocketAddr) -> io::Result<Deserted<'a>> {
-        Ok(Deserted { peer: self.peer })
+    fn bind(&self, _addr: SocketAddr) -> io::Result<Wire<'a>> {
+        Err(io::Error::from(ErrorKind::Unsupported))
     }
 
     fn connect(&self, _addr: SocketAddr) -> io::Result<Wire<'a>> {
@@ -204,19 +168,18 @@ impl<'a, R> Net for Town<'a, R> {
 
     fn connect_timeout(&self, _addr: SocketAddr, timeout: Duration) -> io::Result<Wire<'a>> {
         let peer = self.peer;
-        let connects = peer.now().saturating_add(peer.manner.connects);
-        peer.wait(connects, Some(timeout))?;
+        peer.wait(peer.manner.connects, Some(timeout))?;
         Ok(Wire { peer })
     }
 }
 
 impl<'a, R> Clock for Town<'a, R> {
     fn monotonic(&self) -> io::Result<Duration> {
-        Ok(Duration::from_millis(self.peer.now()))
+        Ok(Duration::from_millis(self.peer.now.get()))
     }
 
     fn since_1970(&self) -> io::Result<Duration> {
-        Ok(Duration::from_millis(self.peer.now()))
+        self.monotonic()
     }
 }
 

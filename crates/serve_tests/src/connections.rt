@@ -3,8 +3,8 @@ ghost use Rattle.std.specs.Prelude.{◌≡◌, IfSome};
 ghost use Rattle.locked_node.specs.Passes.{Fits};
 
 use crate::clocks::{Manner, NEVER, Peer, SILENT, Town, Wire};
-use crate::lines::{MALFORMED, NOT_REACHED, PING_REQ};
 use crate::plans::local;
+use crate::talks::{MALFORMED, NOT_REACHED, PING_REQ};
 use change_core::{Address, Change, Incarnation, Moment, Sourced, Status, Weight};
 use cluster_links::{Limits, TcpLink, share};
 use hash_ring::SumHash;
@@ -16,42 +16,34 @@ use std::net::{Net, TcpListener, TcpStream};
 use std::sync::Wait;
 use std::time::Clock;
 
-/// 127.0.0.1:29177 at 1, born at 0, which holds a suspect as faulty so many milliseconds later; none where there is no memory for it.
-fn node(alloc: Global, suspect_ms: u64) -> Option<NodeState<SumHash>> {
-    let (own, first) = (local(29_177)?, Incarnation::new(1)?);
+/// 127.0.0.1:29177 at 1, born at 0, which holds a suspect as faulty so many milliseconds later, and was told at 0 that 127.0.0.1:29170
+/// is this at 1, if it was told so; none where there is no memory for it.
+fn node(alloc: Global, suspect_ms: u64, told: Option<Status>) -> Option<NodeState<SumHash>> {
+    let (own, other, now) = (local(29_177)?, local(29_170)?, Moment::new(0)?);
+    let (incarnation, weight) = (Incarnation::new(1)?, Weight::new(1)?);
     let config = Config {
         suspect_ms,
         ..Config::standard()
     };
-    NodeState::new(alloc, config, SumHash, own, first, 1, Moment::new(0)?).ok()
-}
-
-/// The same, which was told at 0 that 127.0.0.1:29170 is this at 1; none where there is no memory for it.
-fn node_of_two(alloc: Global, suspect_ms: u64, status: Status) -> Option<NodeState<SumHash>> {
-    let (other, first) = (local(29_170)?, Incarnation::new(1)?);
-    let (weight, now) = (Weight::new(1)?, Moment::new(0)?);
-    let change = Change {
-        address: other,
-        incarnation: first,
-        status,
-        weight,
+    let mut node = NodeState::new(alloc, config, SumHash, own, incarnation, 1, now).ok()?;
+    let is_told = match told {
+        Some(status) => {
+            let change = Change {
+                address: other,
+                incarnation,
+                status,
+                weight,
+            };
+            let given = [Sourced {
+                change,
+                source: other,
+                source_incarnation: incarnation,
+            }];
+            node.take(&given, now).is_ok()
+        }
+        None => true,
     };
-    let given = [Sourced {
-        change,
-        source: other,
-        source_incarnation: first,
-    }];
-    let mut node = node(alloc, suspect_ms)?;
-    node.take(&given, now).ok()?;
-    Some(node)
-}
-
-/// A node that was told nothing, or that 127.0.0.1:29170 is this; none where there is no memory for it.
-fn node_told(alloc: Global, suspect_ms: u64, told: Option<Status>) -> Option<NodeState<SumHash>> {
-    match told {
-        Some(status) => node_of_two(alloc, suspect_ms, status),
-        None => node(alloc, suspect_ms),
-    }
+    is_told.then_some(node)
 }
 
 /// The same, shared by no workers, and the pass of its rounds.
@@ -62,7 +54,7 @@ pub(crate) fn shared_node(
 ) -> Option<(LockedNode<SumHash>, NodePass<SumHash>)>
     ensures { IfSome result (λ r. Fits r.0 r.1) }
 {
-    let node = node_told(alloc, suspect_ms, told)?;
+    let node = node(alloc, suspect_ms, told)?;
     match share(alloc, node, 0) {
         Ok((node, pass, _others)) => Some((node, pass)),
         Err(_) => None,
@@ -99,9 +91,6 @@ pub(crate) fn is_due<R: Wait>(
     }
 }
 
-/// What comes of a connection.
-type Served = (u64, usize, Option<bool>);
-
 /// Has a server serve a peer.
 fn serve_peer<R: Net + Wait>(
     rt: &R,
@@ -126,7 +115,7 @@ fn serve<R: Net<Listener = TcpListener, Stream = TcpStream> + Wait>(
     suspect_ms: u64,
     told: Option<Status>,
     manner: Manner,
-) -> Option<Served> {
+) -> Option<(u64, usize, Option<bool>)> {
     let own = local(29_177)?;
     let listener = TcpListener::bind(rt, "127.0.0.1:0").ok()?;
     let (node, mut pass) = shared_node(alloc, suspect_ms, told)?;
@@ -136,16 +125,7 @@ fn serve<R: Net<Listener = TcpListener, Stream = TcpStream> + Wait>(
     let is_due = is_due(rt, &server, &mut pass, 0);
     drop(server);
     drop(pass);
-    Some((peer.now(), peer.taken(), is_due))
-}
-
-/// The same of a node alone.
-fn serve_alone<R: Net<Listener = TcpListener, Stream = TcpStream> + Wait>(
-    rt: &R,
-    alloc: Global,
-    manner: Manner,
-) -> Option<Served> {
-    serve(rt, alloc, 5_000, None, manner)
+    Some((peer.now.get(), peer.taken.get(), is_due))
 }
 
 /// A line of 64 letters that is no message.
@@ -186,9 +166,9 @@ fn a_line_and_its_answer_have_a_limit_each(rt: HostRuntime) {
     ];
     for &(manner, over, taken) in &rows {
         let wanted = Some((over, taken, Some(false)));
-        let is_so = serve_alone(&rt, alloc, manner) == wanted
-            || serve_alone(&rt, alloc, manner) == wanted;
-        assert!(&rt; is_so, "{manner:?}");
+        let is_so = serve(&rt, alloc, 5_000, None, manner) == wanted
+            || serve(&rt, alloc, 5_000, None, manner) == wanted;
+        assert!(&rt; is_so, "over at {over}, {taken} bytes taken");
     }
 }
 

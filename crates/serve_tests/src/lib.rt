@@ -1,4 +1,4 @@
-//! The tests of serve_core.
+//! The tests of `serve_core`, `cli_words` and `cli_run`.
 #![tactic(auto)]
 
 #[cfg(test)]
@@ -7,6 +7,8 @@ mod answers;
 mod clocks;
 #[cfg(test)]
 mod connections;
+#[cfg(test)]
+mod faults;
 #[cfg(test)]
 mod limits;
 #[cfg(test)]
@@ -18,10 +20,16 @@ mod peers;
 #[cfg(test)]
 mod plans;
 #[cfg(test)]
+mod reads;
+#[cfg(test)]
+mod refusals;
+#[cfg(test)]
 mod rounds;
+#[cfg(test)]
+mod runs;
 #[cfg(test)]
 mod servers;
 #[cfg(test)]
 mod shared;
 #[cfg(test)]
-mod tells;
+mod talks;

@@ -1,194 +1,140 @@
-//! A peer that answers as a test wants it, and a writer with little room.
-use change_core::{Address, Change, Digest, Incarnation, Sourced, Status, Weight};
+//! A peer that answers as a test wants it, lines to read, and what is written to.
+use change_core::{Address, Digest, Incarnation};
 use cluster_core::{Link, LinkError};
 use std::alloc::Global;
 use std::io;
-use std::io::{ErrorKind, Write};
-use std::process::Abort;
+use std::io::{ErrorKind, Read, Write};
 use std::sync::Wait;
-use wire_json::{Changes, Content, Message, News, Reason, Text};
+use wire_json::{Changes, Content, Message, News, decode};
 
-/// Whom a membership names.
+/// What a peer answers to a call, 10.0.0.1:1 if no other is named.
 #[derive(Clone, Copy)]
-pub(crate) enum Held {
-    Nobody,
-    /// Whoever was asked, alive at 7.
-    Alone,
-    /// 10.0.0.1:1 alive at 7, and 10.0.0.2:1 suspect at 3, with weight 2.
-    Two,
-    /// Whom it was told of.
-    Told,
-}
-
-/// What is answered to a request by a peer that answers a Join as asked.
-#[derive(Clone, Copy)]
-pub(crate) enum Word {
-    /// "mine", and the address that was asked, at a later call than this; before that it is not the owner.
-    Mine(u32),
-    Refuses(Reason),
-    /// Nothing: it can't be reached.
-    Broken,
-}
-
-/// What a peer answers.
-#[derive(Clone, Copy)]
-pub(crate) enum Mood {
-    Says(&'static str),
+pub(crate) enum Answer {
+    /// `hi` to a request.
+    Hi,
+    /// The empty text to a request.
+    Empty,
+    /// `mine 10.0.0.1:1` to a request.
+    Mine,
+    /// `mine 10.0.0.2:1` to a request, by that peer.
+    Theirs,
     NotOwner,
-    Refuses(Reason),
-    /// A membership of nobody, with this digest, to whatever is asked.
-    Welcomes(Digest),
+    RefusesNobody,
+    RefusesMalformed,
+    RefusesFailed,
+    RefusesFull,
+    /// A membership of nobody.
+    Nobody,
+    /// Of 10.0.0.1:1, alive at 7.
+    Alone,
+    /// The same with the digest of nobody.
+    AloneAmiss,
+    /// Of 10.0.0.1:1, alive at 7, and 10.0.0.2:1, suspect at 3, with weight 2.
+    Two,
+    /// The same with the digest of 10.0.0.1:1 alone.
+    TwoAmiss,
+    /// A membership of all whom it was told of, with the digest of 10.0.0.1:1, alive at 7; with that of it as a suspect; with that of two.
+    ToldAlone,
+    ToldSuspect,
+    ToldTwo,
     /// It can't be reached.
     Broken,
     /// There is no memory.
     Starved,
-    /// To a Join this membership, with this digest; to a request this.
-    Holds(Held, Digest, Word),
-    /// To the first call the membership of one, with the first digest, to a later Join that of two, with the second; the first request
-    /// is declined.
-    Learns(Digest, Digest),
 }
 
-/// A peer that counts what it is asked.
+/// The line of an answer, if it is always the same.
+fn line_of(answer: Answer) -> Option<&'static str> {
+    Some(match answer {
+        Answer::Hi =>
+            r#"{"body":"hi","kind":"reply","source":"10.0.0.1:1","sourceIncarnationNumber":7}"#,
+        Answer::Empty =>
+            r#"{"body":"","kind":"reply","source":"10.0.0.1:1","sourceIncarnationNumber":7}"#,
+        Answer::Mine =>
+            r#"{"body":"mine 10.0.0.1:1","kind":"reply","source":"10.0.0.1:1","sourceIncarnationNumber":7}"#,
+        Answer::Theirs =>
+            r#"{"body":"mine 10.0.0.2:1","kind":"reply","source":"10.0.0.2:1","sourceIncarnationNumber":7}"#,
+        Answer::NotOwner =>
+            r#"{"kind":"not-owner","source":"10.0.0.1:1","sourceIncarnationNumber":7}"#,
+        Answer::RefusesNobody =>
+            r#"{"kind":"refused","reason":"nobody","source":"10.0.0.1:1","sourceIncarnationNumber":7}"#,
+        Answer::RefusesMalformed =>
+            r#"{"kind":"refused","reason":"malformed","source":"10.0.0.1:1","sourceIncarnationNumber":7}"#,
+        Answer::RefusesFailed =>
+            r#"{"kind":"refused","reason":"failed","source":"10.0.0.1:1","sourceIncarnationNumber":7}"#,
+        Answer::RefusesFull =>
+            r#"{"kind":"refused","reason":"full","source":"10.0.0.1:1","sourceIncarnationNumber":7}"#,
+        Answer::Nobody =>
+            r#"{"changes":[],"checksum":"e3b0c44298fc1c149afbf4c8996fb92427ae41e4649b934ca495991b7852b855","kind":"joined","source":"10.0.0.1:1","sourceIncarnationNumber":7}"#,
+        Answer::Alone =>
+            r#"{"changes":[{"address":"10.0.0.1:1","incarnationNumber":7,"source":"10.0.0.1:1","sourceIncarnationNumber":7,"status":"alive"}],"checksum":"114cdd273aed4efee25e37eb2d6f8902516de89bfb099e3deb7cd6f372fa39df","kind":"joined","source":"10.0.0.1:1","sourceIncarnationNumber":7}"#,
+        Answer::AloneAmiss =>
+            r#"{"changes":[{"address":"10.0.0.1:1","incarnationNumber":7,"source":"10.0.0.1:1","sourceIncarnationNumber":7,"status":"alive"}],"checksum":"e3b0c44298fc1c149afbf4c8996fb92427ae41e4649b934ca495991b7852b855","kind":"joined","source":"10.0.0.1:1","sourceIncarnationNumber":7}"#,
+        Answer::Two =>
+            r#"{"changes":[{"address":"10.0.0.1:1","incarnationNumber":7,"source":"10.0.0.1:1","sourceIncarnationNumber":7,"status":"alive"},{"address":"10.0.0.2:1","incarnationNumber":3,"source":"10.0.0.2:1","sourceIncarnationNumber":3,"status":"suspect","weight":2}],"checksum":"96236e70e85ed04fd1686bcf8c49d8c26e86a4cb4a04b7988c05563b2fa13c5b","kind":"joined","source":"10.0.0.1:1","sourceIncarnationNumber":7}"#,
+        Answer::TwoAmiss =>
+            r#"{"changes":[{"address":"10.0.0.1:1","incarnationNumber":7,"source":"10.0.0.1:1","sourceIncarnationNumber":7,"status":"alive"},{"address":"10.0.0.2:1","incarnationNumber":3,"source":"10.0.0.2:1","sourceIncarnationNumber":3,"status":"suspect","weight":2}],"checksum":"114cdd273aed4efee25e37eb2d6f8902516de89bfb099e3deb7cd6f372fa39df","kind":"joined","source":"10.0.0.1:1","sourceIncarnationNumber":7}"#,
+        _ => return None,
+    })
+}
+
+/// The digest that goes with all whom a peer was told of, if it answers by that.
+fn digest_of(answer: Answer) -> Option<Digest> {
+    let digits = match answer {
+        Answer::ToldAlone => "114cdd273aed4efee25e37eb2d6f8902516de89bfb099e3deb7cd6f372fa39df",
+        Answer::ToldSuspect => "12e01587fa883c32c6b64e19957814e6c7120b69e8b68fbd3513c251a619658d",
+        Answer::ToldTwo => "96236e70e85ed04fd1686bcf8c49d8c26e86a4cb4a04b7988c05563b2fa13c5b",
+        _ => return None,
+    };
+    Digest::parse(digits)
+}
+
+/// Peers that answer one call after the other. None of another address is reached, and none by a further call.
 #[derive(Drop)]
-pub(crate) struct Peer {
-    mood: Mood,
-    pub(crate) calls: u32,
+pub(crate) struct Peers {
+    answers: &'static [Answer],
+    pub(crate) calls: usize,
     failures: u64,
 }
 
-impl Peer {
-    pub(crate) fn new(mood: Mood) -> Peer {
-        Peer {
-            mood,
+impl Peers {
+    /// Peers that were asked nothing yet.
+    pub(crate) fn new(answers: &'static [Answer]) -> Peers {
+        Peers {
+            answers,
             calls: 0,
             failures: 0,
         }
     }
 }
 
-/// A membership, if there is memory for it.
-fn membership(alloc: Global, checksum: Digest, held: &[Sourced]) -> Option<Content> {
-    let changes = Changes::from_slice(alloc, held).ok()?;
-    Some(Content::Joined(News { checksum, changes }))
-}
-
-/// A reply, if there is memory for it.
-fn reply(alloc: Global, text: &str) -> Option<Content> {
-    let text = Text::new(alloc, text).ok()?;
-    Some(Content::Reply(text))
-}
-
-/// What a node holds of itself.
-fn itself(address: Address, number: u64, status: Status, weight: u8) -> Option<Sourced> {
-    let incarnation = Incarnation::new(number)?;
-    let change = Change {
-        address,
-        incarnation,
-        status,
-        weight: Weight::new(weight)?,
+/// The message by which a host answers; none where there is no memory for it, or it does not go with what is asked: a membership of
+/// members goes with a join, and `mine` with what is none.
+fn message_of(alloc: Global, answer: Answer, host: Address, content: &Content) -> Option<Message> {
+    let is_join = matches!(content, Content::Join(_));
+    match answer {
+        Answer::Alone | Answer::AloneAmiss | Answer::Two | Answer::TwoAmiss if !is_join => {
+            return None;
+        }
+        Answer::Mine | Answer::Theirs if is_join => return None,
+        _ => {}
+    }
+    if let Some(line) = line_of(answer) {
+        return decode(alloc, line.as_bytes()).ok();
+    }
+    let (checksum, source_incarnation) = (digest_of(answer)?, Incarnation::new(7)?);
+    let Content::Join(news) = content else {
+        return None;
     };
-    Some(Sourced {
-        change,
-        source: address,
-        source_incarnation: incarnation,
-    })
-}
-
-/// The answer to a Join, if there is memory for it.
-fn joined(
-    alloc: Global,
-    held: Held,
-    checksum: Digest,
-    asked: Address,
-    told: &[Sourced],
-) -> Option<Content> {
-    match held {
-        Held::Nobody => membership(alloc, checksum, &[]),
-        Held::Told => membership(alloc, checksum, told),
-        Held::Alone => {
-            let own = itself(asked, 7, Status::Alive, 1)?;
-            membership(alloc, checksum, &[own])
-        }
-        Held::Two => {
-            let first = itself(Address::new(0x0a00_0001, 1)?, 7, Status::Alive, 1)?;
-            let second = itself(Address::new(0x0a00_0002, 1)?, 3, Status::Suspect, 2)?;
-            membership(alloc, checksum, &[first, second])
-        }
-    }
-}
-
-/// The answer to a request, if there is memory for it.
-fn worded(alloc: Global, word: Word, asked: Address, calls: u32) -> Option<Content> {
-    match word {
-        Word::Mine(declined) if calls <= declined => Some(Content::NotOwner),
-        Word::Mine(_) => {
-            let text = format!(in alloc; "mine {asked}").ok()?;
-            reply(alloc, text.as_str())
-        }
-        Word::Refuses(reason) => Some(Content::Refused(reason)),
-        Word::Broken => None,
-    }
-}
-
-/// The content that a mood answers by, if there is memory for it: not that of a Join to one that holds members, and not of a broken
-/// one.
-fn told(
-    alloc: Global,
-    mood: Mood,
-    content: &Content,
-    asked: Address,
-    calls: u32,
-) -> Option<Content> {
-    match (mood, content) {
-        (Mood::Says(text), _) => reply(alloc, text),
-        (Mood::NotOwner, _) => Some(Content::NotOwner),
-        (Mood::Refuses(reason), _) => Some(Content::Refused(reason)),
-        (Mood::Welcomes(checksum), _) => membership(alloc, checksum, &[]),
-        (Mood::Starved | Mood::Broken, _) => None,
-        (Mood::Learns(first, _), Content::Join(_)) if calls == 1 => {
-            joined(alloc, Held::Alone, first, asked, &[])
-        }
-        (Mood::Learns(_, second), Content::Join(_)) => {
-            joined(alloc, Held::Two, second, asked, &[])
-        }
-        (Mood::Learns(_, _), _) => worded(alloc, Word::Mine(2), asked, calls),
-        (Mood::Holds(_, _, word), _) => worded(alloc, word, asked, calls),
-    }
-}
-
-/// Whether a peer of this mood can't be reached with what it is asked.
-fn is_broken(mood: Mood, content: &Content) -> bool {
-    match (mood, content) {
-        (Mood::Holds(_, _, _), Content::Join(_)) => false,
-        (Mood::Broken | Mood::Holds(_, _, Word::Broken), _) => true,
-        _ => false,
-    }
-}
-
-/// What a peer answers that can be reached, if there is memory for it.
-fn answer(
-    alloc: Global,
-    mood: Mood,
-    content: &Content,
-    asked: Address,
-    calls: u32,
-) -> Option<Message> {
-    let source_incarnation = Incarnation::new(7)?;
-    let content = match (mood, content) {
-        (Mood::Holds(held, checksum, _), Content::Join(news)) => {
-            joined(alloc, held, checksum, asked, news.changes.as_slice())?
-        }
-        (mood, content) => told(alloc, mood, content, asked, calls)?,
-    };
+    let changes = Changes::from_slice(alloc, news.changes.as_slice()).ok()?;
     Some(Message {
-        source: asked,
+        source: host,
         source_incarnation,
-        content,
+        content: Content::Joined(News { checksum, changes }),
     })
 }
 
-impl Link for Peer {
+impl Link for Peers {
     ghost may_answer = { λ _ _ _. Unit {0} };
 
     ghost failed = { λ p. p.failures };
@@ -207,61 +153,89 @@ impl Link for Peer {
         if self.failures == u64::MAX {
             return Err(LinkError::Spent);
         }
+        let answer = self
+            .answers
+            .get(self.calls)
+            .copied()
+            .unwrap_or(Answer::Broken);
         self.calls = self.calls.wrapping_add(1);
-        if is_broken(self.mood, &message.content) {
+        let host = match answer {
+            Answer::Broken => 0,
+            Answer::Theirs => 0x0a00_0002,
+            _ => 0x0a00_0001,
+        };
+        if Address::new(host, 1) != Some(to) {
             self.failures += 1;
             return Err(LinkError::Io);
         }
-        match answer(alloc, self.mood, &message.content, to, self.calls) {
-            Some(answer) => Ok(answer),
-            None => Err(LinkError::Memory),
-        }
+        message_of(alloc, answer, to, &message.content).ok_or(LinkError::Memory)
     }
 }
 
-/// The digest of no members.
-pub(crate) const OF_NOBODY: &str =
-    "e3b0c44298fc1c149afbf4c8996fb92427ae41e4649b934ca495991b7852b855";
-
-/// The digest of 10.0.0.1:1 alive at 7.
-pub(crate) const OF_ALONE: &str =
-    "114cdd273aed4efee25e37eb2d6f8902516de89bfb099e3deb7cd6f372fa39df";
-
-/// The digest of `10.0.0.1:1alive7;10.0.0.2:1suspect3*2`.
-pub(crate) const OF_TWO: &str = "96236e70e85ed04fd1686bcf8c49d8c26e86a4cb4a04b7988c05563b2fa13c5b";
-
-/// The digest of these digits.
-pub(crate) fn digest(rt: &impl Abort, digits: &str) -> Digest {
-    Digest::parse(digits).expect(rt, "a digest")
-}
-
-/// A writer that takes so many bytes, and fails then.
+/// A text, so many times, and then another. The reader fails after so many bytes.
 #[derive(Drop)]
-pub(crate) struct Page {
-    pub(crate) bytes: Vec<u8>,
-    room: usize,
+pub(crate) struct Lines<'a> {
+    text: &'a [u8],
+    times: usize,
+    last: &'a [u8],
+    left: usize,
+    /// How many bytes of the text were read.
+    place: usize,
 }
 
-impl Page {
-    pub(crate) fn new(alloc: Global, room: usize) -> Page {
-        Page {
-            bytes: Vec::new(alloc),
-            room,
+impl<'a> Lines<'a> {
+    pub(crate) fn new(text: &'a str, times: usize, last: &'a str, left: usize) -> Lines<'a> {
+        Lines {
+            text: text.as_bytes(),
+            times,
+            last: last.as_bytes(),
+            left,
+            place: 0,
         }
     }
 }
 
-impl Write for Page {
+impl<'a> Read for Lines<'a> {
+    fn read(&mut self, buf: &mut [u8]) -> io::Result<usize> {
+        if self.left == 0 {
+            return Err(io::Error::from(ErrorKind::Other));
+        }
+        let Some(to) = buf.first_mut() else {
+            return Ok(0);
+        };
+        let source = if self.times > 0 { self.text } else { self.last };
+        let Some(&byte) = source.get(self.place) else {
+            return Ok(0);
+        };
+        *to = byte;
+        self.place += 1;
+        if self.times > 0 && self.place == source.len() {
+            self.times -= 1;
+            self.place = 0;
+        }
+        self.left -= 1;
+        Ok(1)
+    }
+}
+
+/// A writer that takes this text, and nothing else.
+#[derive(Drop)]
+pub(crate) struct Page<'a> {
+    /// What was not written yet.
+    pub(crate) left: &'a [u8],
+}
+
+impl<'a> Write for Page<'a> {
     fn write(&mut self, buf: &[u8]) -> io::Result<usize> {
         let Some(&byte) = buf.first() else {
             return Ok(0);
         };
-        if self.bytes.len() >= self.room {
-            return Err(io::Error::from(ErrorKind::WriteZero));
-        }
-        match self.bytes.push(byte) {
-            Ok(()) => Ok(1),
-            Err(_) => Err(io::Error::from(ErrorKind::OutOfMemory)),
+        match self.left.split_first() {
+            Some((&next, behind)) if next == byte => {
+                self.left = behind;
+                Ok(1)
+            }
+            _ => Err(io::Error::from(ErrorKind::WriteZero)),
         }
     }
 

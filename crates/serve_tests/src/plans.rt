@@ -3,9 +3,6 @@ use change_core::{Address, Incarnation, Weight};
 use serve_core::{MOST_REQUESTS, ServeWords};
 use std::alloc::Global;
 
-/// More bytes than a server or a command ever writes here.
-pub(crate) const ALL: usize = 4096;
-
 /// More milliseconds than anything takes here on a busy machine, which are waited where the limit is not what is tested.
 pub(crate) const PATIENCE: u64 = 1_000_000;
 
@@ -24,13 +21,16 @@ pub(crate) struct Plan {
     pub(crate) line: Option<u64>,
     /// How long it waits for the answer to a ping, in milliseconds, where its waits are not the standard ones.
     pub(crate) ping: u64,
-    /// How many bytes its writer takes.
-    pub(crate) room: usize,
+    /// What its writer takes, and nothing else.
+    pub(crate) page: &'static str,
     /// How often it tries to listen.
     pub(crate) tries: u32,
 }
 
-/// Two workers, no rounds and no host. It waits as long as need be.
+/// What a server at 127.0.0.1:29177 writes.
+pub(crate) const WRITTEN: &str = "serving 127.0.0.1:29177\ndone\n";
+
+/// Two workers, no rounds and no host. It waits as long as need be, and writes what one at 127.0.0.1:29177 does.
 pub(crate) fn plan_at(port: u16, requests: u64) -> Plan {
     Plan {
         port,
@@ -41,7 +41,7 @@ pub(crate) fn plan_at(port: u16, requests: u64) -> Plan {
         host: None,
         line: Some(PATIENCE),
         ping: PATIENCE,
-        room: ALL,
+        page: WRITTEN,
         tries: 1,
     }
 }
@@ -49,14 +49,6 @@ pub(crate) fn plan_at(port: u16, requests: u64) -> Plan {
 /// A port of 127.0.0.1; none where it is 0.
 pub(crate) fn local(port: u16) -> Option<Address> {
     Address::new(0x7f00_0001, port)
-}
-
-/// The hosts of a plan; none where there was no memory.
-fn hosts_of(alloc: Global, plan: &Plan) -> Option<Vec<Address>> {
-    match plan.host {
-        Some(port) => Vec::from_slice(alloc, &[local(port)?]).ok(),
-        None => Some(Vec::new(alloc)),
-    }
 }
 
 /// The words of a plan; none where there was no memory, or there are no such words.
@@ -67,7 +59,10 @@ pub(crate) fn words_of(alloc: Global, plan: &Plan) -> Option<ServeWords> {
     if !are_words || period > 3_600_000 {
         return None;
     }
-    let hosts = hosts_of(alloc, plan)?;
+    let hosts = match plan.host {
+        Some(port) => Vec::from_slice(alloc, &[local(port)?]).ok()?,
+        None => Vec::new(alloc),
+    };
     if hosts.len() > 1 {
         drop(hosts);
         return None;

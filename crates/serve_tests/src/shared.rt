@@ -1,27 +1,24 @@
-//! A server in a thread of its own, how it is asked, and how it is let end.
+//! A server in a thread of its own, how it is connected to, and how it is let end.
 use crate::peers::Page;
-use crate::plans::{ALL, PATIENCE, Plan, local, words_of};
+use crate::plans::{PATIENCE, Plan, local, words_of};
 use change_core::Address;
-use cluster_links::{Limits, TcpLink, socket_address};
-use serve_core::{
-    AskFault, Host, ServeFault, ServeWords, Waits, ask_over, ask_run, members_over, serve_run,
-    serve_within,
-};
+use cluster_links::{Limits, socket_address};
+use serve_core::{Host, ServeFault, ServeWords, Waits, serve_run, serve_within};
 use std::alloc::Global;
 use std::cell::Cell;
 use std::io::Read;
-use std::net::{Net, Shutdown, SocketAddr, TcpListener, TcpStream};
+use std::net::{Net, Shutdown, TcpListener, TcpStream};
+use std::sync::Arc;
 use std::sync::atomic::{AtomicBool, Ordering};
-use std::sync::{Arc, Wait};
+use std::thread;
 use std::thread::JoinHandle;
 use std::time::{Clock, Duration};
-use std::{io, thread};
 
 /// How often is tried again what may come to be, a millisecond apart.
 pub(crate) const TRIES: u32 = 1_000_000;
 
 /// More time for each call of a link than it wants on a busy machine.
-fn patient() -> Limits {
+pub(crate) fn patient() -> Limits {
     let patience = Duration::from_millis(PATIENCE);
     Limits {
         ping: patience,
@@ -30,25 +27,8 @@ fn patient() -> Limits {
     }
 }
 
-/// How a server ended, and what it wrote.
-#[derive(Drop)]
-pub(crate) struct Ended {
-    outcome: Result<(), ServeFault>,
-    text: Vec<u8>,
-}
-
-impl Ended {
-    /// Whether it ended so, with this text written.
-    pub(crate) fn is(&self, outcome: Result<(), ServeFault>, text: &str) -> bool {
-        self.outcome == outcome && self.text.as_slice() == text.as_bytes()
-    }
-
-    /// Whether the writer failed, with a front of this text written.
-    pub(crate) fn is_unwritten(&self, text: &str) -> bool {
-        let is_front = text.as_bytes().starts_with(self.text.as_slice());
-        self.outcome == Err(ServeFault::CannotWrite) && is_front
-    }
-}
+/// How a server ended, and how much of its page was not written.
+pub(crate) type Ended = (Result<(), ServeFault>, usize);
 
 /// Serves once.
 fn serve_once<R: Net<Listener = TcpListener, Stream = TcpStream> + Host>(
@@ -57,53 +37,42 @@ fn serve_once<R: Net<Listener = TcpListener, Stream = TcpStream> + Host>(
     plan: &Plan,
     words: &ServeWords,
 ) -> Ended {
-    let mut page = Page::new(alloc, plan.room);
+    let mut page = Page {
+        left: plan.page.as_bytes(),
+    };
     let outcome = match plan.line {
         None => serve_run(rt, alloc, words, &mut page),
         Some(millis) => {
+            let (line, ping) = (
+                Duration::from_millis(millis),
+                Duration::from_millis(plan.ping),
+            );
             let waits = Waits {
-                line: Duration::from_millis(millis),
-                links: Limits {
-                    ping: Duration::from_millis(plan.ping),
-                    ..patient()
-                },
+                line,
+                links: Limits { ping, ..patient() },
             };
             serve_within(rt, alloc, waits, words, &mut page)
         }
     };
-    Ended {
-        outcome,
-        text: page.bytes,
-    }
+    (outcome, page.left.len())
 }
 
-/// Serves; where the port is taken, again a millisecond later, as often as the plan says.
+/// Serves, and rings then. Where the port is taken, it is tried again a millisecond later, as often as the plan says.
 fn serve<R: Net<Listener = TcpListener, Stream = TcpStream> + Host>(
-    rt: &R,
-    alloc: Global,
-    plan: &Plan,
-    words: &ServeWords,
-) -> Ended {
-    for _ in 1..plan.tries {
-        let ended = serve_once(rt, alloc, plan, words);
-        if ended.outcome != Err(ServeFault::CannotListen) {
-            return ended;
-        }
-        drop(ended);
-        thread::sleep(rt, Duration::from_millis(1));
-    }
-    serve_once(rt, alloc, plan, words)
-}
-
-/// Serves, and rings then.
-fn serve_and_ring<R: Net<Listener = TcpListener, Stream = TcpStream> + Host>(
     rt: &R,
     alloc: Global,
     plan: &Plan,
     words: &ServeWords,
     bell: &AtomicBool,
 ) -> Ended {
-    let ended = serve(rt, alloc, plan, words);
+    let mut ended = serve_once(rt, alloc, plan, words);
+    for _ in 1..plan.tries {
+        if ended.0 != Err(ServeFault::CannotListen) {
+            break;
+        }
+        thread::sleep(rt, Duration::from_millis(1));
+        ended = serve_once(rt, alloc, plan, words);
+    }
     bell.store(true, Ordering::SeqCst);
     ended
 }
@@ -112,6 +81,8 @@ fn serve_and_ring<R: Net<Listener = TcpListener, Stream = TcpStream> + Host>(
 #[derive(Drop)]
 pub(crate) struct Running {
     pub(crate) address: Address,
+    /// How many connections to it were made.
+    made: Cell<u64>,
     bell: Arc<AtomicBool, Global>,
     thread: JoinHandle<Ended>,
 }
@@ -133,11 +104,7 @@ fn start_thread<R: Net<Listener = TcpListener, Stream = TcpStream> + Host>(
     let bell = Arc::try_clone(bell).ok()?;
     let words = words_of(alloc, plan)?;
     let (host, plan) = (*rt, *plan);
-    thread::spawn(
-        rt,
-        move || serve_and_ring(&host, alloc, &plan, &words, &*bell),
-    )
-    .ok()
+    thread::spawn(rt, move || serve(&host, alloc, &plan, &words, &*bell)).ok()
 }
 
 /// Starts a server; none where a growth or the thread was refused.
@@ -151,47 +118,80 @@ pub(crate) fn start<R: Net<Listener = TcpListener, Stream = TcpStream> + Host>(
     let thread = start_thread(rt, alloc, plan, &bell)?;
     Some(Running {
         address,
+        made: Cell::new(0),
         bell,
         thread,
     })
 }
 
-/// Waits until a server has ended by itself; whether it has.
-pub(crate) fn ends<C: Clock>(clock: &C, server: &Running) -> bool {
+/// Waits until a server has ended by itself; whether it has. It is not waited for once the other one has ended.
+pub(crate) fn ends<C: Clock>(clock: &C, server: &Running, other: &Running) -> bool {
     for _ in 0..TRIES {
         if server.has_ended() {
             return true;
+        }
+        if other.has_ended() {
+            return server.has_ended();
         }
         thread::sleep(clock, Duration::from_millis(1));
     }
     false
 }
 
-/// A connection, on which nothing is waited for longer than patience lasts; none where nobody listens.
-pub(crate) fn connect<R: Net<Listener = TcpListener, Stream = TcpStream>>(
+/// A connection to a server, once it listens, on which nothing is waited for longer than patience lasts; none where it has ended.
+pub(crate) fn connect<R: Net<Listener = TcpListener, Stream = TcpStream> + Clock>(
     rt: &R,
-    to: Address,
+    server: &Running,
 ) -> Option<TcpStream> {
-    let wait = Duration::from_millis(PATIENCE);
-    let stream = TcpStream::connect_timeout(rt, &socket_address(to), wait).ok()?;
-    stream.set_read_timeout(Some(wait)).ok()?;
-    stream.set_write_timeout(Some(wait)).ok()?;
-    Some(stream)
+    let (to, wait) = (
+        socket_address(server.address),
+        Duration::from_millis(PATIENCE),
+    );
+    for _ in 0..TRIES {
+        if let Ok(stream) = TcpStream::connect_timeout(rt, &to, wait) {
+            server.made.set(server.made.get().wrapping_add(1));
+            stream.set_read_timeout(Some(wait)).ok()?;
+            stream.set_write_timeout(Some(wait)).ok()?;
+            return Some(stream);
+        }
+        if server.has_ended() {
+            return None;
+        }
+        thread::sleep(rt, Duration::from_millis(1));
+    }
+    None
 }
 
-/// Connects, says nothing, and waits until the other side hangs up; whether it did so by itself, as a server does and the system
-/// for one that has ended does not; none where nobody listens.
-fn knock<R: Net<Listener = TcpListener, Stream = TcpStream>>(rt: &R, to: Address) -> Option<bool> {
-    let mut stream = connect(rt, to)?;
+/// Connects to a server, says nothing, and waits until it hangs up; whether it did so by itself, as a server does and the system for
+/// one that has ended does not.
+fn knock<R: Net<Listener = TcpListener, Stream = TcpStream> + Clock>(
+    rt: &R,
+    server: &Running,
+) -> bool {
+    let Some(mut stream) = connect(rt, server) else {
+        return false;
+    };
     let _said = stream.shutdown(Shutdown::Write);
-    match stream.read(&mut [0]) {
-        Ok(count) => Some(count == 0),
-        Err(_) => Some(false),
+    stream.read(&mut [0]).unwrap_or(1) == 0
+}
+
+/// Knocks at a server until all of its requests are used up; whether each knock was served, so that no connection before used up more
+/// than one.
+pub(crate) fn spend<R: Net<Listener = TcpListener, Stream = TcpStream> + Clock>(
+    rt: &R,
+    server: &Running,
+    requests: u64,
+) -> bool {
+    for _ in server.made.get()..requests {
+        if !knock(rt, server) {
+            return false;
+        }
     }
+    server.made.get() == requests
 }
 
 /// Knocks until a server has ended; whether it has.
-fn drain<R: Net<Listener = TcpListener, Stream = TcpStream> + Host>(
+fn drain<R: Net<Listener = TcpListener, Stream = TcpStream> + Clock>(
     rt: &R,
     server: &Running,
 ) -> bool {
@@ -199,9 +199,7 @@ fn drain<R: Net<Listener = TcpListener, Stream = TcpStream> + Host>(
         if server.has_ended() {
             return true;
         }
-        if knock(rt, server.address).is_none() {
-            thread::sleep(rt, Duration::from_millis(1));
-        }
+        let _is_served = knock(rt, server);
     }
     false
 }
@@ -218,209 +216,25 @@ pub(crate) fn stop<R: Net<Listener = TcpListener, Stream = TcpStream> + Host>(
     Some(server.thread.join(rt))
 }
 
-/// Whether a server that is stopped ended so, with this text written.
+/// Whether a server that is stopped ended so, with all of its page written.
 pub(crate) fn stops_so<R: Net<Listener = TcpListener, Stream = TcpStream> + Host>(
     rt: &R,
     server: Running,
     outcome: Result<(), ServeFault>,
-    text: &str,
 ) -> bool {
-    match stop(rt, server) {
-        Some(ended) => {
-            let is_so = ended.is(outcome, text);
-            drop(ended);
-            is_so
-        }
-        None => false,
-    }
+    stop(rt, server) == Some((outcome, 0))
 }
 
-/// Whether a server ended so, with this text written, by itself where it had what it was to have; else it is stopped,
-/// and that is false.
+/// Whether a server ended so, with all of its page written, by itself where it had what it was to have; else it is stopped, and that is
+/// false.
 pub(crate) fn ends_so<R: Net<Listener = TcpListener, Stream = TcpStream> + Host>(
     rt: &R,
     server: Running,
     is_served: bool,
     outcome: Result<(), ServeFault>,
-    text: &str,
 ) -> bool {
-    let has_ended = is_served && ends(rt, &server);
-    stops_so(rt, server, outcome, text) && has_ended
-}
-
-/// The network, which counts the connections that were made over it.
-#[derive(Drop)]
-pub(crate) struct Counting<'a, R> {
-    rt: &'a R,
-    made: Cell<u64>,
-}
-
-impl<'a, R> Counting<'a, R> {
-    /// None were made yet.
-    pub(crate) fn new(rt: &'a R) -> Counting<'a, R> {
-        Counting {
-            rt,
-            made: Cell::new(0),
-        }
-    }
-}
-
-impl<'a, R: Net<Listener = TcpListener, Stream = TcpStream>> Net for Counting<'a, R> {
-    type Stream = TcpStream;
-
-    type Listener = TcpListener;
-
-    fn bind(&self, addr: SocketAddr) -> io::Result<TcpListener> {
-        self.rt.bind(addr)
-    }
-
-    fn connect(&self, addr: SocketAddr) -> io::Result<TcpStream> {
-        let stream = self.rt.connect(addr)?;
-        self.made.set(self.made.get().wrapping_add(1));
-        Ok(stream)
-    }
-
-    fn connect_timeout(&self, addr: SocketAddr, timeout: Duration) -> io::Result<TcpStream> {
-        let stream = self.rt.connect_timeout(addr, timeout)?;
-        self.made.set(self.made.get().wrapping_add(1));
-        Ok(stream)
-    }
-}
-
-impl<'a, R: Clock> Clock for Counting<'a, R> {
-    fn monotonic(&self) -> io::Result<Duration> {
-        self.rt.monotonic()
-    }
-
-    fn since_1970(&self) -> io::Result<Duration> {
-        self.rt.since_1970()
-    }
-
-    fn sleep(&self, duration: Duration) {
-        self.rt.sleep(duration)
-    }
-}
-
-impl<'a, R: Wait> Wait for Counting<'a, R> {}
-
-/// Knocks at a server that has so many requests, to which all connections were made over this network, until all of them are used
-/// up; whether each knock was served, so that no connection before used up more than one.
-pub(crate) fn spend<R: Net<Listener = TcpListener, Stream = TcpStream>>(
-    net: &Counting<'_, R>,
-    server: &Running,
-    requests: u64,
-) -> bool {
-    let left = requests.saturating_sub(net.made.get());
-    for _ in 0..left {
-        if knock(net, server.address) != Some(true) {
-            return false;
-        }
-    }
-    net.made.get() == requests
-}
-
-/// What a server is asked.
-#[derive(Clone, Copy)]
-pub(crate) enum Question {
-    /// `hi` under the key `k`.
-    Ask,
-    /// The same over a link of its own, with the standard limits.
-    AskRun,
-    Members,
-}
-
-/// Asks a server once, and writes what it answers.
-pub(crate) fn ask_once<R: Net<Listener = TcpListener, Stream = TcpStream> + Wait + Clock>(
-    rt: &R,
-    alloc: Global,
-    to: Address,
-    question: Question,
-    page: &mut Page,
-) -> Result<(), AskFault> {
-    let mut link = TcpLink::with_limits(rt, patient());
-    match question {
-        Question::Ask => ask_over(rt, alloc, &mut link, to, "k", "hi", page),
-        Question::AskRun => ask_run(rt, alloc, to, "k", "hi", page),
-        Question::Members => members_over(rt, alloc, &mut link, to, false, page),
-    }
-}
-
-/// What a server answers once.
-#[derive(Clone, Copy, PartialEq, Eq)]
-pub(crate) enum Told {
-    /// The text.
-    Text,
-    /// What begins with the text, and goes on.
-    Longer,
-    /// Something else, or nothing.
-    Other,
-    /// That it refuses.
-    Refusal,
-}
-
-/// What is told of a text by these bytes.
-fn told_in(bytes: &[u8], text: &str) -> Told {
-    if !bytes.starts_with(text.as_bytes()) {
-        Told::Other
-    } else if bytes.len() == text.len() {
-        Told::Text
-    } else {
-        Told::Longer
-    }
-}
-
-/// What a server answers once, compared with this text.
-pub(crate) fn asked<R: Net<Listener = TcpListener, Stream = TcpStream> + Wait + Clock>(
-    rt: &R,
-    alloc: Global,
-    to: Address,
-    question: Question,
-    text: &str,
-) -> Told {
-    let mut page = Page::new(alloc, ALL);
-    let ended = ask_once(rt, alloc, to, question, &mut page);
-    let told = told_in(page.bytes.as_slice(), text);
-    drop(page);
-    match ended {
-        Ok(()) => told,
-        Err(AskFault::Refused(_)) => Told::Refusal,
-        Err(_) => Told::Other,
-    }
-}
-
-/// Whether a server answers with this text at last.
-pub(crate) fn answers<R: Net<Listener = TcpListener, Stream = TcpStream> + Wait + Clock>(
-    rt: &R,
-    alloc: Global,
-    server: &Running,
-    question: Question,
-    text: &str,
-) -> bool {
-    answers_by(rt, alloc, server, question, text, TRIES)
-}
-
-/// Whether a server answers with this text at last, asked so often at most, a millisecond apart; not where it refuses, ends before,
-/// or answers with more.
-pub(crate) fn answers_by<R: Net<Listener = TcpListener, Stream = TcpStream> + Wait + Clock>(
-    rt: &R,
-    alloc: Global,
-    server: &Running,
-    question: Question,
-    text: &str,
-    tries: u32,
-) -> bool {
-    for _ in 0..tries {
-        match asked(rt, alloc, server.address, question, text) {
-            Told::Text => return true,
-            Told::Longer | Told::Refusal => return false,
-            Told::Other => {}
-        }
-        if server.has_ended() {
-            return false;
-        }
-        thread::sleep(rt, Duration::from_millis(1));
-    }
-    false
+    let has_ended = is_served && ends(rt, &server, &server);
+    stops_so(rt, server, outcome) && has_ended
 }
 
 /// Waits for the turn of a test, since all tests of all processes use the same ports, and keeps it; none where it never comes.

@@ -8,18 +8,25 @@ use std::alloc::Global;
 use std::process::Abort;
 use wire_json::{Reason, WireError};
 
-/// What is said of a fault. After a refused growth it is said again.
-pub fn told(rt: &impl Abort, alloc: Global, fault: &Fault) -> String {
-    match format!(in alloc; "{fault}").or_else(|_| format!(in alloc; "{fault}")) {
-        Ok(text) => text,
-        Err(_) => panic!(rt; "out of memory"),
+/// Whether a fault is told by this text, or by what begins with it where words are refused, and ends the program with this status.
+/// After a refused growth it is told again.
+pub fn is_told(alloc: Global, fault: &Fault, text: &str, status: u8) -> bool {
+    for _ in 0..2 {
+        if let Ok(said) = format!(in alloc; "{fault}") {
+            let is_front = said.as_str().starts_with(text);
+            let is_said = is_front && (status == 2 || said.len() == text.len());
+            drop(said);
+            return is_said && fault.status() == status;
+        }
     }
+    false
 }
 
 /// That a fault is told by this text, and ends the program with status 1.
-fn tells(rt: &impl Abort, alloc: Global, fault: &Fault, text: &str) {
-    assert_eq!(rt; told(rt, alloc, fault).as_str(), text);
-    assert_eq!(rt; fault.status(), 1);
+fn tells(rt: &impl Abort, alloc: Global, fault: Fault, text: &str) {
+    let is_so = is_told(alloc, &fault, text, 1);
+    drop(fault);
+    assert!(rt; is_so, "{text}");
 }
 
 /// Faults of subcommands, and what is said of them.
@@ -129,7 +136,7 @@ const CLUSTER_FAULTS: [(ClusterFault, &str); 16] = [
 #[test]
 fn tells_why_a_node_did_not_answer(rt: HostRuntime) {
     for (fault, text) in &CLUSTER_FAULTS {
-        tells(&rt, rt.alloc(), &Fault::from(*fault), *text);
+        tells(&rt, rt.alloc(), Fault::from(*fault), *text);
     }
 }
 
@@ -138,10 +145,10 @@ fn tells_what_the_machine_refused(rt: HostRuntime) {
     tells(
         &rt,
         rt.alloc(),
-        &Fault::from(WordsFault::NoMemory),
+        Fault::from(WordsFault::NoMemory),
         "ringpop: out of memory\n",
     );
     for (fault, text) in &FAULTS {
-        tells(&rt, rt.alloc(), &Fault::from(*fault), *text);
+        tells(&rt, rt.alloc(), Fault::from(*fault), *text);
     }
 }

@@ -1,0 +1,91 @@
+//! What is written for words and an input, and what is said where they end early.
+
+use crate::faults::is_told;
+use crate::peers::Page;
+use crate::reads::{NO_WORDS, read, words_in};
+use cli_run::words_run;
+use cli_words::Words;
+use serve_core::Host;
+use std::alloc::Global;
+use std::net::{Net, TcpListener, TcpStream};
+use std::process::Abort;
+
+/// That 10.0.0.2:1 is alive at 5.
+const ALIVE: &str =
+    r#"{"address":"10.0.0.2:1","incarnationNumber":5,"source":"10.0.0.2:1","sourceIncarnationNumber":5,"status":"alive"}"#;
+
+/// Words, an input, and what is written for them, or said of the fault that they end with.
+const RUNS: [(&str, &str, Result<&str, &str>); 9] = [
+    (
+        "ringpop",
+        ALIVE,
+        Ok("10.0.0.2:1alive5\n0e3718e4725f4a4f076cd57ccfadcc6cb62363f6f9380e4283d2b9be9c1e6ab2\n"),
+    ),
+    ("ringpop hash abc", "[]", Ok("ba7816bf8f01cfea\n")),
+    ("ringpop owner k", ALIVE, Ok("10.0.0.2:1\n")),
+    ("ringpop owner --n 0 k", ALIVE, Ok("")),
+    (
+        "ringpop sim",
+        "node 10.0.0.1:1 7\nmembers 10.0.0.1:1\n",
+        Ok("ok\n10.0.0.1:1alive7\n"),
+    ),
+    ("ringpop", "[]", Err("ringpop: line 1: not an object\n")),
+    ("ringpop owner k", "\n", Err("ringpop: line 1: not JSON\n")),
+    ("ringpop sim", "at", Err("ringpop: line 1: bad command\n")),
+    (
+        "ringpop members 127.0.0.1:1",
+        "",
+        Err("ringpop: no answer\n"),
+    ),
+];
+
+/// Whether this is written for the words and the input, or said of their fault, which ends the program with status 1; none where another
+/// fault ends it.
+fn come_to<R: Net<Listener = TcpListener, Stream = TcpStream> + Host + Abort>(
+    rt: &R,
+    alloc: Global,
+    words: &Words<'_>,
+    input: &str,
+    wanted: Result<&str, &str>,
+) -> Option<bool> {
+    let mut page = Page {
+        left: wanted.unwrap_or_default().as_bytes(),
+    };
+    let mut reader = input.as_bytes();
+    let ended = words_run(rt, alloc, words, &mut reader, &mut page);
+    let is_so = match (&ended, wanted) {
+        (Ok(()), Ok(_)) => Some(page.left.is_empty()),
+        (Ok(()), Err(_)) => Some(false),
+        (Err(fault), Err(text)) if is_told(alloc, fault, text, 1) => Some(true),
+        _ => None,
+    };
+    drop(ended);
+    is_so
+}
+
+/// That the words and the input come to this. They are run once more where another fault ended it, as a refused growth is.
+fn check<R: Net<Listener = TcpListener, Stream = TcpStream> + Host + Abort>(
+    rt: &R,
+    alloc: Global,
+    line: &str,
+    input: &str,
+    wanted: Result<&str, &str>,
+) {
+    let mut words = NO_WORDS;
+    let words = read(alloc, words_in(rt, line, &mut words))
+        .ok()
+        .expect(rt, "words");
+    let is_so = match come_to(rt, alloc, &words, input, wanted) {
+        None => come_to(rt, alloc, &words, input, wanted),
+        is_so => is_so,
+    };
+    drop(words);
+    assert!(rt; is_so == Some(true), "{line}");
+}
+
+#[test]
+fn runs_what_the_words_ask_for(rt: HostRuntime) {
+    for (line, input, wanted) in &RUNS {
+        check(&rt, rt.alloc(), *line, *input, *wanted);
+    }
+}

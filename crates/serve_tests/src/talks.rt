@@ -1,0 +1,227 @@
+//! What peers say to a server, line by line, and what it makes of that.
+use crate::plans::Plan;
+use crate::shared::{Running, connect, ends_so, spend, start};
+use serve_core::{Host, ServeFault};
+use std::alloc::Global;
+use std::io::{ErrorKind, Read, Write};
+use std::net::{Net, Shutdown, TcpListener, TcpStream};
+use std::time::{Clock, Duration, Instant};
+use std::{io, thread};
+
+/// What a peer does once it has said what it says.
+#[derive(Clone, Copy)]
+pub(crate) enum Close {
+    /// It waits.
+    Waits,
+    /// It will say no more, and waits.
+    Ends,
+    /// It hangs up, and wants nothing.
+    HangsUp,
+}
+
+/// What a peer says, and what it is to hear.
+#[derive(Clone, Copy)]
+pub(crate) struct Talk {
+    /// So many peers are silent meanwhile.
+    pub(crate) beside: u32,
+    /// It says so many times 1,024 letters.
+    pub(crate) blocks: u32,
+    /// Then so many letters, each after ten milliseconds.
+    pub(crate) drips: u32,
+    /// Then this.
+    pub(crate) text: &'static str,
+    pub(crate) close: Close,
+    /// What it is to hear until the server hangs up.
+    pub(crate) wanted: &'static str,
+    /// After how many milliseconds that is to be at the earliest.
+    pub(crate) least: u64,
+    /// How often it talks at most where it hears nothing.
+    pub(crate) looks: u32,
+}
+
+/// A peer that asks a server at 127.0.0.1:29177 for `hi` under `k`.
+pub(crate) const ECHO: Talk = Talk {
+    beside: 0,
+    blocks: 0,
+    drips: 0,
+    text: "{\"body\":\"hi\",\"keys\":[\"k\"],\"kind\":\"forward\",\"source\":\"127.0.0.1:1\",\"sourceIncarnationNumber\":1}\n",
+    close: Close::Waits,
+    wanted: "{\"body\":\"127.0.0.1:29177 hi\",\"kind\":\"reply\",\"source\":\"127.0.0.1:29177\",\"sourceIncarnationNumber\":1}\n",
+    least: 0,
+    looks: 1,
+};
+
+/// What it answers to what is no message.
+pub(crate) const MALFORMED: &str =
+    "{\"kind\":\"refused\",\"reason\":\"malformed\",\"source\":\"127.0.0.1:29177\",\"sourceIncarnationNumber\":1}\n";
+
+/// Asks for a ping of 127.0.0.1:29170, which says nothing.
+pub(crate) const PING_REQ: &str =
+    "{\"changes\":[],\"checksum\":\"e3b0c44298fc1c149afbf4c8996fb92427ae41e4649b934ca495991b7852b855\",\"kind\":\"ping-req\",\"source\":\"127.0.0.1:1\",\"sourceIncarnationNumber\":1,\"target\":\"127.0.0.1:29170\"}\n";
+
+/// What is answered once that was waited for.
+pub(crate) const NOT_REACHED: &str =
+    "{\"changes\":[{\"address\":\"127.0.0.1:29177\",\"incarnationNumber\":1,\"source\":\"127.0.0.1:29177\",\"sourceIncarnationNumber\":1,\"status\":\"alive\"}],\"checksum\":\"22662f650744ac3c189b2bd07ecd19225637eb14a4c9e73dd2e46356ac7660b9\",\"kind\":\"ping-req-ack\",\"reached\":false,\"source\":\"127.0.0.1:29177\",\"sourceIncarnationNumber\":1,\"target\":\"127.0.0.1:29170\"}\n";
+
+/// Says what is to be said, as far as the other side takes it.
+fn say<C: Clock, W: Write>(clock: &C, stream: &mut W, talk: &Talk) -> io::Result<()> {
+    for _ in 0..talk.blocks {
+        stream.write_all(&[b'a'; 1024])?;
+    }
+    for _ in 0..talk.drips {
+        thread::sleep(clock, Duration::from_millis(10));
+        stream.write_all(b"a")?;
+    }
+    stream.write_all(talk.text.as_bytes())
+}
+
+/// What a peer hears.
+#[derive(Clone, Copy, PartialEq, Eq)]
+enum Rest {
+    /// What is wanted.
+    Wanted,
+    /// Nothing, which is not wanted.
+    Nothing,
+    /// Something else, or the server never hung up.
+    Other,
+}
+
+/// What comes until the other side hangs up.
+fn rest_of<S: Read>(stream: &mut S, wanted: &str) -> Rest {
+    let mut left = wanted.as_bytes();
+    let mut is_ended = false;
+    for _ in 0..1024 {
+        let mut place = [0];
+        match stream.read(&mut place) {
+            Ok(0) => {
+                is_ended = true;
+                break;
+            }
+            Ok(_) => match left.split_first() {
+                Some((&byte, behind)) if byte == place[0] => left = behind,
+                _ => return Rest::Other,
+            },
+            Err(fault) => match fault.kind() {
+                ErrorKind::ConnectionReset | ErrorKind::BrokenPipe => {
+                    is_ended = true;
+                    break;
+                }
+                _ => return Rest::Other,
+            },
+        }
+    }
+    if !is_ended {
+        Rest::Other
+    } else if left.is_empty() {
+        Rest::Wanted
+    } else if left.len() == wanted.len() {
+        Rest::Nothing
+    } else {
+        Rest::Other
+    }
+}
+
+/// What a peer that talks so hears on a stream.
+fn hears<C: Clock>(clock: &C, stream: &mut TcpStream, talk: &Talk) -> Rest {
+    let _said = say(clock, stream, talk);
+    match talk.close {
+        Close::Waits => rest_of(stream, talk.wanted),
+        Close::Ends if stream.shutdown(Shutdown::Write).is_ok() => rest_of(stream, talk.wanted),
+        Close::Ends => Rest::Other,
+        Close::HangsUp => Rest::Wanted,
+    }
+}
+
+/// Whether a peer hears what it is to hear, and no earlier. One that hears nothing talks again, as often as it may.
+pub(crate) fn is_heard<R: Net<Listener = TcpListener, Stream = TcpStream> + Clock>(
+    rt: &R,
+    server: &Running,
+    talk: &Talk,
+) -> bool {
+    for _ in 0..talk.looks {
+        let Ok(begun) = Instant::now(rt) else {
+            return false;
+        };
+        let Some(mut stream) = connect(rt, server) else {
+            return false;
+        };
+        let rest = hears(rt, &mut stream, talk);
+        drop(stream);
+        if rest != Rest::Nothing {
+            return match begun.elapsed(rt) {
+                Ok(spent) => rest == Rest::Wanted && spent >= Duration::from_millis(talk.least),
+                Err(_) => false,
+            };
+        }
+    }
+    false
+}
+
+/// Connects so many peers that are silent; none where one was not connected or there was no memory.
+fn connect_silent<R: Net<Listener = TcpListener, Stream = TcpStream> + Clock>(
+    rt: &R,
+    silent: &mut Vec<TcpStream>,
+    server: &Running,
+    count: u32,
+) -> Option<()> {
+    for _ in 0..count {
+        silent.push(connect(rt, server)?).ok()?;
+    }
+    Some(())
+}
+
+/// Whether a server makes of a talk what it is to make of it.
+fn makes<R: Net<Listener = TcpListener, Stream = TcpStream> + Clock>(
+    rt: &R,
+    alloc: Global,
+    server: &Running,
+    talk: &Talk,
+) -> bool {
+    let mut silent = Vec::new(alloc);
+    let are_connected = connect_silent(rt, &mut silent, server, talk.beside).is_some();
+    let is_made = are_connected && is_heard(rt, server, talk);
+    drop(silent);
+    is_made
+}
+
+/// Whether a server makes of each talk, one after the other, what it is to make of it, and each connection is one of its requests.
+fn makes_all<R: Net<Listener = TcpListener, Stream = TcpStream> + Clock>(
+    rt: &R,
+    alloc: Global,
+    server: &Running,
+    requests: u64,
+    talks: &[Talk],
+) -> bool {
+    for talk in talks {
+        if !makes(rt, alloc, server, talk) {
+            return false;
+        }
+    }
+    spend(rt, server, requests)
+}
+
+/// Whether a server so planned makes of all talks what it is to make of them, if there are any, and ends so, with all of its page written.
+fn serves_once<R: Net<Listener = TcpListener, Stream = TcpStream> + Host>(
+    rt: &R,
+    alloc: Global,
+    plan: &Plan,
+    talks: &[Talk],
+    outcome: Result<(), ServeFault>,
+) -> bool {
+    let Some(server) = start(rt, alloc, plan) else {
+        return false;
+    };
+    let is_served = talks.is_empty() || makes_all(rt, alloc, &server, plan.requests, talks);
+    ends_so(rt, server, is_served, outcome)
+}
+
+/// The same, once more where a growth or a thread may have been refused.
+pub(crate) fn serves<R: Net<Listener = TcpListener, Stream = TcpStream> + Host>(
+    rt: &R,
+    alloc: Global,
+    plan: &Plan,
+    talks: &[Talk],
+    outcome: Result<(), ServeFault>,
+) -> bool {
+    serves_once(rt, alloc, plan, talks, outcome) || serves_once(rt, alloc, plan, talks, outcome)
+}

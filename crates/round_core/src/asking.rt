@@ -13,7 +13,7 @@ use std::alloc::Global;
 use std::sync::Wait;
 use turn_lock::LockError;
 
-/// Pings a target. What is heard is its Ack, or not.
+/// Pings a target. What is heard is its Ack, or not. Refused as the lock refuses the pass; nothing is sent then.
 pub fn ping<R: Wait, H: PointHash, L: Link>(
     rt: &R,
     alloc: Global,

@@ -82,9 +82,10 @@ fn one_key(rt: &impl Abort, alloc: Global, first: &str) -> Keys {
 
 /// Two keys.
 pub(crate) fn keys(rt: &impl Abort, alloc: Global, both: (&str, &str)) -> Keys {
-    let mut keys = one_key(rt, alloc, both.0);
-    if keys.push(text(rt, alloc, both.1)).is_err() {
-        assert!(rt; keys.push(text(rt, alloc, both.1)).is_ok());
+    let (first, second) = both;
+    let mut keys = one_key(rt, alloc, first);
+    if keys.push(text(rt, alloc, second)).is_err() {
+        assert!(rt; keys.push(text(rt, alloc, second)).is_ok());
     }
     keys
 }

@@ -51,14 +51,16 @@ fn check_round<R: Wait + Env + Abort>(
     requires { Fits shared.now pass.old }
 {
     let (start, mood, wanted) = row;
+    let (wanted_end, wanted_calls, _) = wanted;
     let moods = (*mood, *mood);
     let before = digest_of(rt, shared, pass);
     let first = round_in(rt, alloc, shared, pass, start.others, moods);
-    if first.0 == Err(ClusterError::Memory) {
+    let (end, calls, _) = first;
+    if end == Err(ClusterError::Memory) {
         check_refused(rt);
-        assert!(rt; first.1 <= wanted.1 && digest_of(rt, shared, pass) == before);
-        let next = round_in(rt, alloc, shared, pass, start.others, moods);
-        assert!(rt; next.0 == wanted.0);
+        assert!(rt; calls <= *wanted_calls && digest_of(rt, shared, pass) == before);
+        let (next_end, _, _) = round_in(rt, alloc, shared, pass, start.others, moods);
+        assert!(rt; next_end == *wanted_end);
         return;
     }
     assert!(rt; first == *wanted);
@@ -75,7 +77,8 @@ static ROUNDS: [Row; 4] = [
 fn a_round_that_is_refused_memory_alters_nothing(rt: HostRuntime) {
     let alloc = rt.alloc();
     for row in &ROUNDS {
-        let (shared, mut pass) = met(&rt, alloc, &row.0);
+        let (start, _, _) = row;
+        let (shared, mut pass) = met(&rt, alloc, start);
         check_round(&rt, alloc, &shared, &mut pass, row);
         let_go(shared, pass);
     }
@@ -86,13 +89,14 @@ fn check_join<R: Wait + Env + Abort>(rt: &R, alloc: Global, shared: &Shared, pas
     requires { Fits shared.now pass.old }
 {
     let before = digest_of(rt, shared, pass);
-    let mut joined = join_hosts(rt, alloc, shared, pass, true, Mood::Willing);
-    if joined.0 == Err(ClusterError::Memory) {
+    let mut came = join_hosts(rt, alloc, shared, pass, true, Mood::Willing);
+    let (joined, calls) = came;
+    if joined == Err(ClusterError::Memory) {
         check_refused(rt);
-        assert!(rt; joined.1 <= 2 && digest_of(rt, shared, pass) == before);
-        joined = join_hosts(rt, alloc, shared, pass, true, Mood::Willing);
+        assert!(rt; calls <= 2 && digest_of(rt, shared, pass) == before);
+        came = join_hosts(rt, alloc, shared, pass, true, Mood::Willing);
     }
-    assert!(rt; joined == (Ok(2), 2));
+    assert!(rt; came == (Ok(2), 2));
 }
 
 #[test]

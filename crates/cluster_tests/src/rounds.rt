@@ -64,7 +64,8 @@ pub(crate) fn round_in<R: Wait + Abort>(
     requires { Fits shared.now pass.old }
     ensures { Fits shared.now pass.new }
 {
-    let mut link = Fake::new(moods.0, moods.1);
+    let (first, later) = moods;
+    let mut link = Fake::new(first, later);
     let now = moment(rt, 0);
     let end = match gossip_round(rt, alloc, shared, pass, &mut link, now) {
         Ok(round) => Ok(end_of(round, others)),
@@ -76,22 +77,22 @@ pub(crate) fn round_in<R: Wait + Abort>(
 /// How a node begins, in which mood the others are, and how its first round is to end.
 type Row = (Start, Mood, Ended);
 
-fn first_round<R: Wait + Env + Abort>(rt: &R, alloc: Global, row: &Row) -> Ended {
-    let (start, mood, _) = row;
+fn first_round<R: Wait + Env + Abort>(rt: &R, alloc: Global, start: &Start, mood: Mood) -> Ended {
     let (shared, mut pass) = met(rt, alloc, start);
-    let ended = round_in(rt, alloc, &shared, &mut pass, start.others, (*mood, *mood));
+    let ended = round_in(rt, alloc, &shared, &mut pass, start.others, (mood, mood));
     let_go(shared, pass);
     ended
 }
 
 /// Checks how rounds end; where one was refused memory before it came so far, how that of another node does.
 fn check_rounds<R: Wait + Env + Abort>(rt: &R, alloc: Global, rows: &[Row]) {
-    for row in rows {
-        let mut found = first_round(rt, alloc, row);
-        if found != row.2 && found.0 == Err(ClusterError::Memory) {
-            found = first_round(rt, alloc, row);
+    for (start, mood, wanted) in rows {
+        let mut found = first_round(rt, alloc, start, *mood);
+        let (end, _, _) = found;
+        if found != *wanted && end == NO_MEMORY {
+            found = first_round(rt, alloc, start, *mood);
         }
-        assert!(rt; found == row.2);
+        assert!(rt; found == *wanted);
     }
 }
 
@@ -174,7 +175,8 @@ fn take_step<R: Wait + Abort>(
 {
     let (moods, wanted, left) = step;
     let found = round_in(rt, alloc, shared, pass, others, *moods);
-    if found != *wanted && found.0 == Err(ClusterError::Memory) {
+    let (end, _, _) = found;
+    if found != *wanted && end == NO_MEMORY {
         return false;
     }
     assert!(rt; found == *wanted && running(rt, shared, pass) == *left);
@@ -240,8 +242,9 @@ fn play_scene<R: Wait + Abort>(
 }
 
 fn plays<R: Wait + Env + Abort>(rt: &R, alloc: Global, scene: &Scene) -> bool {
+    let (others, _, _, _) = scene;
     let start = Start {
-        others: scene.0,
+        others: *others,
         ..ALONE
     };
     let (shared, mut pass) = met(rt, alloc, &start);
@@ -446,10 +449,11 @@ type Joining = (bool, Mood, (Result<u32, ClusterError>, u64));
 fn first_join<R: Wait + Env + Abort>(
     rt: &R,
     alloc: Global,
-    row: &Joining,
+    has_hosts: bool,
+    mood: Mood,
 ) -> (Result<u32, ClusterError>, u64) {
     let (shared, mut pass) = met(rt, alloc, &ALONE);
-    let came = join_hosts(rt, alloc, &shared, &mut pass, row.0, row.1);
+    let came = join_hosts(rt, alloc, &shared, &mut pass, has_hosts, mood);
     let_go(shared, pass);
     came
 }
@@ -465,12 +469,13 @@ static JOININGS: [Joining; 5] = [
 /// Where a join was refused memory that its link had, that of another node is looked at.
 #[test]
 fn a_join_counts_the_hosts_that_answer(rt: HostRuntime) {
-    for row in &JOININGS {
-        let mut joined = first_join(&rt, rt.alloc(), row);
-        if joined != row.2 && joined.0 == Err(ClusterError::Memory) {
-            joined = first_join(&rt, rt.alloc(), row);
+    for &(has_hosts, mood, wanted) in &JOININGS {
+        let mut came = first_join(&rt, rt.alloc(), has_hosts, mood);
+        let (joined, _) = came;
+        if came != wanted && joined == Err(ClusterError::Memory) {
+            came = first_join(&rt, rt.alloc(), has_hosts, mood);
         }
-        assert!(&rt; joined == row.2);
+        assert!(&rt; came == wanted);
     }
 }
 

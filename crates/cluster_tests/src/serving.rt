@@ -142,8 +142,9 @@ fn serve<R: Wait + Abort>(
     requires { Fits shared.now pass.old }
     ensures { Fits shared.now pass.new }
 {
-    let mut link = Fake::new(moods.0, moods.0);
-    let handler = Counting::new(moods.1);
+    let (link_mood, handler_mood) = moods;
+    let mut link = Fake::new(link_mood, link_mood);
+    let handler = Counting::new(handler_mood);
     let now = moment(rt, 0);
     let answer = serve_one(rt, alloc, shared, pass, &mut link, &handler, now, given);
     let said = said_by(rt, &answer);
@@ -169,21 +170,25 @@ fn check_row<R: Wait + Env + Abort>(
     requires { Fits shared.now pass.old }
 {
     let (_, given, moods, wanted, held) = row;
+    let (_, wanted_calls, wanted_handled) = wanted;
+    let (number, held_as) = held;
     let given = message(rt, 2, content_of(rt, alloc, given));
     let mut answer = serve(rt, alloc, shared, pass, *moods, &given);
-    if answer != *wanted && answer.0 == Said::Refused(Reason::Memory) {
+    let (said, calls, handled) = answer;
+    if answer != *wanted && said == Said::Refused(Reason::Memory) {
         check_refused(rt);
-        assert!(rt; answer.1 <= wanted.1 && answer.2 <= wanted.2);
+        assert!(rt; calls <= *wanted_calls && handled <= *wanted_handled);
         answer = serve(rt, alloc, shared, pass, *moods, &given);
     }
     drop(given);
     assert!(rt; answer == *wanted);
-    assert!(rt; status(rt, shared, pass, held.0) == held.1);
+    assert!(rt; status(rt, shared, pass, *number) == *held_as);
 }
 
 fn check<R: Wait + Env + Abort>(rt: &R, alloc: Global, rows: &[Row]) {
     for row in rows {
-        let (shared, mut pass) = met(rt, alloc, &row.0);
+        let (start, _, _, _, _) = row;
+        let (shared, mut pass) = met(rt, alloc, start);
         check_row(rt, alloc, &shared, &mut pass, row);
         let_go(shared, pass);
     }

@@ -215,17 +215,17 @@ fn try_call<
     let (listener, to) = listen(rt)?;
     let peer = start_peer(rt, alloc, listener, drip, bytes)?;
     let mut link = TcpLink::with_limits(rt, limits);
-    let answered = answer_of(rt, alloc, &mut link, to, message);
+    let (said, failures) = answer_of(rt, alloc, &mut link, to, message);
     drop(link);
-    if answered.0 == NO_MEMORY {
+    if said == NO_MEMORY {
         let _knocked = knock(rt, to, b"");
     }
     let is_read = has_read(alloc, peer.join(rt), message)?;
-    if answered.0 == NO_MEMORY {
+    if said == NO_MEMORY {
         return None;
     }
     assert!(rt; is_read);
-    Some(answered)
+    Some((said, failures))
 }
 
 /// Checks what a link answers, the message let go; where a growth was refused, with another peer.
@@ -410,11 +410,11 @@ fn answer_again<N: Net + Clock, R: Wait>(
     to: Address,
     message: &Message,
 ) -> Answered {
-    let answered = answer_of(rt, alloc, link, to, message);
-    if answered.0 == NO_MEMORY {
+    let (said, failures) = answer_of(rt, alloc, link, to, message);
+    if said == NO_MEMORY {
         return answer_of(rt, alloc, link, to, message);
     }
-    answered
+    (said, failures)
 }
 
 /// Checks what a link that has failed so often answers to a message, which is let go.

@@ -84,11 +84,12 @@ fn ask_peers<R: Wait, W: Write>(
 
 /// How asking ends over a writer that takes what is wanted, whether all of that was written, and how many calls were made.
 fn ask_once<R: Wait>(rt: &R, alloc: Global, row: &Row, wanted: &str) -> (Ended, bool, usize) {
-    let mut peers = Peers::new(row.1);
+    let (question, answers, _, _) = row;
+    let mut peers = Peers::new(*answers);
     let mut page = Page {
         left: wanted.as_bytes(),
     };
-    let ended = ask_peers(rt, alloc, &row.0, &mut peers, &mut page);
+    let ended = ask_peers(rt, alloc, question, &mut peers, &mut page);
     (ended, page.left.is_empty(), peers.calls)
 }
 
@@ -101,7 +102,8 @@ fn ask<R: Wait>(
     wanted: &str,
 ) -> (Ended, bool, usize) {
     let asked = ask_once(rt, alloc, row, wanted);
-    match asked.0 {
+    let (outcome, _, _) = asked;
+    match outcome {
         Err(TellFault::AtLine(_, LineFault::OutOfMemory)) => {}
         Err(TellFault::Asked(AskFault::NoMemory)) if ended != NO_MEMORY => {}
         _ => return asked,
@@ -112,24 +114,27 @@ fn ask<R: Wait>(
 /// That a row ends so over a writer that takes what is wanted, with that written and all calls made; a request that has no memory may
 /// make none.
 fn check<R: Wait + Abort>(rt: &R, alloc: Global, row: &Row, ended: Ended, wanted: &str) {
+    let (question, answers, _, _) = row;
     let (outcome, is_written, calls) = ask(rt, alloc, row, ended, wanted);
     assert!(rt; outcome == ended && is_written);
-    let may_ask_nobody = ended == NO_MEMORY && matches!(row.0, Question::Ask);
-    assert!(rt; calls == row.1.len() || may_ask_nobody && calls == 0);
+    let may_ask_nobody = ended == NO_MEMORY && matches!(question, Question::Ask);
+    assert!(rt; calls == answers.len() || may_ask_nobody && calls == 0);
 }
 
 /// The same of each row.
 fn check_all<R: Wait + Abort>(rt: &R, alloc: Global, rows: &[Row]) {
     for row in rows {
-        check(rt, alloc, row, row.2, row.3);
+        let (_, _, ended, written) = row;
+        check(rt, alloc, row, *ended, *written);
     }
 }
 
 /// The same with each front of what a row writes, where it fails behind that.
 fn check_fronts<R: Wait + Abort>(rt: &R, alloc: Global, rows: &[Row]) {
     for row in rows {
-        for room in 0..row.3.len() {
-            let front = row.3.get(..room).expect(rt, "so much of it");
+        let (_, _, _, written) = row;
+        for room in 0..written.len() {
+            let front = written.get(..room).expect(rt, "so much of it");
             check(rt, alloc, row, CANNOT_WRITE, front);
         }
     }

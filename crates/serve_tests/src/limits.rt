@@ -41,10 +41,10 @@ fn check<R: Wait + Abort>(rt: &R, alloc: Global, line: &str, manner: Manner, wan
         by,
         ..
     } = manner;
+    let (_, _, over) = wanted;
     assert!(rt;
         called == Some(wanted),
-        "{connects}, {takes}, {by}: over at {}: {line}",
-        wanted.2
+        "{connects}, {takes}, {by}: over at {over}: {line}"
     );
 }
 

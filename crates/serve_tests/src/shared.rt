@@ -67,7 +67,8 @@ fn serve<R: Net<Listener = TcpListener, Stream = TcpStream> + Host>(
 ) -> Ended {
     let mut ended = serve_once(rt, alloc, plan, words);
     for _ in 1..plan.tries {
-        if ended.0 != Err(ServeFault::CannotListen) {
+        let (outcome, _) = ended;
+        if outcome != Err(ServeFault::CannotListen) {
             break;
         }
         thread::sleep(rt, Duration::from_millis(1));

@@ -127,8 +127,9 @@ fn weighty(rt: &impl Abort, row: Row, weight: u8) -> Sourced {
 
 /// The Join of a member.
 fn join(rt: &impl Abort, alloc: Global, row: Row) -> Message {
-    let source = address(rt, row.0);
-    let source_incarnation = incarnation(rt, row.1);
+    let (source, at, _) = row;
+    let source = address(rt, source);
+    let source_incarnation = incarnation(rt, at);
     let checksum = Digest::new([0; 32]);
     let changes = batch(rt, alloc, &[row]);
     Message {

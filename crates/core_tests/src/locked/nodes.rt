@@ -189,8 +189,9 @@ fn is_answered<R: Wait + Abort>(
     requires { Fits shared.now pass.old }
     ensures { Fits shared.now pass.new }
 {
-    let event = event(rt, alloc, row.0);
-    let is_so = answers(rt, shared, pass, &event, row.1);
+    let (call, wanted) = row;
+    let event = event(rt, alloc, call);
+    let is_so = answers(rt, shared, pass, &event, wanted);
     drop(event);
     is_so
 }
@@ -217,8 +218,8 @@ pub(crate) fn check_calls<R: Wait + Abort>(
 
 /// Checks an example by the pass of a new node.
 pub(crate) fn check<R: Wait + Abort>(rt: &R, alloc: Global, case: &Case) {
-    let (start, calls) = (&case.0, case.1);
+    let (start, calls) = case;
     let (shared, mut pass) = shared_node(rt, alloc, start);
-    check_calls(rt, alloc, &shared, &mut pass, calls);
+    check_calls(rt, alloc, &shared, &mut pass, *calls);
     let_go(shared, pass);
 }

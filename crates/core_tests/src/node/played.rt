@@ -89,8 +89,9 @@ pub(crate) fn check_calls<H: PointHash>(
 
 /// The events of calls.
 pub(crate) fn events(rt: &impl Abort, alloc: Global, calls: Calls) -> Vec<Event> {
-    let mut events = vec_of(rt, alloc, calls.1.len());
-    for (call, _) in calls.1 {
+    let (_, rows) = calls;
+    let mut events = vec_of(rt, alloc, rows.len());
+    for (call, _) in rows {
         put(rt, &mut events, event(rt, alloc, *call));
     }
     events
@@ -98,8 +99,9 @@ pub(crate) fn events(rt: &impl Abort, alloc: Global, calls: Calls) -> Vec<Event>
 
 /// Whether these replies tell what calls are to be answered; none where one was refused memory.
 pub(crate) fn tell(replies: &[Reply], calls: Calls) -> Option<bool> {
-    let mut is_so = replies.len() == calls.1.len();
-    for (reply, (_, wanted)) in replies.iter().zip(calls.1.iter()) {
+    let (_, rows) = calls;
+    let mut is_so = replies.len() == rows.len();
+    for (reply, (_, wanted)) in replies.iter().zip(rows.iter()) {
         if wanted_again(read(reply), *wanted).is_some() {
             return None;
         }
@@ -155,15 +157,15 @@ fn check_run(rt: &impl Abort, alloc: Global, start: &Start, calls: Calls) {
         answer => answer,
     };
     drop(events);
-    let name = calls.0;
+    let (name, _) = calls;
     assert!(rt; answer == Some(true), "{name}: in a run");
 }
 
 /// Checks an example by calls one after another, and by a run of them.
 pub(crate) fn check(rt: &impl Abort, alloc: Global, case: &Case) {
-    let (start, calls) = (&case.0, case.1);
+    let (start, calls) = case;
     let mut node = begun(rt, alloc, start, SumHash);
-    check_calls(rt, alloc, &mut node, calls);
+    check_calls(rt, alloc, &mut node, *calls);
     drop(node);
-    check_run(rt, alloc, start, calls);
+    check_run(rt, alloc, start, *calls);
 }

@@ -103,7 +103,7 @@ pub(crate) fn hear<R: Wait + Abort>(rt: &R, shared: &Shared, pass: &mut Caller, 
 
 /// The reply of this kind to a call of the node, which is let in.
 macro_rules! let_in {
-    ($rt:expr, $reply:ident, $call:expr) => {
+    ($rt:expr, $reply:ident: $call:expr) => {
         Reply::$reply($call.ok().expect($rt, "a turn"))
     };
 }
@@ -114,47 +114,43 @@ fn ask<R: Wait + Abort>(rt: &R, node: &Shared, pass: &mut Caller, event: &Event)
     ensures { Fits node.now pass.new }
 {
     match event {
-        Event::Take(given, now) => let_in!(rt, Take, node.take(rt, pass, given.as_slice(), *now)),
-        Event::Receive(message, now) => let_in!(rt, Receive, node.receive(rt, pass, message, *now)),
-        Event::JoinMessage => let_in!(rt, JoinMessage, node.join_message(rt, pass)),
-        Event::PingTo(target) => let_in!(rt, PingTo, node.ping_to(rt, pass, *target)),
+        Event::Take(given, now) => let_in!(rt, Take: node.take(rt, pass, given.as_slice(), *now)),
+        Event::Receive(message, now) => let_in!(rt, Receive: node.receive(rt, pass, message, *now)),
+        Event::JoinMessage => let_in!(rt, JoinMessage: node.join_message(rt, pass)),
+        Event::PingTo(target) => let_in!(rt, PingTo: node.ping_to(rt, pass, *target)),
         Event::PingReqTo { helper, target } => {
-            let_in!(rt, PingReqTo, node.ping_req_to(rt, pass, *helper, *target))
+            let_in!(rt, PingReqTo: node.ping_req_to(rt, pass, *helper, *target))
         }
         Event::PingReqAckTo {
             requester,
             target,
             reached,
         } => {
-            let made = node.ping_req_ack_to(rt, pass, *requester, *target, *reached);
-            let_in!(rt, PingReqAckTo, made)
+            let_in!(rt, PingReqAckTo: node.ping_req_ack_to(rt, pass, *requester, *target, *reached))
         }
-        Event::Leave => let_in!(rt, Leave, node.leave(rt, pass)),
-        Event::Rejoin => let_in!(rt, Rejoin, node.rejoin(rt, pass)),
-        Event::Expire(now) => let_in!(rt, Expire, node.expire(rt, pass, *now)),
-        Event::Probe => let_in!(rt, Probe, node.probe(rt, pass)),
-        Event::Acked(number) => let_in!(rt, Acked, node.acked(rt, pass, *number)),
-        Event::Lost(number, now) => let_in!(rt, Lost, node.lost(rt, pass, *number, *now)),
+        Event::Leave => let_in!(rt, Leave: node.leave(rt, pass)),
+        Event::Rejoin => let_in!(rt, Rejoin: node.rejoin(rt, pass)),
+        Event::Expire(now) => let_in!(rt, Expire: node.expire(rt, pass, *now)),
+        Event::Probe => let_in!(rt, Probe: node.probe(rt, pass)),
+        Event::Acked(number) => let_in!(rt, Acked: node.acked(rt, pass, *number)),
+        Event::Lost(number, now) => let_in!(rt, Lost: node.lost(rt, pass, *number, *now)),
         Event::HelperSaid {
             number,
             helper,
             said,
             moment,
-        } => {
-            let heard = node.helper_said(rt, pass, *number, *helper, *said, *moment);
-            let_in!(rt, HelperSaid, heard)
-        }
-        Event::Running => let_in!(rt, Running, node.running(rt, pass)),
-        Event::Own => let_in!(rt, Own, node.own(rt, pass)),
-        Event::Member(address) => let_in!(rt, Member, node.member(rt, pass, *address)),
-        Event::Len => let_in!(rt, Len, node.len(rt, pass)),
-        Event::Owner(key) => let_in!(rt, Owner, node.owner(rt, pass, key.as_slice())),
+        } => let_in!(rt, HelperSaid: node.helper_said(rt, pass, *number, *helper, *said, *moment)),
+        Event::Running => let_in!(rt, Running: node.running(rt, pass)),
+        Event::Own => let_in!(rt, Own: node.own(rt, pass)),
+        Event::Member(address) => let_in!(rt, Member: node.member(rt, pass, *address)),
+        Event::Len => let_in!(rt, Len: node.len(rt, pass)),
+        Event::Owner(key) => let_in!(rt, Owner: node.owner(rt, pass, key.as_slice())),
         Event::Owners(key, count) => {
-            let_in!(rt, Owners, node.owners(rt, pass, key.as_slice(), *count))
+            let_in!(rt, Owners: node.owners(rt, pass, key.as_slice(), *count))
         }
-        Event::Members => let_in!(rt, Members, node.members(rt, pass)),
-        Event::DigestText => let_in!(rt, DigestText, node.digest_text(rt, pass)),
-        Event::Digest => let_in!(rt, Digest, node.digest(rt, pass)),
+        Event::Members => let_in!(rt, Members: node.members(rt, pass)),
+        Event::DigestText => let_in!(rt, DigestText: node.digest_text(rt, pass)),
+        Event::Digest => let_in!(rt, Digest: node.digest(rt, pass)),
     }
 }
 

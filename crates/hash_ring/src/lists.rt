@@ -1,5 +1,5 @@
 //! The lists of a ring: its servers and their points.
-ghost use Rattle.std.specs.Prelude.{◌≡◌, ◌+◌, ◌*◌, ◌<◌, ◌≤◌, [], ◌++◌, length, is_some, IsOk, IsOkUnless, OnOk, vec_len, vec_capacity};
+ghost use Rattle.std.specs.Prelude.{◌≡◌, ◌≢◌, ◌+◌, ◌*◌, ◌/◌, ◌<◌, ◌≤◌, [], ◌++◌, length, is_some, IsOk, IsOkUnless, OnOk, vec_len, vec_capacity};
 ghost use Rattle.change_core.specs.Ascending.{ascending, In, IsAscending};
 ghost use Rattle.hash_ring.specs.Points.{IsReplicas, point_cmp};
 ghost use Rattle.hash_ring.specs.RingModel.{IsKept};
@@ -55,6 +55,8 @@ impl Lists {
         requires none_late { self.old.late.items ≡ [] }
         ensures servers { OnOk result (self.new.servers.items ≡ with_each servers.now []) }
         ensures kept { OnOk result (IsKept (H.hash_of hash) replicas self.new.servers.items self.new.points.items self.new.late.items (vec_capacity self.new.late) (vec_capacity self.new.points)) }
+        // A growth of the counts where searches begin is not passed over: here, and in the two calls below.
+        ensures counted { OnOk result (vec_capacity self.new.points / 16 ≤ vec_len self.new.starts.counts) }
     {
         list_servers(&mut self.servers, &mut self.late, replicas, servers)?;
         fill_all(&mut self.points, hash, replicas, &self.servers)?;
@@ -73,6 +75,8 @@ impl Lists {
         ensures points { OnOk result (self.new.points.items ≡ ascending point_cmp (others.now.points.items ++ others.now.late.items)) }
         ensures none_late { OnOk result (self.new.late.items ≡ []) }
         ensures fits { OnOk result ((s : Server) → In s others.now.servers.items → replicas * s.weight ≤ vec_capacity self.new.late) }
+        ensures counts_as { others.now.late.items ≡ [] → OnOk result (vec_len others.now.starts.counts ≤ vec_len self.new.starts.counts) }
+        ensures counted { others.now.late.items ≢ [] → OnOk result (vec_capacity self.new.points / 16 ≤ vec_len self.new.starts.counts) }
     {
         self.servers.extend_from_slice(&others.servers)?;
         self.late.reserve(most_points(replicas, &others.servers))?;
@@ -91,6 +95,8 @@ impl Lists {
         ensures room { OnOk result ((vec_len self.new.servers < vec_capacity self.new.servers)
             × (vec_len self.new.late + count ≤ vec_capacity self.new.late)
             × (vec_len self.new.points + (vec_len self.new.late + count) ≤ vec_capacity self.new.points)) }
+        ensures counted { OnOk result (vec_capacity self.old.points < vec_len self.old.points + (vec_len self.old.late + count)
+            → (vec_len self.old.points + (vec_len self.old.late + count)) / 16 ≤ vec_len self.new.starts.counts) }
         ensures enough { vec_len self.old.servers < vec_capacity self.old.servers
             → vec_len self.old.late + count ≤ vec_capacity self.old.late
             → vec_len self.old.points + (vec_len self.old.late + count) ≤ vec_capacity self.old.points

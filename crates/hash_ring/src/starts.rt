@@ -50,7 +50,9 @@ impl Starts {
     }
 
     /// Fills starts that are empty with others.
-    pub(crate) fn fill_as(&mut self, others: &Starts) -> Result<(), AllocError> {
+    pub(crate) fn fill_as(&mut self, others: &Starts) -> Result<(), AllocError>
+        ensures { OnOk result (vec_len others.now.counts ≤ vec_len self.new.counts) }
+    {
         self.counts.extend_from_slice(&others.counts)
     }
 

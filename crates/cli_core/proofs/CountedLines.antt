@@ -1,13 +1,13 @@
 -- A line that is read, and what it is to the lines that were left.
 use Rattle.std.proofs.Common.{◌≡◌, ℕ, ◌<◌, ◌≤◌, false, true, List, [], ◌∷◌, length, Option, Some, None, Ok, Err, Vec, Global, refl, sym, ap, ◌∙◌, inl, inr}
-use Rattle.std.specs.Prelude.{IfSome, IfOk, IfErr, IsSome, Result, ◌⊎◌, vec_len}
+use Rattle.std.specs.Prelude.{◌≢◌, All, IfSome, IfOk, IfErr, IsSome, Result, ◌⊎◌, vec_len}
 use Rattle.change_core.specs.Numbers.{greatest_number}
 use Rattle.wire_json.specs.Lines.{max_line}
 use Rattle.wire_json.specs.Input.{line_of, after_line, TakesLine}
 use Rattle.message_core.specs.declared.errors.WireError.{WireError}
 use Rattle.message_core.specs.declared.errors.WireError.TheVariants.{LineTooLong, Io, Memory}
 use Rattle.cli_core.specs.Input.{lines_of}
-use Rattle.cli_core.specs.Counted.{EndsLines, IsCountedFault, IsUnread, ReadsLine}
+use Rattle.cli_core.specs.Counted.{EndsLines, IsCountedAs, IsCountedFault, IsUnread, ReadsLine}
 use Rattle.cli_core.proofs.Lines.{lines_of-first, some_from_line}
 
 read_failed : (lines : List (List ℕ)) → IsUnread lines Io
@@ -31,7 +31,7 @@ taken_known xs new (Err e) t (inr (inl q)) = rw q (read_failed (lines_of xs))
 taken_known xs new (Err e) t (inr (inr q)) = let part = rw q at t in rw q (no_memory xs part.0)
 
 -- what was taken as a line is one
-pub line_taken : (known new : Option (List ℕ)) (r : Result (Option (Vec ℕ Global)) WireError) → TakesLine known r new → IfErr r (λ e. IsReadError e) → IfSome known (λ xs. ReadsLine xs r new)
+line_taken : (known new : Option (List ℕ)) (r : Result (Option (Vec ℕ Global)) WireError) → TakesLine known r new → IfErr r (λ e. IsReadError e) → IfSome known (λ xs. ReadsLine xs r new)
 line_taken None new r t i = tt
 line_taken (Some xs) new r t i = taken_known xs new r t i
 
@@ -41,29 +41,49 @@ last_known xs new (Ok (Some v)) now t e = rw e (read_failed (lines_of xs))
 last_known xs new (Err e) now t (inl p) = rw p.1 (read_failed (lines_of xs))
 last_known xs new (Err e) now t (inr p) = let part = rw p.0 at t in rw p.1 (no_memory xs part.0)
 
--- and so is what is made of it where no line can be counted
-pub last_taken : (known new : Option (List ℕ)) (r now : Result (Option (Vec ℕ Global)) WireError) → TakesLine known r new → EndsLines r now → IfSome known (λ xs. ReadsLine xs now new)
+last_taken : (known new : Option (List ℕ)) (r now : Result (Option (Vec ℕ Global)) WireError) → TakesLine known r new → EndsLines r now → IfSome known (λ xs. ReadsLine xs now new)
 last_taken None new r now t e = tt
 last_taken (Some xs) new r now t e = last_known xs new r now t e
 
+-- and so is what is made of it by its number
+pub made_of_line : (number : ℕ) (known new : Option (List ℕ)) (r now : Result (Option (Vec ℕ Global)) WireError)
+    → TakesLine known r new → IfErr r (λ e. IsReadError e) → IsCountedAs number r now → IfSome known (λ xs. ReadsLine xs now new)
+made_of_line number known new r now t i (inl (few, same)) = rw same (line_taken known new r t i)
+made_of_line number known new r now t i (inr (many, ends)) = last_taken known new r now t ends
+
 -- a line of the input is counted
-pub counted_fault : (number : ℕ) (r : Result (Option (Vec ℕ Global)) WireError) → number ≤ greatest_number → IfErr r (λ e. IsReadError e) → IfErr r (λ e. IsCountedFault number e)
+counted_fault : (number : ℕ) (r : Result (Option (Vec ℕ Global)) WireError) → number ≤ greatest_number → IfErr r (λ e. IsReadError e) → IfErr r (λ e. IsCountedFault number e)
 counted_fault number (Ok o) few i = tt
 counted_fault number (Err e) few (inl q) = inr (inr (q, few))
 counted_fault number (Err e) few (inr (inl q)) = inl q
 counted_fault number (Err e) few (inr (inr q)) = inr (inl q)
 
-pub counted_line : (number : ℕ) (r : Result (Option (Vec ℕ Global)) WireError) → number ≤ greatest_number → IfOk r (λ line. IsSome line → number ≤ greatest_number)
+counted_line : (number : ℕ) (r : Result (Option (Vec ℕ Global)) WireError) → number ≤ greatest_number → IfOk r (λ line. IsSome line → number ≤ greatest_number)
 counted_line number (Ok o) few = λ h. few
 counted_line number (Err e) few = tt
 
 not_there : false ≡ true → ⊥
 not_there e = cc
 
+-- a line that was read is counted and no longer than a line may be, and a fault is one of a counted line
+abbrev pub HoldsCount : ℕ → Result (Option (Vec ℕ Global)) WireError → Type 0
+HoldsCount number now =
+    IfOk now (λ line. IsSome line → number ≤ greatest_number) × IfOk now (λ line. IfSome line (λ v. vec_len v ≤ max_line)) × IfErr now (λ e. IsCountedFault number e)
+
 -- where no line can be counted there is none, and no fault of one
-pub last_counted : (number : ℕ) (r now : Result (Option (Vec ℕ Global)) WireError) → EndsLines r now
-    → IfOk now (λ line. IsSome line → number ≤ greatest_number) × IfOk now (λ line. IfSome line (λ v. vec_len v ≤ max_line)) × IfErr now (λ e. IsCountedFault number e)
+last_counted : (number : ℕ) (r now : Result (Option (Vec ℕ Global)) WireError) → EndsLines r now → HoldsCount number now
 last_counted number (Ok None) now e = rw e ((λ h. absurd (not_there h)), tt, tt)
 last_counted number (Ok (Some v)) now e = rw e (tt, tt, inl refl)
 last_counted number (Err x) now (inl p) = rw p.1 (tt, tt, inl refl)
 last_counted number (Err x) now (inr p) = rw p.1 (tt, tt, inr (inl refl))
+
+short_line : (r : Result (Option (Vec ℕ Global)) WireError) → IfOk r (λ line. IfSome line (λ v. (vec_len v ≤ max_line) × All (λ x. x ≢ 10) v.items))
+    → IfOk r (λ line. IfSome line (λ v. vec_len v ≤ max_line))
+short_line (Ok None) line = tt
+short_line (Ok (Some v)) line = line.0
+short_line (Err e) line = tt
+
+pub holds_count : (number : ℕ) (r now : Result (Option (Vec ℕ Global)) WireError)
+    → IfOk r (λ line. IfSome line (λ v. (vec_len v ≤ max_line) × All (λ x. x ≢ 10) v.items)) → IfErr r (λ e. IsReadError e) → IsCountedAs number r now → HoldsCount number now
+holds_count number r now line i (inl (few, same)) = rw same (counted_line number r few, short_line r line, counted_fault number r few i)
+holds_count number r now line i (inr (many, ends)) = last_counted number r now ends

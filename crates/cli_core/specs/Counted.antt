@@ -27,6 +27,10 @@ EndsLines (Ok None) now = now ≡ Ok None
 EndsLines (Ok (Some line)) now = now ≡ Err Io
 EndsLines (Err e) now = ((e ≢ Memory) × (now ≡ Err Io)) ⊎ ((e ≡ Memory) × (now ≡ Err Memory))
 
+-- what is made of what was read as the line of this number: the same, or, where it can't be counted, the end of the lines
+abbrev pub IsCountedAs : ℕ → Result (Option (Vec ℕ Global)) WireError → Result (Option (Vec ℕ Global)) WireError → Type 0
+IsCountedAs number read now = ((number ≤ greatest_number) × (now ≡ read)) ⊎ ((greatest_number < number) × EndsLines read now)
+
 -- the line of this number was not read for a fault of the machine, or it is one that is counted, and too long
 abbrev pub IsCountedFault : ℕ → WireError → Type 0
 IsCountedFault number e = (e ≡ Io) ⊎ ((e ≡ Memory) ⊎ ((e ≡ LineTooLong) × (number ≤ greatest_number)))

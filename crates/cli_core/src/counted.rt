@@ -2,7 +2,7 @@
 ghost use Rattle.std.specs.Prelude.{◌≡◌, ◌≤◌, vec_len, IfOk, IfErr, IfSome, IsSome};
 ghost use Rattle.change_core.specs.Numbers.{greatest_number};
 ghost use Rattle.wire_json.specs.Lines.{max_line};
-ghost use Rattle.cli_core.specs.Counted.{EndsLines, IsCountedFault, ReadsLine};
+ghost use Rattle.cli_core.specs.Counted.{IsCountedAs, IsCountedFault, ReadsLine};
 
 use change_core::GREATEST_NUMBER;
 use message_core::WireError;
@@ -10,10 +10,16 @@ use std::alloc::Global;
 use std::io::Read;
 use wire_json::read_line;
 
-/// What was read in place of a line that can't be counted: nothing at the end of the input, and a fault for any line.
-fn end_of_lines(read: Result<Option<Vec<u8>>, WireError>) -> Result<Option<Vec<u8>>, WireError>
-    ensures { EndsLines read result }
+/// What was read as the line of this number; where it can't be counted, nothing at the end of the input, and a fault for any line.
+fn counted(
+    number: u64,
+    read: Result<Option<Vec<u8>>, WireError>,
+) -> Result<Option<Vec<u8>>, WireError>
+    ensures { IsCountedAs number read result }
 {
+    if number <= GREATEST_NUMBER {
+        return read;
+    }
     match read {
         Ok(None) => Ok(None),
         Err(WireError::Memory) => Err(WireError::Memory),
@@ -36,8 +42,5 @@ pub(crate) fn next_line<R: Read>(
     ensures fault { IfErr result (λ e. IsCountedFault number e) }
 {
     let read = read_line(alloc, reader);
-    if number > GREATEST_NUMBER {
-        return end_of_lines(read);
-    }
-    read
+    counted(number, read)
 }

@@ -7,12 +7,13 @@ use Rattle.detector_core.specs.declared.prober.Probe.{Probe}
 use Rattle.detector_core.specs.declared.prober.Running.{Running}
 use Rattle.locked_node.specs.declared.node.LockedNode.{LockedNode}
 use Rattle.locked_node.specs.Passes.{NodePass}
+use Rattle.node_core.specs.Log.{one_if}
 use Rattle.round_core.specs.declared.errors.ClusterError.{ClusterError}
 use Rattle.round_core.specs.declared.rounds.Round.{Round}
 use Rattle.round_core.specs.Links.{MayAnswer}
 use Rattle.round_core.specs.Parts.{Part, onward, ended, Does}
 use Rattle.round_core.specs.Rounds.{AsksHelpers, Finishes, FinishesBy, Unless, way_of_ending, way_of_expiry, way_of_waiting}
-use Rattle.round_core.specs.Joining.{Counts, JoinsHost, JoinsHosts, one_if}
+use Rattle.round_core.specs.Joining.{Counts, JoinsHost, JoinsHosts}
 use Rattle.round_core.specs.declared.errors.ClusterError.TheVariants as error
 use Rattle.round_core.proofs.Parts.{Leads, does_as, does_fail_none, does_give, does_left, leads_rest}
 

@@ -1,6 +1,7 @@
 -- How a node joins others: a Join to each host in turn, each Joined taken. Joining is ringpop-go's, package swim.
 use Rattle.std.specs.Prelude.{ℕ, zero, suc, ◌+◌, Bool, true, false, List, [], ◌∷◌}
 use Rattle.change_core.specs.declared.addresses.Address.{Address}
+use Rattle.node_core.specs.Log.{one_if}
 use Rattle.round_core.specs.declared.errors.ClusterError.TheVariants as error
 use Rattle.round_core.specs.declared.hearing.Heard.{Heard}
 use Rattle.round_core.specs.declared.hearing.Heard.TheVariants as heard
@@ -8,10 +9,6 @@ use Rattle.round_core.specs.Asking.{Applied}
 use Rattle.round_core.specs.Links.{MayAnswer}
 use Rattle.round_core.specs.Parts.{Part, Asks, Gives, Fails, Next}
 use Rattle.round_core.specs.Rounds.{Takes}
-
-abbrev pub one_if : Bool → ℕ
-one_if true = 1
-one_if false = 0
 
 module _ {H : Type 0} where
   -- a host was asked: its Joined is taken, whatever that comes to, and it is one that joined; want of memory refuses the join

@@ -1,9 +1,10 @@
 //! How a node joins others.
 ghost use Rattle.std.specs.Prelude.{◌≡◌, ◌+◌, ◌-◌, ◌<◌, ◌^◌, length, IfErr};
 ghost use Rattle.locked_node.specs.Passes.{Fits};
+ghost use Rattle.node_core.specs.Log.{one_if};
 ghost use Rattle.round_core.specs.Asking.{Applied};
 ghost use Rattle.round_core.specs.Errors.{IsJoinRefusal};
-ghost use Rattle.round_core.specs.Joining.{HearsHost, IsJoin, JoinsHost, JoinsHosts, one_if};
+ghost use Rattle.round_core.specs.Joining.{HearsHost, IsJoin, JoinsHost, JoinsHosts};
 ghost use Rattle.round_core.specs.Parts.{Asks, Does};
 
 use crate::asking::apply_to;

@@ -1,6 +1,6 @@
 //! The tests of `cli_core`.
 mod changes;
-mod fakes;
+pub(crate) mod fakes;
 mod folds;
 mod runs;
 mod scripts;

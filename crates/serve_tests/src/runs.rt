@@ -15,7 +15,7 @@ const ALIVE: &str =
     r#"{"address":"10.0.0.2:1","incarnationNumber":5,"source":"10.0.0.2:1","sourceIncarnationNumber":5,"status":"alive"}"#;
 
 /// Words, an input, and what is written for them, or said of the fault that they end with.
-const RUNS: [(&str, &str, Result<&str, &str>); 9] = [
+const RUNS: [(&str, &str, Result<&str, &str>); 13] = [
     (
         "ringpop",
         ALIVE,
@@ -33,7 +33,27 @@ const RUNS: [(&str, &str, Result<&str, &str>); 9] = [
     ("ringpop owner k", "\n", Err("ringpop: line 1: not JSON\n")),
     ("ringpop sim", "at", Err("ringpop: line 1: bad command\n")),
     (
+        "ringpop serve 127.0.0.1:2 1 1 127.0.0.1:1",
+        "",
+        Err("ringpop: no host joined\n"),
+    ),
+    (
+        "ringpop ask 127.0.0.1:1 k b",
+        "",
+        Err("ringpop: no answer\n"),
+    ),
+    (
+        "ringpop ask --any 127.0.0.1:1 k b",
+        "",
+        Err("ringpop: no answer\n"),
+    ),
+    (
         "ringpop members 127.0.0.1:1",
+        "",
+        Err("ringpop: no answer\n"),
+    ),
+    (
+        "ringpop tell 127.0.0.1:1",
         "",
         Err("ringpop: no answer\n"),
     ),

@@ -1,5 +1,6 @@
 //! Where a node refuses: a bad configuration, too many members, and growths that are refused.
 use crate::calls::{Call, Told, event, read, wanted_again};
+use crate::cli::fakes::{ALL, Page};
 use crate::node::played::answers;
 use crate::shared::{
     A, B, C, Row, address, batch, config, configured, hear, incarnation, moment, news, node, put,
@@ -9,6 +10,7 @@ use change_core::Status;
 use hash_ring::SumHash;
 use node_core::{ConfigField, Event, NodeError, NodeState, Reply, StopCause};
 use std::alloc::Global;
+use std::io::Write;
 use std::process::Abort;
 use wire_json::Changes;
 
@@ -25,6 +27,9 @@ fn no_node_of_a_bad_configuration(rt: HostRuntime) {
     let wanted = Some(NodeError::BadConfig(ConfigField::Replicas));
     assert!(rt; refusal(&rt, rt.alloc(), 0) == wanted);
     assert!(rt; refusal(&rt, rt.alloc(), 1_001) == wanted);
+    let mut said = Page::new(ALL);
+    let _ = write!(said, "{}", NodeError::BadConfig(ConfigField::Replicas));
+    assert!(rt; said.text() == "bad configuration: replicas");
 }
 
 /// Changes about 4,096 addresses from 11.0.0.0 on.

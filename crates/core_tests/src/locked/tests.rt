@@ -210,9 +210,9 @@ fn check_len<R: Threads + Wait + Abort + Sync>(
     ensures own { Fits shared.now result.0 }
     ensures foreign { Fits shared.now result.1 }
 {
-    let ((counted, own), (refused, foreign)) = len_by_two(rt, shared, own, foreign);
-    assert!(rt; counted == Ok(1) && refused == Err(LockError::ForeignPass));
-    (own, foreign)
+    let (counted, refused) = len_by_two(rt, shared, own, foreign);
+    assert!(rt; counted.0 == Ok(1) && refused.0 == Err(LockError::ForeignPass));
+    (counted.1, refused.1)
 }
 
 /// A list of both passes, in the room that they came in.

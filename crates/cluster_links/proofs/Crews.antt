@@ -24,7 +24,7 @@ use Rattle.round_core.specs.declared.errors.ClusterError.{ClusterError}
 use Rattle.round_core.specs.declared.rounds.Round.{Round}
 use Rattle.cluster_links.specs.declared.seats.Returned.{Returned}
 use Rattle.cluster_links.specs.declared.seats.Seat.{Seat}
-use Rattle.cluster_links.specs.Clusters.{AreAll, AreApart, HasNoNode, HasNoPost, HasRound, IsOfSeat, IsRoundBy, IsSeat, IsWhole, NoneHas, Seats, address_in, given_to, passes_in, posts_of}
+use Rattle.cluster_links.specs.Clusters.{AreAll, AreApart, GivesBack, HasNoNode, HasNoPost, HasRound, IsOfSeat, IsRoundBy, IsSeat, IsWhole, NoneHas, Seats, address_in, given_to, passes_in, posts_of}
 
 module _ {H : Type 0} where
   -- what the passes of a node are that was made with so many, once the last is taken
@@ -161,17 +161,17 @@ pub closed_all : {S N : Type 0} (R : S → N → Type 0) (all left : List S) (no
 closed_all R all left nodes none h =
     subst (λ (xs : List _). AllZip R xs nodes) (sym (h.1 ∙ ap (λ (xs : List _). h.0 ++ xs) (nil_from_length left none) ∙ append-nil h.0)) h.2
 
-module _ {H : Type 0} where
-  -- the pass that came back from a worker is the one that it was given
+module _ {H : Type 0} (hash_of : H → List ℕ → ℕ) where
+  -- the pass that came back from a worker is the one that it was given, by which it served messages
   abbrev pub CameBack : PromisedHandle (NodePass H) (Returned H) → NodePass H → Type 0
-  CameBack w p = Fits w.promise.node.value p × IsSamePass (given_to w) p
+  CameBack w p = Fits w.promise.node.value p × GivesBack hash_of w.promise.node.value w p
 
   numbers_back : (ws : List (PromisedHandle (NodePass H) (Returned H))) (ps : List (NodePass H)) → AllZip CameBack ws ps
       → map number_of ps ≡ map number_of (map given_to ws)
   numbers_back [] [] h = refl
   numbers_back [] (p ∷ ps) h = absurd h
   numbers_back (w ∷ ws) [] h = absurd h
-  numbers_back (w ∷ ws) (p ∷ ps) h = ap₂ (λ (n : ℕ) (ns : List ℕ). n ∷ ns) h.0.1.1 (numbers_back ws ps h.1)
+  numbers_back (w ∷ ws) (p ∷ ps) h = ap₂ (λ (n : ℕ) (ns : List ℕ). n ∷ ns) h.0.1.made.same.1 (numbers_back ws ps h.1)
 
   own_back : (locked : LockedNode H) (ws : List (PromisedHandle (NodePass H) (Returned H))) (ps : List (NodePass H)) → AllZip CameBack ws ps
       → AreOwn locked (map given_to ws) → AreOwn locked ps
@@ -180,7 +180,7 @@ module _ {H : Type 0} where
   own_back locked (w ∷ ws) [] h own = absurd h
   own_back locked (w ∷ ws) (p ∷ ps) h own =
       let Own : NodePass H → Type 0 = λ (q : NodePass H). lock_name q ≡ name_of locked in
-      All-cons Own p ps (h.0.1.0 ∙ All-head Own (given_to w) (map given_to ws) own) (own_back locked ws ps h.1 (All-tail Own (given_to w) (map given_to ws) own))
+      All-cons Own p ps (h.0.1.made.same.0 ∙ All-head Own (given_to w) (map given_to ws) own) (own_back locked ws ps h.1 (All-tail Own (given_to w) (map given_to ws) own))
 
   fit_back : (locked : LockedNode H) (ws : List (PromisedHandle (NodePass H) (Returned H))) (ps : List (NodePass H)) → AllZip CameBack ws ps
       → All (λ (w : PromisedHandle (NodePass H) (Returned H)). w.promise.node.value ≡ locked) ws → All (Fits locked) ps
@@ -191,17 +191,27 @@ module _ {H : Type 0} where
       let Of : PromisedHandle (NodePass H) (Returned H) → Type 0 = λ (v : PromisedHandle (NodePass H) (Returned H)). v.promise.node.value ≡ locked in
       All-cons (Fits locked) p ps (subst (λ (x : LockedNode H). Fits x p) (All-head Of w ws of) h.0.0) (fit_back locked ws ps h.1 (All-tail Of w ws of))
 
+  work_back : (locked : LockedNode H) (ws : List (PromisedHandle (NodePass H) (Returned H))) (ps : List (NodePass H)) → AllZip CameBack ws ps
+      → All (λ (w : PromisedHandle (NodePass H) (Returned H)). w.promise.node.value ≡ locked) ws → AllZip (GivesBack hash_of locked) ws ps
+  work_back locked [] [] h of = tt
+  work_back locked [] (p ∷ ps) h of = absurd h
+  work_back locked (w ∷ ws) [] h of = absurd h
+  work_back locked (w ∷ ws) (p ∷ ps) h of =
+      let Of : PromisedHandle (NodePass H) (Returned H) → Type 0 = λ (v : PromisedHandle (NodePass H) (Returned H)). v.promise.node.value ≡ locked in
+      (subst (λ (x : LockedNode H). GivesBack hash_of x w p) (All-head Of w ws of) h.0.1, work_back locked ws ps h.1 (All-tail Of w ws of))
+
   -- all passes of a seat are there again, and can be handed in
   pub all_back : (g : Promise.Ghosts (Returned H) (NodePass H)) (seat : Seat H) (ps : List (NodePass H)) → IsSeat seat → length ps ≡ length seat.workers.items
       → KeepsEach g (length seat.workers.items) seat.workers.items ps
       → ((w : PromisedHandle (NodePass H) (Returned H)) (p : NodePass H) → g.kept_by w.promise p → CameBack w p)
-      → All (Fits (arc_value seat.node)) (ps ++ seat.pass ∷ []) × AreAll (arc_value seat.node) (ps ++ seat.pass ∷ [])
+      → AllZip (GivesBack hash_of (arc_value seat.node)) seat.workers.items ps × All (Fits (arc_value seat.node)) (ps ++ seat.pass ∷ []) × AreAll (arc_value seat.node) (ps ++ seat.pass ∷ [])
   all_back g seat ps is same kept means =
       let locked : LockedNode H = arc_value seat.node in
       let ws : List (PromisedHandle (NodePass H) (Returned H)) = seat.workers.items in
       let back : AllZip CameBack ws ps = zip_weaker (λ (w : PromisedHandle (NodePass H) (Returned H)) (p : NodePass H). g.kept_by w.promise p) CameBack means ws ps (each_kept g ws ps same kept) in
       let Own : NodePass H → Type 0 = λ (q : NodePass H). lock_name q ≡ name_of locked in
       let own : AreOwn locked (map given_to ws) × Own seat.pass = All-pop Own (passes_in seat) (map given_to ws) (Some seat.pass) refl is.all.0 in (
+        work_back locked ws ps back is.returned,
         All-push (Fits locked) ps seat.pass (fit_back locked ws ps back is.returned) is.fits,
         (
           All-push Own ps seat.pass (own_back locked ws ps back own.0) own.1,
@@ -214,23 +224,28 @@ module _ {H : Type 0} where
   pub handed_in : (g : Promise.Ghosts (Returned H) (NodePass H)) (seat : Seat H) (locked : LockedNode H) (ps all : List (NodePass H)) (n : ℕ) → IsSeat seat
       → n ≡ length seat.workers.items → length ps ≡ n → KeepsEach g n seat.workers.items ps
       → ((w : PromisedHandle (NodePass H) (Returned H)) (p : NodePass H) → g.kept_by w.promise p → CameBack w p)
-      → locked ≡ arc_value seat.node → all ≡ ps ++ seat.pass ∷ [] → All (Fits locked) all × AreAll locked all
+      → locked ≡ arc_value seat.node → all ≡ ps ++ seat.pass ∷ []
+      → AllZip (GivesBack hash_of (arc_value seat.node)) seat.workers.items ps × All (Fits locked) all × AreAll locked all
   handed_in g seat locked ps all n is count same kept means its put =
-      let back : All (Fits (arc_value seat.node)) (ps ++ seat.pass ∷ []) × AreAll (arc_value seat.node) (ps ++ seat.pass ∷ []) =
+      let back : AllZip (GivesBack hash_of (arc_value seat.node)) seat.workers.items ps × All (Fits (arc_value seat.node)) (ps ++ seat.pass ∷ [])
+      × AreAll (arc_value seat.node) (ps ++ seat.pass ∷ []) =
       all_back g seat ps is (same ∙ count) (subst (λ (k : ℕ). KeepsEach g k seat.workers.items ps) count kept) means in
       let own : All (Fits locked) (ps ++ seat.pass ∷ []) × AreAll locked (ps ++ seat.pass ∷ []) =
-      subst (λ (x : LockedNode H). All (Fits x) (ps ++ seat.pass ∷ []) × AreAll x (ps ++ seat.pass ∷ [])) (sym its) back in
-      subst (λ (xs : List (NodePass H)). All (Fits locked) xs × AreAll locked xs) (sym put) own
+      subst (λ (x : LockedNode H). All (Fits x) (ps ++ seat.pass ∷ []) × AreAll x (ps ++ seat.pass ∷ [])) (sym its) (back.1, back.2) in
+      let all_own : All (Fits locked) all × AreAll locked all = subst (λ (xs : List (NodePass H)). All (Fits locked) xs × AreAll locked xs) (sym put) own in
+      (back.0, all_own.0, all_own.1)
 
   -- the node of a seat that was closed with all its passes
-  pub closed_with : (hash_of : H → List ℕ → ℕ) (seat : Seat H) (locked : LockedNode H) (ps passes : List (NodePass H)) (node : Seen H) → locked ≡ arc_value seat.node
-      → passes ≡ ps ++ seat.pass ∷ [] → AreAll locked passes → IsClosed hash_of locked passes node → IsOfSeat hash_of seat node
-  closed_with hash_of seat locked ps passes node its put all closed = (
+  pub closed_with : (seat : Seat H) (locked : LockedNode H) (ps passes : List (NodePass H)) (node : Seen H) → locked ≡ arc_value seat.node
+      → passes ≡ ps ++ seat.pass ∷ [] → AllZip (GivesBack hash_of (arc_value seat.node)) seat.workers.items ps → AreAll locked passes → IsClosed hash_of locked passes node → IsOfSeat hash_of seat node
+  closed_with seat locked ps passes node its put worked all closed = (
     ps,
+    worked,
     subst (λ (xs : List (NodePass H)). AreAll (arc_value seat.node) xs) put (subst (λ (x : LockedNode H). AreAll x passes) its all),
     subst (λ (xs : List (NodePass H)). IsClosed hash_of (arc_value seat.node) xs node) put (subst (λ (x : LockedNode H). IsClosed hash_of x passes node) its closed),
   )
 
+module _ {H : Type 0} where
   -- a node is closed with all its passes
   pub never_refused : (locked : LockedNode H) (passes : List (NodePass H)) (cause : CloseError) → AreAll locked passes → RefusesToClose locked passes cause → ⊥
   never_refused locked passes closing.ForeignPass all h = h all.0

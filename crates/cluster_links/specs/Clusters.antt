@@ -1,5 +1,5 @@
 -- The nodes of one process, by their addresses.
-use Rattle.std.specs.Prelude.{◌≡◌, ◌≢◌, ℕ, ◌+◌, ◌-◌, ◌^◌, ◌<◌, ◌≤◌, List, [], ◌∷◌, ◌++◌, All, Result, drop, length, map, slice_index_or}
+use Rattle.std.specs.Prelude.{◌≡◌, ◌≢◌, ℕ, ◌+◌, ◌-◌, ◌^◌, ◌<◌, List, [], ◌∷◌, ◌++◌, All, Result, drop, length, map, slice_index_or}
 use Rattle.std.specs.Arc.{arc_value}
 use Rattle.std.specs.List.{AllZip, range_with_len}
 use Rattle.std.specs.declared.thread.PromisedHandle.{PromisedHandle}
@@ -18,6 +18,7 @@ use Rattle.cluster_links.specs.declared.seats.Seat.{Seat}
 use Rattle.cluster_links.specs.declared.clusters.StartError.{StartError}
 use Rattle.cluster_links.specs.declared.clusters.StartError.TheVariants.{BadCount, SameAddress, NoThread, Memory}
 use Rattle.cluster_links.specs.Channels.{any_answer, failures_of, reached_by}
+use Rattle.cluster_links.specs.Working.{HasWorked}
 use Rattle.round_core.specs.Parts.{Does}
 use Rattle.round_core.specs.Rounds.{IsRound}
 
@@ -76,10 +77,15 @@ module _ {H : Type 0} where
   abbrev pub AreFresh : LockedNode H → List (NodePass H) → Type 0
   AreFresh locked passes = All (IsNew locked (2 ^ 32 - 1)) passes
 
+  -- the pass is the one that the worker was given, by which it served messages and made no other call
+  abbrev pub GivesBack : (H → List ℕ → ℕ) → LockedNode H → PromisedHandle (NodePass H) (Returned H) → NodePass H → Type 0
+  GivesBack hash_of locked worker pass = HasWorked hash_of locked (given_to worker) pass
+
   -- the node is what closing that of the seat gave, with all passes of it: those that its workers gave back, and last that of its rounds as it stands
   abbrev pub IsOfSeat : (H → List ℕ → ℕ) → Seat H → Seen H → Type 0
   IsOfSeat hash_of seat node =
-      (of_workers : List (NodePass H)) × AreAll (arc_value seat.node) (of_workers ++ seat.pass ∷ [])
+      (of_workers : List (NodePass H)) × AllZip (GivesBack hash_of (arc_value seat.node)) seat.workers.items of_workers
+      × AreAll (arc_value seat.node) (of_workers ++ seat.pass ∷ [])
       × IsClosed hash_of (arc_value seat.node) (of_workers ++ seat.pass ∷ []) node
 
   -- The passes of the seat are all that its node has, and can be handed in; each worker is to give back the one that it was given.

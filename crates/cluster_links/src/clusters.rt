@@ -2,11 +2,12 @@
 ghost use Rattle.std.specs.Prelude.{◌≡◌, ◌≢◌, ◌⊎◌, ◌<◌, ◌≤◌, ◌+◌, ◌++◌, ◌∷◌, [], map, slice_index_or, IsTrue, IsFalse, IfOk, IfErr, IfNone, IfSome, IsOkUnless, Err, All, length};
 ghost use Rattle.std.specs.List.{AllZip};
 ghost use Rattle.std.specs.Arc.{arc_value};
-ghost use Rattle.turn_lock.specs.Passes.{IsSamePass};
 ghost use Rattle.node_core.specs.Workers.{IsCrew};
 ghost use Rattle.locked_node.specs.Passes.{Fits, opening_of, passes_of};
 ghost use Rattle.cluster_links.specs.Channels.{any_answer, IsChannelFault, failures_of, reached_by};
 ghost use Rattle.cluster_links.specs.Clusters.{address_in, AreAll, AreApart, AreFresh, given_to, HasNoNode, HasNoPost, HasRound, IsGivenUp, IsNotStarted, IsOfSeat, IsRoundBy, IsSeat, IsWhole, NoneHas, posts_of, Seats, IsStarted};
+ghost use Rattle.cluster_links.specs.Working.{HasWorked, IsServed, Repeats, ServesOnce};
+ghost use Rattle.round_core.specs.Acts.{Makes};
 ghost use Rattle.round_core.specs.Errors.{IsRoundRefusal};
 ghost use Rattle.round_core.specs.Parts.{Does, let_in};
 ghost use Rattle.cluster_core.specs.Serving.{Serves};
@@ -97,7 +98,6 @@ fn answer_one<R: Wait, H: PointHash, A: Handler>(
     requires { Fits node.now pass.old }
     ensures served { Does node.now (Serves H.hash_of any_answer A.may_handle message.now 0 message.now.content) (let_in result) pass.old pass.new }
     ensures fits { Fits node.now pass.new }
-    ensures same { IsSamePass pass.old pass.new }
 {
     serve_one(rt, alloc, node, pass, link, handler, beginning(), message)
 }
@@ -114,8 +114,8 @@ fn answer_to<R: Wait, H: PointHash, A: Handler>(
     to: &Sender<Message>,
 )
     requires { Fits node.now pass.old }
+    ensures served { ServesOnce H.hash_of A.may_handle message.now node.now pass.old pass.new }
     ensures fits { Fits node.now pass.new }
-    ensures same { IsSamePass pass.old pass.new }
 {
     if let Ok(answer) = answer_one(rt, alloc, node, pass, link, handler, message) {
         let _sent = put(rt, to, answer);
@@ -133,8 +133,9 @@ fn serve_next<R: Wait, H: PointHash, A: Handler>(
     jobs: &Receiver<Job>,
 ) -> bool
     requires { Fits node.now pass.old }
+    ensures served { IsTrue result → (m : _) × ServesOnce H.hash_of A.may_handle m node.now pass.old pass.new }
+    ensures ended { IsFalse result → pass.new ≡ pass.old }
     ensures fits { Fits node.now pass.new }
-    ensures same { IsSamePass pass.old pass.new }
 {
     match &jobs.recv(rt) {
         Ok(Job::Serve(message, to)) => {
@@ -156,8 +157,9 @@ fn work<R: Wait + Copy, H: PointHash, A: Handler + Drop>(
     jobs: Receiver<Job>,
 ) -> NodePass<H>
     requires { Fits (arc_value node) pass }
+    ensures made { Makes (arc_value node) (Repeats (IsServed H.hash_of A.may_handle)) pass result }
+    ensures worked { HasWorked H.hash_of (arc_value node) pass result }
     ensures fits { Fits (arc_value node) result }
-    ensures same { IsSamePass pass result }
 {
     'jobs: for _ in rt.forever() {
         if !serve_next(&rt, alloc, &*node, &mut pass, &mut link, &*handler, &jobs) {

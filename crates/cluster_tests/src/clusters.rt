@@ -62,7 +62,7 @@ where
 /// What comes back for a message.
 #[derive(Clone, Copy, PartialEq, Eq)]
 enum Heard {
-    /// An Ack of the node of this number.
+    /// An Ack of the node of this number, at its incarnation.
     Ack(u32),
     /// Whether the target of this number was reached.
     Word(u32, bool),
@@ -92,7 +92,9 @@ impl Heard {
 fn heard_in(answer: &Result<Message, LinkError>) -> Heard {
     match answer {
         Ok(message) => match &message.content {
-            Content::Ack(_) => Heard::Ack(number_of(message.source)),
+            Content::Ack(_) if message.source_incarnation.number() == 7 => {
+                Heard::Ack(number_of(message.source))
+            }
             Content::PingReqAck(_, target, reached) => Heard::Word(number_of(*target), *reached),
             Content::Reply(text) if text.as_str() == "one" => Heard::One,
             Content::Reply(text) if text.as_str() == "two" => Heard::Two,

@@ -1,22 +1,18 @@
 -- What the threads of a server do to its node.
-use Rattle.std.specs.Prelude.{◌⊎◌, ℕ, List, [], ◌++◌, Result}
+use Rattle.std.specs.Prelude.{◌⊎◌, ℕ, List, Result}
 use Rattle.turn_lock.specs.declared.errors.LockError.{LockError}
 use Rattle.round_core.specs.declared.errors.ClusterError.{ClusterError}
 use Rattle.round_core.specs.declared.rounds.Round.{Round}
-use Rattle.round_core.specs.Acts.{Act, OfActs, Nothing}
+use Rattle.round_core.specs.Acts.{OfActs, Nothing}
 use Rattle.round_core.specs.Parts.{let_in}
 use Rattle.round_core.specs.Rounds.{IsRound}
 use Rattle.cluster_links.specs.Channels.{any_answer}
+pub use Rattle.cluster_links.specs.Working.{Repeats}
 use Rattle.serve_core.specs.Answering.{Responds, StaysSilent}
 use Rattle.serve_core.specs.declared.inputs.Input.{Input}
 use Rattle.serve_core.specs.declared.inputs.Input.TheVariants as input
 
 module _ {H : Type 0} where
-  -- the same kind of acts again and again, as often as it may be
-  pub data Repeats (One : OfActs H) : List (Act H) → Type 0 where
-    none : Repeats One []
-    more : {acts next : List (Act H)} → Repeats One acts → One next → Repeats One (acts ++ next)
-
   -- a round at some moment, over a link of which nothing is known, whatever it came to
   abbrev pub IsOneRound : OfActs H
   IsOneRound acts = (now : ℕ) × (r : Result Round ClusterError) × IsRound any_answer now r acts

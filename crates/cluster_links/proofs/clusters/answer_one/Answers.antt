@@ -8,6 +8,3 @@ pub returns-clause-served : goal.returns-clause-served
 returns-clause-served g c =
     subst (λ n. Does c.args.node.now (Serves g.H.PointHash.hash_of any_answer g.A.Handler.may_handle c.args.message.now n c.args.message.now.content) (let_in c.serve_one.result) c.args.pass.now c.serve_one.new.pass)
     c.beginning.ensures c.serve_one.ensures.served
-
-pub returns-clause-same : goal.returns-clause-same
-returns-clause-same g c = c.serve_one.ensures.served.makes.made.same

@@ -1,4 +1,4 @@
-use Rattle.std.proofs.Common.{rules, refl, subst, ◌≡◌, ◌<◌, ◌≤◌, IsTrue, IsFalse, IfOk, IfErr, ℕ, List}
+use Rattle.std.proofs.Common.{rules, refl, subst, ◌≡◌, IfOk, IfErr, ℕ, List}
 use Rattle.std.specs.Prelude.{Result, Ok, Err}
 use Rattle.node_core.specs.Workers.{IsCrew}
 use Rattle.node_core.specs.Node.{Seen}

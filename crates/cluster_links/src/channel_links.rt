@@ -1,12 +1,12 @@
 //! A link over channels, between nodes in one process.
 ghost use Rattle.std.specs.Prelude.{◌≡◌, ◌≢◌, ◌<◌, ◌-◌, ◌^◌, Err, IfErr, IfNone, IfSome, IsOkUnless, IsSome};
-ghost use Rattle.cluster_links.specs.Channels.{IsChannelFault, failures_of, reached_by};
+ghost use Rattle.cluster_links.specs.Channels.{IsChannelFault, failures_of, heard_as, reached_by, sent_as};
 ghost use Rattle.cluster_links.specs.Clusters.{HasNoPost};
 
 use crate::copies::copy_message;
 use change_core::Address;
 use cluster_core::{Link, LinkError};
-use crossbeam_channel::{Receiver, SendError, Sender, bounded};
+use crossbeam_channel::{Receiver, RecvError, SendError, Sender, bounded};
 use message_core::{Message, WireError};
 use std::alloc::Global;
 use std::sync::{Arc, Wait};
@@ -41,15 +41,34 @@ pub(crate) fn post_of(posts: &[Post], address: Address) -> Option<&Post>
     None
 }
 
-/// Sends an item. `Memory` where a growth was refused, `Closed` where nobody is left to receive it.
-pub(crate) fn put<R: Wait, T: Drop>(rt: &R, to: &Sender<T>, item: T) -> Result<(), LinkError>
+/// What a send comes to: `Memory` where a growth was refused, `Closed` where nobody is left to receive the item.
+fn sent<T: Drop>(answer: Result<(), SendError<T>>) -> Result<(), LinkError>
+    ensures is { result ≡ sent_as answer }
     ensures only { IfErr result IsChannelFault }
 {
-    match to.send(rt, item) {
+    match answer {
         Ok(()) => Ok(()),
         Err(SendError::OutOfMemory(_)) => Err(LinkError::Memory),
         Err(SendError::Disconnected(_)) => Err(LinkError::Closed),
     }
+}
+
+/// What a receive comes to: `Closed` where nobody is left to send.
+fn heard(answer: Result<Message, RecvError>) -> Result<Message, LinkError>
+    ensures is { result ≡ heard_as answer }
+    ensures only { IfErr result IsChannelFault }
+{
+    match answer {
+        Ok(message) => Ok(message),
+        Err(_) => Err(LinkError::Closed),
+    }
+}
+
+/// Sends an item.
+pub(crate) fn put<R: Wait, T: Drop>(rt: &R, to: &Sender<T>, item: T) -> Result<(), LinkError>
+    ensures only { IfErr result IsChannelFault }
+{
+    sent(to.send(rt, item))
 }
 
 /// A job with a copy of the message, and where its answer comes out.
@@ -74,10 +93,7 @@ fn exchange<R: Wait>(
         return Err(LinkError::Memory);
     };
     put(rt, &post.jobs, job)?;
-    match from.recv(rt) {
-        Ok(answer) => Ok(answer),
-        Err(_) => Err(LinkError::Closed),
-    }
+    heard(from.recv(rt))
 }
 
 /// Asks the node of an address, if there is one.

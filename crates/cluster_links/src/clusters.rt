@@ -276,6 +276,64 @@ fn dismiss<R: Wait>(rt: &R, posts: &[Post], address: Address, workers: usize) {
     }
 }
 
+/// What a worker works with besides its pass: the node, a link to the posts, the handler, and where its jobs come out. `Memory` is the
+/// only refusal.
+fn tools_for<H: PointHash, A: Drop>(
+    node: &Arc<LockedNode<H>, Global>,
+    posts: &Arc<Vec<Post>, Global>,
+    handler: &Arc<A, Global>,
+    outlet: &Receiver<Job>,
+) -> Result<
+    (
+        Arc<LockedNode<H>, Global>,
+        ChannelLink,
+        Arc<A, Global>,
+        Receiver<Job>,
+    ),
+    StartError<H>,
+>
+    ensures node { IfOk result (λ t. arc_value t.0 ≡ arc_value node.now) }
+    ensures refused { IsOkUnless result StartError.Memory }
+{
+    let theirs = Arc::try_clone(node)?;
+    let link = ChannelLink::new(Arc::try_clone(posts)?);
+    let handler = Arc::try_clone(handler)?;
+    let jobs = outlet.clone()?;
+    Ok((theirs, link, handler, jobs))
+}
+
+/// Starts the thread of a worker. `NoThread` is the only refusal.
+fn start_work<R, H, A>(
+    rt: &R,
+    alloc: Global,
+    node: Arc<LockedNode<H>, Global>,
+    pass: NodePass<H>,
+    link: ChannelLink,
+    handler: Arc<A, Global>,
+    jobs: Receiver<Job>,
+) -> Result<PromisedHandle<NodePass<H>, Returned<H>>, StartError<H>>
+where
+    R: Threads + Wait + Copy + Send + 'static,
+    H: PointHash + Send + Sync + 'static,
+    A: Handler + Send + Sync + Drop + 'static,
+    requires { Fits (arc_value node) pass }
+    ensures hired { IfOk result (λ w. (w.promise.node.value ≡ arc_value node) × (given_to w ≡ pass)) }
+    ensures refused { IsOkUnless result StartError.NoThread }
+{
+    let runtime = *rt;
+    let promise = Returned {
+        node: Snapshot::of(&*node),
+        pass: Snapshot::of(&pass),
+    };
+    let started = thread::spawn_with(rt, promise, move || {
+        work(runtime, alloc, node, pass, link, handler, jobs)
+    });
+    match started {
+        Ok(worker) => Ok(worker),
+        Err(_) => Err(StartError::NoThread),
+    }
+}
+
 /// Starts one worker.
 fn hire_one<R, H, A>(
     rt: &R,
@@ -294,22 +352,8 @@ where
     ensures hired { IfOk result (λ w. (w.promise.node.value ≡ arc_value node.now) × (given_to w ≡ pass)) }
     ensures given_up { IfErr result IsGivenUp }
 {
-    let runtime = *rt;
-    let theirs = Arc::try_clone(node)?;
-    let link = ChannelLink::new(Arc::try_clone(posts)?);
-    let handler = Arc::try_clone(handler)?;
-    let jobs = outlet.clone()?;
-    let promise = Returned {
-        node: Snapshot::of(&**node),
-        pass: Snapshot::of(&pass),
-    };
-    let started = thread::spawn_with(rt, promise, move || {
-        work(runtime, alloc, theirs, pass, link, handler, jobs)
-    });
-    match started {
-        Ok(worker) => Ok(worker),
-        Err(_) => Err(StartError::NoThread),
-    }
+    let (node, link, handler, jobs) = tools_for(node, posts, handler, outlet)?;
+    start_work(rt, alloc, node, pass, link, handler, jobs)
 }
 
 /// Starts a worker for each pass. Where one can't be started the others are ended.

@@ -1,6 +1,7 @@
 //! What the threads of a server share, and what each of them does.
 ghost use Rattle.std.specs.Prelude.{◌≡◌};
 ghost use Rattle.locked_node.specs.Passes.{Fits};
+ghost use Rattle.cluster_links.specs.Sockets.{limits_of};
 ghost use Rattle.round_core.specs.Acts.{Makes};
 ghost use Rattle.serve_core.specs.Working.{IsConnection, IsOneRound, Repeats};
 
@@ -56,6 +57,7 @@ impl<H: PointHash> Server<H> {
     ) -> Self
         ensures node { result.node ≡ node }
         ensures own { result.own ≡ own }
+        ensures watch { result.watch ≡ watch }
         ensures waits { result.waits ≡ waits }
     {
         Server {
@@ -144,6 +146,30 @@ impl<H: PointHash> Server<H> {
     }
 }
 
+/// Serves connections until no ticket is left, from when nobody holds the workers. What a message is passed on by is a link with
+/// the server's own limits.
+fn work_over<R: Net + Wait + Clock, H: PointHash>(
+    server: &Server<H>,
+    pass: &mut NodePass<H>,
+    rt: &R,
+    alloc: Global,
+    link: &mut TcpLink<R>,
+)
+    requires fits { Fits server.now.node pass.old }
+    requires limits { limits_of link.old ≡ server.now.waits.links }
+    ensures made { Makes server.now.node (Repeats (IsConnection H.hash_of)) pass.old pass.new }
+    ensures fits { Fits server.now.node pass.new }
+{
+    server.wait_for_gate(rt);
+    for _ in rt.forever() {
+        if !server.take_ticket() {
+            return;
+        }
+        let stream = server.accept(rt);
+        serve_connection(server, pass, rt, alloc, link, stream);
+    }
+}
+
 /// Serves connections until no ticket is left, from when nobody holds the workers.
 pub fn work<R: Net + Wait + Clock + Copy, H: PointHash>(
     server: &Server<H>,
@@ -155,14 +181,30 @@ pub fn work<R: Net + Wait + Clock + Copy, H: PointHash>(
     ensures made { Makes server.now.node (Repeats (IsConnection H.hash_of)) pass.old pass.new }
     ensures fits { Fits server.now.node pass.new }
 {
-    server.wait_for_gate(rt);
     let mut link = TcpLink::with_limits(*rt, server.waits.links);
+    work_over(server, pass, rt, alloc, &mut link);
+}
+
+/// Makes rounds until they are ended, over a link with the server's own limits.
+fn rounds_over<R: Net + Wait + Clock, H: PointHash>(
+    server: &Server<H>,
+    pass: &mut NodePass<H>,
+    rt: &R,
+    alloc: Global,
+    link: &mut TcpLink<R>,
+    period: Duration,
+)
+    requires fits { Fits server.now.node pass.old }
+    requires limits { limits_of link.old ≡ server.now.waits.links }
+    ensures made { Makes server.now.node (Repeats IsOneRound) pass.old pass.new }
+    ensures fits { Fits server.now.node pass.new }
+{
     for _ in rt.forever() {
-        if !server.take_ticket() {
+        if !server.rest(rt, period) {
             return;
         }
-        let stream = server.accept(rt);
-        serve_connection(server, pass, rt, alloc, &mut link, stream);
+        let now = server.watch.moment(rt);
+        let _round = gossip_round(rt, alloc, &server.node, pass, link, now);
     }
 }
 
@@ -181,11 +223,5 @@ pub fn make_rounds<R: Net + Wait + Clock + Copy, H: PointHash>(
 {
     let mut link = TcpLink::with_limits(*rt, server.waits.links);
     let period = Duration::from_millis(period);
-    for _ in rt.forever() {
-        if !server.rest(rt, period) {
-            return;
-        }
-        let now = server.watch.moment(rt);
-        let _round = gossip_round(rt, alloc, &server.node, pass, &mut link, now);
-    }
+    rounds_over(server, pass, rt, alloc, &mut link, period);
 }

@@ -1,13 +1,13 @@
 use Rattle.std.proofs.Common.{rules}
 use Rattle.serve_core.specs.Working.{IsConnection}
 use Rattle.serve_core.proofs.Worked.{none_yet, one_more}
-use Rattle.serve_core.proofs.servers.work.Goals as goal
+use Rattle.serve_core.proofs.servers.work_over.Goals as goal
 
 pub loop-init : goal.loop-init
 loop-init g c = record {
   iterates = search rules;
   made = none_yet c.args.server.now.node (IsConnection g.H.PointHash.hash_of) c.args.pass.now;
-  fits = c.requires;
+  fits = c.requires.fits;
 }
 
 pub loop-preserved : goal.loop-preserved

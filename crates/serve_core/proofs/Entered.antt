@@ -1,15 +1,20 @@
 -- How a server's node enters its cluster.
-use Rattle.std.proofs.Common.{◌≡◌, ◌≢◌, ℕ, ◌-◌, ◌^◌, ◌∙◌, refl, sym, subst, List, [], ◌∷◌, ◌++◌, Option, Some, None, Result, Ok, Err, inl, inr, ◌⊎◌, IfErr, IsOk, IsOkUnless, IsErrAnd}
+use Rattle.std.proofs.Common.{◌≡◌, ◌≢◌, ℕ, ◌-◌, ◌^◌, ◌∙◌, refl, sym, ap, subst, List, [], ◌∷◌, ◌++◌, Option, Some, None, Result, Ok, Err, inl, inr, ◌⊎◌, IfErr, IsOk, IsErrAnd, length}
 use Rattle.std.proofs.lemmas.Bool.{false≢true}
 use Rattle.std.proofs.lemmas.List.Elements.{All-pop}
 use Rattle.change_core.specs.declared.addresses.Address.{Address}
 use Rattle.locked_node.specs.declared.node.LockedNode.{LockedNode}
 use Rattle.locked_node.specs.Passes.{NodePass, IsNew, opening_of}
 use Rattle.round_core.specs.Links.{MayAnswer}
-use Rattle.cluster_links.specs.Clusters.{AreFresh}
-use Rattle.serve_core.specs.Service.{HasEntered, IsBorn, IsJoinedTo, IsThreadFault, LeavesServing, TellsEntry}
+use Rattle.round_core.specs.Acts.{Makes}
+use Rattle.cluster_links.specs.Clusters.{AreAll, AreFresh}
+use Rattle.serve_core.specs.Service.{HasEntered, HasServed, IsBorn, IsJoinedTo, IsThreadFault, LeavesServing, TellsEntry}
+use Rattle.serve_core.specs.Threads.{ServeAlone}
+use Rattle.serve_core.specs.Working.{IsOneRound, Repeats}
 use Rattle.serve_core.specs.declared.faults.ServeFault.{ServeFault}
 use Rattle.serve_core.specs.declared.faults.ServeFault.TheVariants as serve
+use Rattle.serve_core.specs.declared.servers.Server.{Server}
+use Rattle.serve_core.specs.declared.waits.Waits.{Waits}
 use Rattle.cli_core.specs.declared.words.ServeWords.{ServeWords}
 
 -- what may end a server that was let in
@@ -34,14 +39,14 @@ cannot_begin a serve.NoThread old new h = tt
 cannot_begin a serve.CannotWrite old new h = tt
 cannot_begin a serve.NoMemory old new h = tt
 
-pub cannot_end : (r : Result (Unit {0}) ServeFault) → IsOkUnless r serve.CannotWrite → IfErr r MayFollow
-cannot_end (Ok u) fault = tt
-cannot_end (Err e) fault = subst MayFollow (sym fault) tt
+pub cannot_end : (e : ServeFault) → e ≡ serve.CannotWrite → MayFollow e
+cannot_end e is = subst MayFollow (sym is) tt
 
 module _ {H : Type 0} (hash_of : H → List ℕ → ℕ) (Came : MayAnswer) (hash : H) (words : ServeWords) (node : LockedNode H) (passes : List (NodePass H)) (timer new : NodePass H)
-    (hosts : List Address) (now : ℕ) (born : IsBorn hash_of hash words (opening_of node)) (fresh : AreFresh node (passes ++ timer ∷ [])) (same : hosts ≡ words.hosts.items) where
+    (hosts : List Address) (now : ℕ) (born : IsBorn hash_of hash words (opening_of node)) (fresh : AreFresh node (passes ++ timer ∷ [])) (same : hosts ≡ words.hosts.items)
+    (alone : hosts ≡ [] → new ≡ timer) where
   -- what its join came to, if it had hosts to ask
-  entered_by : (fault : Option ServeFault) → (hosts ≢ [] → IsJoinedTo Came node hosts now fault timer new) → HasEntered hash_of Came hash words fault
+  pub entered_by : (fault : Option ServeFault) → (hosts ≢ [] → IsJoinedTo Came node hosts now fault timer new) → HasEntered hash_of Came hash words fault
   entered_by fault joined = record {
     node = node;
     now = now;
@@ -50,12 +55,13 @@ module _ {H : Type 0} (hash_of : H → List ℕ → ℕ) (Came : MayAnswer) (has
     born = born;
     fresh = (All-pop (IsNew node (2 ^ 32 - 1)) (passes ++ timer ∷ []) passes (Some timer) refl fresh).1;
     joined = λ named. subst (λ (xs : List Address). IsJoinedTo Came node xs now fault timer new) same (joined (λ none. named (sym same ∙ none)));
+    alone = λ none. alone (same ∙ none);
   }
 
   -- it entered, and ended after that
-  pub let_in_by : (r : Result (Unit {0}) ServeFault) → IfErr r MayFollow → (hosts ≢ [] → IsJoinedTo Came node hosts now None timer new)
+  pub let_in_by : {T : Type 0} (r : Result T ServeFault) → IfErr r MayFollow → (hosts ≢ [] → IsJoinedTo Came node hosts now None timer new)
       → TellsEntry (HasEntered hash_of Came hash words) r
-  let_in_by (Ok u) after joined = entered_by None joined
+  let_in_by (Ok t) after joined = entered_by None joined
   let_in_by (Err serve.NoneJoined) after joined = absurd after
   let_in_by (Err serve.CannotListen) after joined = entered_by None joined
   let_in_by (Err serve.NoThread) after joined = entered_by None joined
@@ -63,17 +69,38 @@ module _ {H : Type 0} (hash_of : H → List ℕ → ℕ) (Came : MayAnswer) (has
   let_in_by (Err serve.NoMemory) after joined = tt
 
   -- it did not
-  pub kept_out_by : (e : ServeFault) (out : Result (Unit {0}) ServeFault) → (e ≡ serve.NoneJoined) ⊎ (e ≡ serve.NoMemory)
+  pub kept_out_by : {T : Type 0} (e : ServeFault) (out : Result T ServeFault) → (e ≡ serve.NoneJoined) ⊎ (e ≡ serve.NoMemory)
       → (hosts ≢ [] → IsJoinedTo Came node hosts now (Some e) timer new) → IsErrAnd out (λ x. x ≡ e)
-      → TellsEntry (HasEntered hash_of Came hash words) out
-  kept_out_by e (Ok u) which joined so = absurd so
-  kept_out_by e (Err x) (inl none) joined so =
+      → TellsEntry {T = T} (HasEntered hash_of Came hash words) out
+  kept_out_by {T} e (Ok t) which joined so = absurd so
+  kept_out_by {T} e (Err x) (inl none) joined so =
       let refused : hosts ≢ [] → IsJoinedTo Came node hosts now (Some serve.NoneJoined) timer new =
       λ named. subst (λ (f : ServeFault). IsJoinedTo Came node hosts now (Some f) timer new) none (joined named) in
-      subst (λ (f : ServeFault). TellsEntry (HasEntered hash_of Came hash words) (Err f)) (sym (so ∙ none)) (entered_by (Some serve.NoneJoined) refused)
-  kept_out_by e (Err x) (inr memory) joined so =
-      subst (λ (f : ServeFault). TellsEntry (HasEntered hash_of Came hash words) (Err f)) (sym (so ∙ memory)) tt
+      subst (λ (f : ServeFault). TellsEntry {T = T} (HasEntered hash_of Came hash words) (Err f)) (sym (so ∙ none)) (entered_by (Some serve.NoneJoined) refused)
+  kept_out_by {T} e (Err x) (inr memory) joined so =
+      subst (λ (f : ServeFault). TellsEntry {T = T} (HasEntered hash_of Came hash words) (Err f)) (sym (so ∙ memory)) tt
 
   -- who does not enter had hosts to ask
   pub had_hosts : (e : ServeFault) → (hosts ≡ [] → IsOk {T = Unit {0}} (Err e) × (new ≡ timer)) → words.hosts.items ≢ []
-  had_hosts e alone none = false≢true (alone (same ∙ none)).0
+  had_hosts e never none = false≢true (never (same ∙ none)).0
+
+  -- it entered, and then its threads served
+  pub served_by : (waits : Waits) (server it : Server H) (last : NodePass H) (workers : List (NodePass H)) → server ≡ it → it.node ≡ node → it.own ≡ words.address → it.waits ≡ waits
+      → length passes ≡ words.workers → AreAll node (passes ++ timer ∷ []) → (hosts ≢ [] → IsJoinedTo Came node hosts now None timer new)
+      → Makes server.node (Repeats IsOneRound) new last → (words.period ≡ 0 → last ≡ new) → ServeAlone hash_of server.node passes workers
+      → HasServed hash_of Came hash waits words server last workers
+  unfolding entered_by
+  served_by waits server it last workers is its own waiting count all joined rounds resting connections =
+      let node_is : server.node ≡ node = ap (λ (s : Server H). s.node) is ∙ its in record {
+        entry = entered_by None joined;
+        crew = passes;
+        its = sym node_is;
+        own = ap (λ (s : Server H). s.own) is ∙ own;
+        waiting = ap (λ (s : Server H). s.waits) is ∙ waiting;
+        count = count;
+        all = subst (λ (x : LockedNode H). AreAll x (passes ++ timer ∷ [])) (sym node_is) all;
+        fresh = subst (λ (x : LockedNode H). AreFresh x (passes ++ timer ∷ [])) (sym node_is) fresh;
+        rounds = rounds;
+        resting = resting;
+        connections = connections;
+      }

@@ -6,3 +6,4 @@ pub mod Written
 pub mod Entered
 pub mod Heard
 pub mod Worked
+pub mod Crew

@@ -1,5 +1,5 @@
 -- What a thread of a server does to the node, connection by connection and round by round.
-use Rattle.std.proofs.Common.{◌≡◌, ℕ, List, Result, subst, sym, inl, inr}
+use Rattle.std.proofs.Common.{ℕ, List, Result, subst, sym, inl, inr}
 use Rattle.locked_node.specs.declared.node.LockedNode.{LockedNode}
 use Rattle.locked_node.specs.Passes.{NodePass}
 use Rattle.round_core.specs.declared.errors.ClusterError.{ClusterError}

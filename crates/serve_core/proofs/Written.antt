@@ -1,5 +1,5 @@
 -- What a server has written, line by line.
-use Rattle.std.proofs.Common.{◌≡◌, ℕ, inl, subst, sym, List, [], ◌∷◌, ◌++◌, Option, Result, Ok, Err, IfErr, OnOk, IsOkUnless, IsErrAnd}
+use Rattle.std.proofs.Common.{◌≡◌, ◌∙◌, ℕ, inl, subst, sym, List, [], ◌∷◌, ◌++◌, Option, Result, Ok, Err, IfErr, IsErrAnd}
 use Rattle.std.proofs.KnownBytes.{Appends-trans}
 use Rattle.std.specs.Prelude.{codes}
 use Rattle.std.specs.Io.KnownBytes.{Appends}
@@ -17,20 +17,19 @@ left_serving a serve.NoneJoined old new h = absurd h
 left_serving a serve.CannotListen old new h = absurd h
 left_serving a serve.NoThread old new h = absurd h
 
+-- the first line was said, and then the last
+pub said_both : (a : ℕ) (old mid new : Option (List ℕ)) → Appends old mid (serving_line a) → Appends mid new (codes "done" ++ 10 ∷ []) → Appends old new (service_text a)
+said_both a old mid new first last = Appends-trans old mid new (serving_line a) (codes "done" ++ 10 ∷ []) first last
+
 module _ {T : Type 0} (a : ℕ) (old mid new : Option (List ℕ)) where
   -- the first line was not said
   pub unsaid_first : (e : ServeFault) (r : Result T ServeFault) → IsErrAnd r (λ x. x ≡ e) → LeavesServing a e old new → IfErr r (λ x. LeavesService a x old new)
   unsaid_first e (Ok t) is h = tt
   unsaid_first e (Err x) is h = subst (λ y. LeavesService a y old new) (sym is) (left_serving a e old new h)
 
-  -- the first line was said, and then the last
-  pub said_both : (r : Result T ServeFault) → Appends old mid (serving_line a) → OnOk r (Appends mid new (codes "done" ++ 10 ∷ [])) → OnOk r (Appends old new (service_text a))
-  said_both (Ok t) first last = Appends-trans old mid new (serving_line a) (codes "done" ++ 10 ∷ []) first last
-  said_both (Err e) first last = tt
-
   -- the first line was said, and of the last a front
-  pub unsaid_last : (r : Result T ServeFault) → Appends old mid (serving_line a) → AppendsFront mid new (codes "done" ++ 10 ∷ []) → IsOkUnless r serve.CannotWrite
-      → IfErr r (λ x. LeavesService a x old new)
-  unsaid_last (Ok t) first front fault = tt
-  unsaid_last (Err e) first front fault =
-      subst (λ x. LeavesService a x old new) (sym fault) (front_then old mid new (serving_line a) (codes "done" ++ 10 ∷ []) first front)
+  pub unsaid_last : (e : ServeFault) (r : Result T ServeFault) → IsErrAnd r (λ x. x ≡ e) → Appends old mid (serving_line a) → AppendsFront mid new (codes "done" ++ 10 ∷ [])
+      → e ≡ serve.CannotWrite → IfErr r (λ x. LeavesService a x old new)
+  unsaid_last e (Ok t) is first front fault = tt
+  unsaid_last e (Err x) is first front fault =
+      subst (λ y. LeavesService a y old new) (sym (is ∙ fault)) (front_then old mid new (serving_line a) (codes "done" ++ 10 ∷ []) first front)

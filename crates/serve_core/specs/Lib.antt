@@ -6,4 +6,5 @@ pub mod Membership
 pub mod Owning
 pub mod Service
 pub mod Telling
+pub mod Threads
 pub mod Working

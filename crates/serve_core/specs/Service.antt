@@ -1,5 +1,5 @@
 -- What a server is, writes and leaves.
-use Rattle.std.specs.Prelude.{◌≡◌, ◌≢◌, ◌⊎◌, ℕ, ◌*◌, ◌^◌, ◌-◌, Bool, true, false, List, [], ◌∷◌, ◌++◌, Option, Some, None, Result, Ok, Err, codes}
+use Rattle.std.specs.Prelude.{◌≡◌, ◌≢◌, ◌⊎◌, ℕ, ◌*◌, ◌^◌, ◌-◌, Bool, true, false, List, [], ◌∷◌, ◌++◌, Option, Some, None, Result, Ok, Err, codes, length}
 use Rattle.std.specs.Io.KnownBytes.{Appends, Keeps}
 use Rattle.std.specs.Duration.{as_nanos}
 use Rattle.change_core.specs.Address.{address_text}
@@ -15,16 +15,21 @@ use Rattle.node_core.specs.Parts.{seen_of}
 use Rattle.node_core.specs.World.{newborn}
 use Rattle.locked_node.specs.declared.node.LockedNode.{LockedNode}
 use Rattle.locked_node.specs.Passes.{NodePass, IsNew, opening_of}
+use Rattle.round_core.specs.Acts.{Makes}
 use Rattle.round_core.specs.declared.errors.ClusterError.{ClusterError}
 use Rattle.round_core.specs.declared.errors.ClusterError.TheVariants as error
 use Rattle.round_core.specs.Joining.{IsJoin}
 use Rattle.round_core.specs.Links.{MayAnswer}
 use Rattle.round_core.specs.Parts.{Does}
 use Rattle.cluster_links.specs.Channels.{any_answer}
+use Rattle.cluster_links.specs.Clusters.{AreAll, AreFresh}
 use Rattle.cluster_links.specs.Limits.{IsStandard}
 use Rattle.cli_core.specs.Owner.{hash_by}
 use Rattle.serve_core.specs.declared.faults.ServeFault.{ServeFault}
 use Rattle.serve_core.specs.declared.faults.ServeFault.TheVariants as serve
+use Rattle.serve_core.specs.Threads.{ServeAlone}
+use Rattle.serve_core.specs.Working.{IsOneRound, Repeats}
+use Rattle.serve_core.specs.declared.servers.Server.{Server}
 use Rattle.serve_core.specs.declared.waits.Waits.{Waits}
 use Rattle.cli_core.specs.declared.words.ServeWords.{ServeWords}
 
@@ -82,7 +87,7 @@ pub record IsJoinedTo {H : Type 0} (Came : MayAnswer) (node : LockedNode H) (hos
   pub is : fault ≡ join_fault joined
 
 -- The node was born as the words say; where they name hosts, it asked them to let it in, by a new pass and over a link that answered so, and
--- this came of it.
+-- this came of it; else nothing was done by that pass.
 pub record HasEntered {H : Type 0} (hash_of : H → List ℕ → ℕ) (Came : MayAnswer) (hash : H) (words : ServeWords) (fault : Option ServeFault) : Type 0 where
   pub node : LockedNode H
   pub now : ℕ
@@ -91,6 +96,7 @@ pub record HasEntered {H : Type 0} (hash_of : H → List ℕ → ℕ) (Came : Ma
   pub born : IsBorn hash_of hash words (opening_of node)
   pub fresh : IsNew node (2 ^ 32 - 1) old
   pub joined : words.hosts.items ≢ [] → IsJoinedTo Came node words.hosts.items now fault old new
+  pub alone : words.hosts.items ≡ [] → new ≡ old
 
 -- the same over a link of which nothing is known, under the sum of the bytes or under SHA-256's first eight
 abbrev pub EntersBy : Bool → ServeWords → Option ServeFault → Type 0
@@ -98,18 +104,49 @@ EntersBy true words = let hash : SumHash = record {} in HasEntered (λ (h : SumH
 EntersBy false words = let hash : Sha256Hash = record {} in HasEntered (λ (h : Sha256Hash). hash_by false) any_answer hash words
 
 -- how a server ends tells what its entering came to: nobody let it in; or, but at a want of memory, it entered before
-abbrev pub TellsEntry : (Option ServeFault → Type 0) → Result (Unit {0}) ServeFault → Type 0
-TellsEntry Entered (Ok u) = Entered None
+abbrev pub TellsEntry : {T : Type 0} → (Option ServeFault → Type 0) → Result T ServeFault → Type 0
+TellsEntry Entered (Ok t) = Entered None
 TellsEntry Entered (Err serve.NoneJoined) = Entered (Some serve.NoneJoined)
 TellsEntry Entered (Err serve.NoMemory) = Unit {0}
 TellsEntry Entered (Err other) = Entered None
 
--- the server of these words served its last connection: all is written, and the node was born so, and let in where hosts are named, before
+-- The server's node entered so, and then only served: these are all the passes that it has, as they stand at the end; since they were made,
+-- or the node had entered, rounds alone were made by that of the timer, none where the period is 0, and connections alone were served by each
+-- worker's.
+pub record HasServed {H : Type 0} (hash_of : H → List ℕ → ℕ) (Came : MayAnswer) (hash : H) (waits : Waits) (words : ServeWords) (server : Server H) (timer : NodePass H) (workers : List (NodePass H)) : Type 0 where
+  pub entry : HasEntered hash_of Came hash words None
+  pub crew : List (NodePass H)
+  pub its : entry.node ≡ server.node
+  pub own : server.own ≡ words.address
+  pub waiting : server.waits ≡ waits
+  pub count : length crew ≡ words.workers
+  pub all : AreAll server.node (crew ++ entry.old ∷ [])
+  pub fresh : AreFresh server.node (crew ++ entry.old ∷ [])
+  pub rounds : Makes server.node (Repeats IsOneRound) entry.new timer
+  pub resting : words.period ≡ 0 → timer ≡ entry.new
+  pub connections : ServeAlone hash_of server.node crew workers
+
+-- a server of these words and waits has served so
+abbrev pub IsServed : {H : Type 0} → (H → List ℕ → ℕ) → H → Waits → ServeWords → Type 0
+IsServed {H} hash_of hash waits words =
+    (server : Server H) × (timer : NodePass H) × (workers : List (NodePass H)) × HasServed hash_of any_answer hash waits words server timer workers
+
+-- the same under the sum of the bytes or under SHA-256's first eight
+abbrev pub ServesBy : Bool → ServeWords → Waits → Type 0
+ServesBy true words waits = let hash : SumHash = record {} in IsServed (λ (h : SumHash). hash_by true) hash waits words
+ServesBy false words waits = let hash : Sha256Hash = record {} in IsServed (λ (h : Sha256Hash). hash_by false) hash waits words
+
+-- the same with the standard waits
+abbrev pub ServesAsStandard : ServeWords → Type 0
+ServesAsStandard words = (waits : Waits) × IsStandardWaits waits × ServesBy words.sum words waits
+
+-- the server of these words served its last connection: all is written, and the node was born so, let in where hosts are named, and then
+-- only served
 abbrev pub Served : ServeWords → Option (List ℕ) → Option (List ℕ) → Type 0
-Served words old new = Appends old new (service_text words.address) × EntersBy words.sum words None
+Served words old new = Appends old new (service_text words.address) × EntersBy words.sum words None × ServesAsStandard words
 
 -- why it did not, and what is written then: nobody let it in only where hosts are named, and the fault tells what came of entering
 pub record IsUnserved (words : ServeWords) (e : ServeFault) (old new : Option (List ℕ)) : Type 0 where
   pub left : LeavesService words.address e old new
   pub named : e ≡ serve.NoneJoined → words.hosts.items ≢ []
-  pub entered : TellsEntry (EntersBy words.sum words) (Err e)
+  pub entered : TellsEntry {T = Unit {0}} (EntersBy words.sum words) (Err e)

@@ -13,6 +13,7 @@ mod looks;
 mod nodes;
 mod owners;
 mod questions;
+mod returns;
 mod servers;
 mod serving;
 mod telling;

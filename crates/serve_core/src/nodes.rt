@@ -2,7 +2,7 @@
 ghost use Rattle.std.specs.Prelude.{◌≡◌, ◌≢◌, ◌⊎◌, ◌<◌, ◌^◌, ◌++◌, ◌∷◌, [], Some, None, Err, length, IfOk, IfErr, IsOk, IsOkUnless, MatchResult};
 ghost use Rattle.std.specs.List.{All};
 ghost use Rattle.locked_node.specs.Passes.{Fits, opening_of};
-ghost use Rattle.cluster_links.specs.Clusters.{AreFresh};
+ghost use Rattle.cluster_links.specs.Clusters.{AreAll, AreFresh};
 ghost use Rattle.serve_core.specs.Service.{IsBorn, IsJoinedTo, join_fault};
 
 use crate::faults::ServeFault;
@@ -64,6 +64,7 @@ pub fn shared_node<H: PointHash>(
     ensures born { IfOk result (λ r. IsBorn H.hash_of hash words.now (opening_of r.0)) }
     ensures fits { IfOk result (λ r. Fits r.0 r.1 × All (Fits r.0) r.2.items) }
     ensures count { IfOk result (λ r. length r.2.items ≡ words.now.workers) }
+    ensures all { IfOk result (λ r. AreAll r.0 (r.2.items ++ r.1 ∷ [])) }
     ensures fresh { IfOk result (λ r. AreFresh r.0 (r.2.items ++ r.1 ∷ [])) }
     ensures refusal { IsOkUnless result ServeFault.NoMemory }
 {

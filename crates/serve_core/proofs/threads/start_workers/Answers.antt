@@ -1,20 +1,19 @@
-use Rattle.std.proofs.Common.{All, arith, subst, sym}
-use Rattle.std.proofs.lemmas.List.Elements.{All-rest}
+use Rattle.std.proofs.Common.{Some, arith}
+use Rattle.std.proofs.lemmas.List.Elements.{All-pop}
 use Rattle.std.specs.Arc.{arc_value}
 use Rattle.locked_node.specs.Passes.{Fits}
+use Rattle.serve_core.proofs.Crew.{one_taken}
+use Rattle.serve_core.specs.Threads.{IsWorker}
 use Rattle.serve_core.proofs.threads.start_workers.Goals as goal
 
-pub loop-pass-init : goal.loop-pass-init
-loop-pass-init g c = record {
-  fits = subst (λ xs. All (Fits (arc_value c.args.server.now).node) xs) (sym c.into_iter-pass-iterator.ensures.into_iter_gives.0) c.requires.fits;
-  room = omega (arith, c.into_iter-pass-iterator.ensures.into_iter_gives.1, c.requires.room);
-}
-
-pub push_reserved-requires : goal.push_reserved-requires
-push_reserved-requires g c = omega (arith, c.in-Some.ensures.steps.1, c.loop-pass.invariant.room)
-
-pub loop-pass-preserved : goal.loop-pass-preserved
-loop-pass-preserved g c = record {
-  fits = All-rest (Fits (arc_value c.args.server.now).node) c.in-Some.pass _ _ c.in-Some.ensures.steps.0 c.loop-pass.invariant.fits;
-  room = omega (arith, c.in-Some.ensures.steps.1, c.push_reserved.ensures.len, c.push_reserved.ensures.capacity, c.loop-pass.invariant.room);
-}
+pub passes-preserved : goal.passes-preserved
+passes-preserved g c =
+    let was = c.passes.invariant in let cut = c.in-Some.ensures in let put = c.push_reserved.ensures in
+    let node = (arc_value c.args.server.now).node in record {
+      fits = (All-pop (Fits node) c.passes.passes.items c.pop.new.self.items (Some c.in-Some.pass) cut.items was.fits).0;
+      room = omega (arith, cut.cases, put.len, put.capacity, was.room);
+      back = omega (arith, cut.cases, cut.capacity, put.len, was.back);
+      started =
+          one_taken (IsWorker node) c.args.passes.now.items c.passes.passes.items c.pop.new.self.items c.in-Some.pass c.in_ok-worker.worker c.passes.workers.items
+          c.push_reserved.new.self.items cut.items put.items c.in_ok-worker.ensures.started was.started;
+    }

@@ -1,8 +1,6 @@
 //! A request to one node.
 ghost use Rattle.std.specs.Prelude.{◌≡◌, IfOk, IfErr, OnOk, IsOkUnless};
 ghost use Rattle.cluster_links.specs.Channels.{any_answer};
-ghost use Rattle.cluster_links.specs.Limits.{IsStandard};
-ghost use Rattle.cluster_links.specs.Sockets.{limits_of};
 ghost use Rattle.serve_core.specs.Asking.{IsNoReply, IsReply, IsUnasked, LeavesReply, WritesReply, request};
 
 use crate::faults::AskFault;
@@ -89,25 +87,6 @@ pub fn ask_over<R: Wait, L: Link, W: Write>(
     write_text(writer, text.as_str().as_bytes())
 }
 
-/// `ask_over` over sockets, by a link with the standard limits.
-fn ask_within<R: Net + Clock + Wait, W: Write>(
-    rt: &R,
-    alloc: Global,
-    link: &mut TcpLink<&R>,
-    address: Address,
-    key: &str,
-    body: &str,
-    writer: &mut W,
-) -> Result<(), AskFault>
-    requires { IsStandard (limits_of link.old) }
-    ensures replied { OnOk result (WritesReply (IsReply any_answer address (request key.now body.now))
-        (W.contents writer.old) (W.contents writer.new)) }
-    ensures fault { IfErr result (λ e. LeavesReply (IsReply any_answer address (request key.now body.now))
-        (IsUnasked any_answer address (request key.now body.now)) e (W.contents writer.old) (W.contents writer.new)) }
-{
-    ask_over(rt, alloc, link, address, key, body, writer)
-}
-
 /// `ask_over` over sockets, with the standard limits. A request whose line would have more than 1,048,576 bytes is not sent:
 /// `NoAnswer`.
 pub fn ask_run<R: Net + Clock + Wait, W: Write>(
@@ -124,5 +103,5 @@ pub fn ask_run<R: Net + Clock + Wait, W: Write>(
         (IsUnasked any_answer address (request key.now body.now)) e (W.contents writer.old) (W.contents writer.new)) }
 {
     let mut link = TcpLink::new(rt);
-    ask_within(rt, alloc, &mut link, address, key, body, writer)
+    ask_over(rt, alloc, &mut link, address, key, body, writer)
 }

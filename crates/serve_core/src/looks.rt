@@ -9,8 +9,6 @@ ghost use Rattle.wire_json.specs.Forms.{change_data};
 ghost use Rattle.cli_core.specs.Changes.{change_of};
 ghost use Rattle.cli_core.specs.Fold.{fold_text};
 ghost use Rattle.cluster_links.specs.Channels.{any_answer};
-ghost use Rattle.cluster_links.specs.Limits.{IsStandard};
-ghost use Rattle.cluster_links.specs.Sockets.{limits_of};
 ghost use Rattle.serve_core.specs.Membership.{IsNotSeen, IsSeen, IsUnwritten, LeavesText, WritesSeen, change_line, membership_text, told_members};
 
 use crate::faults::AskFault;
@@ -166,24 +164,6 @@ pub fn members_over<R: Wait, L: Link, W: Write>(
     }
 }
 
-/// `members_over` over sockets, by a link with the standard limits.
-fn members_within<R: Net + Clock + Wait, W: Write>(
-    rt: &R,
-    alloc: Global,
-    link: &mut TcpLink<&R>,
-    host: Address,
-    lines: bool,
-    writer: &mut W,
-) -> Result<(), AskFault>
-    requires { IsStandard (limits_of link.old) }
-    ensures written { OnOk result (WritesSeen any_answer host [] (membership_text lines)
-        (W.contents writer.old) (W.contents writer.new)) }
-    ensures fault { IfErr result (λ e. IsUnwritten any_answer host [] (membership_text lines) e
-        (W.contents writer.old) (W.contents writer.new)) }
-{
-    members_over(rt, alloc, link, host, lines, writer)
-}
-
 /// `members_over` over sockets, with the standard limits.
 pub fn members_run<R: Net + Clock + Wait, W: Write>(
     rt: &R,
@@ -198,5 +178,5 @@ pub fn members_run<R: Net + Clock + Wait, W: Write>(
         (W.contents writer.old) (W.contents writer.new)) }
 {
     let mut link = TcpLink::new(rt);
-    members_within(rt, alloc, &mut link, host, lines, writer)
+    members_over(rt, alloc, &mut link, host, lines, writer)
 }

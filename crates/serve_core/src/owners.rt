@@ -6,8 +6,6 @@ ghost use Rattle.hash_ring.specs.Points.{IsReplicas, owner};
 ghost use Rattle.hash_ring.specs.Serving.{servers_of};
 ghost use Rattle.cli_core.specs.Owner.{hash_by};
 ghost use Rattle.cluster_links.specs.Channels.{any_answer};
-ghost use Rattle.cluster_links.specs.Limits.{IsStandard};
-ghost use Rattle.cluster_links.specs.Sockets.{limits_of};
 ghost use Rattle.serve_core.specs.Asking.{LeavesReply, WritesReply};
 ghost use Rattle.serve_core.specs.Owning.{IsAnswered, IsNoOwner, IsOwner, IsUnanswered, IsUnnamed};
 
@@ -133,26 +131,6 @@ pub fn ask_any_over<R: Wait, L: Link, W: Write>(
     write_text(writer, text.as_str().as_bytes())
 }
 
-/// `ask_any_over` over sockets, by a link with the standard limits.
-fn ask_any_within<R: Net + Clock + Wait, W: Write>(
-    rt: &R,
-    alloc: Global,
-    link: &mut TcpLink<&R>,
-    words: &AskAnyWords<'_>,
-    writer: &mut W,
-) -> Result<(), AskFault>
-    requires { IsStandard (limits_of link.old) }
-    ensures answered { OnOk result (WritesReply
-        (IsAnswered any_answer words.now.host (hash_by words.now.sum) words.now.replicas words.now.key.now words.now.body.now)
-        (W.contents writer.old) (W.contents writer.new)) }
-    ensures fault { IfErr result (λ e. LeavesReply
-        (IsAnswered any_answer words.now.host (hash_by words.now.sum) words.now.replicas words.now.key.now words.now.body.now)
-        (IsUnanswered any_answer words.now.host (hash_by words.now.sum) words.now.replicas words.now.key.now words.now.body.now)
-        e (W.contents writer.old) (W.contents writer.new)) }
-{
-    ask_any_over(rt, alloc, link, words, writer)
-}
-
 /// `ask_any_over` over sockets, with the standard limits.
 pub fn ask_any_run<R: Net + Clock + Wait, W: Write>(
     rt: &R,
@@ -169,5 +147,5 @@ pub fn ask_any_run<R: Net + Clock + Wait, W: Write>(
         e (W.contents writer.old) (W.contents writer.new)) }
 {
     let mut link = TcpLink::new(rt);
-    ask_any_within(rt, alloc, &mut link, words, writer)
+    ask_any_over(rt, alloc, &mut link, words, writer)
 }

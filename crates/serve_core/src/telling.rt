@@ -3,8 +3,6 @@ ghost use Rattle.std.specs.Prelude.{◌≡◌, ◌≤◌, ◌+◌, true, Err, If
 ghost use Rattle.change_core.specs.Numbers.{most_members};
 ghost use Rattle.change_core.specs.Numeral.{number_text};
 ghost use Rattle.cluster_links.specs.Channels.{any_answer};
-ghost use Rattle.cluster_links.specs.Limits.{IsStandard};
-ghost use Rattle.cluster_links.specs.Sockets.{limits_of};
 ghost use Rattle.serve_core.specs.Membership.{IsUnwritten, WritesSeen};
 ghost use Rattle.serve_core.specs.Telling.{Gives, HearsChange, IsNoNews, IsUntold, TakesTurn, Tells, count_line};
 ghost use Rattle.serve_core.specs.declared.faults.AskFault.{AskFault};
@@ -127,23 +125,6 @@ pub fn tell_over<R: Wait, L: Link, I: Read, W: Write>(
     Ok(tell_changes(rt, alloc, link, host, changes, writer)?)
 }
 
-/// `tell_over` over sockets, by a link with the standard limits.
-fn tell_within<R: Net + Clock + Wait, I: Read, W: Write>(
-    rt: &R,
-    alloc: Global,
-    link: &mut TcpLink<&R>,
-    host: Address,
-    reader: &mut I,
-    writer: &mut W,
-) -> Result<(), TellFault>
-    requires { IsStandard (limits_of link.old) }
-    ensures told { OnOk result (Tells any_answer host (I.remaining reader.old) (W.contents writer.old) (W.contents writer.new)) }
-    ensures fault { IfErr result (λ e. IsUntold any_answer host (I.remaining reader.old) e
-        (W.contents writer.old) (W.contents writer.new)) }
-{
-    tell_over(rt, alloc, link, host, reader, writer)
-}
-
 /// `tell_over` over sockets, with the standard limits.
 pub fn tell_run<R: Net + Clock + Wait, I: Read, W: Write>(
     rt: &R,
@@ -157,5 +138,5 @@ pub fn tell_run<R: Net + Clock + Wait, I: Read, W: Write>(
         (W.contents writer.old) (W.contents writer.new)) }
 {
     let mut link = TcpLink::new(rt);
-    tell_within(rt, alloc, &mut link, host, reader, writer)
+    tell_over(rt, alloc, &mut link, host, reader, writer)
 }

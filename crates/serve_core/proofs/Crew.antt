@@ -8,7 +8,7 @@ use Rattle.indexmap.proofs.SetLemmas.{AllZip-push}
 use Rattle.locked_node.specs.declared.node.LockedNode.{LockedNode}
 use Rattle.locked_node.specs.Passes.{NodePass}
 use Rattle.round_core.specs.Acts.{Makes}
-use Rattle.serve_core.proofs.Worked.{none_yet}
+use Rattle.cluster_links.proofs.Worked.{none_yet}
 use Rattle.serve_core.specs.Threads.{AreBack, IsTimer, IsTimerBack, IsWorker, IsWorkerBack, ServeAlone}
 use Rattle.serve_core.specs.Working.{IsConnection, IsOneRound, Repeats}
 use Rattle.serve_core.specs.declared.returns.OfWorker.{OfWorker}

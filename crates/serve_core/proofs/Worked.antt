@@ -4,24 +4,17 @@ use Rattle.locked_node.specs.declared.node.LockedNode.{LockedNode}
 use Rattle.locked_node.specs.Passes.{NodePass}
 use Rattle.round_core.specs.declared.errors.ClusterError.{ClusterError}
 use Rattle.round_core.specs.declared.rounds.Round.{Round}
-use Rattle.round_core.specs.Acts.{Act, OfActs, Makes}
+use Rattle.round_core.specs.Acts.{Act, Makes}
 use Rattle.round_core.specs.Parts.{Does}
 use Rattle.round_core.specs.Rounds.{IsRound}
-use Rattle.round_core.proofs.Acts.{makes_as, makes_none, makes_then}
+use Rattle.round_core.proofs.Acts.{makes_as, makes_none}
 use Rattle.cluster_links.specs.Channels.{any_answer}
 use Rattle.serve_core.specs.Answering.{IsSilent, Responds}
-use Rattle.serve_core.specs.Working.{IsConnection, IsOneRound, IsTreated, Repeats}
+use Rattle.serve_core.specs.Working.{IsConnection, IsOneRound, IsTreated}
 use Rattle.serve_core.specs.declared.inputs.Input.{Input}
 use Rattle.serve_core.specs.declared.inputs.Input.TheVariants as input
 
 module _ {H : Type 0} (locked : LockedNode H) where
-  pub none_yet : (One : OfActs H) (p : NodePass H) → Makes locked (Repeats One) p p
-  none_yet One p = makes_as (Repeats One) (λ acts n. subst (λ (xs : List (Act H)). Repeats One xs) (sym n) Repeats.none) (makes_none locked p)
-
-  pub one_more : (One : OfActs H) (p q s : NodePass H) → Makes locked (Repeats One) p q → Makes locked One q s → Makes locked (Repeats One) p s
-  one_more One p q s before next =
-      makes_as (Repeats One) (λ acts t. subst (λ (xs : List (Act H)). Repeats One xs) (sym t.2) (Repeats.more t.3 t.4)) (makes_then before next)
-
   -- a round is one, whatever it came to
   pub a_round : (now : ℕ) (r : Result Round ClusterError) (p q : NodePass H) → Does locked (IsRound any_answer now) r p q → Makes locked IsOneRound p q
   a_round now r p q d = makes_as IsOneRound (λ acts h. (now, r, h)) d.makes

@@ -1,6 +1,7 @@
 use Rattle.std.proofs.Common.{rules}
 use Rattle.serve_core.specs.Working.{IsOneRound}
-use Rattle.serve_core.proofs.Worked.{a_round, none_yet, one_more}
+use Rattle.cluster_links.proofs.Worked.{none_yet, one_more}
+use Rattle.serve_core.proofs.Worked.{a_round}
 use Rattle.serve_core.proofs.servers.rounds_over.Goals as goal
 
 pub loop-init : goal.loop-init

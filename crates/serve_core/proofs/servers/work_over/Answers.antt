@@ -1,6 +1,6 @@
 use Rattle.std.proofs.Common.{rules}
 use Rattle.serve_core.specs.Working.{IsConnection}
-use Rattle.serve_core.proofs.Worked.{none_yet, one_more}
+use Rattle.cluster_links.proofs.Worked.{none_yet, one_more}
 use Rattle.serve_core.proofs.servers.work_over.Goals as goal
 
 pub loop-init : goal.loop-init

@@ -17,7 +17,7 @@ use Rattle.round_core.proofs.Acts.{makes_as, makes_none, makes_then}
 use Rattle.cluster_core.specs.Handling.{MayHandle}
 use Rattle.cluster_core.specs.Serving.{Forwards, IsDecided, IsRouted, Serves}
 use Rattle.cluster_links.specs.Channels.{any_answer}
-use Rattle.cluster_links.specs.Working.{HasWorked, IsServed, Repeats, ServesOnce, any_text}
+use Rattle.cluster_links.specs.Working.{HasWorked, IsMessageServed, Repeats, ServesOnce, any_text}
 
 module _ {H : Type 0} (locked : LockedNode H) where
   pub none_yet : (One : OfActs H) (p : NodePass H) → Makes locked (Repeats One) p p
@@ -29,8 +29,8 @@ module _ {H : Type 0} (locked : LockedNode H) where
 
   -- a message is served, whatever that comes to
   pub a_message : (hash_of : H → List ℕ → ℕ) (Handled : MayHandle) (message : Message) (p q : NodePass H)
-      → ServesOnce hash_of Handled message locked p q → Makes locked (IsServed hash_of Handled) p q
-  a_message hash_of Handled message p q d = makes_as (IsServed hash_of Handled) (λ acts h. (message, d.0, h)) d.1.makes
+      → ServesOnce hash_of Handled message locked p q → Makes locked (IsMessageServed hash_of Handled) p q
+  a_message hash_of Handled message p q d = makes_as (IsMessageServed hash_of Handled) (λ acts h. (message, d.0, h)) d.1.makes
 
 -- acts of which each time more is said
 pub repeats_as : {H : Type 0} (One More : OfActs H) → ((acts : List (Act H)) → One acts → More acts) → (acts : List (Act H)) → Repeats One acts → Repeats More acts
@@ -75,7 +75,7 @@ module _ {H : Type 0} (hash_of : H → List ℕ → ℕ) (Handled : MayHandle) w
   serves_by_any message now (content.Refused why) r acts h = h
 
   -- so a worker's promise names no handler
-  pub has_worked : (locked : LockedNode H) (p q : NodePass H) → Makes locked (Repeats (IsServed hash_of Handled)) p q → HasWorked hash_of locked p q
+  pub has_worked : (locked : LockedNode H) (p q : NodePass H) → Makes locked (Repeats (IsMessageServed hash_of Handled)) p q → HasWorked hash_of locked p q
   has_worked locked p q made =
-      makes_as (Repeats (IsServed hash_of any_text))
-      (repeats_as (IsServed hash_of Handled) (IsServed hash_of any_text) (λ acts s. (s.0, s.1, serves_by_any s.0 0 s.0.content s.1 acts s.2))) made
+      makes_as (Repeats (IsMessageServed hash_of any_text))
+      (repeats_as (IsMessageServed hash_of Handled) (IsMessageServed hash_of any_text) (λ acts s. (s.0, s.1, serves_by_any s.0 0 s.0.content s.1 acts s.2))) made

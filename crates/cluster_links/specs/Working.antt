@@ -21,8 +21,8 @@ module _ {H : Type 0} where
     more : {acts next : List (Act H)} → Repeats One acts → One next → Repeats One (acts ++ next)
 
   -- a message was served once, at the moment 0, over a link of which nothing is known, whatever that came to
-  abbrev pub IsServed : (H → List ℕ → ℕ) → MayHandle → OfActs H
-  IsServed hash_of Handled acts =
+  abbrev pub IsMessageServed : (H → List ℕ → ℕ) → MayHandle → OfActs H
+  IsMessageServed hash_of Handled acts =
       (message : Message) × (r : Result Message ClusterError) × Serves hash_of any_answer Handled message 0 message.content r acts
 
   -- by this pass the message was served once, at the moment 0, over a link of which nothing is known: to its answer, or to where the lock refuses the pass
@@ -32,4 +32,4 @@ module _ {H : Type 0} where
 
   -- by this pass messages were served so, by a handler of which nothing is known, and no other call was made
   abbrev pub HasWorked : (H → List ℕ → ℕ) → LockedNode H → NodePass H → NodePass H → Type 0
-  HasWorked hash_of locked old new = Makes locked (Repeats (IsServed hash_of any_text)) old new
+  HasWorked hash_of locked old new = Makes locked (Repeats (IsMessageServed hash_of any_text)) old new

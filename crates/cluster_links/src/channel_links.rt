@@ -64,7 +64,7 @@ fn heard(answer: Result<Message, RecvError>) -> Result<Message, LinkError>
     }
 }
 
-/// Sends an item.
+/// Sends an item. `Memory` where a growth was refused, `Closed` where nobody is left to receive it.
 pub(crate) fn put<R: Wait, T: Drop>(rt: &R, to: &Sender<T>, item: T) -> Result<(), LinkError>
     ensures only { IfErr result IsChannelFault }
 {

@@ -6,7 +6,7 @@ ghost use Rattle.node_core.specs.Workers.{IsCrew};
 ghost use Rattle.locked_node.specs.Passes.{Fits, opening_of, passes_of};
 ghost use Rattle.cluster_links.specs.Channels.{any_answer, IsChannelFault, failures_of, reached_by};
 ghost use Rattle.cluster_links.specs.Clusters.{address_in, AreAll, AreApart, AreFresh, given_to, HasNoNode, HasNoPost, HasRound, IsGivenUp, IsNotStarted, IsOfSeat, IsRoundBy, IsSeat, IsWhole, NoneHas, posts_of, Seats, IsStarted};
-ghost use Rattle.cluster_links.specs.Working.{HasWorked, IsServed, Repeats, ServesOnce};
+ghost use Rattle.cluster_links.specs.Working.{HasWorked, IsMessageServed, Repeats, ServesOnce};
 ghost use Rattle.round_core.specs.Acts.{Makes};
 ghost use Rattle.round_core.specs.Errors.{IsRoundRefusal};
 ghost use Rattle.round_core.specs.Parts.{Does, let_in};
@@ -157,7 +157,7 @@ fn work<R: Wait + Copy, H: PointHash, A: Handler + Drop>(
     jobs: Receiver<Job>,
 ) -> NodePass<H>
     requires { Fits (arc_value node) pass }
-    ensures made { Makes (arc_value node) (Repeats (IsServed H.hash_of A.may_handle)) pass result }
+    ensures made { Makes (arc_value node) (Repeats (IsMessageServed H.hash_of A.may_handle)) pass result }
     ensures worked { HasWorked H.hash_of (arc_value node) pass result }
     ensures fits { Fits (arc_value node) result }
 {

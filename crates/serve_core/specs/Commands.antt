@@ -12,8 +12,8 @@ use Rattle.cli_core.specs.declared.words.ClusterCommand.TheVariants.{Serve, Ask,
 use Rattle.serve_core.specs.declared.commands.ClusterFault.{ClusterFault}
 use Rattle.serve_core.specs.declared.commands.ClusterFault.TheVariants as fault
 
--- What is written where the command comes to its end, by what was answered; of `serve` also that a host let the node in, where
--- hosts are named. `tell` tells the known input.
+-- What is written where the command comes to its end, by what was answered; of `serve` all that `Served` says. `tell` tells the
+-- known input.
 abbrev pub CommandFinishes : ClusterCommand → Option (List ℕ) → Option (List ℕ) → Option (List ℕ) → Type 0
 CommandFinishes (Serve words) known old new = Served words old new
 CommandFinishes (Ask words) known old new = WritesReply (IsReply any_answer words.address (request words.key.now words.body.now)) old new

@@ -126,7 +126,7 @@ pub record HasServed {H : Type 0} (hash_of : H → List ℕ → ℕ) (Came : May
   pub resting : words.period ≡ 0 → timer ≡ entry.new
   pub connections : ServeAlone hash_of server.node crew workers
 
--- a server of these words and waits has served so
+-- there were a server of these words and waits, and passes, of which that is so: passes as they stood before any thread began are such, too
 abbrev pub IsServed : {H : Type 0} → (H → List ℕ → ℕ) → H → Waits → ServeWords → Type 0
 IsServed {H} hash_of hash waits words =
     (server : Server H) × (timer : NodePass H) × (workers : List (NodePass H)) × HasServed hash_of any_answer hash waits words server timer workers
@@ -140,8 +140,8 @@ ServesBy false words waits = let hash : Sha256Hash = record {} in IsServed (λ (
 abbrev pub ServesAsStandard : ServeWords → Type 0
 ServesAsStandard words = (waits : Waits) × IsStandardWaits waits × ServesBy words.sum words waits
 
--- the server of these words served its last connection: all is written, and the node was born so, let in where hosts are named, and then
--- only served
+-- the server of these words served its last connection: all is written, the node was born so, and let in where hosts are named, before, and
+-- there were a server and passes that served so
 abbrev pub Served : ServeWords → Option (List ℕ) → Option (List ℕ) → Type 0
 Served words old new = Appends old new (service_text words.address) × EntersBy words.sum words None × ServesAsStandard words
 

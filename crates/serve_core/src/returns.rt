@@ -1,4 +1,4 @@
-//! What the threads of a server give back.
+//! The threads of a server, and what they give back.
 use hash_ring::PointHash;
 use locked_node::{LockedNode, NodePass};
 use std::snapshot::Snapshot;
@@ -32,9 +32,11 @@ impl<H: PointHash> Promise<NodePass<H>> for OfRounds<H> {
     ghost kept_by = { λ p pass. Makes p.node.value (Repeats IsOneRound) p.pass.value pass };
 }
 
-/// What makes the rounds of a server: nobody, or a thread.
+/// What makes the rounds of a server.
 #[derive(Drop)]
 pub(crate) enum Timer<H: PointHash> {
+    /// Nobody: the pass for them is kept.
     Resting(NodePass<H>),
+    /// A thread, which gives the pass back.
     Running(PromisedHandle<NodePass<H>, OfRounds<H>>),
 }

@@ -186,7 +186,7 @@ pub fn work<R: Net + Wait + Clock + Copy, H: PointHash>(
 }
 
 /// Makes rounds until they are ended, over a link with the server's own limits.
-fn rounds_over<R: Net + Wait + Clock, H: PointHash>(
+fn make_rounds_over<R: Net + Wait + Clock, H: PointHash>(
     server: &Server<H>,
     pass: &mut NodePass<H>,
     rt: &R,
@@ -223,5 +223,5 @@ pub fn make_rounds<R: Net + Wait + Clock + Copy, H: PointHash>(
 {
     let mut link = TcpLink::with_limits(*rt, server.waits.links);
     let period = Duration::from_millis(period);
-    rounds_over(server, pass, rt, alloc, &mut link, period);
+    make_rounds_over(server, pass, rt, alloc, &mut link, period);
 }

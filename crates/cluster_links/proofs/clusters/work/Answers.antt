@@ -3,14 +3,14 @@ use Rattle.std.proofs.lemmas.Grind.{common_steps}
 use Rattle.std.specs.Prelude.{IsTrue}
 use Rattle.std.specs.Arc.{arc_value}
 use Rattle.round_core.specs.Acts.{Makes}
-use Rattle.cluster_links.specs.Working.{IsServed, Repeats}
+use Rattle.cluster_links.specs.Working.{IsMessageServed, Repeats}
 use Rattle.cluster_links.proofs.Worked.{a_message, has_worked, none_yet, one_more}
 use Rattle.cluster_links.proofs.clusters.work.Goals as goal
 
 pub jobs-init : goal.jobs-init
 jobs-init g c =
-    let none : Makes (arc_value c.args.node) (Repeats (IsServed g.H.PointHash.hash_of g.A.Handler.may_handle)) c.args.pass c.args.pass =
-    none_yet (arc_value c.args.node) (IsServed g.H.PointHash.hash_of g.A.Handler.may_handle) c.args.pass in
+    let none : Makes (arc_value c.args.node) (Repeats (IsMessageServed g.H.PointHash.hash_of g.A.Handler.may_handle)) c.args.pass c.args.pass =
+    none_yet (arc_value c.args.node) (IsMessageServed g.H.PointHash.hash_of g.A.Handler.may_handle) c.args.pass in
     record {
       iterates = search rules;
       made = none;
@@ -22,10 +22,10 @@ pub jobs-preserved : goal.jobs-preserved
 jobs-preserved g c =
     let yes : IsTrue c.serve_next.result = grind (arith, common_steps) in
     let next = rw c.deref.ensures at c.serve_next.ensures.served yes in
-    let one : Makes (arc_value c.args.node) (IsServed g.H.PointHash.hash_of g.A.Handler.may_handle) c.jobs.pass c.serve_next.new.pass =
+    let one : Makes (arc_value c.args.node) (IsMessageServed g.H.PointHash.hash_of g.A.Handler.may_handle) c.jobs.pass c.serve_next.new.pass =
     a_message (arc_value c.args.node) g.H.PointHash.hash_of g.A.Handler.may_handle next.0 c.jobs.pass c.serve_next.new.pass next.1 in
-    let all : Makes (arc_value c.args.node) (Repeats (IsServed g.H.PointHash.hash_of g.A.Handler.may_handle)) c.args.pass c.serve_next.new.pass =
-    one_more (arc_value c.args.node) (IsServed g.H.PointHash.hash_of g.A.Handler.may_handle) c.args.pass c.jobs.pass c.serve_next.new.pass c.jobs.invariant.made one in
+    let all : Makes (arc_value c.args.node) (Repeats (IsMessageServed g.H.PointHash.hash_of g.A.Handler.may_handle)) c.args.pass c.serve_next.new.pass =
+    one_more (arc_value c.args.node) (IsMessageServed g.H.PointHash.hash_of g.A.Handler.may_handle) c.args.pass c.jobs.pass c.serve_next.new.pass c.jobs.invariant.made one in
     record {
       iterates = search rules;
       made = all;

@@ -1,7 +1,7 @@
 use Rattle.locked_node.specs.Passes.{Fits}
 use Rattle.round_core.specs.Acts.{Makes}
 use Rattle.serve_core.specs.Working.{IsOneRound, Repeats}
-use Rattle.serve_core.proofs.servers.rounds_over.Given as goal
+use Rattle.serve_core.proofs.servers.make_rounds_over.Given as goal
 
 -- rounds have been made, and the pass can be handed in again
 abbrev pub invariant-loop : goal.invariant-loop

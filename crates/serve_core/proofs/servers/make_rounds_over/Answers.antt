@@ -2,7 +2,7 @@ use Rattle.std.proofs.Common.{rules}
 use Rattle.serve_core.specs.Working.{IsOneRound}
 use Rattle.cluster_links.proofs.Worked.{none_yet, one_more}
 use Rattle.serve_core.proofs.Worked.{a_round}
-use Rattle.serve_core.proofs.servers.rounds_over.Goals as goal
+use Rattle.serve_core.proofs.servers.make_rounds_over.Goals as goal
 
 pub loop-init : goal.loop-init
 loop-init g c = record {

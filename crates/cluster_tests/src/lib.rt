@@ -24,4 +24,6 @@ mod shared;
 #[cfg(test)]
 mod tcp;
 #[cfg(test)]
+mod texts;
+#[cfg(test)]
 mod worlds;

@@ -27,9 +27,32 @@ fn no_node_of_a_bad_configuration(rt: HostRuntime) {
     let wanted = Some(NodeError::BadConfig(ConfigField::Replicas));
     assert!(rt; refusal(&rt, rt.alloc(), 0) == wanted);
     assert!(rt; refusal(&rt, rt.alloc(), 1_001) == wanted);
-    let mut said = Page::new(ALL);
-    let _ = write!(said, "{}", NodeError::BadConfig(ConfigField::Replicas));
-    assert!(rt; said.text() == "bad configuration: replicas");
+}
+
+/// Why a call of a node is refused, and what is said of it.
+const TEXTS: [(NodeError, &str); 10] = [
+    (
+        NodeError::BadConfig(ConfigField::Replicas),
+        "bad configuration: replicas",
+    ),
+    (NodeError::Exhausted, "no incarnation is left"),
+    (NodeError::Full, "too many members"),
+    (NodeError::AlreadyLeft, "the node has left already"),
+    (NodeError::NotLeft, "the node has not left"),
+    (NodeError::Busy, "a probe is running"),
+    (NodeError::Spent, "no probe number is left"),
+    (NodeError::StaleProbe, "the probe does not run"),
+    (NodeError::NotAsked, "the helper was not asked"),
+    (NodeError::Memory, "out of memory"),
+];
+
+#[test]
+fn each_refusal_has_its_text(rt: HostRuntime) {
+    for (refusal, text) in &TEXTS {
+        let mut said = Page::new(ALL);
+        let _ = write!(said, "{refusal}");
+        assert!(rt; said.text() == *text, "{text}");
+    }
 }
 
 /// Changes about 4,096 addresses from 11.0.0.0 on.

@@ -52,11 +52,7 @@ const RUNS: [(&str, &str, Result<&str, &str>); 13] = [
         "",
         Err("ringpop: no answer\n"),
     ),
-    (
-        "ringpop tell 127.0.0.1:1",
-        "",
-        Err("ringpop: no answer\n"),
-    ),
+    ("ringpop tell 127.0.0.1:1", "", Err("ringpop: no answer\n")),
 ];
 
 /// Whether this is written for the words and the input, or said of their fault, which ends the program with status 1; none where another

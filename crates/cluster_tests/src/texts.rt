@@ -37,7 +37,7 @@ const CLUSTER_ERRORS: [(ClusterError, &str); 20] = [
 const LINK_ERRORS: [(LinkError, &str); 5] = [
     (LinkError::Io, "the link failed"),
     (LinkError::Closed, "the link is closed"),
-    (LinkError::Wire(WireError::NotJson), "not JSON"),
+    (LinkError::Wire(WireError::BadJson), "not JSON"),
     (LinkError::Spent, "the link is spent"),
     (LinkError::Memory, "out of memory"),
 ];

@@ -31,7 +31,7 @@ taken_known xs new (Err e) t (inr (inl q)) = rw q (read_failed (lines_of xs))
 taken_known xs new (Err e) t (inr (inr q)) = let part = rw q at t in rw q (no_memory xs part.0)
 
 -- what was taken as a line is one
-line_taken : (known new : Option (List ℕ)) (r : Result (Option (Vec ℕ Global)) WireError) → TakesLine known r new → IfErr r (λ e. IsReadError e) → IfSome known (λ xs. ReadsLine xs r new)
+pub line_taken : (known new : Option (List ℕ)) (r : Result (Option (Vec ℕ Global)) WireError) → TakesLine known r new → IfErr r (λ e. IsReadError e) → IfSome known (λ xs. ReadsLine xs r new)
 line_taken None new r t i = tt
 line_taken (Some xs) new r t i = taken_known xs new r t i
 

@@ -3,6 +3,7 @@
 #define _POSIX_C_SOURCE 200809L
 #include <pthread.h>
 #include <stdio.h>
+#include <stdlib.h>
 #include <string.h>
 
 #include "ringpop.h"
@@ -73,22 +74,32 @@ static void *end(void *given) {
   return NULL;
 }
 
+/* A thread that does this; the program ends where there is none to be had. */
+static pthread_t started(void *(*work)(void *), void *given) {
+  pthread_t thread;
+  int fault = pthread_create(&thread, NULL, work, given);
+  if (fault != 0) {
+    fprintf(stderr, "no thread: %s\n", strerror(fault));
+    exit(1);
+  }
+  return thread;
+}
+
 int main(void) {
   ringpop_config config;
   ringpop_view last = RINGPOP_VIEW_EMPTY;
-  pthread_t threads[THREADS], other;
+  pthread_t threads[THREADS];
   size_t members = 0;
   ringpop_config_standard(&config);
   expect("new", ringpop_node_new(&node, &config, 0x0A000001, 7946, 7, 1, 1), RINGPOP_DONE);
-  for (int i = 0; i < THREADS; i++) expect("thread", (uint32_t)pthread_create(&threads[i], NULL, serve, NULL), 0);
+  for (int i = 0; i < THREADS; i++) threads[i] = started(serve, NULL);
   for (unsigned i = 2; i <= 40; i++) hear_of(i);
   for (int i = 0; i < THREADS; i++) expect("join", (uint32_t)pthread_join(threads[i], NULL), 0);
   expect("len", ringpop_node_len(&node, &members), RINGPOP_DONE);
   expect("forty members", (uint32_t)members, 40);
   expect("view", ringpop_view_new(&last, &node), RINGPOP_DONE);
   expect("free", ringpop_node_free(&node), RINGPOP_DONE);
-  expect("thread", (uint32_t)pthread_create(&other, NULL, end, &last), 0);
-  expect("join", (uint32_t)pthread_join(other, NULL), 0);
+  expect("join", (uint32_t)pthread_join(started(end, &last), NULL), 0);
   printf("%d threads: %d views, each with the owners of its moment\n", THREADS, THREADS * ROUNDS);
   return faults != 0;
 }

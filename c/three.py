@@ -46,32 +46,43 @@ for name, types in {
 out, count = c.create_string_buffer(MAX_LINE), c.c_size_t()
 
 
+def check(is_so, what):
+    """Ends the program where something is not as it is to be; `assert` would be left out under python3 -O."""
+    if not is_so:
+        sys.exit(f"three.py: {what}")
+
+
+def done(code):
+    """The code of a call that is to be DONE."""
+    check(code == DONE, f"code {code}")
+
+
 class Node:
     def __init__(self, last, weight=1):
         self.handle, self.ip, config = Handle(), 0x0A000000 + last, Config()
         lib.ringpop_config_standard(config)
         config.weight = weight
-        assert lib.ringpop_node_new(self.handle, config, self.ip, PORT, 7, last, 1000) == DONE
+        done(lib.ringpop_node_new(self.handle, config, self.ip, PORT, 7, last, 1000))
 
     def join(self):
-        assert lib.ringpop_node_join(self.handle, out, MAX_LINE, count) == DONE
+        done(lib.ringpop_node_join(self.handle, out, MAX_LINE, count))
         return c.string_at(out, count.value)
 
     def ping(self, to):
-        assert lib.ringpop_node_ping(self.handle, to.ip, PORT, out, MAX_LINE, count) == DONE
+        done(lib.ringpop_node_ping(self.handle, to.ip, PORT, out, MAX_LINE, count))
         return c.string_at(out, count.value)
 
     def receive(self, line, moment):
         code = lib.ringpop_node_receive(self.handle, line, len(line), moment, out, MAX_LINE, count)
-        assert code in (DONE, NOTHING), code
+        check(code in (DONE, NOTHING), f"code {code}")
         return c.string_at(out, count.value) if code == DONE else None
 
     def members(self):
-        assert lib.ringpop_node_members(self.handle, out, MAX_LINE, count) == DONE
+        done(lib.ringpop_node_members(self.handle, out, MAX_LINE, count))
         return c.string_at(out, count.value)
 
     def digest(self):
-        assert lib.ringpop_node_digest(self.handle, out, MAX_LINE, count) == DONE
+        done(lib.ringpop_node_digest(self.handle, out, MAX_LINE, count))
         return c.string_at(out, count.value)
 
     def owner(self, key, ip=c.c_uint32(), port=c.c_uint16()):
@@ -79,21 +90,21 @@ class Node:
 
     def owners(self, key, wanted):
         places = (Address * wanted)()
-        assert lib.ringpop_node_owners(self.handle, key, len(key), wanted, places, wanted, count) == DONE
+        done(lib.ringpop_node_owners(self.handle, key, len(key), wanted, places, wanted, count))
         return [place.ip for place in places[: count.value]]
 
     def free(self):
-        assert lib.ringpop_node_free(self.handle) == DONE
+        done(lib.ringpop_node_free(self.handle))
 
 
 def source(line, kind=c.c_uint8(), ip=c.c_uint32(), port=c.c_uint16()):
-    assert lib.ringpop_line_source(line, len(line), kind, ip, port) == DONE
+    done(lib.ringpop_line_source(line, len(line), kind, ip, port))
     return kind.value, ip.value, port.value
 
 
 def talk(one, other, line, kind=ACK):
     answer = other.receive(line, 1001)
-    assert source(answer) == (kind, other.ip, PORT)
+    check(source(answer) == (kind, other.ip, PORT), "another answer")
     one.receive(answer, 1002)
 
 
@@ -103,13 +114,14 @@ talk(nodes[2], nodes[0], nodes[2].join(), JOINED)
 talk(nodes[0], nodes[1], nodes[0].ping(nodes[1]))
 talk(nodes[0], nodes[2], nodes[0].ping(nodes[2]))
 for node in nodes:
-    assert node.members() == b"10.0.0.1:7946alive7;10.0.0.2:7946alive7*2;10.0.0.3:7946alive7"
-    assert node.digest() == hashlib.sha256(node.members()).digest()
+    members = node.members()
+    check(members == b"10.0.0.1:7946alive7;10.0.0.2:7946alive7*2;10.0.0.3:7946alive7", f"members {members}")
+    check(node.digest() == hashlib.sha256(members).digest(), "another digest")
 for i in range(8):
     owners = {node.owner(b"trip-%d" % i) for node in nodes}
-    assert len(owners) == 1, owners
-    assert all(node.owners(b"trip-%d" % i, 4) == nodes[0].owners(b"trip-%d" % i, 3) for node in nodes)
-    assert nodes[0].owners(b"trip-%d" % i, 1) == [*owners]
+    check(len(owners) == 1, f"owners {owners}")
+    check(all(node.owners(b"trip-%d" % i, 4) == nodes[0].owners(b"trip-%d" % i, 3) for node in nodes), "other owners")
+    check(nodes[0].owners(b"trip-%d" % i, 1) == [*owners], "another owner")
     print(f"trip-{i} is on 10.0.0.{owners.pop() & 255}")
 
 
@@ -126,7 +138,7 @@ if sys.argv[2:] == ["count"]:
         change = {"address": f"10.0.{i >> 8}.{i & 255}:{PORT}", "incarnationNumber": 1, "source": f"10.0.0.2:{PORT}",
                   "sourceIncarnationNumber": 7, "status": "alive"}
         line = json.dumps(change).encode()
-        assert lib.ringpop_node_take(nodes[0].handle, line, len(line), 1003) == DONE
+        done(lib.ringpop_node_take(nodes[0].handle, line, len(line), 1003))
     count_lookups(1000)
 for node in nodes:
     node.free()

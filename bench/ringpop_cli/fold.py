@@ -1,3 +1,4 @@
+#!/usr/bin/env python3
 """The same fold in plain Python, for comparison: python3 fold.py < LINES. It refuses what is no change, in one way."""
 import hashlib
 import json

@@ -12,7 +12,7 @@ cp -r "$root/crates/turn_lock" "$here/lock_bench" "$work/crates/"
 # A check reads each .rt and .antt file of the repository, so those of a benchmark bear another ending there.
 find "$work" \( -name '*.rt.txt' -o -name '*.antt.txt' \) | while read -r file; do mv "$file" "${file%.txt}"; done
 grep -E '^turn_lock' "$root/crates.txt" > "$work/crates.txt"
-echo 'lock_bench may_wait=8: turn_lock anyhow' >> "$work/crates.txt"
+echo 'lock_bench may_wait=12: turn_lock anyhow' >> "$work/crates.txt"
 cd "$work/crates/lock_bench"
 rt run
 time out/lock_bench hold

@@ -1,5 +1,5 @@
 /* The ketama ring of libmemcached, of 10, 50 and 96 servers by MD5: nanoseconds an owner, microseconds an add (which
-   makes the whole ring anew), milliseconds a build. Wants -lmemcached. */
+   makes the whole ring anew), milliseconds a build, each the least of its rounds. Wants -lmemcached. */
 #define _POSIX_C_SOURCE 200809L
 #include <libmemcached/memcached.h>
 #include <stdio.h>
@@ -17,14 +17,11 @@ static double now(void) {
   return moment.tv_sec * 1e9 + moment.tv_nsec;
 }
 
-static int compare(const void *one, const void *other) {
-  double a = *(const double *)one, b = *(const double *)other;
-  return (a > b) - (a < b);
-}
-
-static double median(double *values, size_t count) {
-  qsort(values, count, sizeof *values, compare);
-  return values[count / 2];
+static double least(const double *values, size_t count) {
+  double found = values[0];
+  for (size_t i = 1; i < count; i++)
+    if (values[i] < found) found = values[i];
+  return found;
 }
 
 /* A ring of that many servers; how long it took goes to *nanos. */
@@ -69,8 +66,8 @@ static void measure(int servers) {
     memcached_server_add(ring, host, 7946);
     adds[round] = (now() - start) / 1e3;
   }
-  printf("ketama servers=%d build_ms=%.2f owner_ns=%.1f add_us=%.1f (%lu)\n", servers, median(builds, 3) / 1e6, median(owners, 7),
-         median(adds, 3), sum);
+  printf("ketama servers=%d build_ms=%.2f owner_ns=%.1f add_us=%.1f (%lu)\n", servers, least(builds, 3) / 1e6, least(owners, 7),
+         least(adds, 3), sum);
   memcached_free(ring);
 }
 

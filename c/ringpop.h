@@ -40,6 +40,9 @@
 extern "C" {
 #endif
 
+/* The version of the library and of this header. */
+#define RINGPOP_VERSION "1.0.0-dev"
+
 /* A node's handle: empty, or full with a node. */
 typedef struct ringpop_node {
   void *at;

@@ -60,7 +60,7 @@ def first_line(stream, seconds):
 
 
 class Node:
-    """A node as a process of its own, at a port of 127.0.0.1, that serves so many connections."""
+    """A node as a process of its own, at a port of 127.0.0.1, that serves the given number of connections."""
 
     def __init__(self, program, port, incarnation, hosts=(), period=200, more=(), requests=MOST):
         self.program, self.port, self.address = program, port, address(port)

@@ -1,5 +1,5 @@
 #!/usr/bin/env python3
-"""The same fold in plain Python, for comparison: python3 fold.py < LINES. It refuses what is no change, in one way."""
+"""The same fold in plain Python, for comparison: python3 fold.py < LINES. It refuses a line that is not a change, in one way."""
 import hashlib
 import json
 import re

@@ -1,7 +1,7 @@
 """Writes change lines. The same arguments give the same lines.
 
-make_lines.py LINES ADDRESSES          changes of every kind about so many addresses
-make_lines.py servers COUNT WEIGHT     so many members that are alive, each of this weight
+make_lines.py LINES ADDRESSES          changes of every kind about the given number of addresses
+make_lines.py servers COUNT WEIGHT     the given number of members that are alive, each of this weight
 """
 import sys
 

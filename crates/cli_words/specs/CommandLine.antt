@@ -6,7 +6,7 @@ use Rattle.clap.specs.Words.{App, Rule, Shape, Text, new_rule}
 use Rattle.clap.specs.declared.builder.action.ArgAction.TheVariants.{Append, SetTrue}
 use Rattle.clap.specs.declared.builder.value_parser.ValueParser.TheVariants.{Unsigned}
 use Rattle.change_core.specs.Numbers.{greatest_number, greatest_weight, most_members}
-use Rattle.hash_ring.specs.Points.{most_replicas}
+use Rattle.hash_ring.specs.Points.{max_replicas}
 use Rattle.cli_core.specs.Words.{most_requests}
 
 -- a word that has to be given: a text, which may be empty
@@ -42,27 +42,35 @@ words name = record (new_rule name) {
 abbrev pub with_another : Rule → Rule
 with_another rule = record rule { is_free = false }
 
+-- `--replicas`: the virtual nodes of a server of weight 1, from 1 to `max_replicas`; 100 by default
 abbrev pub replicas : Rule
-replicas = option (codes "replicas") (codes "100") 1 most_replicas
+replicas = option (codes "replicas") (codes "100") 1 max_replicas
 
+-- `--sum`: the ring hashes by the sum of the bytes, not by SHA-256
 abbrev pub sum : Rule
 sum = flag (codes "sum")
 
+-- `--workers`: how many threads serve connections, from 1 to 16; 2 by default
 abbrev pub workers : Rule
 workers = option (codes "workers") (codes "2") 1 16
 
+-- `--period`: the milliseconds between two rounds of gossip; 0, the default: no rounds
 abbrev pub period : Rule
 period = option (codes "period") (codes "0") 0 greatest_number
 
+-- `--weight`: the node's weight, from 1 to `greatest_weight`; 1 by default
 abbrev pub weight : Rule
 weight = option (codes "weight") (codes "1") 1 greatest_weight
 
+-- the incarnation of the node, up to 2^53 - 1
 abbrev pub incarnation : Rule
 incarnation = number_word (codes "incarnation") 0 greatest_number
 
+-- how many connections are served, from 1 to `most_requests`
 abbrev pub requests : Rule
 requests = number_word (codes "requests") 1 most_requests
 
+-- the running nodes to join, any number
 abbrev pub hosts : Rule
 hosts = words (codes "host")
 
@@ -70,31 +78,39 @@ hosts = words (codes "host")
 abbrev pub subcommand : Text → List Rule → Shape
 subcommand name rules = record (new_shape name) { rules = rules }
 
+-- `fold`: no option and no argument
 abbrev pub fold_words : Shape
 fold_words = subcommand (codes "fold") []
 
+-- `hash`: the text
 abbrev pub hash_words : Shape
 hash_words = subcommand (codes "hash") (word (codes "text") ∷ [])
 
+-- `owner`: how many owners, the options of the ring, and the key
 abbrev pub owner_words : Shape
 owner_words = subcommand (codes "owner")
     (option (codes "n") (codes "1") 0 most_members ∷ replicas ∷ sum ∷ word (codes "key") ∷ [])
 
+-- `sim`: the options of the ring
 abbrev pub sim_words : Shape
 sim_words = subcommand (codes "sim") (replicas ∷ sum ∷ [])
 
+-- `serve`: the node's address, its incarnation, how many connections it serves, and the hosts to join
 abbrev pub serve_words : Shape
 serve_words = subcommand (codes "serve")
     (workers ∷ period ∷ replicas ∷ sum ∷ weight ∷ word (codes "address") ∷ incarnation ∷ requests ∷ hosts ∷ [])
 
+-- `ask`: the address of a node, the key and the body; `--any` leaves the choice of the owner to the program, by the options of the ring
 abbrev pub ask_words : Shape
 ask_words = subcommand (codes "ask")
     (flag (codes "any") ∷ with_another replicas ∷ with_another sum
     ∷ word (codes "address") ∷ word (codes "key") ∷ word (codes "body") ∷ [])
 
+-- `members`: the host that is asked; `--lines` prints one change a line
 abbrev pub members_words : Shape
 members_words = subcommand (codes "members") (flag (codes "lines") ∷ word (codes "host") ∷ [])
 
+-- `tell`: the host that gets the changes
 abbrev pub tell_words : Shape
 tell_words = subcommand (codes "tell") (word (codes "host") ∷ [])
 

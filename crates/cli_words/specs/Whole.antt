@@ -50,6 +50,7 @@ HasAnyAsked rows = HasAsked rows × HasNumber rows (codes "replicas") IsReplicas
 abbrev pub IsOfLines : Text → Type 0
 IsOfLines name = (name ≡ codes "fold") ⊎ ((name ≡ codes "hash") ⊎ ((name ≡ codes "owner") ⊎ (name ≡ codes "sim")))
 
+-- the names of the subcommands that speak to nodes
 abbrev pub IsOfNodes : Text → Type 0
 IsOfNodes name = (name ≡ codes "serve") ⊎ ((name ≡ codes "ask") ⊎ ((name ≡ codes "members") ⊎ (name ≡ codes "tell")))
 
@@ -73,6 +74,7 @@ IsNoAddress text = (a : ℕ) → IsAddress a → text ≢ address_text a
 abbrev pub IsNoAddressAt : List Row → Text → Type 0
 IsNoAddressAt rows name = IsSomeAnd (first_of name rows) IsNoAddress
 
+-- one of the words of this name is not an address
 abbrev pub IsNoAddressAmong : List Row → Text → Type 0
 IsNoAddressAmong rows name = IsSomeAnd (all_of name rows) (Any IsNoAddress)
 

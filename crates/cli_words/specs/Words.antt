@@ -1,4 +1,4 @@
--- Which word of the command line each part of a command is.
+-- Which word of the command line each part of a command is. A row is what `clap` found for a name: its values and how they came.
 use Rattle.std.specs.Prelude.{◌≡◌, ◌⊎◌, ℕ, Bool, true, false, List, [], Option, Some, None, Ok, map, codes}
 use Rattle.std.specs.Str.Parse.{ParsesUnsigned}
 use Rattle.std.specs.declared.num.ParseIntError.{ParseIntError}

@@ -9,7 +9,7 @@ use change_core::{GREATEST_NUMBER, GREATEST_WEIGHT, MOST_MEMBERS};
 use clap::builder::{ValueParser, ValueRange};
 use clap::{Arg, ArgAction, Command};
 use cli_core::MOST_REQUESTS;
-use hash_ring::MOST_REPLICAS;
+use hash_ring::MAX_REPLICAS;
 use node_core::MOST_WORKERS;
 use std::alloc::{AllocError, Global};
 
@@ -154,7 +154,7 @@ fn hash_command<'a>(alloc: Global) -> Result<Command<'a>, AllocError>
 fn replicas_option<'a>(alloc: Global) -> Arg<'a>
     ensures { rule_of result ≡ line.replicas }
 {
-    option(alloc, REPLICAS, "R", "100", 1, u64::from(MOST_REPLICAS)).help(
+    option(alloc, REPLICAS, "R", "100", 1, u64::from(MAX_REPLICAS)).help(
         "Points on the ring of a member, for each unit of its weight: 1 to 1000",
     )
 }

@@ -15,7 +15,7 @@ use change_core::MOST_MEMBERS;
 use clap::ArgMatches;
 use clap::error::ErrorKind;
 use cli_core::{ClusterCommand, OwnerWords, SimWords, Subcommand};
-use hash_ring::MOST_REPLICAS;
+use hash_ring::MAX_REPLICAS;
 use std::alloc::{AllocError, Global};
 use std::convert::AsStr;
 
@@ -51,7 +51,7 @@ pub fn replicas(matches: &ArgMatches<'_>) -> Option<u32>
     ensures given { IfSome result (IsNumberAt (rows_in matches.now) (codes "replicas")) }
     ensures taken { (n : ℕ) → IsNumberAt (rows_in matches.now) (codes "replicas") n → IsReplicas n → result ≡ Some n }
 {
-    let replicas = number(matches, REPLICAS, 1, u64::from(MOST_REPLICAS))?;
+    let replicas = number(matches, REPLICAS, 1, u64::from(MAX_REPLICAS))?;
     Some(replicas as u32)
 }
 

@@ -1,15 +1,20 @@
-//! Nodes that talk: each answer is the node's own, the handler's or a named refusal, and what a node says of another came
-//! over a link.
+//! Links between nodes, over channels and over sockets; nodes of one process that are served; and what nodes say over any link.
 #![tactic(auto)]
 
-mod clocks;
-mod forwarding;
-mod handlers;
-pub mod laws;
-mod serving;
+mod channel_links;
+mod clusters;
+mod copies;
+mod deadlines;
+mod seats;
+mod tcp_links;
 
-pub use clocks::Clock;
-pub use forwarding::handle_or_forward;
-pub use handlers::Handler;
-pub use round_core::{ClusterError, HandlerFault, Link, LinkError, Round, gossip_round, join};
-pub use serving::{refuse, serve_one};
+pub use channel_links::ChannelLink;
+pub use clusters::{Cluster, StartError, StopError, share};
+pub use deadlines::{Deadline, Timed};
+pub use node_core::MOST_WORKERS;
+pub use peer_core::{
+    CallError, Clock, ClusterError, Handler, HandlerFault, JoinError, LeaveError, Link, LinkError,
+    Member, RejoinError, RequestError, Round, RoundError, gossip_round, handle_or_forward, join,
+    refuse, serve_one,
+};
+pub use tcp_links::{Limits, TcpLink, send_line, socket_address};

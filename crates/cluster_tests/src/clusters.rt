@@ -1,14 +1,13 @@
 //! Nodes of one process that serve one another, by threads. A helper answers false where a growth was refused; the test then goes
 //! on with another cluster, once.
-ghost use Rattle.std.specs.Prelude.{◌≡◌, IfOk, IfSome};
-ghost use Rattle.cluster_links.specs.Clusters.{IsWhole};
 
 use crate::fakes::{Echo, Mood, worded};
 use crate::messages::{content, member, message, moment, news, number_of, request};
 use crate::nodes::state;
 use change_core::{Address, Status};
-use cluster_core::{ClusterError, Handler, HandlerFault, Link, LinkError, Round};
-use cluster_links::{ChannelLink, Cluster, StartError};
+use cluster_core::{
+    ChannelLink, Cluster, ClusterError, Handler, HandlerFault, Link, LinkError, Round, StartError,
+};
 use hash_ring::SumHash;
 use node_core::NodeState;
 use std::alloc::Global;
@@ -50,7 +49,6 @@ fn start<R, A>(
 where
     R: Threads + Wait + Abort + Copy + Send + 'static,
     A: Handler + Send + Sync + Drop + 'static,
-    ensures { IfSome result IsWhole }
 {
     let nodes = states(rt, alloc, numbers);
     match Cluster::start(rt, alloc, nodes, workers, handler) {
@@ -260,9 +258,7 @@ fn start_holding<R: Threads + Wait + Abort + Copy + Send + 'static>(
     clock: HostRuntime,
     alloc: Global,
     stage: &Arc<AtomicU64, Global>,
-) -> Option<Cluster<SumHash>>
-    ensures { IfSome result IsWhole }
-{
+) -> Option<Cluster<SumHash>> {
     let stage = Arc::try_clone(stage).ok()?;
     let handler = Holding {
         clock,
@@ -310,9 +306,7 @@ fn nodes_back<R: Threads + Wait>(
     rt: &R,
     alloc: Global,
     answer: Result<Cluster<SumHash>, StartError<SumHash>>,
-) -> Option<(Cause, Vec<NodeState<SumHash>>)>
-    requires { IfOk answer IsWhole }
-{
+) -> Option<(Cause, Vec<NodeState<SumHash>>)> {
     match answer {
         Ok(cluster) => {
             drop(cluster.stop(rt, alloc));
@@ -395,10 +389,7 @@ fn round<R: Wait + Abort>(
     cluster: &mut Cluster<SumHash>,
     number: u8,
     now: u64,
-) -> Result<Round, ClusterError>
-    requires { IsWhole cluster.old }
-    ensures { IsWhole cluster.new }
-{
+) -> Result<Round, ClusterError> {
     cluster.round(rt, alloc, member(rt, number), moment(rt, now))
 }
 
@@ -417,10 +408,7 @@ fn check_rounds<R: Wait + Abort>(
     cluster: &mut Cluster<SumHash>,
     number: u8,
     other: u8,
-) -> bool
-    requires { IsWhole cluster.old }
-    ensures { IsWhole cluster.new }
-{
+) -> bool {
     let first = round(rt, alloc, cluster, number, 0);
     let second = round(rt, alloc, cluster, number, 0);
     if is_hindered(first) || is_hindered(second) {
@@ -439,10 +427,7 @@ fn reach<R: Wait + Abort>(
     alloc: Global,
     cluster: &mut Cluster<SumHash>,
     link: &mut ChannelLink,
-) -> bool
-    requires { IsWhole cluster.old }
-    ensures { IsWhole cluster.new }
-{
+) -> bool {
     check_link(rt, alloc, link);
     assert!(rt; told(rt, alloc, cluster, 3, Status::Alive) == CLOSED);
     assert!(rt; told(rt, alloc, cluster, 1, Status::Alive).is_answer());
@@ -470,10 +455,7 @@ fn suspect_to_the_end<R: Wait + Abort>(
     rt: &R,
     alloc: Global,
     cluster: &mut Cluster<SumHash>,
-) -> bool
-    requires { IsWhole cluster.old }
-    ensures { IsWhole cluster.new }
-{
+) -> bool {
     assert!(rt; told(rt, alloc, cluster, 1, Status::Suspect).is_answer());
     let before = round(rt, alloc, cluster, 1, 4_999);
     let after = round(rt, alloc, cluster, 1, 5_000);
@@ -502,10 +484,7 @@ fn perform<R: Wait + Abort>(
     cluster: &mut Cluster<SumHash>,
     link: &mut ChannelLink,
     act: Act,
-) -> bool
-    requires { IsWhole cluster.old }
-    ensures { IsWhole cluster.new }
-{
+) -> bool {
     match act {
         Act::Nothing => true,
         Act::Reach => reach(rt, alloc, cluster, link),
@@ -527,10 +506,7 @@ fn link_after<R: Wait + Abort>(
     alloc: Global,
     cluster: &mut Cluster<SumHash>,
     scene: &Scene,
-) -> Option<ChannelLink>
-    requires { IsWhole cluster.old }
-    ensures { IsWhole cluster.new }
-{
+) -> Option<ChannelLink> {
     let mut link = cluster.link().ok()?.after_failures(scene.failures);
     if perform(rt, alloc, cluster, &mut link, scene.act) {
         return Some(link);

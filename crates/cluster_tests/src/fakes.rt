@@ -50,6 +50,7 @@ fn fit_answer(alloc: Global, from: Address, asked: &Message) -> Option<Message> 
     let content = match &asked.content {
         Content::Join(_) => Content::Joined(news),
         Content::PingReq(_, target) => Content::PingReqAck(news, *target, true),
+        Content::Forward(_, body) => Content::Reply(Text::new(alloc, body.as_str()).ok()?),
         _ => Content::Ack(news),
     };
     Some(Message {

@@ -1,5 +1,5 @@
 //! Streams with a deadline, whose calls a signal interrupts.
-use cluster_links::{Deadline, Timed};
+use cluster_core::{Deadline, Timed};
 use std::io;
 use std::io::{ErrorKind, Read, Write};
 use std::net::OpenStream;

@@ -1,4 +1,4 @@
-//! The tests of cluster_core and cluster_links.
+//! The tests of peer_core and cluster_core.
 #![tactic(auto)]
 
 #[cfg(test)]
@@ -9,6 +9,8 @@ mod fakes;
 mod forwarding;
 #[cfg(test)]
 mod interrupted;
+#[cfg(test)]
+mod members;
 #[cfg(test)]
 mod messages;
 #[cfg(test)]

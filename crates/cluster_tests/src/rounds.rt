@@ -14,7 +14,7 @@ use change_core::{Address, Moment, Status};
 use cluster_core::{ClusterError, Link, LinkError, Round, gossip_round, join};
 use detector_core::Running;
 use hash_ring::SumHash;
-use node_core::{NodeError, NodeState, Received, StopCause};
+use node_core::{ChangeList, NodeError, NodeState, Received, StopCause};
 use std::alloc::Global;
 use std::env::Env;
 use std::process::Abort;
@@ -202,6 +202,18 @@ fn take_another<R: Wait + Abort>(
     }
 }
 
+/// The members that a node holds. After a refused growth it is asked once more.
+fn held<R: Wait + Abort>(rt: &R, shared: &Shared, pass: &mut Caller) -> ChangeList
+    requires { Fits shared.now pass.old }
+    ensures { Fits shared.now pass.new }
+{
+    if let Ok(members) = shared.members(rt, pass).ok().expect(rt, "a turn") {
+        return members;
+    }
+    let members = shared.members(rt, pass).ok().expect(rt, "a turn");
+    members.ok().expect(rt, "members")
+}
+
 /// Checks as what a node holds the others.
 fn check_held<R: Wait + Abort>(
     rt: &R,
@@ -212,10 +224,13 @@ fn check_held<R: Wait + Abort>(
 )
     requires { Fits shared.now pass.old }
 {
-    for number in 0..others {
-        let held = status(rt, shared, pass, number.wrapping_add(2));
-        assert!(rt; held == Some(wanted));
+    let mut number = 1u8;
+    for change in held(rt, shared, pass).as_slice() {
+        let is_other = number != 1;
+        assert!(rt; change.address == member(rt, number) && (!is_other || change.status == wanted));
+        number = number.wrapping_add(1);
     }
+    assert!(rt; number == others.wrapping_add(2));
 }
 
 /// How many others there are, a round, perhaps another, and as what the others are held at the end.

@@ -1,8 +1,7 @@
 //! A link over sockets, and a peer of the test's own.
 use crate::messages::{content, member, message, news, number_of, request};
 use change_core::{Address, Status};
-use cluster_core::{Link, LinkError};
-use cluster_links::{Limits, TcpLink, send_line, socket_address};
+use cluster_core::{Limits, Link, LinkError, TcpLink, send_line, socket_address};
 use std::alloc::Global;
 use std::io::{BufReader, Read, Write};
 use std::net::{Net, TcpListener, TcpStream};

@@ -1,1 +1,2 @@
+mod Ring
 mod Told

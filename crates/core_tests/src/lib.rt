@@ -1,4 +1,4 @@
-//! The tests of `node_core`, `reconciliation`, `forward_core`, `locked_node` and `cli_core`. They stand in one crate, since a check of it
+//! The tests of `node_core`, `cluster_laws`, `forward_core`, `locked_node` and `cli_core`. They stand in one crate, since a check of it
 //! reads the libraries below once.
 #![tactic(auto)]
 

@@ -1,5 +1,6 @@
-//! The tests of `node_core`, and of the law of `reconciliation`.
+//! The tests of `node_core`, and of the theorems of `cluster_laws`.
 mod agreement;
+mod converging;
 mod hash_tests;
 mod limit_tests;
 pub(crate) mod played;

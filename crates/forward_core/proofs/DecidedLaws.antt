@@ -4,8 +4,8 @@ use Rattle.change_core.specs.declared.addresses.Address.{Address}
 use Rattle.node_core.specs.Viewing.{Viewed}
 use Rattle.forward_core.specs.declared.attempts.Stage.{Stage}
 use Rattle.forward_core.specs.declared.attempts.Stage.TheVariants as stage
-use Rattle.forward_core.specs.declared.attempts.Decision.{Decision}
-use Rattle.forward_core.specs.declared.attempts.Decision.TheVariants.{Wait, Here, Send}
+use Rattle.forward_core.specs.declared.attempts.Step.{Step}
+use Rattle.forward_core.specs.declared.attempts.Step.TheVariants.{Wait, Here, Send}
 use Rattle.forward_core.specs.declared.errors.ForwardError.{ForwardError}
 use Rattle.forward_core.specs.declared.errors.ForwardError.TheVariants as error
 use Rattle.forward_core.specs.declared.routes.Route.{Route}
@@ -27,11 +27,11 @@ routed own None = Err error.Diverged
 routed own (Some o) = Ok (route_to o own)
 
 -- what is to be done with an attempt that is due
-abbrev once_due : Address → Address → Decision
+abbrev once_due : Address → Address → Step
 once_due own a = cond (a == own) Here (Send a)
 
 -- and with any
-abbrev reply : Stage → ℕ → Address → Owner → Result Decision ForwardError
+abbrev reply : Stage → ℕ → Address → Owner → Result Step ForwardError
 reply stage.Spent now own w = Err error.RetriesSpent
 reply stage.InFlight now own w = Err error.InFlight
 reply stage.New now own None = Err error.Diverged
@@ -42,7 +42,7 @@ reply (stage.Resting until) now own (Some None) = Err error.Nobody
 reply (stage.Resting until) now own (Some (Some a)) = Ok (cond (nat_lt now until) (Wait until) (once_due own a))
 
 -- the attempt after an answer
-abbrev left_by : Result Decision ForwardError → AttemptState → AttemptState
+abbrev left_by : Result Step ForwardError → AttemptState → AttemptState
 left_by (Ok (Send a)) old = sent old
 left_by (Ok (Wait until)) old = old
 left_by (Ok Here) old = old
@@ -122,13 +122,13 @@ module _ {H : Type 0} (hash_of : H → List ℕ → ℕ) (view : Viewed H) where
   is_routed keys (Err error.InFlight) h = absurd h
   is_routed keys (Err error.NotInFlight) h = absurd h
 
-  record IsReply (now : ℕ) (old : AttemptState) (r : Result Decision ForwardError) (new : AttemptState) : Type 0 where
+  record IsReply (now : ℕ) (old : AttemptState) (r : Result Step ForwardError) (new : AttemptState) : Type 0 where
     pub owner : Owner
     pub owned : IsOpen old.stage → Owned old.keys owner
     pub is : r ≡ reply old.stage now view.own owner
     pub left : new ≡ left_by r old
 
-  is_reply : (now : ℕ) (old new : AttemptState) (r : Result Decision ForwardError) → ReadyStep hash_of view now old r new → IsReply now old r new
+  is_reply : (now : ℕ) (old new : AttemptState) (r : Result Step ForwardError) → ReadyStep hash_of view now old r new → IsReply now old r new
   is_reply now old new (Err error.RetriesSpent) h = record {
     owner = None;
     owned = λ o. absurd (subst IsOpen h.0 o);

@@ -3,8 +3,8 @@ use Rattle.std.proofs.Common.{◌≡◌, ℕ, ◌+◌, ◌<◌, ◌≤◌, List,
 use Rattle.node_core.specs.Viewing.{Viewed}
 use Rattle.forward_core.specs.declared.attempts.Stage.{Stage}
 use Rattle.forward_core.specs.declared.attempts.Stage.TheVariants as stage
-use Rattle.forward_core.specs.declared.attempts.Decision.{Decision}
-use Rattle.forward_core.specs.declared.attempts.Decision.TheVariants.{Wait, Here, Send}
+use Rattle.forward_core.specs.declared.attempts.Step.{Step}
+use Rattle.forward_core.specs.declared.attempts.Step.TheVariants.{Wait, Here, Send}
 use Rattle.forward_core.specs.declared.errors.ForwardError.{ForwardError}
 use Rattle.forward_core.specs.declared.errors.ForwardError.TheVariants as error
 use Rattle.forward_core.specs.Attempts.{AttemptState, started, most_sends, pause_after, IsAttempt, IsDue, ReadyStep, FailedStep}
@@ -67,7 +67,7 @@ module _ {H : Type 0} (hash_of : H → List ℕ → ℕ) where
   comes-failed old new now marks (Err error.Diverged) whole h later = absurd h
   comes-failed old new now marks (Err error.Nobody) whole h later = absurd h
 
-  comes-ready : (view : Viewed H) (now : ℕ) (old new : AttemptState) (marks : List Mark) (result : Result Decision ForwardError)
+  comes-ready : (view : Viewed H) (now : ℕ) (old new : AttemptState) (marks : List Mark) (result : Result Step ForwardError)
       → IsAttempt old.sends old.stage → ReadyStep hash_of view now old result new → Later marks new → Comes old.sends old.stage (marked (ready view now result) marks)
   comes-ready view now old new marks (Ok (Send a)) whole h later =
       comes-sent old.sends now old.stage marks whole h.0 (subst (Later marks) h.3 later (due-whole old.sends now old.stage whole h.0))

@@ -5,8 +5,8 @@ use Rattle.change_core.specs.declared.addresses.Address.{Address}
 use Rattle.node_core.specs.Viewing.{Viewed}
 use Rattle.forward_core.specs.declared.attempts.Stage.{Stage}
 use Rattle.forward_core.specs.declared.attempts.Stage.TheVariants as stage
-use Rattle.forward_core.specs.declared.attempts.Decision.{Decision}
-use Rattle.forward_core.specs.declared.attempts.Decision.TheVariants.{Wait, Here, Send}
+use Rattle.forward_core.specs.declared.attempts.Step.{Step}
+use Rattle.forward_core.specs.declared.attempts.Step.TheVariants.{Wait, Here, Send}
 use Rattle.forward_core.specs.declared.errors.ForwardError.{ForwardError}
 use Rattle.forward_core.specs.declared.errors.ForwardError.TheVariants as error
 use Rattle.forward_core.specs.Routes.{AllOwnedBy, HaveDiverged}
@@ -68,7 +68,7 @@ abbrev pub sent : AttemptState → AttemptState
 sent a = record a { sends = a.sends + 1; stage = stage.InFlight }
 
 -- what is to be done with an attempt now, by a view, and the attempt after that
-abbrev pub ReadyStep : {H : Type 0} → (H → List ℕ → ℕ) → Viewed H → ℕ → AttemptState → Result Decision ForwardError → AttemptState → Type 0
+abbrev pub ReadyStep : {H : Type 0} → (H → List ℕ → ℕ) → Viewed H → ℕ → AttemptState → Result Step ForwardError → AttemptState → Type 0
 ReadyStep hash_of view now old (Err error.RetriesSpent) new = (old.stage ≡ stage.Spent) × (new ≡ old)
 ReadyStep hash_of view now old (Err error.InFlight) new = (old.stage ≡ stage.InFlight) × (new ≡ old)
 ReadyStep hash_of view now old (Err error.Diverged) new = IsOpen old.stage × HaveDiverged hash_of view old.keys × (new ≡ old)

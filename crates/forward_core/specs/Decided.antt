@@ -1,7 +1,7 @@
 -- What is answered is decided: from the same no two answers differ, nor the attempts after them.
 use Rattle.std.specs.Prelude.{◌≡◌, ℕ, ◌<◌, List, length, Result}
 use Rattle.node_core.specs.Viewing.{Viewed}
-use Rattle.forward_core.specs.declared.attempts.Decision.{Decision}
+use Rattle.forward_core.specs.declared.attempts.Step.{Step}
 use Rattle.forward_core.specs.declared.errors.ForwardError.{ForwardError}
 use Rattle.forward_core.specs.declared.routes.Route.{Route}
 use Rattle.forward_core.specs.Attempts.{AttemptState, ReadyStep, FailedStep}
@@ -16,7 +16,7 @@ RoutesAreOne {H} hash_of =
 -- by a view and at a moment one thing is to be done with an attempt
 abbrev pub StepsAreOne : {H : Type 0} → (H → List ℕ → ℕ) → Type 0
 StepsAreOne {H} hash_of =
-    (view : Viewed H) (now : ℕ) (old m n : AttemptState) (r s : Result Decision ForwardError)
+    (view : Viewed H) (now : ℕ) (old m n : AttemptState) (r s : Result Step ForwardError)
     → 0 < length old.keys → ReadyStep hash_of view now old r m → ReadyStep hash_of view now old s n → (r ≡ s) × (m ≡ n)
 
 -- a failure leaves one attempt

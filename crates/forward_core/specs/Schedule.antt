@@ -1,15 +1,15 @@
 -- When an attempt is sent: a run of its calls, and the sends and failures that the run tells of.
 use Rattle.std.specs.Prelude.{ℕ, ◌+◌, ◌<◌, ◌≤◌, List, [], ◌∷◌, Result, Ok, Err}
 use Rattle.node_core.specs.Viewing.{Viewed}
-use Rattle.forward_core.specs.declared.attempts.Decision.{Decision}
-use Rattle.forward_core.specs.declared.attempts.Decision.TheVariants.{Send}
+use Rattle.forward_core.specs.declared.attempts.Step.{Step}
+use Rattle.forward_core.specs.declared.attempts.Step.TheVariants.{Send}
 use Rattle.forward_core.specs.declared.errors.ForwardError.{ForwardError}
 use Rattle.forward_core.specs.declared.errors.ForwardError.TheVariants.{RetriesSpent}
 use Rattle.forward_core.specs.Attempts.{AttemptState, started, most_sends, pause_after, ReadyStep, FailedStep}
 
 -- a call of an attempt, with its answer
 pub data AttemptCall (H : Type 0) : Type 0 where
-  ready : Viewed H → ℕ → Result Decision ForwardError → AttemptCall H
+  ready : Viewed H → ℕ → Result Step ForwardError → AttemptCall H
   failed : ℕ → Result (Unit {0}) ForwardError → AttemptCall H
 
 -- and with the attempt after it

@@ -19,7 +19,7 @@ const PAUSES: [u64; 3] = [3_000, 6_000, 12_000];
 
 /// What is to be done with an attempt now.
 #[derive(Clone, Copy, Debug, PartialEq, Eq)]
-pub enum Decision {
+pub enum Step {
     /// It rests until the moment of this number, which may lie past the greatest moment and is then never reached.
     Wait(u64),
     /// It is handled by this node.
@@ -111,11 +111,7 @@ impl Attempt {
     ///
     /// Errors, in this order, each before any `Wait`: `RetriesSpent` once the fourth send has failed; `InFlight` while a
     /// send is; `Diverged` where two of the keys have different owners; `Nobody` where no member serves.
-    pub fn ready<H: PointHash>(
-        &mut self,
-        view: &View<H>,
-        now: Moment,
-    ) -> Result<Decision, ForwardError>
+    pub fn ready<H: PointHash>(&mut self, view: &View<H>, now: Moment) -> Result<Step, ForwardError>
         ensures { ReadyStep H.hash_of view.now now self.old result self.new }
     {
         match self.stage {
@@ -128,14 +124,14 @@ impl Attempt {
             return Err(ForwardError::Nobody);
         }
         if let Some(until) = self.rest(now) {
-            return Ok(Decision::Wait(until));
+            return Ok(Step::Wait(until));
         }
         let Route::To(owner) = route else {
-            return Ok(Decision::Here);
+            return Ok(Step::Here);
         };
         self.sends += 1;
         self.stage = Stage::InFlight;
-        Ok(Decision::Send(owner))
+        Ok(Step::Send(owner))
     }
 
     /// Until when it rests, if it still does at this moment.

@@ -7,7 +7,7 @@ pub mod laws;
 mod routes;
 mod routing;
 
-pub use attempts::{Attempt, Decision, Lent, MOST_SENDS};
+pub use attempts::{Attempt, Lent, MOST_SENDS, Step};
 pub use errors::ForwardError;
 pub use routes::Route;
 pub use routing::{route, route_keys};

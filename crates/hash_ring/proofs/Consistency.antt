@@ -1,19 +1,19 @@
 -- What one server's coming and going does to the owners of a key.
-use Rattle.std.proofs.Common.{◌≡◌, ◌⊎◌, ℕ, ◌*◌, Bool, true, false, cond, not, List, [], ◌∷◌, Some, None, refl, ap, sym, ◌∙◌, subst, inl, inr}
+use Rattle.std.proofs.Common.{◌≡◌, ◌⊎◌, ℕ, ◌*◌, Bool, true, false, cond, not, List, [], ◌∷◌, Some, None, refl, ap, sym, ◌∙◌, inl, inr}
 use Rattle.std.specs.List.{filter, slice_get}
 use Rattle.std.specs.declared.cmp.Ordering.{Ordering}
 use Rattle.std.specs.Ordering.{is_lt, is_eq, nat_cmp, ordering_then}
 use Rattle.change_core.specs.declared.addresses.Address.{Address}
 use Rattle.change_core.specs.Ascending.{put, In, IsAscending}
-use Rattle.change_core.proofs.Order.{ascending_ascends, ascending_is, in_ascending, ascending_in, in_filter, filter_in, filter_all, filter_ascends}
+use Rattle.change_core.proofs.Order.{ascending_ascends, same_ascending, in_ascending, ascending_in, in_filter, filter_in, filter_all, filter_ascends}
 use Rattle.hash_ring.specs.Consistency.{others}
 use Rattle.hash_ring.specs.Points.{by_distance, distance, distance_among, owner, owners}
 use Rattle.hash_ring.specs.Servers.{is_same, address_of_server, addresses_of, server_cmp, weight_of, weight_or_none, with_server, without}
 use Rattle.hash_ring.specs.declared.servers.Server.{Server}
 use Rattle.hash_ring.proofs.Firsts.{same_is, is_same_itself, test_cases}
-use Rattle.hash_ring.proofs.ListMembers.{in_map, map_in}
+use Rattle.hash_ring.proofs.ListMembers.{in_map}
 use Rattle.hash_ring.proofs.PointOrder.{by_exact}
-use Rattle.hash_ring.proofs.Weights.{absent_if_none, differs}
+use Rattle.hash_ring.proofs.Weights.{absent_if_none, differs, in_without, weight_if_listed, listed_if_weight}
 
 -- ---- other servers keep their weights
 
@@ -50,35 +50,61 @@ ascends_same R T (x ∷ xs) same up = (
   ascends_same R T xs (λ y z h k. same y z (inr h) (inr k)) up.1,
 )
 
+-- a list that gives an address the same weight as another has it, too
+listed_alike : (a : Address) (one other : List Server) → weight_of a one ≡ weight_of a other → In a (addresses_of one) → In a (addresses_of other)
+listed_alike a one other e h = let w = weight_if_listed a one h in listed_if_weight a other w.0 (sym e ∙ w.1)
+
 module _ (hash : List ℕ → ℕ) (replicas : ℕ) where
+  -- a server's distance depends on its own weight alone
+  same_distance : (one other : List Server) (key : List ℕ) (a : Address) → weight_of a one ≡ weight_of a other → distance_among hash replicas one key a ≡ distance_among hash replicas other key a
+  same_distance one other key a e = ap (λ w. distance hash (replicas * weight_or_none w) a key) e
+
+  -- so servers to which two lists give the same weights stand in one order
+  pub owners-alike : (one other : List Server) (key : List ℕ) (p : Address → Bool) → ((a : Address) → p a ≡ true → weight_of a one ≡ weight_of a other) → filter p (owners hash replicas one key) ≡ filter p (owners hash replicas other key)
+  owners-alike one other key p same =
+      same_ascending (by_exact (distance_among hash replicas other key)) (picked one) (picked other)
+      (ascends_same (by_distance hash replicas one key) (by_distance hash replicas other key) (picked one)
+      (λ x y h k i. ordering_then (nat_cmp (far x h i) (far y k i)) (nat_cmp x y))
+      (ascends one))
+      (ascends other)
+      (λ a h. moved one other a (same a (is_picked one a h)) h)
+      (λ a h. moved other one a (sym (same a (is_picked other a h))) h)
+    where
+      picked : List Server → List Address
+      picked ss = filter p (owners hash replicas ss key)
+
+      is_picked : (ss : List Server) (a : Address) → In a (picked ss) → p a ≡ true
+      is_picked ss a h = (in_filter p a (owners hash replicas ss key) h).1
+
+      far : (a : Address) → In a (picked one) → distance_among hash replicas one key a ≡ distance_among hash replicas other key a
+      far a h = same_distance one other key a (same a (is_picked one a h))
+
+      ascends : (ss : List Server) → IsAscending (by_distance hash replicas ss key) (picked ss)
+      ascends ss = filter_ascends (by_distance hash replicas ss key) p (owners hash replicas ss key) (ascending_ascends (by_exact (distance_among hash replicas ss key)) (addresses_of ss))
+
+      moved : (from to : List Server) (a : Address) → weight_of a from ≡ weight_of a to → In a (picked from) → In a (picked to)
+      moved from to a e h =
+          let k = in_filter p a (owners hash replicas from key) h in
+          filter_in p a (owners hash replicas to key)
+          (ascending_in (by_exact (distance_among hash replicas to key)) a (addresses_of to)
+          (listed_alike a from to e (in_ascending (by_exact (distance_among hash replicas from key)) a (addresses_of from) k.0)))
+          k.1
+
   -- to take a server out takes it out of the owners alone
   pub owners-without : (servers : List Server) (a : Address) (key : List ℕ) → owners hash replicas (without a servers) key ≡ others a (owners hash replicas servers key)
   owners-without servers a key =
-      let before : Address → ℕ = distance_among hash replicas servers key in
-      let after : Address → ℕ = distance_among hash replicas (without a servers) key in
       let other : Address → Bool = λ b. not (is_same b a) in
-      let kept = others a (owners hash replicas servers key) in
-      let apart : (b : Address) → In b kept → b ≡ a → ⊥ = λ b h. not_equal b (in_filter other b (owners hash replicas servers key) h).1 in
-      let far : (b : Address) → In b kept → before b ≡ after b = λ b h. ap (λ w. distance hash (replicas * weight_or_none w) b key) (sym (weight_of-without a b servers (apart b h))) in
-      sym (ascending_is (by_exact after) (addresses_of (without a servers)) kept
-      (ascends_same (by_distance hash replicas servers key) (by_distance hash replicas (without a servers) key) kept
-      (λ x y h k i. ordering_then (nat_cmp (far x h i) (far y k i)) (nat_cmp x y))
-      (filter_ascends (by_distance hash replicas servers key) other (owners hash replicas servers key) (ascending_ascends (by_exact before) (addresses_of servers))))
-      (λ b h.
-      let k = in_filter other b (owners hash replicas servers key) h in
-      let m = in_map address_of_server b servers (in_ascending (by_exact before) b (addresses_of servers) k.0) in
-      subst (λ z. In z (addresses_of (without a servers))) (sym m.2) (map_in address_of_server m.0 (without a servers) (filter_in (λ (s : Server). not (is_same s.address a)) m.0 servers m.1 (ap other (sym m.2) ∙ k.1))))
-      (λ b h.
-      let m = in_map address_of_server b (without a servers) h in
-      let k = in_filter (λ (s : Server). not (is_same s.address a)) m.0 servers m.1 in
-      filter_in other b (owners hash replicas servers key) (ascending_in (by_exact before) b (addresses_of servers) (subst (λ z. In z (addresses_of servers)) (sym m.2) (map_in address_of_server m.0 servers k.0))) (ap other m.2 ∙ k.1)))
+      sym (filter_all other (owners hash replicas (without a servers) key) apart)
+      ∙ owners-alike (without a servers) servers key other (λ b h. weight_of-without a b servers (λ e. not_both (is_same b a) h (ap (λ x. is_same x a) e ∙ is_same_itself a)))
     where
-      not_equal : (b : Address) → not (is_same b a) ≡ true → b ≡ a → ⊥
-      not_equal b t e = both (is_same b a) t (ap (λ x. is_same x a) e ∙ is_same_itself a)
-        where
-          both : (c : Bool) → not c ≡ true → c ≡ true → ⊥
-          both true h k = cc h
-          both false h k = cc k
+      apart : (b : Address) → In b (owners hash replicas (without a servers) key) → not (is_same b a) ≡ true
+      apart b h =
+          let m = in_map address_of_server b (without a servers) (in_ascending (by_exact (distance_among hash replicas (without a servers) key)) b (addresses_of (without a servers)) h) in
+          ap not (differs b a (λ q. (in_without a m.0 servers m.1).1 (sym m.2 ∙ q)))
+
+      not_both : (b : Bool) → not b ≡ true → b ≡ true → ⊥
+      not_both true h k = cc h
+      not_both false h k = cc k
 
   -- a server that joins, or changes its weight, leaves the others in their order
   pub others-with_server : (servers : List Server) (s : Server) (key : List ℕ) → others s.address (owners hash replicas (with_server s servers) key) ≡ others s.address (owners hash replicas servers key)

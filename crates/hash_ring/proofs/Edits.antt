@@ -47,7 +47,7 @@ module _ (from : ℕ) (ps : List Point) (i : ℕ) (parts : IsPartitionPoint (λ 
 -- ---- the points of one server more, or less
 
 module _ (hash : List ℕ → ℕ) (replicas : ℕ) where
-  -- the points of a server more, beside those of the others
+  -- the points of one server more, in addition to those of the others
   pub points_merge : (a : Server) (servers : List Server) → ascending point_cmp (points hash replicas servers ++ ascending point_cmp (points_by hash replicas a)) ≡ points hash replicas (put server_cmp a servers)
   points_merge a servers =
       let f = points_by hash replicas in

@@ -1,4 +1,4 @@
--- The nearest point above a hash, going round, is the owner's.
+-- The nearest point above a hash, wrapping around, is the owner's.
 use Rattle.std.proofs.Common.{◌≡◌, ℕ, ◌+◌, ◌*◌, ◌^◌, ◌<◌, ◌≤◌, ◌⊎◌, None, Some, Option, List, [], ◌∷◌, ◌++◌, map, take, drop, length, get_or, refl, ap, sym, ◌∙◌, subst, inl, inr, arith}
 use Rattle.std.specs.List.{slice_get}
 use Rattle.std.specs.Option.{option_or, IfNone, IfSome}
@@ -228,7 +228,7 @@ module _ (hash : List ℕ → ℕ) (replicas : ℕ) (servers : List Server) (ps 
           tied (inr (inl l)) k = inr (less_by_hash (record { hash = far a; server = a }) (record { hash = far b; server = b }) l)
           tied (inr (inr l)) k = absurd (omega (arith, l, k.0, le, at))
 
--- nobody where there are no points
+-- none where there are no points
 pub next_nobody : (hash : List ℕ → ℕ) (replicas : ℕ) (servers : List Server) (ps xs : List Point) (key : List ℕ) {spare : ℕ} → IsRing hash replicas servers ps spare → xs ≡ [] → ((q : Point) → In q ps → In q xs) → None ≡ owner hash replicas servers key
 next_nobody hash replicas [] ps xs key ring none g = refl
 next_nobody hash replicas (s ∷ ss) ps xs key ring none g =

@@ -82,6 +82,18 @@ least-le f (suc n) i h =
       | inr (inr k) ↦ absurd (omega arith)
     ]
 
+-- and of more values no greater
+pub least-more : (f : ℕ → ℕ) (m n : ℕ) → m ≤ n → least f n ≤ least f m
+least-more f m zero h = omega (arith, ap (least f) (same m h))
+  where
+    same : (m : ℕ) → m ≤ 0 → m ≡ 0
+    same m h = omega arith
+least-more f m (suc n) h =
+    elim (Rattle.std.proofs.lemmas.Bool.cases_lt n m) [
+      | inl k ↦ let e : m ≡ suc n = omega arith in omega (arith, ap (least f) e)
+      | inr k ↦ omega (arith, least-more f m n k)
+    ]
+
 -- it is one of them, where they stay below 2 ^ 64 and n is not 0
 pub least_is_one : (f : ℕ → ℕ) (n : ℕ) → ((i : ℕ) → f i < 2 ^ 64) → 0 < n → (i : ℕ) × (i < n) × (least f n ≡ f i)
 least_is_one f zero small h = absurd (omega arith)
@@ -93,6 +105,6 @@ least_is_one f (suc (suc n)) small h =
       | inr k ↦ (one.0, omega (arith, one.1), omega (arith, one.2))
     ]
 
--- points tie in their order exactly where they are equal
+-- points tie in their order if and only if they are equal
 pub point_ties : (p q : Point) → (eqb p.hash q.hash && eqb p.server q.server) ≡ eq_by_cmp point_cmp p q
 point_ties p q = search (comparing, rules)

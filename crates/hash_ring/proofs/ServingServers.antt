@@ -1,5 +1,5 @@
 -- The servers that the members are, and how one change more alters them.
-use Rattle.std.proofs.Common.{◌≡◌, ℕ, ◌<◌, Bool, true, false, not, List, [], ◌∷◌, ◌++◌, Some, map, refl, ap, sym, ◌∙◌, subst, inl, inr}
+use Rattle.std.proofs.Common.{◌≡◌, ℕ, ◌<◌, Bool, true, false, not, List, [], ◌∷◌, ◌++◌, Option, Some, None, map, refl, ap, sym, ◌∙◌, subst, inl, inr}
 use Rattle.std.specs.List.{filter}
 use Rattle.std.specs.declared.cmp.Ordering.TheVariants.{Less}
 use Rattle.std.proofs.lemmas.Bool.{lt-ltb}
@@ -14,12 +14,16 @@ use Rattle.change_core.proofs.Order.{in_put, put_new, put_old, put_ascends, same
 use Rattle.change_core.proofs.Serving.{IsMemberList-filter}
 use Rattle.hash_ring.specs.declared.servers.Server.{Server}
 use Rattle.hash_ring.specs.Servers.{is_same, address_of_server, addresses_of, server_cmp, with_server, without, weight_of, EachOnce}
-use Rattle.hash_ring.specs.Serving.{server_of, servers_of}
+use Rattle.hash_ring.specs.Serving.{server_of, servers_of, serving_weight}
 use Rattle.hash_ring.proofs.Firsts.{same_is, test_cases}
 use Rattle.hash_ring.proofs.FreshPoints.{in_of_contains, contains_of_in}
 use Rattle.hash_ring.proofs.ListMembers.{in_map, map_in}
 use Rattle.hash_ring.proofs.PointOrder.{server_exact}
-use Rattle.hash_ring.proofs.Weights.{in_without, not_same, weight_of_in}
+use Rattle.hash_ring.proofs.Weights.{in_without, not_same, weight_of_absent, weight_of_in}
+
+not_both : (b : Bool) → b ≡ false → b ≡ true → ⊥
+not_both true f t = cc f
+not_both false f t = cc t
 
 -- they are the addresses that serve
 pub addresses_of-servers_of : (cs : List Change) → addresses_of (servers_of cs) ≡ serving cs
@@ -47,10 +51,33 @@ once_served cs = λ s t h k e.
     let same : v.0 ≡ w.0 = cc held in
     v.3 ∙ (ap server_of same ∙ sym w.3)
 
-pub weight_of-servers_of : (cs : List Change) (a : ℕ) (c : Change) → greatest cs a ≡ Some c → is_serving c.status ≡ true → weight_of a (servers_of cs) ≡ Some c.weight
-weight_of-servers_of cs a c e s =
+weight_of-serving : (cs : List Change) (a : ℕ) (c : Change) → greatest cs a ≡ Some c → is_serving c.status ≡ true → weight_of a (servers_of cs) ≡ Some c.weight
+weight_of-serving cs a c e s =
     let g = IsGreatest-greatest cs a c e in
     subst (λ b. weight_of b (servers_of cs) ≡ Some c.weight) g.about (weight_of_in (servers_of cs) (once_served cs) (server_of c) (is_server cs a c e s))
+
+-- and an address of which nothing is held that serves has none
+pub weight_of-servers_of : (cs : List Change) (a : ℕ) → weight_of a (servers_of cs) ≡ serving_weight (greatest cs a)
+weight_of-servers_of cs a = by_held (greatest cs a) refl
+  where
+    by_held : (o : Option Change) → greatest cs a ≡ o → weight_of a (servers_of cs) ≡ serving_weight (greatest cs a)
+    by_held None e = weight_of_absent (servers_of cs) a absent ∙ ap serving_weight (sym e)
+      where
+        absent : (s : Server) → In s (servers_of cs) → s.address ≡ a → ⊥
+        absent s h q =
+            let w = server_is cs s h in
+            let held : None ≡ Some w.0 = sym e ∙ ap (greatest cs) (sym q) ∙ w.1 in
+            cc held
+    by_held (Some c) e = test_cases _ (is_serving c.status)
+        (λ s. weight_of-serving cs a c e s ∙ rw (e, s) refl)
+        (λ s. weight_of_absent (servers_of cs) a (absent s) ∙ rw (e, s) refl)
+      where
+        absent : is_serving c.status ≡ false → (s : Server) → In s (servers_of cs) → s.address ≡ a → ⊥
+        absent gone s h q =
+            let w = server_is cs s h in
+            let held : Some w.0 ≡ Some c = sym w.1 ∙ ap (greatest cs) q ∙ e in
+            let same : w.0 ≡ c = cc held in
+            not_both (is_serving c.status) gone (ap (λ (d : Change). is_serving d.status) (sym same) ∙ w.2)
 
 -- they ascend
 above_in : (a : ℕ) (cs : List Change) → AllAbove a (map address_of_change cs) → (c : Change) → In c cs → a < c.address
@@ -90,7 +117,7 @@ module _ (cs : List Change) (c : Change) where
       let same : c ≡ w.0 = cc held in
       (ap (λ (d : Change). is_serving d.status) same ∙ w.2, w.3 ∙ ap server_of (sym same))
 
-  -- a change that is no news alters no server
+  -- a change that alters nothing that is held alters no server
   pub servers_of-no_news : is_news cs c ≡ false → servers_of (cs ++ c ∷ []) ≡ servers_of cs
   servers_of-no_news e = ap (λ ms. map server_of (filter (λ (d : Change). is_serving d.status) ms)) (members-no_news cs c e)
 
@@ -119,10 +146,6 @@ module _ (cs : List Change) (c : Change) where
       (IsAscending-servers_of (cs ++ c ∷ []))
       (filter_ascends server_cmp other before (IsAscending-servers_of cs))
       (λ s h. test_cases _ (is_same s.address c.address)
-      (λ e. absurd (both (is_serving c.status) gone (its_own news s (same_is s.address c.address e) h).0))
+      (λ e. absurd (not_both (is_serving c.status) gone (its_own news s (same_is s.address c.address e) h).0))
       (λ e. filter_in other s before (other_before s (λ q. not_same s.address c.address e (sym q)) h) (ap not e)))
       (λ s h. let m = in_without c.address s before h in other_after s (λ q. m.1 (sym q)) m.0)
-    where
-      both : (b : Bool) → b ≡ false → b ≡ true → ⊥
-      both true f t = cc f
-      both false f t = cc t

@@ -7,7 +7,7 @@ use Rattle.change_core.proofs.Order.{in_put, put_new, put_old, put_ascends, same
 use Rattle.std.specs.List.{filter}
 use Rattle.std.specs.Option.{is_some}
 use Rattle.hash_ring.specs.declared.points.Point.{Point}
-use Rattle.hash_ring.proofs.ListMembers.{in_map}
+use Rattle.hash_ring.proofs.ListMembers.{in_map, map_in}
 use Rattle.hash_ring.specs.declared.servers.Server.{Server}
 use Rattle.hash_ring.specs.Servers.{is_same, address_of_server, addresses_of, server_cmp, without, with_server, weight_of, shares, EachOnce, AreServers, has_weight}
 use Rattle.hash_ring.proofs.PointOrder.{server_exact}
@@ -81,6 +81,22 @@ absent_if_none (x ∷ xs) a e t h q =
   where
     some_none : (w : ℕ) → Some w ≡ None → ⊥
     some_none w e = cc e
+
+-- an address that a list has is given a weight there
+pub weight_if_listed : (a : Address) (servers : List Server) → In a (addresses_of servers) → (w : ℕ) × (weight_of a servers ≡ Some w)
+weight_if_listed a servers h =
+    let m = in_map address_of_server a servers h in
+    by_weight m.0 m.1 (sym m.2) (weight_of a servers) refl
+  where
+    by_weight : (s : Server) → In s servers → s.address ≡ a → (o : Option ℕ) → weight_of a servers ≡ o → (w : ℕ) × (weight_of a servers ≡ Some w)
+    by_weight s k q None n = absurd (absent_if_none servers a n s k q)
+    by_weight s k q (Some w) e = (w, e)
+
+-- and one that is given a weight is there
+pub listed_if_weight : (a : Address) (servers : List Server) (w : ℕ) → weight_of a servers ≡ Some w → In a (addresses_of servers)
+listed_if_weight a servers w e =
+    let t = in_weight_of servers a w e in
+    subst (λ b. In b (addresses_of servers)) t.2 (map_in address_of_server t.0 servers t.1)
 
 -- the servers of other addresses
 pub in_without : (a : Address) (t : Server) (servers : List Server) → In t (without a servers) → In t servers × (t.address ≡ a → ⊥)

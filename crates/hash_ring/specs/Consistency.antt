@@ -4,6 +4,6 @@ use Rattle.std.specs.List.{filter}
 use Rattle.change_core.specs.declared.addresses.Address.{Address}
 use Rattle.hash_ring.specs.Servers.{is_same}
 
--- the addresses beside one
+-- the addresses other than one
 abbrev pub others : Address → List Address → List Address
 others a addresses = filter (λ b. not (is_same b a)) addresses

@@ -13,19 +13,19 @@ use Rattle.hash_ring.specs.declared.points.Point.{Point}
 use Rattle.hash_ring.specs.declared.servers.Server.{Server}
 use Rattle.hash_ring.specs.Servers.{shares, addresses_of}
 
--- the greatest number of points that a server has for each unit of its weight
-abbrev pub most_replicas : ℕ
-most_replicas = 1000
+-- the maximum of points that a server has for each unit of its weight
+abbrev pub max_replicas : ℕ
+max_replicas = 1000
 
 -- from 1 to that number
 abbrev pub IsReplicas : ℕ → Type 0
-IsReplicas r = (1 ≤ r) × (r ≤ most_replicas)
+IsReplicas r = (1 ≤ r) × (r ≤ max_replicas)
 
 -- by hash, then by address
 abbrev pub point_cmp : Point → Point → Ordering
 point_cmp p q = ordering_then (nat_cmp p.hash q.hash) (nat_cmp p.server q.server)
 
--- from one number up to another, going round at 2^64
+-- from one number up to another, wrapping around at 2^64
 abbrev pub clockwise : ℕ → ℕ → ℕ
 clockwise from to = (to + (2 ^ 64 - from)) % 2 ^ 64
 
@@ -39,7 +39,7 @@ module _ (hash : List ℕ → ℕ) where
   abbrev pub point : Address → ℕ → ℕ
   point server i = hash (address_text server ++ number_text i)
 
-  -- how far the nearest of a server's first n points stands above a key, going round
+  -- how far the nearest of a server's first n points lies above a key, wrapping around
   abbrev pub distance : ℕ → Address → List ℕ → ℕ
   distance n server key = least (λ i. clockwise (hash key) (point server i)) n
 

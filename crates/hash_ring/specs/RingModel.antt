@@ -21,7 +21,7 @@ ring_of hash hash_of replicas servers room =
     record { hash = hash; replicas = replicas; servers = servers; points = points hash_of replicas servers; room = room }
 
 -- the points are those that are merged and those that came late; there is room for more where there is room for a server, for its points
--- beside the late ones, and for all of them once they are merged
+-- in addition to the late ones, and for all of them once they are merged
 abbrev pub ring_model : {H : Type 0} → H → ℕ → Vec Server → Vec Point → Vec Point → RingModel H
 ring_model hash replicas servers points late =
     record {

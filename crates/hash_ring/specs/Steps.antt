@@ -32,7 +32,7 @@ pub record IsSorted (named sorted : List Address) : Type 0 where
   pub all : (a : Address) → In a named → In a sorted
   pub fits : length sorted ≤ length named
 
--- a point by how far it stands above a hash, going round
+-- a point by how far it stands above a hash, wrapping around
 abbrev pub turn : ℕ → Point → Point
 turn from p = record { hash = clockwise from p.hash; server = p.server }
 
@@ -47,7 +47,7 @@ pub record IsNext (h : ℕ) (ps : List Point) (a : Address) : Type 0 where
   pub server : a ≡ point.server
   pub nearest : (q : Point) → In q ps → IsNear h point q
 
--- the first servers of the points from a hash on, going round
+-- the first servers of the points from a hash on, wrapping around
 pub record AreMet (h : ℕ) (ps : List Point) (count : ℕ) (named : List Address) : Type 0 where
   pub start : ℕ
   pub low : IsBelow h (take start ps)

@@ -1,17 +1,17 @@
-//! What a ring refuses.
+//! Errors of this crate.
 ghost use Rattle.std.specs.Prelude.{◌≡◌};
 ghost use Rattle.hash_ring.specs.declared.errors.RingError.TheVariants.{Memory};
 
 use std::alloc::{AllocError, AllocFailed};
 use thiserror::Error;
 
-/// Why a call of this crate was refused.
+/// An error of this crate. A call that fails leaves servers and points unchanged.
 #[derive(Clone, Copy, Debug, PartialEq, Eq, Error)]
 pub enum RingError {
-    /// The number of points for each unit of a server's weight is not from 1 to 1,000.
+    /// `replicas`, the number of points for each unit of a server's weight, is not from 1 to 1,000.
     #[error("bad replicas")]
     BadReplicas,
-    /// A growth was refused.
+    /// Out of memory.
     #[error("out of memory")]
     Memory,
 }

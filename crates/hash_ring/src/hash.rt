@@ -1,21 +1,22 @@
-//! Hashes of keys and points.
+//! Hash functions for keys and points.
 ghost use Rattle.std.specs.Prelude.{◌≡◌, ℕ, List, ◌%◌, ◌^◌, take, sum};
 ghost use Rattle.std.specs.Int.{w64, from_be_bytes};
 ghost use Rattle.sha2.specs.Sha256.{sha256};
 
 use sha2::{Digest, Sha256};
 
-/// A hash function from bytes to 64-bit numbers, whose answer depends on the value and the bytes alone.
-/// Any such function makes a lawful ring, also one under which points of different servers are equal.
+/// A hash function from bytes to 64-bit numbers. The result depends on the value and the bytes alone. Every such
+/// function gives a correct ring, also one that hashes points of different servers to the same number.
 pub trait PointHash: Copy {
-    /// The hash of bytes.
+    /// The result of `hash`, as a function of the value and the bytes.
     ghost hash_of: { Self → List ℕ → ℕ };
 
+    /// Hashes bytes.
     fn hash(&self, bytes: &[u8]) -> u64
         ensures { result ≡ hash_of self.now bytes.now };
 }
 
-/// The first eight bytes of SHA-256 (FIPS 180-4), the high byte first. ringpop-go hashes by FarmHash, so its rings are others.
+/// SHA-256 (FIPS 180-4), cut to its first eight bytes, read big-endian. ringpop-go hashes by FarmHash, so its rings differ.
 #[derive(Clone, Copy, Debug, PartialEq, Eq)]
 pub struct Sha256Hash;
 

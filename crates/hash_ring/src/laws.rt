@@ -1,20 +1,22 @@
 //! Laws of points, distances and owners. Each is the contract of a function that does nothing, for every hash, all servers
 //! and every key.
-ghost use Rattle.std.specs.Prelude.{◌≡◌, ◌⊎◌, ◌↔◌, ℕ, ◌+◌, ◌%◌, ◌^◌, ◌<◌, None, Some, List, slice_get};
+ghost use Rattle.std.specs.Prelude.{◌≡◌, ◌≢◌, ◌⊎◌, ◌↔◌, ℕ, ◌+◌, ◌%◌, ◌^◌, ◌<◌, Bool, IsTrue, None, Some, List, filter, slice_get};
 ghost use Rattle.std.specs.List.{Contains};
+ghost use Rattle.std.specs.Option.{option_cmp};
+ghost use Rattle.std.specs.Ordering.{nat_cmp};
+ghost use Rattle.std.specs.declared.cmp.Ordering.TheVariants.{Less};
 ghost use Rattle.change_core.specs.declared.addresses.Address.{Address};
 ghost use Rattle.change_core.specs.declared.changes.Change.{Change};
 ghost use Rattle.change_core.specs.Members.{greatest, serving};
-ghost use Rattle.change_core.specs.Status.{IsServing};
 ghost use Rattle.hash_ring.specs.Points.{clockwise, distance, owner, owners, points, IsLeastWay, IsBefore, IsPointAmong, IsPointBefore};
 ghost use Rattle.hash_ring.specs.Consistency.{others};
 ghost use Rattle.hash_ring.specs.Servers.{addresses_of, weight_of, with_server, without};
-ghost use Rattle.hash_ring.specs.Serving.{servers_of};
+ghost use Rattle.hash_ring.specs.Serving.{servers_of, serving_weight};
 ghost use Rattle.hash_ring.specs.declared.points.Point.{Point};
 ghost use Rattle.hash_ring.specs.declared.servers.Server.{Server};
 
 /// Consistent hashing, for any hash. Where a server joins, the owner of each key stays or becomes that server;
-/// where one leaves, only its keys move; and the owners of a key beside that server keep their order, also
+/// where one leaves, only its keys move; and the other owners of a key keep their order, also
 /// where its weight changes.
 pub fn consistency()
     ensures joins { (hash : List ℕ → ℕ) (replicas : ℕ) (servers : List Server) (s : Server) (key : List ℕ)
@@ -32,7 +34,29 @@ pub fn consistency()
         ≡ others a (owners hash replicas servers key) }
 {}
 
-/// The way from one number up to another leads there, going round at 2^64. The distance of a server with n points is
+/// Confined disagreement: how two lists of servers differ where they name different owners of a key. If one names `a` and the
+/// other `b`, then `a` has less weight in the other list, or `b` has less weight in the one; a server that is absent has less
+/// weight than one that is present. So if the owner that each list names has the same weight in both, they name one owner,
+/// whatever else they differ in. Servers with the same weights in both lists stand in one order in the owners of both. This
+/// is more than that consistent hashing is monotone (Karger and others, STOC 1997).
+pub fn confined_disagreement()
+    ensures differ { (hash : List ℕ → ℕ) (replicas : ℕ) (one other : List Server) (key : List ℕ) (a b : Address)
+        → owner hash replicas one key ≡ Some a
+        → owner hash replicas other key ≡ Some b
+        → a ≢ b
+        → (option_cmp nat_cmp (weight_of a other) (weight_of a one) ≡ Less)
+        ⊎ (option_cmp nat_cmp (weight_of b one) (weight_of b other) ≡ Less) }
+    ensures agree { (hash : List ℕ → ℕ) (replicas : ℕ) (one other : List Server) (key : List ℕ)
+        → ((a : Address) → owner hash replicas one key ≡ Some a → weight_of a one ≡ weight_of a other)
+        → ((b : Address) → owner hash replicas other key ≡ Some b → weight_of b one ≡ weight_of b other)
+        → owner hash replicas one key ≡ owner hash replicas other key }
+    ensures one_order { (hash : List ℕ → ℕ) (replicas : ℕ) (one other : List Server) (key : List ℕ) (shared : Address → Bool)
+        → ((a : Address) → IsTrue (shared a) → weight_of a one ≡ weight_of a other)
+        → filter shared (owners hash replicas one key)
+        ≡ filter shared (owners hash replicas other key) }
+{}
+
+/// The way from one number up to another leads there, wrapping around at 2^64. The distance of a server with n points is
 /// the way to one of them, no way to another is shorter, and no other number is such.
 pub fn distances()
     ensures leads { (from to : ℕ) → from < 2 ^ 64 → to < 2 ^ 64
@@ -64,9 +88,9 @@ pub fn points_of_servers()
         → slice_get (points hash replicas servers) j ≡ Some q → IsPointBefore p q }
 {}
 
-/// The servers that members are have the addresses that serve, in the same order, and each has its member's weight.
+/// The servers that members are have the addresses that serve, in the same order. An address has the weight of the change that
+/// is held of it where that is alive or suspect, and else none.
 pub fn serving_servers()
     ensures addresses { (L : List Change) → addresses_of (servers_of L) ≡ serving L }
-    ensures weights { (L : List Change) (a : Address) (c : Change) → greatest L a ≡ Some c
-        → IsServing c.status → weight_of a (servers_of L) ≡ Some c.weight }
+    ensures weights { (L : List Change) (a : Address) → weight_of a (servers_of L) ≡ serving_weight (greatest L a) }
 {}

@@ -55,7 +55,7 @@ impl Lists {
         requires none_late { self.old.late.items ≡ [] }
         ensures servers { OnOk result (self.new.servers.items ≡ with_each servers.now []) }
         ensures kept { OnOk result (IsKept (H.hash_of hash) replicas self.new.servers.items self.new.points.items self.new.late.items (vec_capacity self.new.late) (vec_capacity self.new.points)) }
-        // A growth of the counts where searches begin is not passed over: here, and in the two calls below.
+        // A failed allocation of the counts where searches begin is not ignored: here, and in the two calls below.
         ensures counted { OnOk result (vec_capacity self.new.points / 16 ≤ vec_len self.new.starts.counts) }
     {
         list_servers(&mut self.servers, &mut self.late, replicas, servers)?;

@@ -1,4 +1,4 @@
-//! Points of servers, ascending, and how far a key is from them.
+//! Points of servers, ascending, and the distance of a server from a key.
 ghost use Rattle.std.specs.Prelude.{◌≡◌, ℕ, ◌+◌, ◌*◌, ◌/◌, ◌≤◌, ◌<◌, ◌++◌, [], length, not, IsOk, OnOk, vec_len, vec_capacity};
 ghost use Rattle.std.specs.List.{filter, position, position_or_len};
 ghost use Rattle.change_core.specs.Address.{address_text};
@@ -17,13 +17,13 @@ use change_core::{Address, AddressText, Weight};
 use itoa::Buffer;
 use std::alloc::AllocError;
 
-/// The greatest number of points that a server has for each unit of its weight.
-pub const MOST_REPLICAS: u32 = 1000;
+/// The maximum of `replicas`, the number of points for each unit of a server's weight.
+pub const MAX_REPLICAS: u32 = 1000;
 
 /// At most 21 bytes of an address and four digits.
 const TEXT_BYTES: usize = 25;
 
-/// A place on the ring that stands for a server.
+/// A place on the ring that belongs to a server.
 #[derive(Clone, Copy, Debug, PartialEq, Eq, PartialOrd, Ord)]
 pub struct Point {
     pub hash: u64,
@@ -63,8 +63,9 @@ fn point_hash<H: PointHash>(hash: H, text: &mut ArrayString<TEXT_BYTES>, index: 
     point
 }
 
-/// How far the nearest of a server's points stands above the hash of a key, going round at 2^64. The server
-/// has `replicas` points for each unit of its weight, from 1 to 1,000.
+/// The distance of a server from a key: how far the nearest of the server's points lies above the key's hash, wrapping around at
+/// 2^64. The server has `replicas` points for each unit of its weight; `replicas` must be from 1 to 1,000. The owner of a key is the
+/// server at the least distance, and of two at one distance the one with the lesser address.
 pub fn distance<H: PointHash>(
     hash: H,
     replicas: u32,
@@ -108,8 +109,8 @@ pub(crate) fn push_points<H: PointHash>(
     }
 }
 
-/// Makes room for more points, and before it for the counts of as many as the list then has room for: so counts whose growth
-/// was refused are asked for again.
+/// Reserves room for more points, and before it for the counts of as many as the list then has room for: so counts whose allocation
+/// failed are reserved by the next call.
 pub(crate) fn reserve_points(
     points: &mut Vec<Point>,
     starts: &mut Starts,
@@ -118,7 +119,7 @@ pub(crate) fn reserve_points(
     ensures same { points.new.items ≡ points.old.items }
     ensures room { IsOk result → vec_len points.new + count ≤ vec_capacity points.new }
     ensures enough { vec_len points.old + count ≤ vec_capacity points.old → IsOk result }
-    // A growth of the counts that was refused is not passed over.
+    // A failed allocation of the counts is not ignored.
     ensures counted { OnOk result (vec_capacity points.old < vec_len points.old + count
         → (vec_len points.old + count) / 16 ≤ vec_len starts.new.counts) }
     ensures capacity { vec_capacity points.old ≤ vec_capacity points.new }

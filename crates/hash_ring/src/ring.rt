@@ -1,4 +1,4 @@
-//! The ring, kept by edits.
+//! The ring, kept up to date by edits.
 ghost use Rattle.std.specs.Prelude.{◌≡◌, ℕ, List, ◌+◌, ◌-◌, ◌*◌, ◌^◌, ◌<◌, ◌≤◌, ◌↔◌, [], ◌∷◌, ◌++◌, length, take, drop, not, false, is_some, IsOk, IfOk, IfSome, IfNone, Err, OnOk, OnErr, IsOkUnless, vec_len, vec_capacity};
 ghost use Rattle.hash_ring.specs.Points.{IsReplicas, IsNearest, owner, owners};
 ghost use Rattle.hash_ring.specs.Servers.{has_weight, weight_of, with_each, with_server, without};
@@ -8,7 +8,7 @@ use crate::errors::RingError;
 use crate::hash::PointHash;
 use crate::late::merge_late;
 use crate::lists::Lists;
-use crate::points::{MOST_REPLICAS, point_count, push_points};
+use crate::points::{MAX_REPLICAS, point_count, push_points};
 use crate::search::{met_with_late, next_server};
 use crate::servers::{Server, weighs, weight_among};
 use crate::sorted::place;
@@ -16,11 +16,12 @@ use change_core::{Address, Weight};
 use std::alloc::Global;
 use std::marker::Model;
 
-/// A ring of servers: `replicas` points for each unit of a server's weight, and of a key the server whose point
-/// comes first at or after the key's hash, as in ringpop-go's package hashring. Contracts see the hash, the
-/// replicas, the servers with their weights, the points, and the room that is made.
+/// A consistent hash ring: each server has `replicas` points for each unit of its weight, and a key belongs to the server whose point
+/// comes first at or after the key's hash (ringpop-go, package hashring). Contracts see the hash, `replicas`, the servers with their
+/// weights, the points, and how many more points there is room for.
 ///
-/// The points of servers that are added stand apart until `settle` merges them. Look-ups answer the same before, and take longer.
+/// A ring is settled where all its points are in one sorted list. `add` and `remove` keep it so. `add_late` leaves new points in a second
+/// list until `settle` merges them; look-ups return the same before, and take longer.
 #[derive(Drop)]
 pub struct Ring<H: PointHash> {
     hash: H,
@@ -42,13 +43,17 @@ impl<H: PointHash> Model for Ring<H> {
 impl<H: PointHash> Ring<H> {
     ghost use Rattle.hash_ring.specs.RingModel.{ring_of, HasRoom};
 
-    /// A ring without servers. `BadReplicas`: `replicas` is not from 1 to 1,000.
+    /// Makes a ring without servers, of `replicas` points for each unit of a server's weight.
+    ///
+    /// # Errors
+    ///
+    /// - `BadReplicas`: `replicas` is not from 1 to 1,000.
     pub fn new(alloc: Global, hash: H, replicas: u32) -> Result<Self, RingError>
         ensures range { IsOk result ↔ IsReplicas replicas }
         ensures empty { IfOk result (λ r. r ≡ ring_of hash (H.hash_of hash) replicas [] r.room) }
         ensures refusal { IsOkUnless result RingError.BadReplicas }
     {
-        if replicas < 1 || replicas > MOST_REPLICAS {
+        if replicas < 1 || replicas > MAX_REPLICAS {
             return Err(RingError::BadReplicas);
         }
         Ok(Ring {
@@ -58,8 +63,13 @@ impl<H: PointHash> Ring<H> {
         })
     }
 
-    /// The ring of these servers, of two of one address the later. All points are sorted at once, so it takes less than an `add`
-    /// for each. `BadReplicas`: `replicas` is not from 1 to 1,000. `Memory`: a growth was refused.
+    /// Makes the ring of these servers. Of two with one address the later counts. All points are sorted together, so it takes less time
+    /// than an `add` for each.
+    ///
+    /// # Errors
+    ///
+    /// - `BadReplicas`: `replicas` is not from 1 to 1,000.
+    /// - `Memory`: out of memory; never without servers.
     pub fn with_servers(
         alloc: Global,
         hash: H,
@@ -72,7 +82,7 @@ impl<H: PointHash> Ring<H> {
         ensures growth { IsReplicas replicas → OnErr result (0 < length servers.now) }
     {
         // `Ring::new` refuses what is out of range.
-        if servers.is_empty() || replicas < 1 || replicas > MOST_REPLICAS {
+        if servers.is_empty() || replicas < 1 || replicas > MAX_REPLICAS {
             return Ring::new(alloc, hash, replicas);
         }
         let mut lists = Lists::new(alloc);
@@ -84,7 +94,7 @@ impl<H: PointHash> Ring<H> {
         })
     }
 
-    /// How many servers there are.
+    /// Returns the number of servers.
     pub fn len(&self) -> usize
         ensures count { result ≡ length self.now.servers }
         // The points that are kept are those of the servers, after any edits.
@@ -93,22 +103,26 @@ impl<H: PointHash> Ring<H> {
         self.lists.servers.len()
     }
 
-    /// Whether the server of an address is there.
+    /// Returns whether the ring has a server at this address.
     pub fn contains(&self, address: Address) -> bool
         ensures { result ≡ is_some (weight_of address self.now.servers) }
     {
         self.weight(address).is_some()
     }
 
-    /// The weight of the server of an address, if it is there.
+    /// Returns the weight of the server at this address, if the ring has one.
     pub fn weight(&self, address: Address) -> Option<Weight>
         ensures { result ≡ weight_of address self.now.servers }
     {
         weight_among(&self.lists.servers, address)
     }
 
-    /// Makes room for a server, unless it is there with at least this weight. `Memory`: a growth was refused;
-    /// the ring stays as it was.
+    /// Reserves room for adding a server, unless the ring has it with at least this weight. What room there is never shrinks, and
+    /// nothing else changes.
+    ///
+    /// # Errors
+    ///
+    /// - `Memory`: out of memory; never where there is room.
     pub fn reserve_for(&mut self, address: Address, weight: Weight) -> Result<(), RingError>
         ensures room { OnOk result (HasRoom self.new (record { address = address; weight = weight })) }
         ensures enough { HasRoom self.old (record { address = address; weight = weight }) → IsOk result }
@@ -123,10 +137,25 @@ impl<H: PointHash> Ring<H> {
         self.lists.reserve(count)
     }
 
-    /// Adds a server and its points, in the place of those that it had with another weight, and answers whether
-    /// anything changed: not where the server is there with this very weight. It wants room to have been made, or
-    /// the server there with at least this weight, and takes no memory. After the last of several, call `settle`.
+    /// Adds a server and its points, or replaces its points by those of the new weight. Returns whether the ring changed: it does unless
+    /// it has the server with this weight. Requires room (`reserve_for`), or the server with at least this weight; allocates nothing.
+    /// A change leaves the ring settled. For several servers `add_late` for each and then one `settle` are faster.
     pub fn add(&mut self, address: Address, weight: Weight) -> bool
+        requires { HasRoom self.old (record { address = address; weight = weight }) }
+        ensures ring { self.new ≡ ring_of self.old.hash (H.hash_of self.old.hash) self.old.replicas (with_server (record { address = address; weight = weight }) self.old.servers) self.new.room }
+        ensures added { result ≡ not (has_weight weight (weight_of address self.old.servers)) }
+        ensures unchanged { result ≡ false → self.new ≡ self.old }
+    {
+        let added = self.add_late(address, weight);
+        if added {
+            self.settle();
+        }
+        added
+    }
+
+    /// Adds a server as `add` does, with the same result and the same requirement, but leaves its points for the next `settle` to
+    /// merge. Until then look-ups return the same and take longer. For several servers, one after another.
+    pub fn add_late(&mut self, address: Address, weight: Weight) -> bool
         requires { HasRoom self.old (record { address = address; weight = weight }) }
         ensures ring { self.new ≡ ring_of self.old.hash (H.hash_of self.old.hash) self.old.replicas (with_server (record { address = address; weight = weight }) self.old.servers) self.new.room }
         ensures added { result ≡ not (has_weight weight (weight_of address self.old.servers)) }
@@ -144,8 +173,8 @@ impl<H: PointHash> Ring<H> {
         true
     }
 
-    /// Sorts and merges the points of the servers that were added, all in one pass, so that look-ups are fast again. What is seen
-    /// of the ring stays, and the room does not shrink. It takes no memory, and no time where nothing was added.
+    /// Sorts the points that `add_late` left and merges them into the others, in one pass, so that look-ups are fast again. Servers and
+    /// points stay the same, and the room does not shrink. Allocates nothing, and does nothing on a settled ring.
     pub fn settle(&mut self)
         ensures same { self.new ≡ record self.old { room = self.new.room } }
         ensures room { self.old.room ≤ self.new.room }
@@ -157,8 +186,8 @@ impl<H: PointHash> Ring<H> {
         );
     }
 
-    /// Removes a server and its points, and answers whether it was there. The room does not shrink, and no memory
-    /// is taken.
+    /// Removes a server and its points. Returns whether the ring had it; if not, servers and points are unchanged. The room does not
+    /// shrink. Allocates nothing. A change leaves the ring settled.
     pub fn remove(&mut self, address: Address) -> bool
         ensures ring { self.new ≡ ring_of self.old.hash (H.hash_of self.old.hash) self.old.replicas (without address self.old.servers) self.new.room }
         ensures removed { result ≡ is_some (weight_of address self.old.servers) }
@@ -168,8 +197,8 @@ impl<H: PointHash> Ring<H> {
         self.lists.take_out(address)
     }
 
-    /// The server of a key: that of the first point at or after the key's hash, the least point after the
-    /// greatest. None in a ring without servers.
+    /// Returns the owner of a key: the server of the first point at or after the key's hash, wrapping around to the least point. None
+    /// if and only if the ring has no servers. Allocates nothing.
     pub fn owner(&self, key: &[u8]) -> Option<Address>
         ensures first { result ≡ owner (H.hash_of self.now.hash) self.now.replicas self.now.servers key.now }
         ensures nearest { IfSome result (IsNearest (H.hash_of self.now.hash) self.now.replicas self.now.servers key.now) }
@@ -183,8 +212,12 @@ impl<H: PointHash> Ring<H> {
         )
     }
 
-    /// The first `count` owners of a key, the owner first, or all servers where there are fewer. `Memory`: the
-    /// list was refused, the one in which many that are named are looked for, or before `settle` that of all points.
+    /// Returns the first `count` owners of a key, the owner first, or all servers where there are fewer: the servers by their distance
+    /// from the key, and at one distance by address.
+    ///
+    /// # Errors
+    ///
+    /// - `Memory`: out of memory; never where `count` is 0 or the ring has no servers.
     pub fn owners(&self, key: &[u8], count: usize) -> Result<Vec<Address>, RingError>
         ensures named { IfOk result (λ named. named.items ≡ take count (owners (H.hash_of self.now.hash) self.now.replicas self.now.servers key.now)) }
         ensures growth { OnErr result ((0 < count) × (0 < length self.now.servers)) }
@@ -206,7 +239,11 @@ impl<H: PointHash> Ring<H> {
         )
     }
 
-    /// A ring of its own that equals this one. `Memory`: a growth was refused.
+    /// Makes a separate ring that equals this one, except for its room.
+    ///
+    /// # Errors
+    ///
+    /// - `Memory`: out of memory; never without servers.
     pub fn copy(&self) -> Result<Self, RingError>
         ensures same { IfOk result (λ ring. ring ≡ record self.now { room = ring.room }) }
         ensures growth { OnErr result (0 < length self.now.servers) }

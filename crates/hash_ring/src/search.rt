@@ -57,7 +57,7 @@ fn steps_up(points: &[Point], hash: u64) -> Option<usize>
     points.iter().position(|point| point.hash >= hash)
 }
 
-/// The server of the nearest point above a hash, going round: the first around of those that ascend, or a late one.
+/// The server of the nearest point above a hash, wrapping around at 2^64: of those that ascend, or a late one.
 pub(crate) fn next_server(
     points: &[Point],
     starts: &Starts,
@@ -78,7 +78,7 @@ pub(crate) fn next_server(
     Some(nearest.server)
 }
 
-/// The point at a place, going round.
+/// The point at a place, wrapping around at the end of the list.
 fn first_around(points: &[Point], start: usize) -> Option<Point>
     requires { start ≤ length points.now }
     ensures { result ≡ slice_get (drop start points.now ++ take start points.now) 0 }
@@ -86,7 +86,7 @@ fn first_around(points: &[Point], start: usize) -> Option<Point>
     points.get(start).or(points.first()).copied()
 }
 
-/// A point by how far it stands above a hash, going round.
+/// A point by how far it lies above a hash, wrapping around at 2^64.
 fn turned(point: &Point, hash: u64) -> Point
     ensures { result ≡ turn hash point.now }
 {
@@ -118,7 +118,7 @@ pub(crate) fn met_with_late(
     met(alloc, &all, &Starts::new(alloc), hash, count)
 }
 
-/// The servers of points that ascend, from a hash on, going round, each where it comes first, up to a count.
+/// The servers of points that ascend, from a hash on, wrapping around, each where it comes first, up to a count.
 fn met(
     alloc: Global,
     points: &[Point],
@@ -137,7 +137,7 @@ fn met(
     Ok(named)
 }
 
-/// Names the points' servers from a place on, going round, each where it comes first, up to a count. Many are looked for in
+/// Names the points' servers from a place on, wrapping around, each where it comes first, up to a count. Many are looked for in
 /// a sorted list of their own, so that none of them is compared with all that are named.
 fn name_around(
     points: &[Point],

@@ -1,4 +1,4 @@
-//! Servers with their weights, ascending by address.
+//! Servers with their weights, in ascending order of address.
 ghost use Rattle.std.specs.Prelude.{◌≡◌, ℕ, ◌<◌, ◌≤◌, ◌↔◌, IsTrue, OnOk, is_some, vec_capacity};
 ghost use Rattle.hash_ring.specs.Servers.{AreServers, shares, weight_of, with_server, without};
 
@@ -6,10 +6,12 @@ use crate::sorted::place;
 use change_core::{Address, Weight};
 use std::alloc::AllocError;
 
-/// A server and its weight.
+/// A server of a ring.
 #[derive(Clone, Copy, Debug, PartialEq, Eq, PartialOrd, Ord)]
 pub struct Server {
+    /// The address that names it.
     pub address: Address,
+    /// The weight: it has as many points as `replicas` times this.
     pub weight: Weight,
 }
 
@@ -24,7 +26,7 @@ pub(crate) fn weight_among(servers: &[Server], address: Address) -> Option<Weigh
     }
 }
 
-/// Whether the server of an address has at least a weight.
+/// Whether the server of an address has at least this weight.
 pub(crate) fn weighs(servers: &[Server], address: Address, weight: Weight) -> bool
     requires { AreServers servers.now }
     ensures { IsTrue result ↔ (weight ≤ shares address servers.now) }

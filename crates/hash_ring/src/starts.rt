@@ -56,9 +56,9 @@ impl Starts {
         self.counts.extend_from_slice(&others.counts)
     }
 
-    /// Makes the list long enough for a number of points. Where that is refused it stays as it was.
+    /// Makes the list long enough for a number of points. Where an allocation fails it is unchanged.
     pub(crate) fn widen(&mut self, points: &[Point], capacity: usize) -> Result<(), AllocError>
-        // A growth that was refused is not passed over.
+        // A failed allocation is not ignored.
         ensures { OnOk result (capacity / 16 ≤ vec_len self.new.counts) }
     {
         let parts = capacity / SPREAD;

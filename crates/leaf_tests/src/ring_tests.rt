@@ -431,9 +431,8 @@ fn edit_both(
     } else {
         reserve(rt, late, server, weight);
         reserve(rt, settled, server, weight);
-        assert!(rt; late.add(server, weight) == settled.add(server, weight));
+        assert!(rt; late.add_late(server, weight) == settled.add(server, weight));
     }
-    settled.settle();
 }
 
 /// One ring is settled at the end alone, and the other after each edit: servers are added, leave, and come back with other

@@ -8,6 +8,7 @@ use hash_ring::PointHash;
 use node_core::NodeState;
 use std::alloc::Global;
 use std::fmt;
+use std::sync::Mutex;
 use turn_lock::{NewError, Pass, TurnLock};
 
 /// The right to make calls of a locked node. It is with one thread at a time.
@@ -24,6 +25,8 @@ pub type NodePass<H> = Pass<Held<H>>;
 #[derive(Drop)]
 pub struct LockedNode<H: PointHash> {
     pub(crate) lock: TurnLock<Held<H>>,
+    /// Held by the pass that draws a ticket until it has left, so that no ticket waits for another at the lock.
+    pub(crate) gate: Mutex<()>,
 }
 
 impl<H: PointHash> LockedNode<H> {
@@ -48,7 +51,10 @@ impl<H: PointHash> LockedNode<H> {
     {
         let name = node.own().address.number();
         match TurnLock::new(alloc, name, Held { node }, passes, turns) {
-            Ok((lock, passes)) => Ok((LockedNode { lock }, passes)),
+            Ok((lock, passes)) => {
+                let gate = Mutex::new(());
+                Ok((LockedNode { lock, gate }, passes))
+            }
             Err(NewError::BadCount(held)) => Err(NewError::BadCount(held.node)),
             Err(NewError::Memory) => Err(NewError::Memory),
         }
@@ -68,7 +74,7 @@ impl<H: PointHash> LockedNode<H> {
         ensures back { IfErr result (λ r. (r.node ≡ self) × (r.passes.items ≡ passes.items)) }
         ensures cause { IfErr result (λ r. RefusesToClose self passes.items r.cause) }
     {
-        let LockedNode { lock } = self;
+        let LockedNode { lock, gate } = self;
         match lock.close(passes) {
             Ok(held) => {
                 let node = held.node;
@@ -77,7 +83,10 @@ impl<H: PointHash> LockedNode<H> {
                 Ok(node)
             }
             Err(refused) => Err(CloseRefused {
-                node: LockedNode { lock: refused.lock },
+                node: LockedNode {
+                    lock: refused.lock,
+                    gate,
+                },
                 passes: refused.passes,
                 cause: refused.cause,
             }),
@@ -89,6 +98,6 @@ impl<H: PointHash> fmt::Debug for LockedNode<H> {
     fn fmt<F: fmt::Write>(&self, f: &mut fmt::Formatter<F>) -> fmt::Result {
         f.debug_struct("LockedNode")
             .field("lock", &self.lock)
-            .finish()
+            .finish_non_exhaustive()
     }
 }

@@ -56,7 +56,8 @@ impl<H: PointHash, A: Asked<H>> TurnEnd<H, A> {
 impl<H: PointHash> LockedNode<H> {
     ghost use Rattle.locked_node.specs.Passes.{Fits, IsBarred, IsCalled};
 
-    /// Waits for a turn, makes the call of the node, and gives the turn back.
+    /// Waits for a turn, makes the call of the node, and gives the turn back. It waits at the gate, where the kernel wakes it,
+    /// and any waiter may be next; a ticket would name the one thread that goes on, whether a processor runs it or not.
     pub(crate) fn turn<R: Wait, A: Asked<H>>(
         &self,
         rt: &R,
@@ -68,6 +69,7 @@ impl<H: PointHash> LockedNode<H> {
         ensures refused { IfErr result (IsBarred self.now pass.old pass.new) }
         ensures fits { Fits self.now pass.new }
     {
+        let _gate = self.gate.lock(rt);
         let mut held = self.lock.enter(rt, pass)?;
         let reply = asked.ask(&mut held.node);
         TurnEnd::<H, A>::leave(&self.lock, pass, held, asked, &reply);

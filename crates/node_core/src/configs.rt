@@ -4,7 +4,7 @@ ghost use Rattle.node_core.specs.Configs.{bad_field, field_name, standard};
 
 use change_core::{GREATEST_NUMBER, MOST_MEMBERS, Weight};
 use gossip_core::MOST_FACTOR;
-use hash_ring::MOST_REPLICAS;
+use hash_ring::MAX_REPLICAS;
 use std::fmt;
 
 /// How many threads serve a node of a cluster at most.
@@ -103,7 +103,7 @@ impl Config {
     pub(crate) fn bad_field(&self) -> Option<ConfigField>
         ensures { result ≡ bad_field self.now }
     {
-        if self.replicas < 1 || self.replicas > MOST_REPLICAS {
+        if self.replicas < 1 || self.replicas > MAX_REPLICAS {
             return Some(ConfigField::Replicas);
         }
         if self.max_members < 1 || self.max_members > MOST_MEMBERS {

@@ -47,7 +47,6 @@ impl<H: PointHash> SharedRing<H> {
         let mut ring = Ring::new(alloc, hash, replicas)?;
         ring.reserve_for(address, weight)?;
         ring.add(address, weight);
-        ring.settle();
         Ok(SharedRing {
             ring,
             shown: None,
@@ -77,7 +76,7 @@ impl<H: PointHash> SharedRing<H> {
         requires { HasRoom self.old (record { address = address; weight = weight }) }
         ensures ring { self.new ≡ ring_of self.old.hash (H.hash_of self.old.hash) self.old.replicas (with_server (record { address = address; weight = weight }) self.old.servers) self.new.room }
     {
-        if self.ring.add(address, weight) {
+        if self.ring.add_late(address, weight) {
             self.shown = None;
         }
     }

@@ -1,4 +1,4 @@
--- A box of what a handle holds is taken apart, and put together again: std's two calls for that as steps of a proof, at any type, with the heap for the
+-- A box of what a slot holds is taken apart, and put together again: std's two calls for that as steps of a proof, at any type, with the heap for the
 -- allocator. A call is passed a type without its names, which own the same, and `'static` for the lifetime that each type outlives.
 use base.Fml.{Fml, ftrue, fsep, flft}
 use base.Fraction.{full_share}

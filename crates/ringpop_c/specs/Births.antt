@@ -12,7 +12,7 @@ use Rattle.ringpop_c.specs.declared.codes.Code.{Code}
 use Rattle.ringpop_c.specs.declared.codes.Code.TheVariants as code
 use Rattle.ringpop_c.specs.declared.configs.RingpopConfig.{RingpopConfig}
 use Rattle.ringpop_c.specs.Codes.{code_number, code_of_field}
-use Rattle.ringpop_c.specs.Owned.{Held}
+use Rattle.ringpop_c.specs.Owned.{HeldNode}
 use Rattle.ringpop_c.specs.Steps.{sha_hash}
 
 -- the configuration that a caller's one stands for
@@ -29,15 +29,15 @@ config_of c = record {
 }
 
 -- what a handle holds of a node that is alone in its cluster
-abbrev pub alone : Config → ℕ → ℕ → ℕ → ℕ → Held
+abbrev pub alone : Config → ℕ → ℕ → ℕ → ℕ → HeldNode
 alone config own incarnation seed moment =
-    let hash : Sha256Hash = record {} in record { node = seen_of sha_hash (newborn hash config own incarnation moment (seeded seed)) }
+    let hash : Sha256Hash = record {} in record { inner = seen_of sha_hash (newborn hash config own incarnation moment (seeded seed)) }
 
 -- the same by a caller's configuration
-abbrev pub born : RingpopConfig → ℕ → ℕ → ℕ → ℕ → Held
+abbrev pub born : RingpopConfig → ℕ → ℕ → ℕ → ℕ → HeldNode
 born config own incarnation seed moment = alone (config_of config) own incarnation seed moment
 
--- why no node is made of a configuration: its first field that is out of its range, or no memory where there is none
+-- why no node is made of a configuration: its first field that is out of its range, or out of memory where there is none
 abbrev pub IsConfigFault : Config → Code → Type 0
 IsConfigFault config fault =
     ((field : ConfigField) × (bad_field config ≡ Some field) × (fault ≡ code_of_field field))
@@ -59,8 +59,8 @@ pub record CanBegin (config : RingpopConfig) (port incarnation moment : ℕ) : T
   pub weight_is : IsWeight config.weight
   pub config_is : IsConfig (config_of config)
 
--- a full handle answers that it is full, and stays as it is; an empty one holds the node that is born, each argument in its range, or stays empty and says why
-abbrev pub Begins : RingpopConfig → ℕ → ℕ → ℕ → ℕ → ℕ → Option Held → ℕ → Option Held → Type 0
+-- a full handle answers that it is full, and is unchanged; an empty one holds the newborn node, each argument in its range, or stays empty and says why
+abbrev pub Begins : RingpopConfig → ℕ → ℕ → ℕ → ℕ → ℕ → Option HeldNode → ℕ → Option HeldNode → Type 0
 Begins config own port incarnation seed moment (Some held) number new = (number ≡ code_number code.HasNode) × (new ≡ Some held)
 Begins config own port incarnation seed moment None number (Some held) =
     (number ≡ code_number code.Done) × (held ≡ born config own incarnation seed moment) × CanBegin config port incarnation moment

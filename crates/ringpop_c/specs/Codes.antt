@@ -1,5 +1,5 @@
--- The numbers of what an export answers, and what a node's refusal answers.
-use Rattle.std.specs.Prelude.{ℕ}
+-- The codes that exports answer, and their numbers.
+use Rattle.std.specs.Prelude.{ℕ, Result, Ok, Err}
 use Rattle.node_core.specs.declared.configs.ConfigField.{ConfigField}
 use Rattle.node_core.specs.declared.configs.ConfigField.TheVariants as field
 use Rattle.node_core.specs.declared.errors.NodeError.{NodeError}
@@ -73,6 +73,11 @@ code_of_error error.Spent = code.Spent
 code_of_error error.StaleProbe = code.StaleProbe
 code_of_error error.NotAsked = code.NotAsked
 code_of_error error.Memory = code.Memory
+
+-- the code of a call of the node: done, or that of its refusal
+abbrev pub code_of_result : {X : Type 0} → Result X NodeError → Code
+code_of_result (Ok x) = code.Done
+code_of_result (Err error) = code_of_error error
 
 -- the code of a line's fault
 abbrev pub code_of_wire : WireError → Code

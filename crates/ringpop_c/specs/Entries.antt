@@ -28,6 +28,6 @@ abbrev pub TellsSuspicion : Option Change → EntryPlace → Code → Type 0
 TellsSuspicion None place answer = (answer ≡ code.Suspected) × (place.after ≡ place.before)
 TellsSuspicion (Some change) place answer = (answer ≡ code.Suspected) × (place.after ≡ entry_told (entry_of change))
 
--- a change is told: its address, and the entry beside it
+-- a change is told: its address and its entry
 abbrev pub TellsChange : Change → ℕ → ℕ → RingpopEntry → Code → Type 0
 TellsChange change ip port told answer = (answer ≡ code.Done) × (ip ≡ ip_of change.address) × (port ≡ port_of change.address) × (told ≡ entry_told (entry_of change))

@@ -2,9 +2,9 @@ pub mod Births
 pub mod Codes
 pub mod Entries
 pub mod Exports
+pub mod Handles
 pub mod Lines
 pub mod Owned
-pub mod OwnedViews
 pub mod Owners
 pub mod Probing
 pub mod Reading

@@ -26,7 +26,7 @@ pub record Buffer : Type 0 where
   pub after : List ℕ
   pub count : ℕ
 
--- the text fits, it is written at the front of the buffer, and its length told
+-- the text fits, it is a prefix of the buffer after, and its length is told
 pub record Fills (text : List ℕ) (buffer : Buffer) : Type 0 where
   pub fits : length text ≤ length buffer.before
   pub count_is : buffer.count ≡ length text
@@ -49,17 +49,17 @@ pub record Sends (message : Message) (buffer : Buffer) : Type 0 where
   pub within : length (line_of message) ≤ max_line
   pub one_line : All (λ x. x ≢ 10) (line_of message)
 
--- a line is written for a message, or there was no memory for it
+-- the line of a message is written, or the code is that of out of memory
 abbrev pub WritesLine : Message → Buffer → Code → Type 0
 WritesLine message buffer answer = ((answer ≡ code.Done) × Sends message buffer) ⊎ (answer ≡ code.Memory)
 
--- where the buffer has room the node makes a message and goes on, and its line is written, or there was no memory: then it stays, or goes on without; in too short a buffer nothing is written, and it stays
+-- where the buffer has room the node makes a message and goes on, and its line is written; out of memory it is unchanged, or goes on with no line written; in too short a buffer nothing is written, and it is unchanged
 abbrev pub SaysBy : (Node Sha256Hash → Message) → (Node Sha256Hash → Node Sha256Hash) → Buffer → Node Sha256Hash → Code → Node Sha256Hash → Type 0
 SaysBy message after buffer old answer new =
     (HasRoom buffer × (new ≡ after old) × WritesLine (message old) buffer answer)
     ⊎ ((HasRoom buffer × (new ≡ old) × (answer ≡ code.Memory)) ⊎ ((new ≡ old) × (answer ≡ code.ShortBuffer) × IsShort buffer))
 
--- what a message came to: its answer's line is written, or there was no memory for it
+-- what a message came to: its answer's line is written, or it ran out of memory for that
 abbrev pub TellsReceived : Received → Buffer → Code → Type 0
 TellsReceived (received.Done taken) buffer answer = answer ≡ code.Nothing
 TellsReceived (received.Answer taken message) buffer answer = ((answer ≡ code.Done) × Sends message buffer) ⊎ (answer ≡ code.Unanswered)
@@ -71,7 +71,7 @@ TellsReceived received.NotGossip buffer answer = answer ≡ code.NotGossip
 abbrev pub ReceivesBy : Message → ℕ → Buffer → Node Sha256Hash → Code → Node Sha256Hash → Type 0
 ReceivesBy message moment buffer old answer new = (outcome : Received) × ReceiveStep old message moment outcome new × TellsReceived outcome buffer answer
 
--- the code says what is wrong with a line, or that there was no memory to read it
+-- the code says what is wrong with a line, or that reading it ran out of memory
 abbrev pub IsUnread : List ℕ → Code → Type 0
 IsUnread line answer = (fault : WireError) × (answer ≡ code_of_wire fault) × (fault ≢ wire.Memory → Faults MessageFault line fault)
 
@@ -81,7 +81,7 @@ HearsBy line moment buffer old answer new =
     (HasRoom buffer × (message : Message) × IsLine (λ v. MessageForm v message) line × ReceivesBy message moment buffer old answer new)
     ⊎ ((HasRoom buffer × (new ≡ old) × IsUnread line answer) ⊎ ((new ≡ old) × (answer ≡ code.ShortBuffer) × IsShort buffer))
 
--- bytes are written, or the buffer is shorter and its length is told, or there was no memory for it
+-- bytes are written, or the buffer is shorter and their length is told, or the code is that of out of memory
 abbrev pub TellsText : List ℕ → Buffer → Code → Type 0
 TellsText text buffer answer =
     ((answer ≡ code.Done) × Fills text buffer)

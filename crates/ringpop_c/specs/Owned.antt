@@ -1,23 +1,38 @@
--- What a handle owns.
+-- What a slot owns, and what it holds.
 use base.Fml.{Fml, ftrue}
 use base.Stored.{Coded}
-use Rattle.std.specs.Prelude.{Option, Some, None}
+use denote.RattleType.{RattleType}
 use denote.RawPtr.{Ptr}
+use Rattle.std.specs.Prelude.{Option, Some, None}
 use Rattle.std.specs.Box.Ownership.{box_owns}
 use Rattle.std.specs.Coded.{coded_option}
 use Rattle.std.specs.Global.{Global}
 use Rattle.std_heap.specs.contracts.GlobalAllocator.TheImpl.{ghosts}
-use Rattle.ringpop_c.specs.contracts.handles.Served.{the_row}
+use Rattle.ringpop_c.specs.contracts.slots.BoxedNode.{the_row as node}
+use Rattle.ringpop_c.specs.contracts.slots.BoxedView.{the_row as view}
 
--- what a handle holds of a node: what contracts see of it
-abbrev pub Held : Type 0
-Held = the_row.Denot
+-- nothing where the slot is empty, else the box at the pointer
+abbrev pub slot_owns : (T : RattleType) → Global → Ptr → Option T.Denot → Fml
+slot_owns T alloc p None = ftrue
+slot_owns T alloc p (Some x) = box_owns (ghosts.dealloc_token alloc) T p x
+
+-- what lies in the box of a node, of a view
+abbrev pub node_row : RattleType
+node_row = node
+
+abbrev pub view_row : RattleType
+view_row = view
+
+-- what contracts see of it
+abbrev pub HeldNode : Type 0
+HeldNode = node_row.Denot
+
+abbrev pub HeldView : Type 0
+HeldView = view_row.Denot
 
 -- how a ghost field stores it, or that there is none
-abbrev pub held_coded : Coded (Option Held)
-held_coded = coded_option the_row.coded
+abbrev pub node_coded : Coded (Option HeldNode)
+node_coded = coded_option node_row.coded
 
--- nothing where the handle is empty, else the box at the pointer
-abbrev pub handle_owns : Global → Ptr → Option Held → Fml
-handle_owns heap p None = ftrue
-handle_owns heap p (Some x) = box_owns (ghosts.dealloc_token heap) the_row p x
+abbrev pub view_coded : Coded (Option HeldView)
+view_coded = coded_option view_row.coded

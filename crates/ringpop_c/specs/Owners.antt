@@ -23,7 +23,7 @@ pub record Place : Type 0 where
   pub after : List RingpopAddress
   pub count : ℕ
 
--- the addresses fit, they are written at the front of the place, and their count told
+-- the addresses fit, they are a prefix of the place after, and their count is told
 pub record Lists (addresses : List ℕ) (place : Place) : Type 0 where
   pub fits : length addresses ≤ length place.before
   pub count_is : place.count ≡ length addresses

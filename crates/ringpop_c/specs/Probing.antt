@@ -16,11 +16,11 @@ use Rattle.node_core.specs.Node.{Node}
 use Rattle.node_core.specs.Probes.{AckedStep, HelperStep, LostDraw, LostStep, ProbeDraw, ProbeStep}
 use Rattle.ringpop_c.specs.declared.codes.Code.{Code}
 use Rattle.ringpop_c.specs.declared.codes.Code.TheVariants as code
-use Rattle.ringpop_c.specs.Codes.{code_of_error}
+use Rattle.ringpop_c.specs.Codes.{code_of_error, code_of_result}
 use Rattle.ringpop_c.specs.Entries.{EntryPlace, TellsSuspicion}
-use Rattle.ringpop_c.specs.Owned.{Held}
+use Rattle.ringpop_c.specs.Owned.{HeldNode}
 
--- a probe that began, and whom it is to ping; that there is nobody to ping; or why none began
+-- a probe that began, with its number and its target; that there is no member to ping; or why none began
 abbrev pub TellsProbe : Result (Option Probe) NodeError → ℕ → ℕ → ℕ → Code → Type 0
 TellsProbe (Ok None) number ip port answer = answer ≡ code.Nothing
 TellsProbe (Ok (Some pick)) number ip port answer = (answer ≡ code.Done) × (number ≡ pick.number) × (ip ≡ ip_of pick.target) × (port ≡ port_of pick.target)
@@ -31,14 +31,9 @@ abbrev pub ProbesBy : ℕ → ℕ → ℕ → Node Sha256Hash → Code → Node 
 ProbesBy number ip port old answer new =
     (begun : Result (Option Probe) NodeError) × TellsProbe begun number ip port answer × ProbeStep old begun new × ProbeDraw old begun new
 
--- what an ack, or its refusal, answers
-abbrev pub code_of_ack : Result (Unit {0}) NodeError → Code
-code_of_ack (Ok done) = code.Done
-code_of_ack (Err error) = code_of_error error
-
 -- the probe ends, its target reached, or it is refused with the code of why
 abbrev pub AcksBy : ℕ → Node Sha256Hash → Code → Node Sha256Hash → Type 0
-AcksBy number old answer new = (acked : Result (Unit {0}) NodeError) × (answer ≡ code_of_ack acked) × AckedStep old number acked new
+AcksBy number old answer new = (acked : Result (Unit {0}) NodeError) × (answer ≡ code_of_result acked) × AckedStep old number acked new
 
 -- what became of a probe that was lost: that helpers are to be asked, or that the target is suspect; or why it is none
 abbrev pub TellsLoss : Result NodeLost NodeError → EntryPlace → Code → Type 0
@@ -46,7 +41,7 @@ TellsLoss (Ok (lost.Ask helpers)) place answer = answer ≡ code.Done
 TellsLoss (Ok (lost.Suspect change)) place answer = TellsSuspicion change place answer
 TellsLoss (Err error) place answer = answer ≡ code_of_error error
 
--- helpers are asked that the node's generator draws, or nobody can be and the target is suspect, or it is refused with the code of why
+-- helpers are asked that the node's generator draws, or there are none and the target is suspect, or it is refused with the code of why
 abbrev pub LosesBy : ℕ → ℕ → EntryPlace → Node Sha256Hash → Code → Node Sha256Hash → Type 0
 LosesBy number moment place old answer new =
     (loss : Result NodeLost NodeError) × TellsLoss loss place answer × LostStep old number moment loss new × LostDraw old number loss new
@@ -69,7 +64,7 @@ abbrev pub TellsHelper : Option ℕ → ℕ → ℕ → Code → Type 0
 TellsHelper None ip port answer = answer ≡ code.Nothing
 TellsHelper (Some helper) ip port answer = (answer ≡ code.Done) × (ip ≡ ip_of helper) × (port ≡ port_of helper)
 
--- the running probe's number, and the helper of least address that is waited for; that no probe runs, or nobody is waited for
+-- the running probe's number, and the helper of least address that is waited for; that no probe runs, or none is waited for
 abbrev pub TellsWaiting : Option Running → ℕ → ℕ → ℕ → Code → Type 0
 TellsWaiting None number ip port answer = answer ≡ code.Nothing
 TellsWaiting (Some running) number ip port answer = (number ≡ running.number) × TellsHelper running.waiting ip port answer
@@ -85,6 +80,6 @@ abbrev pub said_of : ℕ → Option Said
 said_of n = cond (n == 0) (Some said.Reached) (cond (n == 1) (Some said.NotReached) (cond (n == 2) (Some said.Failed) None))
 
 -- the probe that runs in the node of a handle, if one does
-abbrev pub running_in : Option Held → Option Running
+abbrev pub running_in : Option HeldNode → Option Running
 running_in None = None
-running_in (Some held) = running_of held.node.node.probing
+running_in (Some held) = running_of held.inner.node.probing

@@ -1,4 +1,4 @@
--- What a line says of itself: its kind, whom it is from, and whom it asks to ping or says was reached.
+-- What a line says of itself: its kind, its source, and the target that it asks to ping or says was reached.
 use Rattle.std.specs.Prelude.{◌≡◌, ◌⊎◌, ℕ, Bool, List}
 use Rattle.change_core.specs.Address.{ip_of, port_of}
 use Rattle.message_core.specs.declared.messages.Content.{Content}
@@ -29,35 +29,19 @@ kind_number (Reply body) = 7
 kind_number NotOwner = 8
 kind_number (Refused reason) = 9
 
--- of which kind a message is, and whom it is from, is told
+-- the kind of a message and its source are told
 abbrev pub TellsSource : Message → ℕ → ℕ → ℕ → Code → Type 0
 TellsSource message kind ip port answer = (answer ≡ code.Done) × (kind ≡ kind_number message.content) × Told message.source ip port
 
--- the target that a message asks to ping is told; that it asks nobody to
+-- the target that a message asks to ping is told; that it asks for no ping
 abbrev pub TellsTarget : Content → ℕ → ℕ → Code → Type 0
-TellsTarget (Join news) ip port answer = answer ≡ code.Nothing
-TellsTarget (Joined news) ip port answer = answer ≡ code.Nothing
-TellsTarget (Ping news) ip port answer = answer ≡ code.Nothing
-TellsTarget (Ack news) ip port answer = answer ≡ code.Nothing
 TellsTarget (PingReq news target) ip port answer = (answer ≡ code.Done) × Told target ip port
-TellsTarget (PingReqAck news target reached) ip port answer = answer ≡ code.Nothing
-TellsTarget (Forward keys body) ip port answer = answer ≡ code.Nothing
-TellsTarget (Reply body) ip port answer = answer ≡ code.Nothing
-TellsTarget NotOwner ip port answer = answer ≡ code.Nothing
-TellsTarget (Refused reason) ip port answer = answer ≡ code.Nothing
+TellsTarget other ip port answer = answer ≡ code.Nothing
 
 -- of which target a message says whether it was reached, and what it says; that it says nothing of that
 abbrev pub TellsReached : Content → ℕ → ℕ → Bool → Code → Type 0
-TellsReached (Join news) ip port told answer = answer ≡ code.Nothing
-TellsReached (Joined news) ip port told answer = answer ≡ code.Nothing
-TellsReached (Ping news) ip port told answer = answer ≡ code.Nothing
-TellsReached (Ack news) ip port told answer = answer ≡ code.Nothing
-TellsReached (PingReq news target) ip port told answer = answer ≡ code.Nothing
 TellsReached (PingReqAck news target reached) ip port told answer = (answer ≡ code.Done) × Told target ip port × (told ≡ reached)
-TellsReached (Forward keys body) ip port told answer = answer ≡ code.Nothing
-TellsReached (Reply body) ip port told answer = answer ≡ code.Nothing
-TellsReached NotOwner ip port told answer = answer ≡ code.Nothing
-TellsReached (Refused reason) ip port told answer = answer ≡ code.Nothing
+TellsReached other ip port told answer = answer ≡ code.Nothing
 
 -- a line is that of a message of which this is told, or it is none and the code says why
 abbrev pub IsRead : (Message → Code → Type 0) → List ℕ → Code → Type 0

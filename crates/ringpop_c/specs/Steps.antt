@@ -13,32 +13,27 @@ use Rattle.node_core.specs.Step.{owners_by}
 use Rattle.ringpop_c.specs.declared.codes.Code.{Code}
 use Rattle.ringpop_c.specs.declared.codes.Code.TheVariants as code
 use Rattle.ringpop_c.specs.declared.entries.RingpopEntry.{RingpopEntry}
-use Rattle.ringpop_c.specs.Codes.{code_number, code_of_error}
+use Rattle.ringpop_c.specs.Codes.{code_number, code_of_error, code_of_result}
 use Rattle.ringpop_c.specs.Entries.{TellsChange}
-use Rattle.ringpop_c.specs.Owned.{Held}
+use Rattle.ringpop_c.specs.Owned.{HeldNode}
 
 -- the hash of the ring: the first eight bytes of SHA-256, the high byte first
 abbrev pub sha_hash : Sha256Hash → List ℕ → ℕ
 sha_hash hash bytes = from_be_bytes w64 (take 8 (sha256 bytes))
 
 -- an empty handle answers that it is empty, and stays so; a full one answers a code and goes on to a node that the step allows
-abbrev pub Does : (Node Sha256Hash → Code → Node Sha256Hash → Type 0) → Option Held → ℕ → Option Held → Type 0
+abbrev pub Does : (Node Sha256Hash → Code → Node Sha256Hash → Type 0) → Option HeldNode → ℕ → Option HeldNode → Type 0
 Does step None number new = (number ≡ code_number code.NoNode) × (new ≡ None)
 Does step (Some held) number None = ⊥
-Does step (Some held) number (Some after) = (answer : Code) × (number ≡ code_number answer) × step held.node.node answer after.node.node
-
--- what a change that was made, or its refusal, answers
-abbrev pub code_of_change : Result Change NodeError → Code
-code_of_change (Ok change) = code.Done
-code_of_change (Err error) = code_of_error error
+Does step (Some held) number (Some after) = (answer : Code) × (number ≡ code_number answer) × step held.inner.node answer after.inner.node
 
 -- the node leaves, or is refused with the code of why
 abbrev pub LeavesBy : Node Sha256Hash → Code → Node Sha256Hash → Type 0
-LeavesBy old answer new = (left : Result Change NodeError) × (answer ≡ code_of_change left) × LeaveStep old left new
+LeavesBy old answer new = (left : Result Change NodeError) × (answer ≡ code_of_result left) × LeaveStep old left new
 
 -- the node is back, or is refused with the code of why
 abbrev pub RejoinsBy : Node Sha256Hash → Code → Node Sha256Hash → Type 0
-RejoinsBy old answer new = (back : Result Change NodeError) × (answer ≡ code_of_change back) × RejoinStep old back new
+RejoinsBy old answer new = (back : Result Change NodeError) × (answer ≡ code_of_result back) × RejoinStep old back new
 
 -- an entry that expired is told, its address and what it became; that none was due; or why none did
 abbrev pub TellsExpiry : Result (Option Change) NodeError → ℕ → ℕ → RingpopEntry → Code → Type 0
@@ -65,6 +60,6 @@ abbrev pub TellsCount : ℕ → ℕ → Code → Type 0
 TellsCount count told answer = (answer ≡ code.Done) × (told ≡ count)
 
 -- an empty handle answers that it is empty; what a look at a full one answers
-abbrev pub Looks : (Node Sha256Hash → Code → Type 0) → Option Held → ℕ → Type 0
+abbrev pub Looks : (Node Sha256Hash → Code → Type 0) → Option HeldNode → ℕ → Type 0
 Looks look None number = number ≡ code_number code.NoNode
-Looks look (Some held) number = (answer : Code) × (number ≡ code_number answer) × look held.node.node answer
+Looks look (Some held) number = (answer : Code) × (number ≡ code_number answer) × look held.inner.node answer

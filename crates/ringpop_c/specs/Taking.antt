@@ -23,7 +23,7 @@ code_of_batch (Err stopped) = code_of_stop stopped.cause
 abbrev pub TakesBy : List Sourced → ℕ → Node Sha256Hash → Code → Node Sha256Hash → Type 0
 TakesBy given moment old answer new = (taken : Result Taken Stopped) × (answer ≡ code_of_batch taken) × TakeStep old given moment taken new
 
--- the code says what is wrong with the line of a change, or that there was no memory to read it
+-- the code says what is wrong with the line of a change, or that reading it ran out of memory
 abbrev pub IsUnreadChange : List ℕ → Code → Type 0
 IsUnreadChange line answer = (fault : WireError) × (answer ≡ code_of_wire fault) × (fault ≢ wire.Memory → Faults ChangeFault line fault)
 

@@ -7,22 +7,21 @@ use Rattle.node_core.specs.Viewing.{Viewed, view_of}
 use Rattle.ringpop_c.specs.declared.codes.Code.{Code}
 use Rattle.ringpop_c.specs.declared.codes.Code.TheVariants as code
 use Rattle.ringpop_c.specs.Codes.{code_number}
-use Rattle.ringpop_c.specs.Owned.{Held}
-use Rattle.ringpop_c.specs.OwnedViews.{HeldView}
+use Rattle.ringpop_c.specs.Owned.{HeldNode, HeldView}
 use Rattle.ringpop_c.specs.Owners.{OwnersBy, Place, ViewOwnersBy}
 use Rattle.ringpop_c.specs.Steps.{owner_by, sha_hash}
 
--- a full handle answers that it is full, and stays as it is; an empty one answers that the node's is empty, or holds the view of the node, or there was no memory for it
-abbrev pub Views : Option Held → Option HeldView → ℕ → Option HeldView → Type 0
+-- a full handle answers that it is full, and is unchanged; an empty one answers that the node's is empty, or holds the view of the node, or is out of memory for it
+abbrev pub Views : Option HeldNode → Option HeldView → ℕ → Option HeldView → Type 0
 Views _ (Some held) number new = (number ≡ code_number code.HasNode) × (new ≡ Some held)
 Views None None number new = (number ≡ code_number code.NoNode) × (new ≡ None)
 Views (Some held) None number None = number ≡ code_number code.Memory
-Views (Some held) None number (Some seen) = (number ≡ code_number code.Done) × (seen.view ≡ view_of held.node.node)
+Views (Some held) None number (Some seen) = (number ≡ code_number code.Done) × (seen.inner ≡ view_of held.inner.node)
 
 -- an empty handle answers that it is empty; what a look at a full one answers
 abbrev pub LooksView : (Viewed Sha256Hash → Code → Type 0) → Option HeldView → ℕ → Type 0
 LooksView look None number = number ≡ code_number code.NoNode
-LooksView look (Some held) number = (answer : Code) × (number ≡ code_number answer) × look held.view answer
+LooksView look (Some held) number = (answer : Code) × (number ≡ code_number answer) × look held.inner answer
 
 -- the owner of a key among the servers of a view, by the first eight bytes of SHA-256
 abbrev pub view_owner : Viewed Sha256Hash → List ℕ → Option ℕ

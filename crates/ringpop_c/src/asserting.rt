@@ -2,82 +2,70 @@
 ghost use Rattle.std.specs.Prelude.{◌≡◌, ◌≢◌, ◌≤◌, ◌<◌};
 ghost use Rattle.change_core.specs.Numbers.{greatest_number};
 ghost use Rattle.ringpop_c.specs.Codes.{code_number};
-ghost use Rattle.ringpop_c.specs.Steps.{Does, ExpiresBy, LeavesBy, RejoinsBy};
+ghost use Rattle.ringpop_c.specs.Handles.{node_in};
+ghost use Rattle.ringpop_c.specs.Steps.{Does, ExpiresBy, LeavesBy, RejoinsBy, TellsExpiry};
 
 use crate::codes::Code;
 use crate::entries::{RingpopEntry, tell_change};
-use crate::handles::{RingpopNode, lift, put_back};
-use change_core::Moment;
-use hash_ring::Sha256Hash;
-use node_core::NodeState;
+use crate::handles::{RingpopNode, with_handle};
+use change_core::{Change, Moment};
+use node_core::NodeError;
 use std::alloc::Global;
 
-/// The node leaves.
-fn leave(node: &mut NodeState<Sha256Hash>) -> Code
-    ensures step { LeavesBy node.old.node result node.new.node }
-{
-    match node.leave() {
-        Ok(_) => Code::Done,
-        Err(error) => Code::of_error(error),
-    }
-}
-
-/// The node leaves. `AlreadyLeft`, `Memory`.
+/// The node leaves its cluster: it says so in its messages, and owns no key.
+///
+/// # Errors
+///
+/// - `NoNode`: the handle is empty.
+/// - `AlreadyLeft`: the node has left already.
+/// - `Memory`: out of memory; the node is unchanged.
 #[unsafe(no_mangle)]
 pub extern "C" fn ringpop_node_leave(alloc: Global, node: &mut RingpopNode) -> u32
-    ensures step { Does LeavesBy node.old.at.value result node.new.at.value }
+    ensures step { Does LeavesBy (node_in node.old) result (node_in node.new) }
 {
-    let Some(mut served) = lift(alloc, node) else {
-        return Code::NoNode.number();
-    };
-    let code = leave(&mut served.node);
-    put_back(node, served);
-    code.number()
+    with_handle!(alloc, node, |n| Code::of_result(n.leave()))
 }
 
-/// The node is back.
-fn rejoin(node: &mut NodeState<Sha256Hash>) -> Code
-    ensures step { RejoinsBy node.old.node result node.new.node }
-{
-    match node.rejoin() {
-        Ok(_) => Code::Done,
-        Err(error) => Code::of_error(error),
-    }
-}
-
-/// The node is back at its next incarnation. `NotLeft`, `Exhausted`, `Memory`.
+/// The node comes back, at its next incarnation.
+///
+/// # Errors
+///
+/// - `NoNode`: the handle is empty.
+/// - `NotLeft`: the node has not left.
+/// - `Exhausted`: no incarnation is left; the node stays away.
+/// - `Memory`: out of memory; the node is unchanged.
 #[unsafe(no_mangle)]
 pub extern "C" fn ringpop_node_rejoin(alloc: Global, node: &mut RingpopNode) -> u32
-    ensures step { Does RejoinsBy node.old.at.value result node.new.at.value }
+    ensures step { Does RejoinsBy (node_in node.old) result (node_in node.new) }
 {
-    let Some(mut served) = lift(alloc, node) else {
-        return Code::NoNode.number();
-    };
-    let code = rejoin(&mut served.node);
-    put_back(node, served);
-    code.number()
+    with_handle!(alloc, node, |n| Code::of_result(n.rejoin()))
 }
 
-/// An entry at its deadline.
-fn expire(
-    node: &mut NodeState<Sha256Hash>,
-    moment: Moment,
+/// Tells the entry that expired, if one did, or why none could.
+fn tell_expiry(
+    expired: Result<Option<Change>, NodeError>,
     ip: &mut u32,
     port: &mut u16,
     entry: &mut RingpopEntry,
 ) -> Code
-    ensures step { ExpiresBy moment ip.new port.new entry.new node.old.node result node.new.node }
+    ensures told { TellsExpiry expired ip.new port.new entry.new result }
     ensures untouched { result ≢ Code.Done → (ip.new ≡ ip.old) × (port.new ≡ port.old) × (entry.new ≡ entry.old) }
 {
-    match node.expire(moment) {
+    match expired {
         Ok(Some(change)) => tell_change(&change, ip, port, entry),
         Ok(None) => Code::Nothing,
         Err(error) => Code::of_error(error),
     }
 }
 
-/// The first entry whose deadline has come at this moment, in milliseconds, becomes what it does then. `Done`: its address
-/// and what it became; call again. `Nothing`: none is due. `BadNumber`, `Memory`.
+/// The first entry whose deadline has come at this moment, in milliseconds, becomes what it does then: `Done`, with its address
+/// and what it became; call again. `Nothing`: none is due.
+///
+/// # Errors
+///
+/// - `BadNumber`: the moment is over 2^53 - 1.
+/// - `NoNode`: the handle is empty.
+/// - `Memory`: out of memory; the node is unchanged.
 #[unsafe(no_mangle)]
 pub extern "C" fn ringpop_node_expire(
     alloc: Global,
@@ -88,17 +76,14 @@ pub extern "C" fn ringpop_node_expire(
     entry: &mut RingpopEntry,
 ) -> u32
     ensures number { greatest_number < moment → result ≡ code_number Code.BadNumber }
-    ensures refused { greatest_number < moment → node.new.at.value ≡ node.old.at.value }
-    ensures step { moment ≤ greatest_number → Does (ExpiresBy moment ip.new port.new entry.new) node.old.at.value result node.new.at.value }
+    ensures refused { greatest_number < moment → node_in node.new ≡ node_in node.old }
+    ensures step { moment ≤ greatest_number → Does (ExpiresBy moment ip.new port.new entry.new) (node_in node.old) result (node_in node.new) }
     ensures untouched { result ≢ code_number Code.Done → (ip.new ≡ ip.old) × (port.new ≡ port.old) × (entry.new ≡ entry.old) }
 {
     let Some(moment) = Moment::new(moment) else {
         return Code::BadNumber.number();
     };
-    let Some(mut served) = lift(alloc, node) else {
-        return Code::NoNode.number();
-    };
-    let code = expire(&mut served.node, moment, ip, port, entry);
-    put_back(node, served);
-    code.number()
+    with_handle!(alloc, node, |n| {
+        tell_expiry(n.expire(moment), ip, port, entry)
+    })
 }

@@ -8,7 +8,7 @@ use message_core::Message;
 use std::alloc::Global;
 use wire_json::{MAX_LINE, encode};
 
-/// Puts bytes at the front of a buffer, and how many there are into `count`.
+/// Makes bytes a prefix of a buffer, and puts their number into `count`.
 pub(crate) fn put(out: &mut [u8], count: &mut usize, bytes: &[u8])
     requires { length bytes.now ≤ length out.old }
     ensures { Fills bytes.now (record { before = out.old; after = out.new; count = count.new }) }
@@ -18,7 +18,7 @@ pub(crate) fn put(out: &mut [u8], count: &mut usize, bytes: &[u8])
     out[..length].copy_from_slice(bytes);
 }
 
-/// Writes bytes, where there is room for them, and else tells how many there are. `ShortBuffer`.
+/// Writes bytes if there is room for them; else tells their number alone.
 pub(crate) fn write(out: &mut [u8], count: &mut usize, bytes: &[u8]) -> Code
     ensures told { TellsText bytes.now (record { before = out.old; after = out.new; count = count.new }) result }
     ensures untouched { result ≢ Code.Done → result ≢ Code.ShortBuffer → (out.new ≡ out.old) × (count.new ≡ count.old) }
@@ -31,7 +31,7 @@ pub(crate) fn write(out: &mut [u8], count: &mut usize, bytes: &[u8]) -> Code
     Code::Done
 }
 
-/// Whether a buffer has room for the longest line. Where it has not, `count` tells how long that is.
+/// Whether a buffer is too short for the longest line; if so, tells the length of that.
 pub(crate) fn is_short(out: &[u8], count: &mut usize) -> bool
     ensures short { result ≡ true → IsShort (record { before = out.now; after = out.now; count = count.new }) }
     ensures room { result ≡ false → max_line ≤ length out.now }
@@ -44,7 +44,7 @@ pub(crate) fn is_short(out: &[u8], count: &mut usize) -> bool
     false
 }
 
-/// Writes a message as a line, without a newline. `Memory`.
+/// Writes a message as a line, without a newline.
 pub(crate) fn send(alloc: Global, message: &Message, out: &mut [u8], count: &mut usize) -> Code
     requires room { max_line ≤ length out.old }
     ensures line { WritesLine message.now (record { before = out.old; after = out.new; count = count.new }) result }
@@ -58,3 +58,20 @@ pub(crate) fn send(alloc: Global, message: &Message, out: &mut [u8], count: &mut
         Err(_) => Code::Memory,
     }
 }
+
+/// Writes the message that an expression makes. The expression is evaluated only if the buffer has room for the longest line, so
+/// that no message is made and lost.
+macro_rules! send_made {
+    ($alloc:ident, $made:expr, $out:ident, $count:ident) => {
+        if $crate::buffers::is_short($out, $count) {
+            Code::ShortBuffer
+        } else {
+            match $made {
+                Ok(message) => $crate::buffers::send($alloc, &message, $out, $count),
+                Err(_) => Code::Memory,
+            }
+        }
+    };
+}
+
+pub(crate) use send_made;

@@ -1,133 +1,95 @@
-//! What an export answers.
+//! The codes that exports answer.
 ghost use Rattle.std.specs.Prelude.{◌≡◌};
-ghost use Rattle.ringpop_c.specs.Codes.{code_number, code_of_error, code_of_field, code_of_stop, code_of_wire};
+ghost use Rattle.ringpop_c.specs.Codes.{code_number, code_of_error, code_of_field, code_of_result, code_of_stop, code_of_wire};
 
 use message_core::WireError;
 use node_core::{ConfigField, NodeError, StopCause};
 
-/// What a call came to. C sees its number.
+/// The outcome of a call. C sees its number.
 #[derive(Clone, Copy, Debug, PartialEq, Eq)]
 pub enum Code {
-    /// Done.
-    Done,
+    /// The call is done.
+    Done = 0,
     /// Done, and there is nothing to tell.
-    Nothing,
+    Nothing = 1,
     /// The handle is empty.
-    NoNode,
+    NoNode = 2,
     /// The handle is full.
-    HasNode,
-    /// The buffer is shorter than what may have to be written.
-    ShortBuffer,
+    HasNode = 3,
+    /// The buffer is shorter than what may have to be written; its count is the length that is needed.
+    ShortBuffer = 4,
     /// The port is 0.
-    BadAddress,
+    BadAddress = 5,
     /// An incarnation or a moment is over 2^53 - 1.
-    BadNumber,
+    BadNumber = 6,
     /// The weight is not one of 1 to 8.
-    BadWeight,
+    BadWeight = 7,
     /// `replicas` is out of its range.
-    BadReplicas,
+    BadReplicas = 8,
     /// `max_members` is out of its range.
-    BadMaxMembers,
+    BadMaxMembers = 9,
     /// `suspect_ms` is out of its range.
-    BadSuspectMs,
+    BadSuspectMs = 10,
     /// `faulty_ms` is out of its range.
-    BadFaultyMs,
+    BadFaultyMs = 11,
     /// `helpers` is out of its range.
-    BadHelpers,
+    BadHelpers = 12,
     /// `piggyback` is out of its range.
-    BadPiggyback,
+    BadPiggyback = 13,
     /// `per_message` is out of its range.
-    BadPerMessage,
+    BadPerMessage = 14,
     /// No incarnation is left.
-    Exhausted,
-    /// As many members are held as may be.
-    Full,
+    Exhausted = 15,
+    /// The node holds `max_members` already.
+    Full = 16,
     /// The node has left already.
-    AlreadyLeft,
+    AlreadyLeft = 17,
     /// The node has not left.
-    NotLeft,
+    NotLeft = 18,
     /// A probe is running.
-    Busy,
+    Busy = 19,
     /// No probe number is left.
-    Spent,
+    Spent = 20,
     /// The probe is not the running one.
-    StaleProbe,
+    StaleProbe = 21,
     /// The helper was not asked, or has answered.
-    NotAsked,
-    /// A growth was refused.
-    Memory,
+    NotAsked = 22,
+    /// Out of memory.
+    Memory = 23,
     /// The line has more than 1,048,576 bytes.
-    LineTooLong,
+    LineTooLong = 24,
     /// The line is not one JSON value in UTF-8.
-    BadJson,
-    /// The line is no object.
-    NotObject,
-    /// Its `kind` is the word of no kind.
-    UnknownKind,
-    /// A member that has to be there is absent.
-    MissingField,
-    /// A member is of another form than it has to be.
-    BadField,
+    BadJson = 25,
+    /// The line is not a JSON object.
+    NotObject = 26,
+    /// The `kind` of the message is unknown.
+    UnknownKind = 27,
+    /// A field that has to be there is absent.
+    MissingField = 28,
+    /// A field is of another form than it has to be.
+    BadField = 29,
     /// There are more than 4,096 changes, or more than 256 keys.
-    TooMany,
-    /// The message is none of the membership.
-    NotGossip,
-    /// The changes of the message are taken, and its answer found no memory.
-    Unanswered,
-    /// The target is suspect: nobody could be asked, or a helper did not reach it.
-    Suspected,
+    TooMany = 30,
+    /// The message is a request, or an answer to one, and none of the membership.
+    NotGossip = 31,
+    /// The changes of the message are taken; out of memory for its answer.
+    Unanswered = 32,
+    /// The target of the probe is suspect: no helper could be asked, or one did not reach it.
+    Suspected = 33,
     /// Another helper has not answered.
-    Waiting,
+    Waiting = 34,
     /// Every helper failed, and nothing is known of the target.
-    Inconclusive,
+    Inconclusive = 35,
     /// A helper's word is not one of 0 to 2.
-    BadWord,
+    BadWord = 36,
 }
 
 impl Code {
-    /// Its number, which the header names.
+    /// The number of the code, which the header names.
     pub fn number(self) -> u32
         ensures { result ≡ code_number self }
     {
-        match self {
-            Code::Done => 0,
-            Code::Nothing => 1,
-            Code::NoNode => 2,
-            Code::HasNode => 3,
-            Code::ShortBuffer => 4,
-            Code::BadAddress => 5,
-            Code::BadNumber => 6,
-            Code::BadWeight => 7,
-            Code::BadReplicas => 8,
-            Code::BadMaxMembers => 9,
-            Code::BadSuspectMs => 10,
-            Code::BadFaultyMs => 11,
-            Code::BadHelpers => 12,
-            Code::BadPiggyback => 13,
-            Code::BadPerMessage => 14,
-            Code::Exhausted => 15,
-            Code::Full => 16,
-            Code::AlreadyLeft => 17,
-            Code::NotLeft => 18,
-            Code::Busy => 19,
-            Code::Spent => 20,
-            Code::StaleProbe => 21,
-            Code::NotAsked => 22,
-            Code::Memory => 23,
-            Code::LineTooLong => 24,
-            Code::BadJson => 25,
-            Code::NotObject => 26,
-            Code::UnknownKind => 27,
-            Code::MissingField => 28,
-            Code::BadField => 29,
-            Code::TooMany => 30,
-            Code::NotGossip => 31,
-            Code::Unanswered => 32,
-            Code::Suspected => 33,
-            Code::Waiting => 34,
-            Code::Inconclusive => 35,
-            Code::BadWord => 36,
-        }
+        self as u32
     }
 
     /// The code of a field of the configuration that is out of its range.
@@ -160,6 +122,16 @@ impl Code {
             NodeError::StaleProbe => Code::StaleProbe,
             NodeError::NotAsked => Code::NotAsked,
             NodeError::Memory => Code::Memory,
+        }
+    }
+
+    /// `Done`, or the code of a node's refusal.
+    pub(crate) fn of_result<T: Drop>(outcome: Result<T, NodeError>) -> Code
+        ensures { result ≡ code_of_result outcome }
+    {
+        match outcome {
+            Ok(_) => Code::Done,
+            Err(error) => Code::of_error(error),
         }
     }
 

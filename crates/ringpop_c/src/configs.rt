@@ -1,4 +1,4 @@
-//! What a node is made with.
+//! The configuration of a node.
 ghost use Rattle.std.specs.Prelude.{◌≡◌};
 ghost use Rattle.node_core.specs.Configs.{standard};
 ghost use Rattle.ringpop_c.specs.Births.{config_of};
@@ -6,29 +6,29 @@ ghost use Rattle.ringpop_c.specs.Births.{config_of};
 use change_core::Weight;
 use node_core::Config;
 
-/// What a node is made with, beside its address. The ranges are those of `node_core::Config`.
+/// The configuration of a node. The ranges are those of `node_core::Config`.
 #[repr(C)]
 #[derive(Clone, Copy, Debug, PartialEq, Eq)]
 pub struct RingpopConfig {
-    /// How many points of the ring each unit of weight has, from 1 to 1,000.
+    /// Points of the ring for each unit of weight, from 1 to 1,000.
     pub replicas: u32,
-    /// How often a change is passed on for each decimal digit of the number of serving members, from 1 to 1,000.
+    /// Times that a change is passed on, for each decimal digit of the number of serving members, from 1 to 1,000.
     pub piggyback: u32,
-    /// How many members are held at most, from 1 to 4,096.
+    /// Members held at most, from 1 to 4,096.
     pub max_members: usize,
-    /// After how many milliseconds a suspect becomes faulty, from 1 to 2^53 - 1.
+    /// Milliseconds until a suspect becomes faulty, from 1 to 2^53 - 1.
     pub suspect_ms: u64,
-    /// After how many milliseconds a faulty member becomes a tombstone, from 1 to 2^53 - 1.
+    /// Milliseconds until a faulty member becomes a tombstone, from 1 to 2^53 - 1.
     pub faulty_ms: u64,
-    /// How many members are asked to ping a target that did not answer, from 0 to 16.
+    /// Members asked to ping a target that did not answer, from 0 to 16.
     pub helpers: usize,
-    /// How many changes a message carries at most, from 1 to 4,096.
+    /// Changes in a message at most, from 1 to 4,096.
     pub per_message: usize,
-    /// How many shares of the ring the node takes, from 1 to 8.
+    /// Shares of the ring that the node takes, from 1 to 8.
     pub weight: u8,
 }
 
-/// What serves most clusters, as `Config::standard`.
+/// Fills a configuration with what serves most clusters, as `Config::standard`.
 #[unsafe(no_mangle)]
 pub extern "C" fn ringpop_config_standard(config: &mut RingpopConfig)
     ensures { config_of config.new ≡ standard }
@@ -46,7 +46,7 @@ pub extern "C" fn ringpop_config_standard(config: &mut RingpopConfig)
     };
 }
 
-/// The configuration that a caller's one stands for, its weight read already.
+/// The configuration that a caller's one stands for; its weight is read already.
 pub(crate) fn read_config(config: &RingpopConfig, weight: Weight) -> Config
     requires { weight ≡ config.now.weight }
     ensures { result ≡ config_of config.now }

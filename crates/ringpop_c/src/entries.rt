@@ -1,19 +1,20 @@
-//! What a node holds of itself, and of any address. The node stays as it is.
+//! The entries of members that a node holds, its own among them. The node stays as it is.
 ghost use Rattle.std.specs.Prelude.{◌≡◌, ◌≢◌, ◌<◌, option_map};
 ghost use Rattle.change_core.specs.Address.{address_of};
 ghost use Rattle.change_core.specs.Change.{entry_of};
 ghost use Rattle.change_core.specs.Members.{greatest};
 ghost use Rattle.node_core.specs.Node.{own_change};
 ghost use Rattle.ringpop_c.specs.Codes.{code_number};
+ghost use Rattle.ringpop_c.specs.Handles.{node_in};
 ghost use Rattle.ringpop_c.specs.Entries.{TellsChange, TellsEntry, TellsSuspicion, entry_told};
 ghost use Rattle.ringpop_c.specs.Steps.{Looks};
 
 use crate::codes::Code;
-use crate::handles::{RingpopNode, lift, put_back};
+use crate::handles::{RingpopNode, with_handle};
 use change_core::{Address, Change, Entry};
 use std::alloc::Global;
 
-/// What is held of a member, whose address is told beside it.
+/// The entry that a node holds of a member.
 #[repr(C)]
 #[derive(Clone, Copy, Debug, PartialEq, Eq)]
 pub struct RingpopEntry {
@@ -21,7 +22,7 @@ pub struct RingpopEntry {
     pub incarnation: u64,
     /// Its status: 0 alive, 1 suspect, 2 faulty, 3 leave, 4 tombstone.
     pub status: u8,
-    /// How many shares of the ring it takes, from 1 to 8.
+    /// Its shares of the ring, from 1 to 8.
     pub weight: u8,
 }
 
@@ -50,7 +51,12 @@ fn tell_entry(held: Option<Entry>, entry: &mut RingpopEntry) -> Code
     Code::Done
 }
 
-/// What the node holds of an address. `Nothing`: no member has it. `BadAddress`.
+/// The entry that the node holds of an address. `Nothing`: no member has it.
+///
+/// # Errors
+///
+/// - `BadAddress`: the port is 0.
+/// - `NoNode`: the handle is empty.
 #[unsafe(no_mangle)]
 pub extern "C" fn ringpop_node_member(
     alloc: Global,
@@ -60,19 +66,14 @@ pub extern "C" fn ringpop_node_member(
     entry: &mut RingpopEntry,
 ) -> u32
     ensures address { port ≡ 0 → result ≡ code_number Code.BadAddress }
-    ensures entry { 0 < port → Looks (λ n answer. TellsEntry (option_map entry_of (greatest n.members (address_of ip port))) entry.new answer) node.old.at.value result }
-    ensures same { node.new.at.value ≡ node.old.at.value }
+    ensures entry { 0 < port → Looks (λ n answer. TellsEntry (option_map entry_of (greatest n.members (address_of ip port))) entry.new answer) (node_in node.old) result }
+    ensures same { node_in node.new ≡ node_in node.old }
     ensures untouched { result ≢ code_number Code.Done → entry.new ≡ entry.old }
 {
     let Some(address) = Address::new(ip, port) else {
         return Code::BadAddress.number();
     };
-    let Some(served) = lift(alloc, node) else {
-        return Code::NoNode.number();
-    };
-    let held = served.node.member(address);
-    put_back(node, served);
-    tell_entry(held, entry).number()
+    with_handle!(alloc, node, |n| tell_entry(n.member(address), entry))
 }
 
 /// Tells a change.
@@ -89,7 +90,7 @@ pub(crate) fn tell_change(
     tell_entry(Some(change.entry()), entry)
 }
 
-/// Tells what became of a target that is suspect, where it was held as alive.
+/// Tells the entry of a target that became suspect, if it was held as alive.
 pub(crate) fn tell_suspicion(change: &Option<Change>, entry: &mut RingpopEntry) -> Code
     ensures told { TellsSuspicion change.now (record { before = entry.old; after = entry.new }) result }
 {
@@ -99,7 +100,11 @@ pub(crate) fn tell_suspicion(change: &Option<Change>, entry: &mut RingpopEntry) 
     Code::Suspected
 }
 
-/// The node's own address, and what it holds of itself.
+/// The node's own address and entry.
+///
+/// # Errors
+///
+/// - `NoNode`: the handle is empty.
 #[unsafe(no_mangle)]
 pub extern "C" fn ringpop_node_own(
     alloc: Global,
@@ -108,14 +113,9 @@ pub extern "C" fn ringpop_node_own(
     port: &mut u16,
     entry: &mut RingpopEntry,
 ) -> u32
-    ensures own { Looks (λ n answer. TellsChange (own_change n) ip.new port.new entry.new answer) node.old.at.value result }
-    ensures same { node.new.at.value ≡ node.old.at.value }
+    ensures own { Looks (λ n answer. TellsChange (own_change n) ip.new port.new entry.new answer) (node_in node.old) result }
+    ensures same { node_in node.new ≡ node_in node.old }
     ensures untouched { result ≢ code_number Code.Done → (ip.new ≡ ip.old) × (port.new ≡ port.old) × (entry.new ≡ entry.old) }
 {
-    let Some(served) = lift(alloc, node) else {
-        return Code::NoNode.number();
-    };
-    let own = served.node.own();
-    put_back(node, served);
-    tell_change(&own, ip, port, entry).number()
+    with_handle!(alloc, node, |n| tell_change(&n.own(), ip, port, entry))
 }

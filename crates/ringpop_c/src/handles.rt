@@ -1,116 +1,131 @@
-//! A node behind the one pointer that C holds.
-ghost use Rattle.std.specs.Prelude.{◌≡◌, Option, Some, None, IfSome, IsSome, is_some, IsNone, false};
-ghost use Rattle.ringpop_c.specs.Owned.{Held, held_coded};
+//! The handles that C holds, and the one way in which an export reaches what a handle holds.
+ghost use Rattle.std.specs.Prelude.{◌≡◌, is_some, false};
 
-use hash_ring::Sha256Hash;
-use node_core::NodeState;
+use crate::slots::{BoxedNode, BoxedView, NodeSlot, ViewSlot};
 use std::alloc::Global;
-use std::marker::Model;
 
-/// The node that is served.
-#[derive(Drop)]
-pub struct Served {
-    pub node: NodeState<Sha256Hash>,
-}
-
-/// A place for a boxed node, empty or full. What it owns is never let go with it: `lift` takes it out first.
-#[repr(C)]
-#[derive(Drop)]
-pub struct At {
-    at: *mut u8,
-    heap: Global,
-    pub ghost value: { Option Held } by { held_coded },
-}
-
-impl Model for At {
-    ghost use Rattle.ringpop_c.specs.Owned.{handle_owns};
-
-    ghost also_owns = { λ h. handle_owns h.heap h.at h.value };
-}
-
-// It owns nothing, or a box of a node, and both may go to another thread.
-unsafe impl Send for At {}
-
-impl At {
-    /// The handle of a box.
-    fn of_box(served: Box<Served>) -> At
-        ensures { result.value ≡ Some served.value }
-    {
-        let (ptr, heap) = Box::into_raw_with_allocator(served);
-        At {
-            at: ptr as *mut u8,
-            heap,
-        }
-    }
-
-    /// The box of a full handle.
-    fn into_box(self) -> Box<Served>
-        requires { IsSome self.value }
-        ensures { self.value ≡ Some result.value }
-    {
-        let At { at, heap } = self;
-        unsafe { Box::from_raw(heap, at as *mut Served) }
-    }
-
-    /// The handle that owns nothing.
-    fn empty(alloc: Global) -> At
-        ensures { result.value ≡ None }
-    {
-        At {
-            at: std::ptr::null_mut(),
-            heap: alloc,
-        }
-    }
-}
-
-/// What C holds of a node: all zero before it is made and after it is freed.
+/// The handle of a node: all zero before the node is made and after it is freed.
 #[repr(C)]
 #[derive(Drop)]
 pub struct RingpopNode {
-    at: At,
+    slot: NodeSlot,
     full: bool,
-    ghost agrees: { full ≡ is_some at.value },
+    ghost agrees: { full ≡ is_some slot.value },
 }
 
-/// Takes the node out, and leaves the handle empty.
-pub(crate) fn lift(alloc: Global, node: &mut RingpopNode) -> Option<Box<Served>>
-    ensures out { IfSome result (λ b. node.old.at.value ≡ Some b.value) }
-    ensures none { IsNone result → node.old.at.value ≡ None }
-    ensures empty { node.new.at.value ≡ None }
-{
-    if !node.full {
-        return None;
+impl RingpopNode {
+    ghost use Rattle.std.specs.Prelude.{Some, None, IfSome, IsNone};
+    ghost use Rattle.ringpop_c.specs.Handles.{node_in};
+
+    /// Whether it holds a node.
+    pub(crate) fn is_full(&self) -> bool
+        ensures { result ≡ is_some (node_in self.now) }
+    {
+        self.full
     }
-    let empty = RingpopNode {
-        at: At::empty(alloc),
-        full: false,
-    };
-    let RingpopNode { at, full: _ } = std::mem::replace(node, empty);
-    Some(at.into_box())
+
+    /// The node, which leaves the handle empty.
+    pub(crate) fn take(&mut self, alloc: Global) -> Option<Box<BoxedNode>>
+        ensures some { IfSome result (λ b. node_in self.old ≡ Some b.value) }
+        ensures none { IsNone result → node_in self.old ≡ None }
+        ensures empty { node_in self.new ≡ None }
+    {
+        if !self.full {
+            return None;
+        }
+        let empty = RingpopNode {
+            slot: NodeSlot::empty(alloc),
+            full: false,
+        };
+        let RingpopNode { slot, full: _ } = std::mem::replace(self, empty);
+        Some(slot.into_box())
+    }
+
+    /// Puts a node into an empty handle.
+    pub(crate) fn put(&mut self, node: Box<BoxedNode>)
+        requires { node_in self.old ≡ None }
+        ensures { node_in self.new ≡ Some node.value }
+    {
+        *self = RingpopNode {
+            slot: NodeSlot::from_box(node),
+            full: true,
+        };
+    }
 }
 
-/// Puts a node into an empty handle.
-pub(crate) fn put_back(node: &mut RingpopNode, served: Box<Served>)
-    requires { node.old.at.value ≡ None }
-    ensures { node.new.at.value ≡ Some served.value }
-{
-    *node = RingpopNode {
-        at: At::of_box(served),
-        full: true,
+/// The handle of a view: all zero before the view is made and after it is freed.
+#[repr(C)]
+#[derive(Drop)]
+pub struct RingpopView {
+    slot: ViewSlot,
+    full: bool,
+    ghost agrees: { full ≡ is_some slot.value },
+}
+
+impl RingpopView {
+    ghost use Rattle.std.specs.Prelude.{Some, None, IfSome, IsNone};
+    ghost use Rattle.ringpop_c.specs.Handles.{view_in};
+
+    /// Whether it holds a view.
+    pub(crate) fn is_full(&self) -> bool
+        ensures { result ≡ is_some (view_in self.now) }
+    {
+        self.full
+    }
+
+    /// The view, which leaves the handle empty.
+    pub(crate) fn take(&mut self, alloc: Global) -> Option<Box<BoxedView>>
+        ensures some { IfSome result (λ b. view_in self.old ≡ Some b.value) }
+        ensures none { IsNone result → view_in self.old ≡ None }
+        ensures empty { view_in self.new ≡ None }
+    {
+        if !self.full {
+            return None;
+        }
+        let empty = RingpopView {
+            slot: ViewSlot::empty(alloc),
+            full: false,
+        };
+        let RingpopView { slot, full: _ } = std::mem::replace(self, empty);
+        Some(slot.into_box())
+    }
+
+    /// Puts a view into an empty handle.
+    pub(crate) fn put(&mut self, view: Box<BoxedView>)
+        requires { view_in self.old ≡ None }
+        ensures { view_in self.new ≡ Some view.value }
+    {
+        *self = RingpopView {
+            slot: ViewSlot::from_box(view),
+            full: true,
+        };
+    }
+}
+
+/// The number of the code that an expression over what a handle holds comes to; `NoNode` where the handle is empty. The handle
+/// holds the same value after it.
+macro_rules! with_handle {
+    ($alloc:ident, $handle:ident, |$value:ident| $code:expr) => {
+        match $handle.take($alloc) {
+            Some(mut held) => {
+                let $value = &mut held.inner;
+                let code: Code = $code;
+                $handle.put(held);
+                code.number()
+            }
+            None => Code::NoNode.number(),
+        }
     };
 }
 
-/// Whether a node is there.
-pub(crate) fn is_full(node: &RingpopNode) -> bool
-    ensures { result ≡ is_some node.now.at.value }
-{
-    node.full
-}
+pub(crate) use with_handle;
 
 /// Takes a type whose values may go to another thread.
-fn takes_send<T: Send>() {}
+fn assert_send<T: Send>() {}
 
-/// A handle may go to another thread, one call at a time.
-pub fn may_move() {
-    takes_send::<RingpopNode>();
+/// Checks that a handle of either kind may go to another thread, one call at a time. A function, since only a call asks for the
+/// proof of `Send`, and a constant may not call.
+fn assert_handles_are_send() {
+    assert_send::<RingpopNode>();
+    assert_send::<RingpopView>();
 }

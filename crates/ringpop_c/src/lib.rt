@@ -1,5 +1,5 @@
-//! The node of one thread for C: a handle that the caller holds, numbers and buffers in, numbers and buffers out. Each
-//! export takes the node out of its handle, makes one call of it, and puts it back.
+//! The node of one thread for C: a handle that the caller holds, numbers and buffers in, numbers and buffers out. An export
+//! makes at most one call of the node in its handle, and answers the number of a `Code`.
 #![tactic(auto)]
 
 mod asserting;
@@ -16,13 +16,13 @@ mod owners;
 mod probes;
 mod reading;
 mod receiving;
-mod relaying;
+mod slots;
 mod taking;
 mod views;
 
 pub use codes::Code;
 pub use configs::RingpopConfig;
 pub use entries::RingpopEntry;
-pub use handles::{RingpopNode, Served};
+pub use handles::{RingpopNode, RingpopView};
 pub use owners::RingpopAddress;
-pub use views::{RingpopView, ServedView};
+pub use slots::{BoxedNode, BoxedView};

@@ -1,14 +1,15 @@
-//! What is looked up in a node, which stays as it is.
+//! Look-ups in a node, which stays as it is.
 ghost use Rattle.std.specs.Prelude.{◌≡◌, ◌≢◌, length};
 ghost use Rattle.change_core.specs.Members.{digest_text};
 ghost use Rattle.node_core.specs.Messages.{digest_of};
 ghost use Rattle.ringpop_c.specs.Codes.{code_number};
+ghost use Rattle.ringpop_c.specs.Handles.{node_in};
 ghost use Rattle.ringpop_c.specs.Lines.{TellsText};
 ghost use Rattle.ringpop_c.specs.Steps.{Looks, TellsAddress, TellsCount, owner_by};
 
 use crate::buffers::write;
 use crate::codes::Code;
-use crate::handles::{RingpopNode, lift, put_back};
+use crate::handles::{RingpopNode, with_handle};
 use change_core::Address;
 use hash_ring::Sha256Hash;
 use node_core::NodeState;
@@ -29,7 +30,11 @@ pub(crate) fn tell_address(address: Option<Address>, ip: &mut u32, port: &mut u1
     }
 }
 
-/// The owner of a key. `Nothing` where nobody serves.
+/// The owner of a key (ringpop-go, package hashring). `Nothing`: no member serves.
+///
+/// # Errors
+///
+/// - `NoNode`: the handle is empty.
 #[unsafe(no_mangle)]
 pub extern "C" fn ringpop_node_owner(
     alloc: Global,
@@ -38,19 +43,14 @@ pub extern "C" fn ringpop_node_owner(
     ip: &mut u32,
     port: &mut u16,
 ) -> u32
-    ensures owner { Looks (λ n answer. TellsAddress (owner_by n key.now) ip.new port.new answer) node.old.at.value result }
-    ensures same { node.new.at.value ≡ node.old.at.value }
+    ensures owner { Looks (λ n answer. TellsAddress (owner_by n key.now) ip.new port.new answer) (node_in node.old) result }
+    ensures same { node_in node.new ≡ node_in node.old }
     ensures untouched { result ≢ code_number Code.Done → (ip.new ≡ ip.old) × (port.new ≡ port.old) }
 {
-    let Some(served) = lift(alloc, node) else {
-        return Code::NoNode.number();
-    };
-    let owner = served.node.owner(key);
-    put_back(node, served);
-    tell_address(owner, ip, port).number()
+    with_handle!(alloc, node, |n| tell_address(n.owner(key), ip, port))
 }
 
-/// The members as a text.
+/// Writes the members as a text.
 fn tell_members(node: &NodeState<Sha256Hash>, out: &mut [u8], count: &mut usize) -> Code
     ensures told { TellsText (digest_text node.now.node.members) (record { before = out.old; after = out.new; count = count.new }) result }
     ensures untouched { result ≢ Code.Done → result ≢ Code.ShortBuffer → (out.new ≡ out.old) × (count.new ≡ count.old) }
@@ -61,8 +61,13 @@ fn tell_members(node: &NodeState<Sha256Hash>, out: &mut [u8], count: &mut usize)
     write(out, count, text.as_str().as_bytes())
 }
 
-/// The members as one line of text, ascending by address, which no other member list has. `ShortBuffer`, with the count
-/// that is needed; `Memory`.
+/// The members as one line of text, ascending by address, which no other member list has.
+///
+/// # Errors
+///
+/// - `NoNode`: the handle is empty.
+/// - `Memory`: out of memory.
+/// - `ShortBuffer`: the buffer is shorter than the text; `count` is its length in bytes.
 #[unsafe(no_mangle)]
 pub extern "C" fn ringpop_node_members(
     alloc: Global,
@@ -70,20 +75,15 @@ pub extern "C" fn ringpop_node_members(
     out: &mut [u8],
     count: &mut usize,
 ) -> u32
-    ensures told { Looks (λ n answer. TellsText (digest_text n.members) (record { before = out.old; after = out.new; count = count.new }) answer) node.old.at.value result }
-    ensures same { node.new.at.value ≡ node.old.at.value }
+    ensures told { Looks (λ n answer. TellsText (digest_text n.members) (record { before = out.old; after = out.new; count = count.new }) answer) (node_in node.old) result }
+    ensures same { node_in node.new ≡ node_in node.old }
     ensures untouched { result ≢ code_number Code.Done → result ≢ code_number Code.ShortBuffer
         → (out.new ≡ out.old) × (count.new ≡ count.old) }
 {
-    let Some(served) = lift(alloc, node) else {
-        return Code::NoNode.number();
-    };
-    let code = tell_members(&served.node, out, count);
-    put_back(node, served);
-    code.number()
+    with_handle!(alloc, node, |n| tell_members(n, out, count))
 }
 
-/// The digest of the members.
+/// Writes the digest of the members.
 fn tell_digest(node: &NodeState<Sha256Hash>, out: &mut [u8], count: &mut usize) -> Code
     ensures told { TellsText (digest_of node.now.node.members).bytes (record { before = out.old; after = out.new; count = count.new }) result }
     ensures untouched { result ≢ Code.Done → result ≢ Code.ShortBuffer → (out.new ≡ out.old) × (count.new ≡ count.old) }
@@ -95,8 +95,13 @@ fn tell_digest(node: &NodeState<Sha256Hash>, out: &mut [u8], count: &mut usize) 
     write(out, count, &bytes)
 }
 
-/// The 32 bytes of the SHA-256 of the members' line (FIPS 180-4), which messages carry. `ShortBuffer`, with the count that
-/// is needed; `Memory`.
+/// The 32 bytes of the SHA-256 of the members' line (FIPS 180-4), which messages carry.
+///
+/// # Errors
+///
+/// - `NoNode`: the handle is empty.
+/// - `Memory`: out of memory.
+/// - `ShortBuffer`: the buffer has fewer than 32 bytes; `count` is 32.
 #[unsafe(no_mangle)]
 pub extern "C" fn ringpop_node_digest(
     alloc: Global,
@@ -104,30 +109,27 @@ pub extern "C" fn ringpop_node_digest(
     out: &mut [u8],
     count: &mut usize,
 ) -> u32
-    ensures told { Looks (λ n answer. TellsText (digest_of n.members).bytes (record { before = out.old; after = out.new; count = count.new }) answer) node.old.at.value result }
-    ensures same { node.new.at.value ≡ node.old.at.value }
+    ensures told { Looks (λ n answer. TellsText (digest_of n.members).bytes (record { before = out.old; after = out.new; count = count.new }) answer) (node_in node.old) result }
+    ensures same { node_in node.new ≡ node_in node.old }
     ensures untouched { result ≢ code_number Code.Done → result ≢ code_number Code.ShortBuffer
         → (out.new ≡ out.old) × (count.new ≡ count.old) }
 {
-    let Some(served) = lift(alloc, node) else {
-        return Code::NoNode.number();
-    };
-    let code = tell_digest(&served.node, out, count);
-    put_back(node, served);
-    code.number()
+    with_handle!(alloc, node, |n| tell_digest(n, out, count))
 }
 
-/// How many members the node holds, itself among them.
+/// The number of members that the node holds, itself among them.
+///
+/// # Errors
+///
+/// - `NoNode`: the handle is empty.
 #[unsafe(no_mangle)]
 pub extern "C" fn ringpop_node_len(alloc: Global, node: &mut RingpopNode, count: &mut usize) -> u32
-    ensures told { Looks (λ n answer. TellsCount (length n.members) count.new answer) node.old.at.value result }
-    ensures same { node.new.at.value ≡ node.old.at.value }
+    ensures told { Looks (λ n answer. TellsCount (length n.members) count.new answer) (node_in node.old) result }
+    ensures same { node_in node.new ≡ node_in node.old }
     ensures untouched { result ≢ code_number Code.Done → count.new ≡ count.old }
 {
-    let Some(served) = lift(alloc, node) else {
-        return Code::NoNode.number();
-    };
-    *count = served.node.len();
-    put_back(node, served);
-    Code::Done.number()
+    with_handle!(alloc, node, |n| {
+        *count = n.len();
+        Code::Done
+    })
 }

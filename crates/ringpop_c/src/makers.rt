@@ -1,19 +1,21 @@
-//! A node begins, and is freed.
+//! The making and the freeing of a node.
 ghost use Rattle.std.specs.Prelude.{◌≡◌, None, IfOk, IfErr, cond, is_some};
 ghost use Rattle.change_core.specs.Address.{address_of};
 ghost use Rattle.node_core.specs.Configs.{IsConfig};
 ghost use Rattle.ringpop_c.specs.Births.{Begins, CanBegin, IsBirthFault, IsConfigFault, alone, born};
 ghost use Rattle.ringpop_c.specs.Codes.{code_number};
+ghost use Rattle.ringpop_c.specs.Handles.{node_in};
 
 use crate::codes::Code;
 use crate::configs::{RingpopConfig, read_config};
-use crate::handles::{RingpopNode, Served, is_full, lift, put_back};
+use crate::handles::RingpopNode;
+use crate::slots::BoxedNode;
 use change_core::{Address, Incarnation, Moment, Weight};
 use hash_ring::Sha256Hash;
 use node_core::{Config, NodeState};
 use std::alloc::Global;
 
-/// A node alone in its cluster, on the heap.
+/// A node that is alone in its cluster, on the heap.
 fn make(
     alloc: Global,
     config: Config,
@@ -21,14 +23,14 @@ fn make(
     incarnation: Incarnation,
     seed: u64,
     moment: Moment,
-) -> Result<Box<Served>, Code>
+) -> Result<Box<BoxedNode>, Code>
     ensures born { IfOk result (λ b. b.value ≡ alone config own incarnation seed moment) }
     ensures good { IfOk result (λ b. IsConfig config) }
     ensures refusal { IfErr result (λ fault. IsConfigFault config fault) }
 {
     match NodeState::new(alloc, config, Sha256Hash, own, incarnation, seed, moment) {
-        Ok(node) => match Box::new(alloc, Served { node }) {
-            Ok(served) => Ok(served),
+        Ok(inner) => match Box::new(alloc, BoxedNode { inner }) {
+            Ok(boxed) => Ok(boxed),
             Err(_) => Err(Code::Memory),
         },
         Err(error) => Err(Code::of_error(error)),
@@ -44,7 +46,7 @@ fn begin(
     incarnation: u64,
     seed: u64,
     moment: u64,
-) -> Result<Box<Served>, Code>
+) -> Result<Box<BoxedNode>, Code>
     ensures born { IfOk result (λ b. b.value ≡ born config.now (address_of ip port) incarnation seed moment) }
     ensures good { IfOk result (λ b. CanBegin config.now port incarnation moment) }
     ensures refusal { IfErr result (λ fault. IsBirthFault config.now port incarnation moment fault) }
@@ -65,9 +67,20 @@ fn begin(
     make(alloc, config, own, incarnation, seed, moment)
 }
 
-/// Makes a node, alone in its cluster, into an empty handle. `seed` decides its random choices; `moment`, in milliseconds,
-/// is the first that it knows. `HasNode`, `BadAddress`, `BadNumber`, `BadWeight`, the first field of the configuration that
-/// is out of its range, `Memory`; the handle is then as it was.
+/// Makes a node, alone in its cluster, into an empty handle. `seed`, any number, decides its random choices; `moment`, in
+/// milliseconds, is the first that it knows.
+///
+/// # Errors
+///
+/// The handle is then unchanged.
+///
+/// - `HasNode`: the handle is full.
+/// - `BadAddress`: the port is 0.
+/// - `BadNumber`: the incarnation or the moment is over 2^53 - 1.
+/// - `BadWeight`: the weight is not one of 1 to 8.
+/// - `BadReplicas`, `BadMaxMembers`, `BadSuspectMs`, `BadFaultyMs`, `BadHelpers`, `BadPiggyback`, `BadPerMessage`: the first field
+///   of the configuration that is out of its range, in this order.
+/// - `Memory`: out of memory.
 #[unsafe(no_mangle)]
 pub extern "C" fn ringpop_node_new(
     alloc: Global,
@@ -79,29 +92,33 @@ pub extern "C" fn ringpop_node_new(
     seed: u64,
     moment: u64,
 ) -> u32
-    ensures step { Begins config.now (address_of ip port) port incarnation seed moment node.old.at.value result node.new.at.value }
+    ensures step { Begins config.now (address_of ip port) port incarnation seed moment (node_in node.old) result (node_in node.new) }
 {
-    if is_full(node) {
+    if node.is_full() {
         return Code::HasNode.number();
     }
     match begin(alloc, config, ip, port, incarnation, seed, moment) {
-        Ok(served) => {
-            put_back(node, served);
+        Ok(boxed) => {
+            node.put(boxed);
             Code::Done.number()
         }
         Err(fault) => fault.number(),
     }
 }
 
-/// Frees the node, and leaves the handle empty. `NoNode` where it was.
+/// Frees the node, and leaves the handle empty.
+///
+/// # Errors
+///
+/// - `NoNode`: the handle was empty.
 #[unsafe(no_mangle)]
 pub extern "C" fn ringpop_node_free(alloc: Global, node: &mut RingpopNode) -> u32
-    ensures empty { node.new.at.value ≡ None }
-    ensures done { result ≡ cond (is_some node.old.at.value) (code_number Code.Done) (code_number Code.NoNode) }
+    ensures empty { (node_in node.new) ≡ None }
+    ensures done { result ≡ cond (is_some (node_in node.old)) (code_number Code.Done) (code_number Code.NoNode) }
 {
-    match lift(alloc, node) {
-        Some(served) => {
-            drop(served);
+    match node.take(alloc) {
+        Some(boxed) => {
+            drop(boxed);
             Code::Done.number()
         }
         None => Code::NoNode.number(),

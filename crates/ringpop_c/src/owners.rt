@@ -1,17 +1,18 @@
-//! The first owners of a key, in the caller's place for addresses.
+//! The first owners of a key, listed in the caller's array of addresses.
 ghost use Rattle.std.specs.Prelude.{◌≡◌, ◌≢◌, ◌≤◌, length};
 ghost use Rattle.ringpop_c.specs.Codes.{code_number};
+ghost use Rattle.ringpop_c.specs.Handles.{node_in};
 ghost use Rattle.ringpop_c.specs.Owners.{Lists, OwnersBy, TellsAddresses, TellsOwners, address_told};
 ghost use Rattle.ringpop_c.specs.Steps.{Looks};
 
 use crate::codes::Code;
-use crate::handles::{RingpopNode, lift, put_back};
+use crate::handles::{RingpopNode, with_handle};
 use change_core::Address;
 use detector_core::Addresses;
 use node_core::NodeError;
 use std::alloc::Global;
 
-/// Where a node is reached.
+/// The address at which a node is reached.
 #[repr(C)]
 #[derive(Clone, Copy, Debug, PartialEq, Eq)]
 pub struct RingpopAddress {
@@ -33,7 +34,7 @@ impl RingpopAddress {
     }
 }
 
-/// Puts addresses at the front of a place, and how many there are into `count`.
+/// Makes addresses a prefix of an array, and puts their number into `count`.
 fn put(out: &mut [RingpopAddress], count: &mut usize, addresses: &[Address])
     requires { length addresses.now ≤ length out.old }
     ensures { Lists addresses.now (record { before = out.old; after = out.new; count = count.new }) }
@@ -44,7 +45,7 @@ fn put(out: &mut [RingpopAddress], count: &mut usize, addresses: &[Address])
     }
 }
 
-/// Lists addresses, where there is room for them, and else tells how many there are. `ShortBuffer`.
+/// Lists addresses if there is room for them; else tells their number alone.
 fn list(out: &mut [RingpopAddress], count: &mut usize, addresses: &[Address]) -> Code
     ensures told { TellsAddresses addresses.now (record { before = out.old; after = out.new; count = count.new }) result }
     ensures untouched { result ≢ Code.Done → result ≢ Code.ShortBuffer → (out.new ≡ out.old) × (count.new ≡ count.old) }
@@ -72,8 +73,13 @@ pub(crate) fn tell_owners(
     }
 }
 
-/// The first `wanted` owners of a key, the owner first, or all serving members where there are fewer. `ShortBuffer`, with
-/// the count that is needed; `Memory`, never where nobody is to be named.
+/// The first `wanted` owners of a key, the owner first, or all serving members where there are fewer.
+///
+/// # Errors
+///
+/// - `NoNode`: the handle is empty.
+/// - `Memory`: out of memory; never where no owner is to be named.
+/// - `ShortBuffer`: the array is shorter than the list; `count` is the number of owners.
 #[unsafe(no_mangle)]
 pub extern "C" fn ringpop_node_owners(
     alloc: Global,
@@ -83,15 +89,12 @@ pub extern "C" fn ringpop_node_owners(
     out: &mut [RingpopAddress],
     count: &mut usize,
 ) -> u32
-    ensures owners { Looks (OwnersBy key.now wanted (record { before = out.old; after = out.new; count = count.new })) node.old.at.value result }
-    ensures same { node.new.at.value ≡ node.old.at.value }
+    ensures owners { Looks (OwnersBy key.now wanted (record { before = out.old; after = out.new; count = count.new })) (node_in node.old) result }
+    ensures same { node_in node.new ≡ node_in node.old }
     ensures untouched { result ≢ code_number Code.Done → result ≢ code_number Code.ShortBuffer
         → (out.new ≡ out.old) × (count.new ≡ count.old) }
 {
-    let Some(served) = lift(alloc, node) else {
-        return Code::NoNode.number();
-    };
-    let named = served.node.owners(key, wanted);
-    put_back(node, served);
-    tell_owners(named, out, count).number()
+    with_handle!(alloc, node, |n| {
+        tell_owners(n.owners(key, wanted), out, count)
+    })
 }

@@ -1,28 +1,33 @@
-//! A node's probes.
+//! The probes of a node.
 ghost use Rattle.std.specs.Prelude.{◌≡◌, ◌≢◌, ◌≤◌, ◌<◌, Some, None, Ok};
 ghost use Rattle.change_core.specs.Address.{address_of};
 ghost use Rattle.change_core.specs.Numbers.{greatest_number};
 ghost use Rattle.ringpop_c.specs.Codes.{code_number};
-ghost use Rattle.ringpop_c.specs.Probing.{AcksBy, HearsHelper, LosesBy, ProbesBy, TellsHelper, TellsLoss, TellsRunning, TellsWaiting, running_in, said_of};
+ghost use Rattle.ringpop_c.specs.Handles.{node_in};
+ghost use Rattle.ringpop_c.specs.Probing.{AcksBy, HearsHelper, LosesBy, ProbesBy, TellsLoss, TellsOutcome, TellsProbe, TellsRunning, TellsWaiting, running_in, said_of};
 ghost use Rattle.detector_core.specs.declared.asked.Said.{Said};
 ghost use Rattle.detector_core.specs.Picks.{running_of};
 ghost use Rattle.ringpop_c.specs.Steps.{Does, Looks};
 
 use crate::codes::Code;
 use crate::entries::{RingpopEntry, tell_suspicion};
-use crate::handles::{RingpopNode, lift, put_back};
+use crate::handles::{RingpopNode, with_handle};
 use change_core::{Address, Moment};
-use detector_core::{Running, Said};
-use hash_ring::Sha256Hash;
-use node_core::{NodeLost, NodeOutcome, NodeState};
+use detector_core::{Probe, Running, Said};
+use node_core::{NodeError, NodeLost, NodeOutcome};
 use std::alloc::Global;
 
-/// A probe begins.
-fn probe(node: &mut NodeState<Sha256Hash>, number: &mut u64, ip: &mut u32, port: &mut u16) -> Code
-    ensures step { ProbesBy number.new ip.new port.new node.old.node result node.new.node }
+/// Tells the number and the target of a probe that began, or why none did.
+fn tell_probe(
+    begun: Result<Option<Probe>, NodeError>,
+    number: &mut u64,
+    ip: &mut u32,
+    port: &mut u16,
+) -> Code
+    ensures told { TellsProbe begun number.new ip.new port.new result }
     ensures untouched { result ≢ Code.Done → (number.new ≡ number.old) × (ip.new ≡ ip.old) × (port.new ≡ port.old) }
 {
-    match node.probe() {
+    match begun {
         Ok(Some(pick)) => {
             *number = pick.number;
             *ip = pick.target.ip();
@@ -34,8 +39,15 @@ fn probe(node: &mut NodeState<Sha256Hash>, number: &mut u64, ip: &mut u32, port:
     }
 }
 
-/// Begins a probe: its number, and the address to send a ping to. `Nothing`: there is nobody to ping. `Busy`, `Spent`,
-/// `Memory`.
+/// Begins a probe of the next member in turn: its number, and the address to ping (SWIM, DSN 2002, section 4.3). `Nothing`: no
+/// member can be pinged.
+///
+/// # Errors
+///
+/// - `NoNode`: the handle is empty.
+/// - `Busy`: a probe is running.
+/// - `Spent`: no probe number is left.
+/// - `Memory`: out of memory; the node is unchanged.
 #[unsafe(no_mangle)]
 pub extern "C" fn ringpop_node_probe(
     alloc: Global,
@@ -44,71 +56,48 @@ pub extern "C" fn ringpop_node_probe(
     ip: &mut u32,
     port: &mut u16,
 ) -> u32
-    ensures step { Does (ProbesBy number.new ip.new port.new) node.old.at.value result node.new.at.value }
+    ensures step { Does (ProbesBy number.new ip.new port.new) (node_in node.old) result (node_in node.new) }
     ensures untouched { result ≢ code_number Code.Done
         → (number.new ≡ number.old) × (ip.new ≡ ip.old) × (port.new ≡ port.old) }
 {
-    let Some(mut served) = lift(alloc, node) else {
-        return Code::NoNode.number();
-    };
-    let code = probe(&mut served.node, number, ip, port);
-    put_back(node, served);
-    code.number()
+    with_handle!(alloc, node, |n| tell_probe(n.probe(), number, ip, port))
 }
 
-/// The target of a probe answered.
-fn ack(node: &mut NodeState<Sha256Hash>, number: u64) -> Code
-    ensures step { AcksBy number node.old.node result node.new.node }
-{
-    match node.acked(number) {
-        Ok(_) => Code::Done,
-        Err(error) => Code::of_error(error),
-    }
-}
-
-/// The target of the running probe answered, and the probe ends. `StaleProbe`.
+/// Ends the running probe, whose target answered.
+///
+/// # Errors
+///
+/// - `NoNode`: the handle is empty.
+/// - `StaleProbe`: the probe of this number is not the running one.
 #[unsafe(no_mangle)]
 pub extern "C" fn ringpop_node_acked(alloc: Global, node: &mut RingpopNode, number: u64) -> u32
-    ensures step { Does (AcksBy number) node.old.at.value result node.new.at.value }
+    ensures step { Does (AcksBy number) (node_in node.old) result (node_in node.new) }
 {
-    let Some(mut served) = lift(alloc, node) else {
-        return Code::NoNode.number();
-    };
-    let code = ack(&mut served.node, number);
-    put_back(node, served);
-    code.number()
+    with_handle!(alloc, node, |n| Code::of_result(n.acked(number)))
 }
 
-/// Tells what became of a probe that was lost.
-fn tell_loss(loss: &NodeLost, entry: &mut RingpopEntry) -> Code
-    ensures told { TellsLoss (Ok loss.now) (record { before = entry.old; after = entry.new }) result }
+/// Tells the entry of the target of a probe that was lost, if it is suspect by that, or why the probe is none.
+fn tell_loss(loss: Result<NodeLost, NodeError>, entry: &mut RingpopEntry) -> Code
+    ensures told { TellsLoss loss (record { before = entry.old; after = entry.new }) result }
     ensures untouched { result ≢ Code.Suspected → entry.new ≡ entry.old }
 {
-    match loss {
-        NodeLost::Ask(_) => Code::Done,
-        NodeLost::Suspect(change) => tell_suspicion(change, entry),
+    match &loss {
+        Ok(NodeLost::Ask(_)) => Code::Done,
+        Ok(NodeLost::Suspect(change)) => tell_suspicion(change, entry),
+        Err(error) => Code::of_error(*error),
     }
 }
 
-/// The target of a probe did not answer.
-fn lose(
-    node: &mut NodeState<Sha256Hash>,
-    number: u64,
-    moment: Moment,
-    entry: &mut RingpopEntry,
-) -> Code
-    ensures step { LosesBy number moment (record { before = entry.old; after = entry.new }) node.old.node result node.new.node }
-    ensures untouched { result ≢ Code.Suspected → entry.new ≡ entry.old }
-{
-    match node.lost(number, moment) {
-        Ok(loss) => tell_loss(&loss, entry),
-        Err(error) => Code::of_error(error),
-    }
-}
-
-/// The target of the running probe did not answer by this moment, in milliseconds. `Done`: helpers are to be asked, one
-/// after another, as `ringpop_node_waiting` names them. `Suspected`: nobody could be asked; its entry is told where it was
-/// held as alive. `BadNumber`, `StaleProbe`, `Memory`.
+/// The target of the running probe did not answer by this moment, in milliseconds (SWIM, DSN 2002, section 3.1). `Done`: helpers
+/// are to be asked, one after another, as `ringpop_node_waiting` names them. `Suspected`: there are none; the target's entry is
+/// told if it was held as alive.
+///
+/// # Errors
+///
+/// - `BadNumber`: the moment is over 2^53 - 1.
+/// - `NoNode`: the handle is empty.
+/// - `StaleProbe`: the probe of this number is not the running one, or its helpers were asked already.
+/// - `Memory`: out of memory; the node is unchanged.
 #[unsafe(no_mangle)]
 pub extern "C" fn ringpop_node_lost(
     alloc: Global,
@@ -118,23 +107,18 @@ pub extern "C" fn ringpop_node_lost(
     entry: &mut RingpopEntry,
 ) -> u32
     ensures number { greatest_number < moment → result ≡ code_number Code.BadNumber }
-    ensures refused { greatest_number < moment → node.new.at.value ≡ node.old.at.value }
+    ensures refused { greatest_number < moment → node_in node.new ≡ node_in node.old }
     ensures step { moment ≤ greatest_number
-        → Does (LosesBy number moment (record { before = entry.old; after = entry.new })) node.old.at.value result node.new.at.value }
+        → Does (LosesBy number moment (record { before = entry.old; after = entry.new })) (node_in node.old) result (node_in node.new) }
     ensures untouched { result ≢ code_number Code.Suspected → entry.new ≡ entry.old }
 {
     let Some(moment) = Moment::new(moment) else {
         return Code::BadNumber.number();
     };
-    let Some(mut served) = lift(alloc, node) else {
-        return Code::NoNode.number();
-    };
-    let code = lose(&mut served.node, number, moment, entry);
-    put_back(node, served);
-    code.number()
+    with_handle!(alloc, node, |n| tell_loss(n.lost(number, moment), entry))
 }
 
-/// Tells of a probe that runs its number and its target.
+/// Tells the number and the target of a probe that runs.
 fn tell_running(running: Option<Running>, number: &mut u64, ip: &mut u32, port: &mut u16) -> Code
     ensures told { TellsRunning running number.new ip.new port.new result }
     ensures untouched { result ≢ Code.Done → (number.new ≡ number.old) × (ip.new ≡ ip.old) × (port.new ≡ port.old) }
@@ -150,7 +134,11 @@ fn tell_running(running: Option<Running>, number: &mut u64, ip: &mut u32, port: 
     }
 }
 
-/// The number of the running probe, and its target. `Nothing`: no probe runs.
+/// The number and the target of the running probe. `Nothing`: no probe runs.
+///
+/// # Errors
+///
+/// - `NoNode`: the handle is empty.
 #[unsafe(no_mangle)]
 pub extern "C" fn ringpop_node_running(
     alloc: Global,
@@ -159,20 +147,15 @@ pub extern "C" fn ringpop_node_running(
     ip: &mut u32,
     port: &mut u16,
 ) -> u32
-    ensures told { Looks (λ n answer. TellsRunning (running_of n.probing) number.new ip.new port.new answer) node.old.at.value result }
-    ensures same { node.new.at.value ≡ node.old.at.value }
+    ensures told { Looks (λ n answer. TellsRunning (running_of n.probing) number.new ip.new port.new answer) (node_in node.old) result }
+    ensures same { node_in node.new ≡ node_in node.old }
     ensures untouched { result ≢ code_number Code.Done
         → (number.new ≡ number.old) × (ip.new ≡ ip.old) × (port.new ≡ port.old) }
 {
-    let Some(served) = lift(alloc, node) else {
-        return Code::NoNode.number();
-    };
-    let running = served.node.running();
-    put_back(node, served);
-    tell_running(running, number, ip, port).number()
+    with_handle!(alloc, node, |n| tell_running(n.running(), number, ip, port))
 }
 
-/// Tells of a probe that runs whom it waits for.
+/// Tells the number of a probe that runs, and the helper that it waits for.
 fn tell_waiting(running: Option<Running>, number: &mut u64, ip: &mut u32, port: &mut u16) -> Code
     ensures told { TellsWaiting running number.new ip.new port.new result }
     ensures untouched { result ≢ Code.Done → (ip.new ≡ ip.old) × (port.new ≡ port.old) }
@@ -192,8 +175,12 @@ fn tell_waiting(running: Option<Running>, number: &mut u64, ip: &mut u32, port: 
     }
 }
 
-/// The number of the running probe, and the helper of least address that was asked and has not answered. `Nothing`: no
-/// probe runs, or no helper is waited for.
+/// The number of the running probe, and the helper of least address that was asked and has not answered. `Nothing`: no probe
+/// runs, or it waits for no helper; in the second case its number is told.
+///
+/// # Errors
+///
+/// - `NoNode`: the handle is empty.
 #[unsafe(no_mangle)]
 pub extern "C" fn ringpop_node_waiting(
     alloc: Global,
@@ -202,20 +189,15 @@ pub extern "C" fn ringpop_node_waiting(
     ip: &mut u32,
     port: &mut u16,
 ) -> u32
-    ensures told { Looks (λ n answer. TellsWaiting (running_of n.probing) number.new ip.new port.new answer) node.old.at.value result }
-    ensures same { node.new.at.value ≡ node.old.at.value }
+    ensures told { Looks (λ n answer. TellsWaiting (running_of n.probing) number.new ip.new port.new answer) (node_in node.old) result }
+    ensures same { node_in node.new ≡ node_in node.old }
     ensures untouched { result ≢ code_number Code.Done → (ip.new ≡ ip.old) × (port.new ≡ port.old) }
-    ensures no_probe { running_in node.old.at.value ≡ None → number.new ≡ number.old }
+    ensures no_probe { running_in (node_in node.old) ≡ None → number.new ≡ number.old }
 {
-    let Some(served) = lift(alloc, node) else {
-        return Code::NoNode.number();
-    };
-    let running = served.node.running();
-    put_back(node, served);
-    tell_waiting(running, number, ip, port).number()
+    with_handle!(alloc, node, |n| tell_waiting(n.running(), number, ip, port))
 }
 
-/// What a helper said, by its number.
+/// The word of a helper, by its number.
 fn read_word(word: u8) -> Option<Said>
     ensures { result ≡ said_of word }
 {
@@ -230,19 +212,12 @@ fn read_word(word: u8) -> Option<Said>
     }
 }
 
-/// A helper's word is taken.
-fn hear_helper(
-    node: &mut NodeState<Sha256Hash>,
-    number: u64,
-    helper: Address,
-    said: Said,
-    moment: Moment,
-    entry: &mut RingpopEntry,
-) -> Code
-    ensures step { HearsHelper number helper said moment (record { before = entry.old; after = entry.new }) node.old.node result node.new.node }
+/// Tells the outcome of a helper's word: the target's entry, if it is suspect by that, or why the word is refused.
+fn tell_outcome(outcome: Result<NodeOutcome, NodeError>, entry: &mut RingpopEntry) -> Code
+    ensures told { TellsOutcome outcome (record { before = entry.old; after = entry.new }) result }
     ensures untouched { result ≢ Code.Suspected → entry.new ≡ entry.old }
 {
-    match node.helper_said(number, helper, said, moment) {
+    match outcome {
         Ok(NodeOutcome::Waiting) => Code::Waiting,
         Ok(NodeOutcome::Reached) => Code::Done,
         Ok(NodeOutcome::Suspect(change)) => tell_suspicion(&change, entry),
@@ -251,9 +226,19 @@ fn hear_helper(
     }
 }
 
-/// What a helper said of the running probe's target by this moment, in milliseconds: 0, it reached the target; 1, it did
-/// not; 2, nothing, since it failed. `Done`: the target was reached. `Suspected`: its entry is told where it was held as
-/// alive. `Waiting`, `Inconclusive`, `BadAddress`, `BadWord`, `BadNumber`, `StaleProbe`, `NotAsked`, `Memory`.
+/// Takes a helper's word on the target of the running probe at this moment, in milliseconds: 0, the helper reached it; 1, it did
+/// not; 2, the helper failed. `Done`: the target was reached. `Suspected`: every helper has answered, and one did not reach it;
+/// its entry is told if it was held as alive. `Waiting`: another helper has not answered. `Inconclusive`: every helper failed.
+///
+/// # Errors
+///
+/// - `BadAddress`: the port of the helper is 0.
+/// - `BadWord`: the word is not one of 0 to 2.
+/// - `BadNumber`: the moment is over 2^53 - 1.
+/// - `NoNode`: the handle is empty.
+/// - `StaleProbe`: the probe of this number is not the running one.
+/// - `NotAsked`: the helper was not asked, or has answered.
+/// - `Memory`: out of memory; the node is unchanged.
 #[unsafe(no_mangle)]
 pub extern "C" fn ringpop_node_helper_said(
     alloc: Global,
@@ -266,13 +251,13 @@ pub extern "C" fn ringpop_node_helper_said(
     entry: &mut RingpopEntry,
 ) -> u32
     ensures address { port ≡ 0 → result ≡ code_number Code.BadAddress }
-    ensures address_stays { port ≡ 0 → node.new.at.value ≡ node.old.at.value }
+    ensures address_stays { port ≡ 0 → node_in node.new ≡ node_in node.old }
     ensures word { 0 < port → said_of word ≡ None → result ≡ code_number Code.BadWord }
-    ensures word_stays { said_of word ≡ None → node.new.at.value ≡ node.old.at.value }
+    ensures word_stays { said_of word ≡ None → node_in node.new ≡ node_in node.old }
     ensures number { (said : Said) → 0 < port → said_of word ≡ Some said → greatest_number < moment → result ≡ code_number Code.BadNumber }
-    ensures moment_stays { greatest_number < moment → node.new.at.value ≡ node.old.at.value }
+    ensures moment_stays { greatest_number < moment → node_in node.new ≡ node_in node.old }
     ensures step { (said : Said) → 0 < port → said_of word ≡ Some said → moment ≤ greatest_number
-        → Does (HearsHelper number (address_of ip port) said moment (record { before = entry.old; after = entry.new })) node.old.at.value result node.new.at.value }
+        → Does (HearsHelper number (address_of ip port) said moment (record { before = entry.old; after = entry.new })) (node_in node.old) result (node_in node.new) }
     ensures untouched { result ≢ code_number Code.Suspected → entry.new ≡ entry.old }
 {
     let Some(helper) = Address::new(ip, port) else {
@@ -284,10 +269,7 @@ pub extern "C" fn ringpop_node_helper_said(
     let Some(moment) = Moment::new(moment) else {
         return Code::BadNumber.number();
     };
-    let Some(mut served) = lift(alloc, node) else {
-        return Code::NoNode.number();
-    };
-    let code = hear_helper(&mut served.node, number, helper, said, moment, entry);
-    put_back(node, served);
-    code.number()
+    with_handle!(alloc, node, |n| {
+        tell_outcome(n.helper_said(number, helper, said, moment), entry)
+    })
 }

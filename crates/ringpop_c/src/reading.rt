@@ -1,14 +1,14 @@
-//! Lines that are read beside a node: of which kind one is and whom it is from, whom it asks to ping, and what a helper says.
+//! What a line says, without a node: its kind and its source, the target that it asks to ping, and what a helper says of one.
 ghost use Rattle.std.specs.Prelude.{◌≡◌, ◌≢◌};
 ghost use Rattle.ringpop_c.specs.Codes.{code_number};
-ghost use Rattle.ringpop_c.specs.Reading.{IsRead, ReadsLine, TellsReached, TellsSource, TellsTarget, kind_number};
+ghost use Rattle.ringpop_c.specs.Reading.{ReadsLine, TellsReached, TellsSource, TellsTarget, kind_number};
 
 use crate::codes::Code;
 use message_core::{Content, Message};
 use std::alloc::Global;
 use wire_json::decode;
 
-/// The number of a kind, which the header names.
+/// The number of the kind of a message, which the header names.
 fn number_of(content: &Content) -> u8
     ensures { result ≡ kind_number content.now }
 {
@@ -26,7 +26,7 @@ fn number_of(content: &Content) -> u8
     }
 }
 
-/// Tells of which kind a message is, and whom it is from.
+/// Tells the kind of a message, and its source.
 fn tell_source(message: &Message, kind: &mut u8, ip: &mut u32, port: &mut u16) -> Code
     ensures told { TellsSource message.now kind.new ip.new port.new result }
     ensures untouched { result ≢ Code.Done → (kind.new ≡ kind.old) × (ip.new ≡ ip.old) × (port.new ≡ port.old) }
@@ -37,18 +37,12 @@ fn tell_source(message: &Message, kind: &mut u8, ip: &mut u32, port: &mut u16) -
     Code::Done
 }
 
-/// Of which kind a line is, and whom it is from.
-fn read_source(alloc: Global, line: &[u8], kind: &mut u8, ip: &mut u32, port: &mut u16) -> Code
-    ensures told { IsRead (λ message answer. TellsSource message kind.new ip.new port.new answer) line.now result }
-    ensures untouched { result ≢ Code.Done → (kind.new ≡ kind.old) × (ip.new ≡ ip.old) × (port.new ≡ port.old) }
-{
-    match decode(alloc, line) {
-        Ok(message) => tell_source(&message, kind, ip, port),
-        Err(error) => Code::of_wire(error),
-    }
-}
-
-/// Of which kind the message of a line is, without a newline, and whom it is from. A fault of the line, `Memory`.
+/// The kind of the message of a line, without a newline, and the address that it says it is from.
+///
+/// # Errors
+///
+/// - `LineTooLong`, `BadJson`, `NotObject`, `UnknownKind`, `MissingField`, `BadField`, `TooMany`: the line is not that of a message.
+/// - `Memory`: out of memory.
 #[unsafe(no_mangle)]
 pub extern "C" fn ringpop_line_source(
     alloc: Global,
@@ -60,10 +54,13 @@ pub extern "C" fn ringpop_line_source(
     ensures told { ReadsLine (λ message answer. TellsSource message kind.new ip.new port.new answer) line.now result }
     ensures untouched { result ≢ code_number Code.Done → (kind.new ≡ kind.old) × (ip.new ≡ ip.old) × (port.new ≡ port.old) }
 {
-    read_source(alloc, line, kind, ip, port).number()
+    match decode(alloc, line) {
+        Ok(message) => tell_source(&message, kind, ip, port).number(),
+        Err(error) => Code::of_wire(error).number(),
+    }
 }
 
-/// Tells whom a message asks to ping.
+/// Tells the target that a message asks to ping.
 fn tell_target(message: &Message, ip: &mut u32, port: &mut u16) -> Code
     ensures told { TellsTarget message.now.content ip.new port.new result }
     ensures untouched { result ≢ Code.Done → (ip.new ≡ ip.old) × (port.new ≡ port.old) }
@@ -78,18 +75,12 @@ fn tell_target(message: &Message, ip: &mut u32, port: &mut u16) -> Code
     }
 }
 
-/// Whom a line asks to ping.
-fn read_target(alloc: Global, line: &[u8], ip: &mut u32, port: &mut u16) -> Code
-    ensures told { IsRead (λ message answer. TellsTarget message.content ip.new port.new answer) line.now result }
-    ensures untouched { result ≢ Code.Done → (ip.new ≡ ip.old) × (port.new ≡ port.old) }
-{
-    match decode(alloc, line) {
-        Ok(message) => tell_target(&message, ip, port),
-        Err(error) => Code::of_wire(error),
-    }
-}
-
-/// The target that a line asks to ping, without a newline. `Nothing`: it asks for no ping. A fault of the line, `Memory`.
+/// The target that a line, without a newline, asks to ping. `Nothing`: it asks for no ping.
+///
+/// # Errors
+///
+/// - `LineTooLong`, `BadJson`, `NotObject`, `UnknownKind`, `MissingField`, `BadField`, `TooMany`: the line is not that of a message.
+/// - `Memory`: out of memory.
 #[unsafe(no_mangle)]
 pub extern "C" fn ringpop_line_target(
     alloc: Global,
@@ -100,10 +91,13 @@ pub extern "C" fn ringpop_line_target(
     ensures told { ReadsLine (λ message answer. TellsTarget message.content ip.new port.new answer) line.now result }
     ensures untouched { result ≢ code_number Code.Done → (ip.new ≡ ip.old) × (port.new ≡ port.old) }
 {
-    read_target(alloc, line, ip, port).number()
+    match decode(alloc, line) {
+        Ok(message) => tell_target(&message, ip, port).number(),
+        Err(error) => Code::of_wire(error).number(),
+    }
 }
 
-/// Tells of which target a message says whether it was reached, and what it says.
+/// Tells the target of a helper's message, and whether it was reached.
 fn tell_reached(message: &Message, ip: &mut u32, port: &mut u16, reached: &mut bool) -> Code
     ensures told { TellsReached message.now.content ip.new port.new reached.new result }
     ensures untouched { result ≢ Code.Done → (ip.new ≡ ip.old) × (port.new ≡ port.old) × (reached.new ≡ reached.old) }
@@ -119,25 +113,12 @@ fn tell_reached(message: &Message, ip: &mut u32, port: &mut u16, reached: &mut b
     }
 }
 
-/// Of which target a line says whether it was reached, and what it says.
-fn read_reached(
-    alloc: Global,
-    line: &[u8],
-    ip: &mut u32,
-    port: &mut u16,
-    reached: &mut bool,
-) -> Code
-    ensures told { IsRead (λ message answer. TellsReached message.content ip.new port.new reached.new answer) line.now result }
-    ensures untouched { result ≢ Code.Done → (ip.new ≡ ip.old) × (port.new ≡ port.old) × (reached.new ≡ reached.old) }
-{
-    match decode(alloc, line) {
-        Ok(message) => tell_reached(&message, ip, port, reached),
-        Err(error) => Code::of_wire(error),
-    }
-}
-
-/// The target of a helper's line, without a newline, and whether it was reached. `Nothing`: it is no helper's. A fault of
-/// the line, `Memory`.
+/// The target of a helper's line, without a newline, and whether it was reached. `Nothing`: it is not a helper's.
+///
+/// # Errors
+///
+/// - `LineTooLong`, `BadJson`, `NotObject`, `UnknownKind`, `MissingField`, `BadField`, `TooMany`: the line is not that of a message.
+/// - `Memory`: out of memory.
 #[unsafe(no_mangle)]
 pub extern "C" fn ringpop_line_reached(
     alloc: Global,
@@ -149,5 +130,8 @@ pub extern "C" fn ringpop_line_reached(
     ensures told { ReadsLine (λ message answer. TellsReached message.content ip.new port.new reached.new answer) line.now result }
     ensures untouched { result ≢ code_number Code.Done → (ip.new ≡ ip.old) × (port.new ≡ port.old) × (reached.new ≡ reached.old) }
 {
-    read_reached(alloc, line, ip, port, reached).number()
+    match decode(alloc, line) {
+        Ok(message) => tell_reached(&message, ip, port, reached).number(),
+        Err(error) => Code::of_wire(error).number(),
+    }
 }

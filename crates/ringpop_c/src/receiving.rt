@@ -1,14 +1,15 @@
-//! Lines that come to a node.
+//! The lines of messages that come to a node.
 ghost use Rattle.std.specs.Prelude.{◌≡◌, ◌≢◌, ◌≤◌, ◌<◌, length};
 ghost use Rattle.change_core.specs.Numbers.{greatest_number};
 ghost use Rattle.ringpop_c.specs.Codes.{code_number};
+ghost use Rattle.ringpop_c.specs.Handles.{node_in};
 ghost use Rattle.ringpop_c.specs.Lines.{HearsBy, ReceivesBy, TellsReceived};
 ghost use Rattle.ringpop_c.specs.Steps.{Does};
 ghost use Rattle.wire_json.specs.Lines.{max_line};
 
 use crate::buffers::{is_short, send};
 use crate::codes::Code;
-use crate::handles::{RingpopNode, lift, put_back};
+use crate::handles::{RingpopNode, with_handle};
 use change_core::Moment;
 use hash_ring::Sha256Hash;
 use message_core::Message;
@@ -16,7 +17,7 @@ use node_core::{NodeState, Received};
 use std::alloc::Global;
 use wire_json::decode;
 
-/// Tells what a message came to.
+/// Writes the answer to a message that was received, if it has one.
 fn tell(alloc: Global, received: &Received, out: &mut [u8], count: &mut usize) -> Code
     requires room { max_line ≤ length out.old }
     ensures told { TellsReceived received.now (record { before = out.old; after = out.new; count = count.new }) result }
@@ -34,7 +35,7 @@ fn tell(alloc: Global, received: &Received, out: &mut [u8], count: &mut usize) -
     }
 }
 
-/// A message that comes to a node.
+/// Receives a message.
 fn receive(
     alloc: Global,
     node: &mut NodeState<Sha256Hash>,
@@ -51,7 +52,7 @@ fn receive(
     tell(alloc, &received, out, count)
 }
 
-/// A line that comes to a node.
+/// Receives the message of a line.
 fn hear(
     alloc: Global,
     node: &mut NodeState<Sha256Hash>,
@@ -72,9 +73,19 @@ fn hear(
     }
 }
 
-/// Takes a line, without a newline, that came at this moment, in milliseconds, and writes its answer where it wants one.
-/// `Done`: the answer is written. `Nothing`: it wants none. `BadNumber`, `ShortBuffer`, a fault of the line, `NotGossip`,
-/// `Exhausted`, `Full` or `Memory` where its changes were taken up to the one that is refused, `Unanswered`.
+/// Receives a line, without a newline, that came at this moment, in milliseconds (ringpop-go, package swim). `Done`: its answer
+/// is written. `Nothing`: it needs none.
+///
+/// # Errors
+///
+/// - `BadNumber`: the moment is over 2^53 - 1.
+/// - `NoNode`: the handle is empty.
+/// - `ShortBuffer`: the buffer has fewer than 1,048,576 bytes, which `count` then says.
+/// - `LineTooLong`, `BadJson`, `NotObject`, `UnknownKind`, `MissingField`, `BadField`, `TooMany`: the line is not that of a message.
+/// - `NotGossip`: the message is a request, or an answer to one.
+/// - `Exhausted`, `Full`: a change is refused; those before it are taken, and the moment has passed.
+/// - `Memory`: out of memory, for the line or for a change; the changes before it are taken.
+/// - `Unanswered`: out of memory for the answer; all changes are taken.
 #[unsafe(no_mangle)]
 pub extern "C" fn ringpop_node_receive(
     alloc: Global,
@@ -85,18 +96,13 @@ pub extern "C" fn ringpop_node_receive(
     count: &mut usize,
 ) -> u32
     ensures number { greatest_number < moment → result ≡ code_number Code.BadNumber }
-    ensures refused { greatest_number < moment → node.new.at.value ≡ node.old.at.value }
-    ensures step { moment ≤ greatest_number → Does (HearsBy line.now moment (record { before = out.old; after = out.new; count = count.new })) node.old.at.value result node.new.at.value }
+    ensures refused { greatest_number < moment → node_in node.new ≡ node_in node.old }
+    ensures step { moment ≤ greatest_number → Does (HearsBy line.now moment (record { before = out.old; after = out.new; count = count.new })) (node_in node.old) result (node_in node.new) }
     ensures untouched { result ≢ code_number Code.Done → result ≢ code_number Code.ShortBuffer
         → (out.new ≡ out.old) × (count.new ≡ count.old) }
 {
     let Some(moment) = Moment::new(moment) else {
         return Code::BadNumber.number();
     };
-    let Some(mut served) = lift(alloc, node) else {
-        return Code::NoNode.number();
-    };
-    let code = hear(alloc, &mut served.node, line, moment, out, count);
-    put_back(node, served);
-    code.number()
+    with_handle!(alloc, node, |n| hear(alloc, n, line, moment, out, count))
 }

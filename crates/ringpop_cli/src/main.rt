@@ -1,9 +1,8 @@
 //! The members of a cluster and the owners of its keys, from a command line.
 #![tactic(auto)]
 
-use cli_run::{Fault, words_run};
+use cli_net::{Fault, Runtime, words_run};
 use cli_words::{WordsFault, read_words, words_not_text};
-use serve_core::Host;
 use std::alloc::{Alloc, Global};
 use std::env::Env;
 use std::io::{BufReader, BufWriter, ErrorKind};
@@ -31,7 +30,7 @@ fn run<
         + Print
         + Env
         + Net<Listener = TcpListener, Stream = TcpStream>
-        + Host
+        + Runtime
         + Alloc<A = Global>,
 >(rt: &R) -> Result<(), Fault> {
     let alloc = rt.alloc();

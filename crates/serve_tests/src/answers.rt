@@ -2,9 +2,7 @@
 use crate::peers::{Answer, Lines, Page, Peers};
 use change_core::{Address, MOST_MEMBERS};
 use cli_core::LineFault;
-use serve_core::{
-    AskAnyWords, AskFault, TellFault, ask_any_over, ask_over, members_over, tell_over,
-};
+use cli_net::{AskAnyWords, AskFault, TellFault, ask_any_over, ask_over, members_over, tell_over};
 use std::alloc::Global;
 use std::io::Write;
 use std::process::Abort;

@@ -6,11 +6,12 @@ use crate::clocks::{Manner, NEVER, Peer, SILENT, Town, Wire};
 use crate::plans::local;
 use crate::talks::{MALFORMED, NOT_REACHED, PING_REQ};
 use change_core::{Address, Change, Incarnation, Moment, Sourced, Status, Weight};
-use cluster_links::{Limits, TcpLink, share};
+use cli_net::Echo;
+use cluster_core::{Limits, TcpLink, share};
 use hash_ring::SumHash;
 use locked_node::{LockedNode, NodePass};
 use node_core::{Config, NodeState};
-use serve_core::{Server, Waits, Watch, serve_connection};
+use server::{Server, Stopwatch, Timeouts, serve_connection};
 use std::alloc::Global;
 use std::net::{Net, TcpListener, TcpStream};
 use std::sync::Wait;
@@ -61,24 +62,25 @@ pub(crate) fn shared_node(
     }
 }
 
-/// A server of a node with the standard waits, which begins now by this clock.
+/// A server of a node with the standard timeouts, which begins now by this clock.
 pub(crate) fn server_of<C: Clock>(
     clock: &C,
     own: Address,
     node: LockedNode<SumHash>,
     listener: TcpListener,
-) -> Server<SumHash>
+) -> Server<SumHash, Echo>
     ensures { result.node ≡ node }
 {
-    let (watch, waits) = (Watch::start(clock), Waits::standard());
-    Server::new(node, own, watch, waits, listener, 1)
+    let (stopwatch, timeouts) = (Stopwatch::start(clock), Timeouts::standard());
+    let echo = Echo { address: own };
+    Server::new(node, echo, stopwatch, timeouts, listener, 1)
 }
 
 /// Whether a node of a server has an entry that is due at this moment, or at the last one at which it was called, where that is later;
 /// none where there was no memory.
 pub(crate) fn is_due<R: Wait>(
     rt: &R,
-    server: &Server<SumHash>,
+    server: &Server<SumHash, Echo>,
     pass: &mut NodePass<SumHash>,
     moment: u64,
 ) -> Option<bool>
@@ -95,7 +97,7 @@ pub(crate) fn is_due<R: Wait>(
 fn serve_peer<R: Net + Wait>(
     rt: &R,
     alloc: Global,
-    server: &Server<SumHash>,
+    server: &Server<SumHash, Echo>,
     pass: &mut NodePass<SumHash>,
     peer: &Peer,
 )
@@ -107,7 +109,7 @@ fn serve_peer<R: Net + Wait>(
     serve_connection(server, pass, &town, alloc, &mut link, Wire { peer });
 }
 
-/// The millisecond at which a server with the standard waits has served a peer of this manner, how many bytes of its answer that has
+/// The millisecond at which a server with the standard timeouts has served a peer of this manner, how many bytes of its answer that has
 /// taken, and whether its node, which was told so at 0, then has an entry that is due; none where there was no memory.
 fn serve<R: Net<Listener = TcpListener, Stream = TcpStream> + Wait>(
     rt: &R,

@@ -1,9 +1,8 @@
 //! What is said of each fault, and how it ends the program.
 
 use cli_core::{LineFault, RunFault, ScriptFault, SimFault, SubcommandFault};
-use cli_run::Fault;
+use cli_net::{AskFault, ClusterFault, Fault, ServeFault, TellFault};
 use cli_words::WordsFault;
-use serve_core::{AskFault, ClusterFault, ServeFault, TellFault};
 use std::alloc::Global;
 use std::process::Abort;
 use wire_json::{Reason, WireError};

@@ -1,4 +1,4 @@
-//! The tests of `serve_core`, `cli_words` and `cli_run`.
+//! The tests of `server`, `cli_words` and `cli_net`.
 #![tactic(auto)]
 
 #[cfg(test)]

@@ -2,8 +2,7 @@
 use crate::clocks::{Manner, NEVER, Peer, SILENT, Town};
 use crate::talks::PING_REQ;
 use change_core::Address;
-use cluster_core::{Link, LinkError};
-use cluster_links::TcpLink;
+use cluster_core::{Link, LinkError, TcpLink};
 use std::alloc::Global;
 use std::process::Abort;
 use std::sync::Wait;

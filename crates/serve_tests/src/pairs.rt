@@ -2,8 +2,8 @@
 use crate::peers::Page;
 use crate::plans::{Plan, plan_at};
 use crate::shared::{Running, TRIES, ends, ends_so, patient, start, stop, stops_so, turn};
-use cluster_links::TcpLink;
-use serve_core::{AskFault, Host, members_over};
+use cli_net::{AskFault, Runtime, members_over};
+use cluster_core::TcpLink;
 use std::alloc::Global;
 use std::net::{Net, TcpListener, TcpStream};
 use std::thread;
@@ -23,7 +23,7 @@ enum Told {
 }
 
 /// What a server tells of its members once, compared with this text.
-fn asked<R: Net<Listener = TcpListener, Stream = TcpStream> + Host>(
+fn asked<R: Net<Listener = TcpListener, Stream = TcpStream> + Runtime>(
     rt: &R,
     alloc: Global,
     server: &Running,
@@ -43,7 +43,7 @@ fn asked<R: Net<Listener = TcpListener, Stream = TcpStream> + Host>(
 
 /// Whether a server comes to tell of its members one of these texts so, asked for each so often, so many milliseconds apart; not where it
 /// refuses, ends before, or tells one otherwise.
-fn tells<R: Net<Listener = TcpListener, Stream = TcpStream> + Host>(
+fn tells<R: Net<Listener = TcpListener, Stream = TcpStream> + Runtime>(
     rt: &R,
     alloc: Global,
     server: &Running,
@@ -76,7 +76,7 @@ const BOTH: &str =
     "127.0.0.1:29175alive1;127.0.0.1:29176alive1\n295769b65fb5829d674a7faee3163ad6b656e691f463c7b32f5617dfc6d83924\n";
 
 /// Starts two servers, so planned, the second once the first tells its members; none where one was not started.
-fn start_both<R: Net<Listener = TcpListener, Stream = TcpStream> + Host>(
+fn start_both<R: Net<Listener = TcpListener, Stream = TcpStream> + Runtime>(
     rt: &R,
     alloc: Global,
     one: &Plan,
@@ -108,7 +108,10 @@ fn plans(one: u64, other: u64) -> (Plan, Plan) {
 
 /// Whether two servers without rounds tell both members, and end with that: to the first come a question, the second, and a question,
 /// to that one question.
-fn joins<R: Net<Listener = TcpListener, Stream = TcpStream> + Host>(rt: &R, alloc: Global) -> bool {
+fn joins<R: Net<Listener = TcpListener, Stream = TcpStream> + Runtime>(
+    rt: &R,
+    alloc: Global,
+) -> bool {
     let (one, other) = plans(3, 1);
     let Some((first, second)) = start_both(rt, alloc, &one, &other) else {
         return false;
@@ -152,7 +155,7 @@ const LOOKS: u32 = 50;
 
 /// Whether the rounds of the server that stays use up the requests of the other one, and it then tells that it has lost it. Both are
 /// stopped.
-fn loses<R: Net<Listener = TcpListener, Stream = TcpStream> + Host>(
+fn loses<R: Net<Listener = TcpListener, Stream = TcpStream> + Runtime>(
     rt: &R,
     alloc: Global,
     ending: Running,
@@ -167,7 +170,7 @@ fn loses<R: Net<Listener = TcpListener, Stream = TcpStream> + Host>(
 
 /// Whether of two servers, of which the first or the second has few requests and seldom makes a round, and the other one often, the one
 /// that stays loses the other one.
-fn meet<R: Net<Listener = TcpListener, Stream = TcpStream> + Host>(
+fn meet<R: Net<Listener = TcpListener, Stream = TcpStream> + Runtime>(
     rt: &R,
     alloc: Global,
     ends_first: bool,

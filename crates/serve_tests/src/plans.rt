@@ -1,6 +1,6 @@
 //! How servers of tests are to be.
 use change_core::{Address, Incarnation, Weight};
-use serve_core::{MOST_REQUESTS, ServeWords};
+use cli_net::{MOST_REQUESTS, ServeWords};
 use std::alloc::Global;
 
 /// More milliseconds than anything takes here on a busy machine, which are waited where the limit is not what is tested.

@@ -2,7 +2,7 @@
 
 use crate::faults::is_told;
 use crate::reads::{NO_WORDS, read, words_in};
-use cli_run::Fault;
+use cli_net::Fault;
 use cli_words::{WordsFault, words_not_text};
 use std::alloc::Global;
 use std::process::Abort;

@@ -6,9 +6,10 @@ ghost use Rattle.locked_node.specs.Passes.{Fits};
 use crate::connections::{is_due, server_of, shared_node};
 use crate::plans::local;
 use change_core::Status;
+use cli_net::Echo;
 use hash_ring::SumHash;
 use locked_node::NodePass;
-use serve_core::{Server, make_rounds};
+use server::{Server, make_rounds};
 use std::alloc::Global;
 use std::cell::Cell;
 use std::io;
@@ -45,7 +46,7 @@ impl Clock for Looks {
 struct Desert<'a, R> {
     rt: &'a R,
     looks: &'a Looks,
-    server: &'a Server<SumHash>,
+    server: &'a Server<SumHash, Echo>,
     /// When the last round was made, or else the beginning.
     last: Cell<u64>,
     /// How many were made.
@@ -64,7 +65,7 @@ impl<'a, R> Desert<'a, R> {
         self.last.set(now);
         self.rounds.set(self.rounds.get().wrapping_add(1));
         if self.rounds.get() >= ROUNDS {
-            self.server.end_rounds();
+            self.server.end();
         }
     }
 }
@@ -107,7 +108,7 @@ const SUSPECT: u64 = 1_000;
 fn rounds_of<R: Wait>(
     rt: &R,
     alloc: Global,
-    server: &Server<SumHash>,
+    server: &Server<SumHash, Echo>,
     pass: &mut NodePass<SumHash>,
     looks: &Looks,
 ) -> (u32, u32)

@@ -3,9 +3,8 @@
 use crate::faults::is_told;
 use crate::peers::Page;
 use crate::reads::{NO_WORDS, read, words_in};
-use cli_run::words_run;
+use cli_net::{Runtime, words_run};
 use cli_words::Words;
-use serve_core::Host;
 use std::alloc::Global;
 use std::net::{Net, TcpListener, TcpStream};
 use std::process::Abort;
@@ -57,7 +56,7 @@ const RUNS: [(&str, &str, Result<&str, &str>); 13] = [
 
 /// Whether this is written for the words and the input, or said of their fault, which ends the program with status 1; none where another
 /// fault ends it.
-fn come_to<R: Net<Listener = TcpListener, Stream = TcpStream> + Host + Abort>(
+fn come_to<R: Net<Listener = TcpListener, Stream = TcpStream> + Runtime + Abort>(
     rt: &R,
     alloc: Global,
     words: &Words<'_>,
@@ -80,7 +79,7 @@ fn come_to<R: Net<Listener = TcpListener, Stream = TcpStream> + Host + Abort>(
 }
 
 /// That the words and the input come to this. They are run once more where another fault ended it, as a refused growth is.
-fn check<R: Net<Listener = TcpListener, Stream = TcpStream> + Host + Abort>(
+fn check<R: Net<Listener = TcpListener, Stream = TcpStream> + Runtime + Abort>(
     rt: &R,
     alloc: Global,
     line: &str,

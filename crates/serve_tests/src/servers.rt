@@ -4,9 +4,9 @@ use crate::plans::{Plan, WRITTEN, plan_at};
 use crate::shared::{Running, ends_so, start, stop, turn};
 use crate::talks::{ECHO, Talk, is_heard, serves};
 use change_core::Address;
-use serve_core::{
-    AskAnyWords, AskFault, AskWords, ClusterCommand, ClusterFault, Host, MembersWords, ServeFault,
-    cluster_command_run,
+use cli_net::{
+    AskAnyWords, AskFault, AskWords, ClusterCommand, ClusterFault, MembersWords, Runtime,
+    ServeFault, cluster_command_run,
 };
 use std::alloc::Global;
 use std::net::{Net, TcpListener, TcpStream};
@@ -29,7 +29,7 @@ const LEFT: &str =
     "{\"address\":\"127.0.0.1:1\",\"incarnationNumber\":1,\"source\":\"127.0.0.1:1\",\"sourceIncarnationNumber\":1,\"status\":\"leave\"}\n";
 
 /// How a command ends over a writer that takes this text, and whether all of it was written where it ends well.
-fn finishes<R: Net<Listener = TcpListener, Stream = TcpStream> + Host>(
+fn finishes<R: Net<Listener = TcpListener, Stream = TcpStream> + Runtime>(
     rt: &R,
     alloc: Global,
     command: &ClusterCommand<'_>,
@@ -71,7 +71,7 @@ fn command(question: Question, host: Address) -> ClusterCommand<'static> {
 const FEW_TRIES: u32 = 10_000;
 
 /// Whether `ask` is answered by a server at last, by this text and nothing else.
-fn is_echoed<R: Net<Listener = TcpListener, Stream = TcpStream> + Host>(
+fn is_echoed<R: Net<Listener = TcpListener, Stream = TcpStream> + Runtime>(
     rt: &R,
     alloc: Global,
     server: &Running,
@@ -93,7 +93,7 @@ fn is_echoed<R: Net<Listener = TcpListener, Stream = TcpStream> + Host>(
 }
 
 /// Two requests under the standard waits, at such a port, so that both sides try again.
-fn echoes_twice<R: Net<Listener = TcpListener, Stream = TcpStream> + Host>(
+fn echoes_twice<R: Net<Listener = TcpListener, Stream = TcpStream> + Runtime>(
     rt: &R,
     alloc: Global,
 ) -> bool {
@@ -138,7 +138,7 @@ const COMMANDS: [(Question, &str); 5] = [
 ];
 
 /// Whether each command writes what it is to write of a server alone.
-fn all_finish<R: Net<Listener = TcpListener, Stream = TcpStream> + Host>(
+fn all_finish<R: Net<Listener = TcpListener, Stream = TcpStream> + Runtime>(
     rt: &R,
     alloc: Global,
     host: Address,
@@ -155,7 +155,7 @@ fn all_finish<R: Net<Listener = TcpListener, Stream = TcpStream> + Host>(
 }
 
 /// One request to wait for the server, and the six of all commands.
-fn serves_commands<R: Net<Listener = TcpListener, Stream = TcpStream> + Host>(
+fn serves_commands<R: Net<Listener = TcpListener, Stream = TcpStream> + Runtime>(
     rt: &R,
     alloc: Global,
 ) -> bool {
@@ -217,7 +217,7 @@ enum Ending {
 }
 
 /// How a server of one request, three workers and rounds ends that is asked, or that ends before; none where it was not started.
-fn ending_of<R: Net<Listener = TcpListener, Stream = TcpStream> + Host>(
+fn ending_of<R: Net<Listener = TcpListener, Stream = TcpStream> + Runtime>(
     rt: &R,
     alloc: Global,
 ) -> Option<Ending> {

@@ -2,8 +2,9 @@
 use crate::peers::Page;
 use crate::plans::{PATIENCE, Plan, local, words_of};
 use change_core::Address;
-use cluster_links::{Limits, socket_address};
-use serve_core::{Host, ServeFault, ServeWords, Waits, serve_run, serve_within};
+use cli_net::{Runtime, ServeFault, ServeWords, serve_run, serve_within};
+use cluster_core::{Limits, socket_address};
+use server::Timeouts;
 use std::alloc::Global;
 use std::cell::Cell;
 use std::io::Read;
@@ -31,7 +32,7 @@ pub(crate) fn patient() -> Limits {
 pub(crate) type Ended = (Result<(), ServeFault>, usize);
 
 /// Serves once.
-fn serve_once<R: Net<Listener = TcpListener, Stream = TcpStream> + Host>(
+fn serve_once<R: Net<Listener = TcpListener, Stream = TcpStream> + Runtime>(
     rt: &R,
     alloc: Global,
     plan: &Plan,
@@ -47,18 +48,18 @@ fn serve_once<R: Net<Listener = TcpListener, Stream = TcpStream> + Host>(
                 Duration::from_millis(millis),
                 Duration::from_millis(plan.ping),
             );
-            let waits = Waits {
+            let timeouts = Timeouts {
                 line,
                 links: Limits { ping, ..patient() },
             };
-            serve_within(rt, alloc, waits, words, &mut page)
+            serve_within(rt, alloc, timeouts, words, &mut page)
         }
     };
     (outcome, page.left.len())
 }
 
 /// Serves, and rings then. Where the port is taken, it is tried again a millisecond later, as often as the plan says.
-fn serve<R: Net<Listener = TcpListener, Stream = TcpStream> + Host>(
+fn serve<R: Net<Listener = TcpListener, Stream = TcpStream> + Runtime>(
     rt: &R,
     alloc: Global,
     plan: &Plan,
@@ -96,7 +97,7 @@ impl Running {
 }
 
 /// The thread of a server that rings this bell; none where a growth or the thread was refused.
-fn start_thread<R: Net<Listener = TcpListener, Stream = TcpStream> + Host>(
+fn start_thread<R: Net<Listener = TcpListener, Stream = TcpStream> + Runtime>(
     rt: &R,
     alloc: Global,
     plan: &Plan,
@@ -109,7 +110,7 @@ fn start_thread<R: Net<Listener = TcpListener, Stream = TcpStream> + Host>(
 }
 
 /// Starts a server; none where a growth or the thread was refused.
-pub(crate) fn start<R: Net<Listener = TcpListener, Stream = TcpStream> + Host>(
+pub(crate) fn start<R: Net<Listener = TcpListener, Stream = TcpStream> + Runtime>(
     rt: &R,
     alloc: Global,
     plan: &Plan,
@@ -206,7 +207,7 @@ fn drain<R: Net<Listener = TcpListener, Stream = TcpStream> + Clock>(
 }
 
 /// How a server ends that is knocked at until it does; none where it does not.
-pub(crate) fn stop<R: Net<Listener = TcpListener, Stream = TcpStream> + Host>(
+pub(crate) fn stop<R: Net<Listener = TcpListener, Stream = TcpStream> + Runtime>(
     rt: &R,
     server: Running,
 ) -> Option<Ended> {
@@ -218,7 +219,7 @@ pub(crate) fn stop<R: Net<Listener = TcpListener, Stream = TcpStream> + Host>(
 }
 
 /// Whether a server that is stopped ended so, with all of its page written.
-pub(crate) fn stops_so<R: Net<Listener = TcpListener, Stream = TcpStream> + Host>(
+pub(crate) fn stops_so<R: Net<Listener = TcpListener, Stream = TcpStream> + Runtime>(
     rt: &R,
     server: Running,
     outcome: Result<(), ServeFault>,
@@ -228,7 +229,7 @@ pub(crate) fn stops_so<R: Net<Listener = TcpListener, Stream = TcpStream> + Host
 
 /// Whether a server ended so, with all of its page written, by itself where it had what it was to have; else it is stopped, and that is
 /// false.
-pub(crate) fn ends_so<R: Net<Listener = TcpListener, Stream = TcpStream> + Host>(
+pub(crate) fn ends_so<R: Net<Listener = TcpListener, Stream = TcpStream> + Runtime>(
     rt: &R,
     server: Running,
     is_served: bool,

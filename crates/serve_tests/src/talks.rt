@@ -1,7 +1,7 @@
 //! What peers say to a server, line by line, and what it makes of that.
 use crate::plans::Plan;
 use crate::shared::{Running, connect, ends_so, spend, start};
-use serve_core::{Host, ServeFault};
+use cli_net::{Runtime, ServeFault};
 use std::alloc::Global;
 use std::io::{ErrorKind, Read, Write};
 use std::net::{Net, Shutdown, TcpListener, TcpStream};
@@ -201,7 +201,7 @@ fn makes_all<R: Net<Listener = TcpListener, Stream = TcpStream> + Clock>(
 }
 
 /// Whether a server so planned makes of all talks what it is to make of them, if there are any, and ends so, with all of its page written.
-fn serves_once<R: Net<Listener = TcpListener, Stream = TcpStream> + Host>(
+fn serves_once<R: Net<Listener = TcpListener, Stream = TcpStream> + Runtime>(
     rt: &R,
     alloc: Global,
     plan: &Plan,
@@ -216,7 +216,7 @@ fn serves_once<R: Net<Listener = TcpListener, Stream = TcpStream> + Host>(
 }
 
 /// The same, once more where a growth or a thread may have been refused.
-pub(crate) fn serves<R: Net<Listener = TcpListener, Stream = TcpStream> + Host>(
+pub(crate) fn serves<R: Net<Listener = TcpListener, Stream = TcpStream> + Runtime>(
     rt: &R,
     alloc: Global,
     plan: &Plan,

@@ -1,33 +1,32 @@
 //! What the service does with a request: the node that owns a rider counts the trips.
-use cluster_core::{Handler, HandlerFault};
-use message_core::{Keys, Text};
+use ringpop::{Address, Handler, HandlerFault, Keys, Text};
 use std::alloc::{AllocError, Global};
 use std::collections::BTreeMap;
 use std::sync::{Mutex, Wait};
 
-/// How many trips each rider made. The nodes of one `Cluster` share a handler, and only the owner of a rider is asked.
+/// How many trips each rider made, as the node at an address counted them.
 #[derive(Drop)]
 pub struct Trips {
+    address: Address,
     counts: Mutex<BTreeMap<String, u64>>,
 }
 
 impl Trips {
-    pub fn new(alloc: Global) -> Trips {
+    pub fn new(alloc: Global, address: Address) -> Trips {
         Trips {
+            address,
             counts: Mutex::new(BTreeMap::new(alloc)),
         }
     }
-}
 
-/// Counts one trip more, and says how many there are.
-fn count(
-    alloc: Global,
-    counts: &mut BTreeMap<String, u64>,
-    rider: &str,
-) -> Result<Text, AllocError> {
-    let count = counts.entry(String::from_str(alloc, rider)?)?.or_insert(0);
-    *count = count.saturating_add(1);
-    Ok(Text::from_string(format!(in alloc; "{count}")?))
+    /// Counts one trip more of a rider, and says how many there are, and where they are counted.
+    fn count<R: Wait>(&self, rt: &R, alloc: Global, rider: &str) -> Result<Text, AllocError> {
+        let mut counts = self.counts.lock(rt);
+        let count = counts.entry(String::from_str(alloc, rider)?)?.or_insert(0);
+        *count = count.saturating_add(1);
+        let address = self.address;
+        Ok(Text::from_string(format!(in alloc; "{count}, counted by {address}")?))
+    }
 }
 
 impl Handler for Trips {
@@ -42,7 +41,7 @@ impl Handler for Trips {
         _body: &Text,
     ) -> Result<Text, HandlerFault> {
         let rider = keys.get(0).ok_or(HandlerFault::Failed)?;
-        let mut counts = self.counts.lock(rt);
-        count(alloc, &mut *counts, rider.as_str()).map_err(|_| HandlerFault::Memory)
+        self.count(rt, alloc, rider.as_str())
+            .map_err(|_| HandlerFault::Memory)
     }
 }

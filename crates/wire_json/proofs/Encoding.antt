@@ -10,7 +10,7 @@ use Rattle.serde_json.specs.Written.{has_float}
 use Rattle.std.proofs.lemmas.Grind.{common_steps}
 use Rattle.std.proofs.lemmas.Bool.Decides.{nat_tests}
 use Rattle.message_core.specs.declared.fields.Field.TheVariants.{Weight}
-use Rattle.wire_fields.specs.Forms.{Means}
+use Rattle.wire_json.specs.Fields.{Means}
 use Rattle.wire_json.specs.Forms.{ChangeForm, IsChange, plain_fields, written, change_data}
 
 -- what is written for the change with the weight, or without it

@@ -12,7 +12,7 @@ use Rattle.message_core.specs.declared.fields.Field.{Field}
 use Rattle.message_core.specs.declared.fields.Field.TheVariants as field
 use Rattle.wire_json.specs.declared.partial.PartialChange.{PartialChange}
 use Rattle.message_core.specs.Fields.{name}
-use Rattle.wire_fields.specs.Forms.{Weighs}
+use Rattle.wire_json.specs.Fields.{Weighs}
 use Rattle.wire_json.specs.Partial.{IsReadOf}
 
 apart : (xs ys : List ℕ) → bytes_eq xs ys ≡ false → xs ≡ ys → ⊥

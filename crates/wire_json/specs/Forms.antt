@@ -9,7 +9,7 @@ use Rattle.message_core.specs.declared.errors.WireError.{WireError}
 use Rattle.message_core.specs.declared.fields.Field.{Field}
 use Rattle.message_core.specs.declared.fields.Field.TheVariants as field
 use Rattle.message_core.specs.Fields.{name}
-use Rattle.wire_fields.specs.Forms.{HasAddress, HasNumber, HasStatus, HasWeight, Form, address, whole, weight, FirstFault, status_fields}
+use Rattle.wire_json.specs.Fields.{HasAddress, HasNumber, HasStatus, HasWeight, Form, address, whole, weight, FirstFault, status_fields}
 
 -- ---- a change
 

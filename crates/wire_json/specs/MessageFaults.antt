@@ -13,7 +13,7 @@ use Rattle.message_core.specs.declared.kinds.Kind.{Kind}
 use Rattle.message_core.specs.declared.kinds.Kind.TheVariants as kind
 use Rattle.message_core.specs.Fields.{name}
 use Rattle.message_core.specs.Words.{kind_word}
-use Rattle.wire_fields.specs.Forms.{HasText, KindFault, Form, text, address, whole, digest, truth, reason, IsGood, IsBad}
+use Rattle.wire_json.specs.Fields.{HasText, KindFault, Form, text, address, whole, digest, truth, reason, IsGood, IsBad}
 use Rattle.wire_json.specs.Forms.{ChangeForm, ChangeFault}
 use Rattle.wire_json.specs.Lines.{IsObject}
 use Rattle.message_core.specs.Limits.{max_keys}

@@ -17,7 +17,7 @@ use Rattle.message_core.specs.declared.messages.Content.TheVariants.{Join, Joine
 use Rattle.message_core.specs.Fields.{name}
 use Rattle.message_core.specs.Messages.{kind_of}
 use Rattle.message_core.specs.Words.{kind_word, reason_word}
-use Rattle.wire_fields.specs.Forms.{HasText, HasAddress, HasNumber, HasDigest, HasTruth, HasReason}
+use Rattle.wire_json.specs.Fields.{HasText, HasAddress, HasNumber, HasDigest, HasTruth, HasReason}
 use Rattle.wire_json.specs.Forms.{ChangeForm, IsChange, written, change_data}
 use Rattle.message_core.specs.Limits.{max_keys}
 

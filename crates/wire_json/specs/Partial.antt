@@ -3,7 +3,7 @@ use Rattle.std.specs.Prelude.{◌≡◌, None, IfSome}
 use Rattle.serde_json.specs.Data.{object, Members}
 use Rattle.serde_json.specs.Find.{get}
 use Rattle.message_core.specs.Fields.{name}
-use Rattle.wire_fields.specs.Forms.{HasAddress, HasNumber, HasWord, HasWeight}
+use Rattle.wire_json.specs.Fields.{HasAddress, HasNumber, HasWord, HasWeight}
 use Rattle.message_core.specs.declared.fields.Field.TheVariants as field
 use Rattle.wire_json.specs.declared.partial.PartialChange.{PartialChange}
 

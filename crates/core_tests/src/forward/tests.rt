@@ -1,7 +1,7 @@
 use crate::forward::views::{Views, keys, view_of, views_of};
 use crate::shared::{A, B, C, CountingHash, Ip, LIMIT, address, moment};
 use change_core::Status;
-use forward_core::{Attempt, Decision, ForwardError, MOST_SENDS, Route, route_keys};
+use forward_core::{Attempt, ForwardError, MOST_SENDS, Route, Step, route_keys};
 use hash_ring::SumHash;
 use node_core::View;
 use std::alloc::Global;
@@ -57,14 +57,14 @@ fn one_owner_of_all_keys(rt: HostRuntime) {
 #[derive(Clone, Copy)]
 enum Call<'a> {
     /// `ready`, by this view at this moment.
-    Ready(&'a View<SumHash>, u64, Result<Decision, ForwardError>),
+    Ready(&'a View<SumHash>, u64, Result<Step, ForwardError>),
     /// `failed`, at this moment.
     Failed(u64, Result<(), ForwardError>),
 }
 
 /// The step that sends to this member.
-fn to(rt: &impl Abort, ip: Ip) -> Result<Decision, ForwardError> {
-    Ok(Decision::Send(address(rt, ip)))
+fn to(rt: &impl Abort, ip: Ip) -> Result<Step, ForwardError> {
+    Ok(Step::Send(address(rt, ip)))
 }
 
 /// Checks what `ready` answers, and that a `Send` counts one send, and every other answer none.
@@ -73,9 +73,9 @@ fn check_ready(
     attempt: &mut Attempt,
     view: &View<SumHash>,
     now: u64,
-    wanted: Result<Decision, ForwardError>,
+    wanted: Result<Step, ForwardError>,
 ) {
-    let sends = u32::from(matches!(wanted, Ok(Decision::Send(_))));
+    let sends = u32::from(matches!(wanted, Ok(Step::Send(_))));
     let sends = attempt.sends().wrapping_add(sends);
     let answer = attempt.ready(view, moment(rt, now));
     assert!(rt;
@@ -133,13 +133,13 @@ fn check_failing(rt: &impl Abort, alloc: Global, views: &Views) {
     let calls = [
         Call::Ready(three, 0, to(rt, B)),
         Call::Failed(0, Ok(())),
-        Call::Ready(three, 2_999, Ok(Decision::Wait(3_000))),
+        Call::Ready(three, 2_999, Ok(Step::Wait(3_000))),
         Call::Ready(three, 3_000, to(rt, B)),
         Call::Failed(3_000, Ok(())),
-        Call::Ready(three, 8_999, Ok(Decision::Wait(9_000))),
+        Call::Ready(three, 8_999, Ok(Step::Wait(9_000))),
         Call::Ready(three, 9_000, to(rt, B)),
         Call::Failed(9_000, Ok(())),
-        Call::Ready(three, 20_999, Ok(Decision::Wait(21_000))),
+        Call::Ready(three, 20_999, Ok(Step::Wait(21_000))),
         Call::Ready(three, 21_000, to(rt, B)),
         Call::Failed(21_000, Err(ForwardError::RetriesSpent)),
         Call::Ready(three, 50_000, Err(ForwardError::RetriesSpent)),
@@ -167,9 +167,9 @@ fn check_owners(rt: &impl Abort, alloc: Global, views: &Views) {
         Call::Failed(0, Ok(())),
         Call::Failed(0, Err(ForwardError::NotInFlight)),
         Call::Ready(none, 2_999, Err(ForwardError::Nobody)),
-        Call::Ready(three, 2_999, Ok(Decision::Wait(3_000))),
-        Call::Ready(at_c, 2_999, Ok(Decision::Wait(3_000))),
-        Call::Ready(at_c, 3_000, Ok(Decision::Here)),
+        Call::Ready(three, 2_999, Ok(Step::Wait(3_000))),
+        Call::Ready(at_c, 2_999, Ok(Step::Wait(3_000))),
+        Call::Ready(at_c, 3_000, Ok(Step::Here)),
         Call::Ready(two, 3_000, to(rt, C)),
         Call::Ready(two, 9_000, Err(ForwardError::InFlight)),
     ];
@@ -179,7 +179,7 @@ fn check_owners(rt: &impl Abort, alloc: Global, views: &Views) {
 /// Checks an attempt that is this node's, and then another's.
 fn check_here(rt: &impl Abort, alloc: Global, views: &Views) {
     let calls = [
-        Call::Ready(&views.at_c, 0, Ok(Decision::Here)),
+        Call::Ready(&views.at_c, 0, Ok(Step::Here)),
         Call::Ready(&views.two, 0, to(rt, C)),
     ];
     attempt_of(rt, alloc, &["zzzz1"], &calls);
@@ -201,10 +201,10 @@ fn check_two_keys(rt: &impl Abort, alloc: Global, views: &Views) {
         Call::Ready(two, 0, to(rt, C)),
         Call::Failed(5, Ok(())),
         Call::Ready(three, 5, Err(ForwardError::Diverged)),
-        Call::Ready(two, 5, Ok(Decision::Wait(3_005))),
+        Call::Ready(two, 5, Ok(Step::Wait(3_005))),
         Call::Ready(two, LIMIT, to(rt, C)),
         Call::Failed(LIMIT, Ok(())),
-        Call::Ready(two, LIMIT, Ok(Decision::Wait(9_007_199_254_746_991))),
+        Call::Ready(two, LIMIT, Ok(Step::Wait(9_007_199_254_746_991))),
     ];
     assert!(rt; attempt_of(rt, alloc, &["zzzz1", "zzzz2"], &calls) == (2, 2));
 }

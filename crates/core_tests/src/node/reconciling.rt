@@ -3,15 +3,15 @@ ghost use Rattle.std.specs.Prelude.{◌≡◌, ◌≢◌, IfSome, map};
 ghost use Rattle.member_core.specs.Membership.{said_by};
 ghost use Rattle.node_core.specs.Agreement.{Agree};
 ghost use Rattle.change_core.specs.Change.{change_of};
-ghost use Rattle.reconciliation.specs.Reconciliation.{TakesAllOf};
+ghost use Rattle.cluster_laws.specs.Reconciliation.{TakesAllOf};
 
 use crate::calls::{Call, Calls, Told};
 use crate::node::played::check_calls;
 use crate::shared::{A, B, C, D, E, Row, hear, moment, node};
 use change_core::{Change, Moment, Sourced, Status};
+use cluster_laws::laws::reconciliation;
 use hash_ring::{PointHash, SumHash};
 use node_core::{NodeState, Taken};
-use reconciliation::laws::reconciliation;
 use std::alloc::Global;
 use std::process::Abort;
 use wire_json::Changes;
@@ -32,7 +32,7 @@ fn said_by(alloc: Global, own: &Change, changes: &[Change]) -> Option<Vec<Source
 }
 
 /// All that a node holds, as it tells it. None where a growth was refused.
-fn all_of<H: PointHash>(alloc: Global, giver: &NodeState<H>) -> Option<Changes>
+pub(super) fn all_of<H: PointHash>(alloc: Global, giver: &NodeState<H>) -> Option<Changes>
     ensures { IfSome result (λ changes. map change_of changes ≡ giver.now.node.members) }
 {
     let Ok(members) = giver.members() else {
@@ -47,7 +47,7 @@ fn all_of<H: PointHash>(alloc: Global, giver: &NodeState<H>) -> Option<Changes>
 }
 
 /// One node takes all that another holds. None where a growth was refused.
-fn take_all_of<H: PointHash>(
+pub(super) fn take_all_of<H: PointHash>(
     alloc: Global,
     taker: &mut NodeState<H>,
     giver: &NodeState<H>,

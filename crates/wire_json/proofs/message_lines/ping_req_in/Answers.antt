@@ -1,7 +1,7 @@
 use Rattle.std.proofs.Common.{[], ◌∷◌, inl, inr}
 use Rattle.std.proofs.lemmas.Result.{err_from_is_err_and}
 use Rattle.message_core.specs.declared.fields.Field.TheVariants as field
-use Rattle.wire_fields.specs.Forms.{address}
+use Rattle.wire_json.specs.Fields.{address}
 use Rattle.wire_json.specs.MessageFaults.{plain, news_parts}
 use Rattle.wire_json.proofs.Unmet.{unmet_before}
 use Rattle.wire_json.proofs.message_lines.ping_req_in.Goals as goal

@@ -1,0 +1,5 @@
+pub mod Told
+pub mod ToldLines
+pub mod Owned
+pub mod Written
+pub mod Entered

@@ -1,0 +1,184 @@
+-- Change lines that are to be told, one after the other.
+use Rattle.std.proofs.Common.{◌≡◌, ◌≢◌, ℕ, ◌+◌, ◌≤◌, true, false, List, [], ◌∷◌, ◌++◌, length, Option, Some, None, Ok, Err, Vec, IfSome, refl, sym, ap, ◌∙◌, append_assoc, append-nil, subst}
+use Rattle.std.specs.Global.{Global}
+use Rattle.std.proofs.KnownBytes.{Keeps-refl}
+use Rattle.std.proofs.lemmas.Slice.Zip.{AllZip-long}
+use Rattle.change_core.specs.Numbers.{most_members}
+use Rattle.change_core.specs.declared.addresses.Address.{Address}
+use Rattle.change_core.specs.declared.changes.Sourced.{Sourced}
+use Rattle.wire_json.specs.Forms.{ChangeFault}
+use Rattle.wire_json.specs.Lines.{Faults}
+use Rattle.wire_json.specs.Input.{TakesLine, after_line, line_of}
+use Rattle.message_core.specs.declared.errors.WireError.{WireError}
+use Rattle.message_core.specs.declared.errors.WireError.TheVariants as wire
+use Rattle.cli_core.proofs.CountedLines.{IsReadError, line_taken}
+use Rattle.cli_core.proofs.Folding.{AreChangeLines-more, bad_line, fault_line, unread}
+use Rattle.cli_core.proofs.Lines.{lines_of-first}
+use Rattle.cli_core.specs.Changes.{AreChangeLines, IsChangeLine, IsFaultAt}
+use Rattle.cli_core.specs.Faults.{fault_of_wire}
+use Rattle.cli_core.specs.Input.{lines_of}
+use Rattle.cli_core.specs.declared.faults.LineFault.{LineFault}
+use Rattle.cli_core.specs.declared.faults.LineFault.TheVariants as line
+use Rattle.peer_core.specs.Links.{MayAnswer}
+use Rattle.cli_net.specs.Telling.{Gives, HearsChange, IsNoNews, IsUntold, IsWrong, TakesTurn}
+use Rattle.cli_net.specs.declared.faults.AskFault.{AskFault}
+use Rattle.cli_net.specs.declared.faults.TellFault.{TellFault}
+use Rattle.cli_net.specs.declared.faults.TellFault.TheVariants as tell
+
+-- ---- one line
+
+-- what is wrong with a line alone is wrong with it where nobody is held, but for a member too many
+wrong : (lines : List (List ℕ)) (what : LineFault) → (what ≡ line.TooManyMembers → ⊥) → IsFaultAt [] lines what → IsWrong lines what
+wrong (l ∷ ls) (line.Wire e) n h = h
+wrong (l ∷ ls) line.TooManyMembers n h = absurd (n refl)
+wrong (l ∷ ls) line.ReadFailed n h = tt
+wrong (l ∷ ls) line.OutOfMemory n h = tt
+wrong [] (line.Wire e) n h = absurd h
+wrong [] line.TooManyMembers n h = absurd h
+wrong [] line.ReadFailed n h = tt
+wrong [] line.OutOfMemory n h = absurd h
+
+of_a_line : (e : WireError) → fault_of_wire e ≡ line.TooManyMembers → ⊥
+of_a_line wire.LineTooLong q = cc
+of_a_line wire.BadJson q = cc
+of_a_line wire.NotObject q = cc
+of_a_line wire.UnknownKind q = cc
+of_a_line (wire.MissingField f) q = cc
+of_a_line (wire.BadField f) q = cc
+of_a_line wire.TooMany q = cc
+of_a_line wire.Io q = cc
+of_a_line wire.Memory q = cc
+
+-- no line could be read
+pub unheard : (known left : Option (List ℕ)) (e : WireError) → TakesLine known (Err e) left → IsReadError e
+    → IfSome known (λ xs. HearsChange xs (Err (fault_of_wire e)) left)
+unheard None left e t i = tt
+unheard (Some xs) left e t i = wrong (lines_of xs) (fault_of_wire e) (of_a_line e) (unread (Some xs) left [] e (line_taken (Some xs) left (Err e) t i))
+
+-- a line was read that is no change
+pub no_change : (known left : Option (List ℕ)) (v : Vec ℕ Global) (e : WireError) → TakesLine known (Ok (Some v)) left
+    → (e ≢ wire.Memory → Faults ChangeFault v.items e) → IfSome known (λ xs. HearsChange xs (Err (fault_of_wire e)) left)
+no_change None left v e t h = tt
+no_change (Some xs) left v e t h =
+    wrong (lines_of xs) (fault_of_wire e) (of_a_line e) (bad_line (Some xs) left [] v (fault_of_wire e) (line_taken (Some xs) left (Ok (Some v)) t tt) (fault_line [] v.items e h))
+
+-- a line was read that is a change
+pub a_change : (known left : Option (List ℕ)) (v : Vec ℕ Global) (c : Sourced) → TakesLine known (Ok (Some v)) left → IsChangeLine v.items c
+    → IfSome known (λ xs. HearsChange xs (Ok (Some c)) left)
+a_change None left v c t i = tt
+a_change (Some xs) left v c t i = (line_of xs, after_line xs, t.2, lines_of-first xs t.0, subst (λ (l : List ℕ). IsChangeLine l c) t.1 i)
+
+-- ---- one turn
+
+pub ends_turns : (known left : Option (List ℕ)) (old : List Sourced) → IfSome known (λ xs. HearsChange xs (Ok None) left)
+    → IfSome known (λ xs. TakesTurn xs old (Ok false) left old)
+ends_turns None left old h = tt
+ends_turns (Some xs) left old h = (h, refl)
+
+pub wrong_turn : (known left : Option (List ℕ)) (old new : List Sourced) (number : ℕ) (what : LineFault) → number ≡ length old + 1
+    → IfSome known (λ xs. HearsChange xs (Err what) left) → IfSome known (λ xs. TakesTurn xs old (Err (tell.AtLine number what)) left new)
+wrong_turn None left old new number what n h = tt
+wrong_turn (Some xs) left old new number what n h = (n, h)
+
+pub one_too_many : (known left : Option (List ℕ)) (old new : List Sourced) (c : Sourced) → length old ≡ most_members
+    → IfSome known (λ xs. HearsChange xs (Ok (Some c)) left) → IfSome known (λ xs. TakesTurn xs old (Err tell.TooManyChanges) left new)
+one_too_many None left old new c full h = tt
+one_too_many (Some xs) left old new c full h = (h.0, lines_of h.1, c, h.3, h.4, full)
+
+pub no_room : (known left : Option (List ℕ)) (old new : List Sourced) (number : ℕ) (c : Sourced) → number ≡ length old + 1
+    → IfSome known (λ xs. HearsChange xs (Ok (Some c)) left)
+    → IfSome known (λ xs. TakesTurn xs old (Err (tell.AtLine number line.OutOfMemory)) left new)
+no_room None left old new number c n h = tt
+no_room (Some xs) left old new number c n h = (n, subst (λ ls. IsWrong ls line.OutOfMemory) (sym h.3) tt)
+
+pub one_more : (known left : Option (List ℕ)) (old new : List Sourced) (c : Sourced) → new ≡ old ++ c ∷ []
+    → IfSome known (λ xs. HearsChange xs (Ok (Some c)) left) → IfSome known (λ xs. TakesTurn xs old (Ok true) left new)
+one_more None left old new c e h = tt
+one_more (Some xs) left old new c e h = (h.0, h.1, c, h.2, h.3, h.4, e)
+
+-- ---- all lines
+
+-- the lines read so far stand before those that are left, and are these changes
+pub record HasRead (known left : Option (List ℕ)) (changes : List Sourced) : Type 0 where
+  pub is : IfSome known (λ input. (rest : List ℕ) × (before : List (List ℕ)) × (left ≡ Some rest)
+      × (lines_of input ≡ before ++ lines_of rest) × AreChangeLines before changes)
+
+pub starts : (known : Option (List ℕ)) → HasRead known known []
+starts None = record { is = tt }
+starts (Some input) = record { is = (input, [], refl, refl, tt) }
+
+goes_known : (input : List ℕ) (left later : Option (List ℕ)) (old new : List Sourced)
+    → (rest : List ℕ) × (before : List (List ℕ)) × (left ≡ Some rest) × (lines_of input ≡ before ++ lines_of rest) × AreChangeLines before old
+    → IfSome left (λ xs. TakesTurn xs old (Ok true) later new)
+    → (rest : List ℕ) × (before : List (List ℕ)) × (later ≡ Some rest) × (lines_of input ≡ before ++ lines_of rest) × AreChangeLines before new
+goes_known input left later old new p h =
+    let (rest, before, is, lines, read) = p in
+    let (next, after, c, later_is, first, is_change, new_is) = rw is at h in (
+      after,
+      before ++ next ∷ [],
+      later_is,
+      lines ∙ ap (λ ls. before ++ ls) first ∙ sym (append_assoc before (next ∷ []) (lines_of after)),
+      subst (AreChangeLines (before ++ next ∷ [])) (sym new_is) (AreChangeLines-more before old next c read is_change),
+    )
+
+pub goes : (known left later : Option (List ℕ)) (old new : List Sourced) → HasRead known left old
+    → IfSome left (λ xs. TakesTurn xs old (Ok true) later new) → HasRead known later new
+goes None left later old new p h = record { is = tt }
+goes (Some input) left later old new p h = record { is = goes_known input left later old new p.is h }
+
+pub ends : (known left later : Option (List ℕ)) (old new : List Sourced) → HasRead known left old
+    → IfSome left (λ xs. TakesTurn xs old (Ok false) later new) → length new ≤ most_members → Gives known new
+ends None left later old new p h few = tt
+ends (Some input) left later old new p h few =
+    let (rest, before, is, lines, read) = p.is in
+    let (none, same) = rw is at h in
+    let all : lines_of input ≡ before = lines ∙ ap (λ xs. before ++ lines_of xs) none ∙ append-nil before in
+    (rw (all, same) read, few)
+
+counted : (lines : List (List ℕ)) (changes : List Sourced) → AreChangeLines lines changes → length lines ≡ length changes
+counted lines changes h = sym (AllZip-long IsChangeLine lines changes h)
+
+faults_known : (input : List ℕ) (left later : Option (List ℕ)) (old new : List Sourced) (e : TellFault)
+    → (rest : List ℕ) × (before : List (List ℕ)) × (left ≡ Some rest) × (lines_of input ≡ before ++ lines_of rest) × AreChangeLines before old
+    → length old ≤ most_members → IfSome left (λ xs. TakesTurn xs old (Err e) later new) → ((f : AskFault) → e ≡ tell.Asked f → ⊥)
+    → IsNoNews (Some input) e
+faults_known input left later old new (tell.AtLine number what) p few h n =
+    let (rest, before, is, lines, read) = p in
+    let (place, wrong) = rw is at h in
+    record {
+      before = before;
+      left = lines_of rest;
+      changes = old;
+      lines = lines;
+      read = (read, few);
+      place = place ∙ ap (λ m. m + 1) (sym (counted before old read));
+      is = wrong;
+    }
+faults_known input left later old new tell.TooManyChanges p few h n =
+    let (rest, before, is, lines, read) = p in
+    let (next, later, c, first, is_change, full) = rw is at h in
+    record {
+      before = before;
+      next = next;
+      later = later;
+      changes = old;
+      change = c;
+      lines = lines ∙ ap (λ ls. before ++ ls) first;
+      read = read;
+      full = full;
+      is = is_change;
+    }
+faults_known input left later old new (tell.Asked f) p few h n = absurd (n f refl)
+
+pub faults : (known left later : Option (List ℕ)) (old new : List Sourced) (e : TellFault) → HasRead known left old → length old ≤ most_members
+    → IfSome left (λ xs. TakesTurn xs old (Err e) later new) → ((f : AskFault) → e ≡ tell.Asked f → ⊥) → IsNoNews known e
+faults None left later old new (tell.AtLine number what) p few h n = tt
+faults None left later old new tell.TooManyChanges p few h n = tt
+faults None left later old new (tell.Asked f) p few h n = absurd (n f refl)
+faults (Some input) left later old new e p few h n = faults_known input left later old new e p.is few h n
+
+-- where the lines are not told nothing is written
+pub unread_by : (May : MayAnswer) (to : Address) (known old : Option (List ℕ)) (e : TellFault) → IsNoNews known e → IsUntold May to known e old old
+unread_by May to known old (tell.AtLine number what) h = (h, Keeps-refl old)
+unread_by May to known old tell.TooManyChanges h = (h, Keeps-refl old)
+unread_by May to known old (tell.Asked e) h = absurd h

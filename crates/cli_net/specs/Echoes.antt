@@ -1,0 +1,15 @@
+-- How a server handles a request.
+use Rattle.std.specs.Prelude.{◌≡◌, ℕ, List, ◌∷◌, ◌++◌, Ok, Err}
+use Rattle.change_core.specs.Address.{address_text}
+use Rattle.peer_core.specs.Handling.{MayHandle}
+use Rattle.peer_core.specs.declared.errors.HandlerFault.TheVariants.{Failed, Memory}
+
+-- a node's address, a space and the body
+abbrev pub echo_text : ℕ → List ℕ → List ℕ
+echo_text a body = address_text a ++ 32 ∷ body
+
+-- the echo of some node, or that there was no memory for it
+abbrev pub MayEcho : MayHandle
+MayEcho keys body (Ok text) = (a : ℕ) × (text ≡ echo_text a body)
+MayEcho keys body (Err Memory) = Unit {0}
+MayEcho keys body (Err Failed) = ⊥

@@ -1,0 +1,9 @@
+pub mod Asking
+pub mod Commands
+pub mod Echoes
+pub mod Membership
+pub mod Owning
+pub mod Runs
+pub mod Service
+pub mod Status
+pub mod Telling

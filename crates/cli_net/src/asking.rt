@@ -1,0 +1,106 @@
+//! A request to one node.
+ghost use Rattle.std.specs.Prelude.{◌≡◌, IfOk, IfErr, OnOk, IsOkUnless};
+ghost use Rattle.cluster_core.specs.Channels.{any_answer};
+ghost use Rattle.cli_net.specs.Asking.{IsNoReply, IsReply, IsUnasked, LeavesReply, WritesReply, request};
+
+use crate::faults::AskFault;
+use crate::questions::{ask_for, write_text};
+use change_core::Address;
+use cluster_core::{Link, TcpLink};
+use message_core::{Content, Keys, Text};
+use std::alloc::Global;
+use std::io::Write;
+use std::net::Net;
+use std::sync::Wait;
+use std::time::Clock;
+
+/// A request for a key.
+fn request(alloc: Global, key: &str, body: &str) -> Result<Content, AskFault>
+    ensures ok { IfOk result (λ c. c ≡ request key.now body.now) }
+    ensures refusal { IsOkUnless result AskFault.NoMemory }
+{
+    let key = Text::new(alloc, key).map_err(|_| AskFault::NoMemory)?;
+    let keys = Keys::new(alloc, key).map_err(|_| AskFault::NoMemory)?;
+    let body = Text::new(alloc, body).map_err(|_| AskFault::NoMemory)?;
+    Ok(Content::Forward(keys, body))
+}
+
+/// What the node replies to a request.
+///
+/// Errors: those of `ask_over` but `CannotWrite`; `NoMemory` only where the link found none.
+fn reply_to<R: Wait, L: Link>(
+    rt: &R,
+    alloc: Global,
+    link: &mut L,
+    to: Address,
+    content: Content,
+) -> Result<Text, AskFault>
+    ensures reply { IfOk result (IsReply L.may_answer to content) }
+    ensures fault { IfErr result (IsNoReply L.may_answer to content) }
+{
+    match ask_for(rt, alloc, link, to, content)? {
+        Content::Reply(text) => Ok(text),
+        Content::NotOwner => Err(AskFault::NotOwner),
+        Content::Refused(reason) => Err(AskFault::Refused(reason)),
+        _ => Err(AskFault::Unexpected),
+    }
+}
+
+/// Sends the request for a key to the node. The text of its reply.
+///
+/// Errors: those of `ask_over` but `CannotWrite`.
+pub fn reply_of<R: Wait, L: Link>(
+    rt: &R,
+    alloc: Global,
+    link: &mut L,
+    to: Address,
+    key: &str,
+    body: &str,
+) -> Result<Text, AskFault>
+    ensures reply { IfOk result (IsReply L.may_answer to (request key.now body.now)) }
+    ensures fault { IfErr result (IsUnasked L.may_answer to (request key.now body.now)) }
+{
+    let content = request(alloc, key, body)?;
+    reply_to(rt, alloc, link, to, content)
+}
+
+/// Sends the request for a key to the node, and writes the reply's text and a newline. Where no reply came nothing is written.
+///
+/// Errors: `NoMemory`, of the link's too; `NoAnswer` where no message came; `NotOwner` and `Refused` as the node says, and
+/// `Unexpected` at any other message; `CannotWrite` where the writer fails, a front of the line having been written.
+pub fn ask_over<R: Wait, L: Link, W: Write>(
+    rt: &R,
+    alloc: Global,
+    link: &mut L,
+    address: Address,
+    key: &str,
+    body: &str,
+    writer: &mut W,
+) -> Result<(), AskFault>
+    ensures replied { OnOk result (WritesReply (IsReply L.may_answer address (request key.now body.now))
+        (W.contents writer.old) (W.contents writer.new)) }
+    ensures fault { IfErr result (λ e. LeavesReply (IsReply L.may_answer address (request key.now body.now))
+        (IsUnasked L.may_answer address (request key.now body.now)) e (W.contents writer.old) (W.contents writer.new)) }
+{
+    let text = reply_of(rt, alloc, link, address, key, body)?;
+    write_text(writer, text.as_str().as_bytes())
+}
+
+/// `ask_over` over sockets, with the standard limits. A request whose line would have more than 1,048,576 bytes is not sent:
+/// `NoAnswer`.
+pub fn ask_run<R: Net + Clock + Wait, W: Write>(
+    rt: &R,
+    alloc: Global,
+    address: Address,
+    key: &str,
+    body: &str,
+    writer: &mut W,
+) -> Result<(), AskFault>
+    ensures replied { OnOk result (WritesReply (IsReply any_answer address (request key.now body.now))
+        (W.contents writer.old) (W.contents writer.new)) }
+    ensures fault { IfErr result (λ e. LeavesReply (IsReply any_answer address (request key.now body.now))
+        (IsUnasked any_answer address (request key.now body.now)) e (W.contents writer.old) (W.contents writer.new)) }
+{
+    let mut link = TcpLink::new(rt);
+    ask_over(rt, alloc, &mut link, address, key, body, writer)
+}

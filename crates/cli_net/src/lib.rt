@@ -1,0 +1,31 @@
+//! The program's commands over any reader, writer and network: `serve`, `ask`, `members` and `tell`, and the run of what the
+//! command line asks for.
+#![tactic(auto)]
+
+mod asking;
+mod commands;
+mod echoes;
+mod faults;
+mod looks;
+mod nodes;
+mod owners;
+mod program_errors;
+mod questions;
+mod runs;
+mod serving;
+mod telling;
+
+pub use asking::{ask_over, ask_run};
+pub use cli_core::{
+    AskAnyWords, AskWords, ClusterCommand, MOST_REQUESTS, MembersWords, ServeWords,
+};
+pub use commands::{ClusterFault, cluster_command_run};
+pub use echoes::Echo;
+pub use faults::{AskFault, ServeFault, TellFault};
+pub use looks::{members_over, members_run};
+pub use owners::{ask_any_over, ask_any_run};
+pub use program_errors::Fault;
+pub use runs::words_run;
+pub use server::Runtime;
+pub use serving::{serve_run, serve_within};
+pub use telling::{tell_over, tell_run};

@@ -1,0 +1,181 @@
+//! The members that a running node holds.
+ghost use Rattle.std.specs.Prelude.{◌≡◌, ◌≤◌, ◌∷◌, ◌++◌, [], length, map, IfOk, IfErr, OnOk, IsOkUnless};
+ghost use Rattle.std.specs.List.{flat_map};
+ghost use Rattle.std.specs.Io.KnownBytes.{Appends};
+ghost use Rattle.change_core.specs.Members.{members};
+ghost use Rattle.change_core.specs.Numbers.{most_members};
+ghost use Rattle.serde_json.specs.Written.{compact_text};
+ghost use Rattle.wire_json.specs.Forms.{change_data};
+ghost use Rattle.cli_core.specs.Changes.{change_of};
+ghost use Rattle.cli_core.specs.Fold.{fold_text};
+ghost use Rattle.cluster_core.specs.Channels.{any_answer};
+ghost use Rattle.cli_net.specs.Membership.{IsNotSeen, IsSeen, IsUnwritten, LeavesText, WritesSeen, change_line, membership_text, told_members};
+
+use crate::faults::AskFault;
+use crate::questions::{join_with, write_text};
+use change_core::{Address, MOST_MEMBERS, Sourced};
+use cli_core::fold_text;
+use cluster_core::{Link, TcpLink};
+use member_core::{MemberError, MemberTable};
+use message_core::{Changes, News};
+use std::alloc::Global;
+use std::io::Write;
+use std::net::Net;
+use std::sync::Wait;
+use std::time::Clock;
+use wire_json::encode_change;
+
+/// The members that changes come to.
+fn folded(alloc: Global, changes: &[Sourced]) -> Result<MemberTable, AskFault>
+    requires { length changes.now ≤ most_members }
+    ensures members { IfOk result (λ t. t.members ≡ members (map change_of changes.now)) }
+    ensures refusal { IsOkUnless result AskFault.NoMemory }
+{
+    let mut table = MemberTable::new(alloc, MOST_MEMBERS).unwrap();
+    'changes: for sourced in changes {
+        match table.take(sourced.change) {
+            Ok(_) => {}
+            Err(MemberError::Memory) => return Err(AskFault::NoMemory),
+            Err(MemberError::Full | MemberError::BadLimit) => unreachable!(),
+        }
+    }
+    Ok(table)
+}
+
+/// The membership that a node holds once it was told these changes, as it tells it to whoever joins.
+///
+/// Errors: `NoMemory`, of the link's too; `NoAnswer` where no message came; `Refused` as the node says; `Unexpected` at any other
+/// message, and where the digest that came is not that of the members.
+pub fn look<R: Wait, L: Link>(
+    rt: &R,
+    alloc: Global,
+    link: &mut L,
+    host: Address,
+    changes: Changes,
+) -> Result<(News, MemberTable), AskFault>
+    ensures seen { IfOk result (λ seen. IsSeen L.may_answer host changes seen.0) }
+    ensures members { IfOk result (λ seen. seen.1.members ≡ told_members seen.0) }
+    ensures fault { IfErr result (λ e. IsNotSeen L.may_answer host changes e) }
+{
+    let news = join_with(rt, alloc, link, host, changes)?;
+    let table = folded(alloc, news.changes.as_slice())?;
+    let digest = table.digest().map_err(|_| AskFault::NoMemory)?;
+    if digest.bytes() != news.checksum.bytes() {
+        return Err(AskFault::Unexpected);
+    }
+    Ok((news, table))
+}
+
+/// `look` without changes.
+pub fn look_only<R: Wait, L: Link>(
+    rt: &R,
+    alloc: Global,
+    link: &mut L,
+    host: Address,
+) -> Result<(News, MemberTable), AskFault>
+    ensures seen { IfOk result (λ seen. IsSeen L.may_answer host [] seen.0) }
+    ensures members { IfOk result (λ seen. seen.1.members ≡ told_members seen.0) }
+    ensures fault { IfErr result (λ e. IsNotSeen L.may_answer host [] e) }
+{
+    let Ok(nothing) = Changes::from_vec(Vec::new(alloc)) else {
+        unreachable!()
+    };
+    look(rt, alloc, link, host, nothing)
+}
+
+/// The line of a change, without its newline.
+fn line_of(alloc: Global, change: &Sourced) -> Result<Vec<u8>, AskFault>
+    ensures text { IfOk result (λ b. b.items ≡ compact_text (change_data change.now)) }
+    ensures refusal { IsOkUnless result AskFault.NoMemory }
+{
+    encode_change(alloc, change).map_err(|_| AskFault::NoMemory)
+}
+
+/// The lines of changes; the last newline is left to the writing.
+fn change_lines(alloc: Global, first: &Sourced, others: &[Sourced]) -> Result<Vec<u8>, AskFault>
+    ensures text { IfOk result (λ v. v.items ++ 10 ∷ [] ≡ flat_map change_line (first.now ∷ others.now)) }
+    ensures refusal { IsOkUnless result AskFault.NoMemory }
+{
+    let mut lines = line_of(alloc, first)?;
+    'others: for other in others {
+        let line = line_of(alloc, other)?;
+        lines.extend_from_slice(b"\n")?;
+        lines.extend_from_slice(line.as_slice())?;
+    }
+    Ok(lines)
+}
+
+/// Writes changes, a line each, and nothing where there is none.
+fn write_changes<W: Write>(
+    alloc: Global,
+    changes: &[Sourced],
+    writer: &mut W,
+) -> Result<(), AskFault>
+    ensures ok { OnOk result (Appends (W.contents writer.old) (W.contents writer.new) (flat_map change_line changes.now)) }
+    ensures left { IfErr result (λ e. LeavesText (flat_map change_line changes.now) e
+        (W.contents writer.old) (W.contents writer.new)) }
+{
+    let Some((first, others)) = changes.split_first() else {
+        return Ok(());
+    };
+    let lines = change_lines(alloc, first, others)?;
+    write_text(writer, lines.as_slice())
+}
+
+/// Writes the digest text of members and its digest, a line each.
+fn write_members<W: Write>(
+    alloc: Global,
+    table: &MemberTable,
+    writer: &mut W,
+) -> Result<(), AskFault>
+    ensures ok { OnOk result (Appends (W.contents writer.old) (W.contents writer.new) (fold_text table.now.members)) }
+    ensures left { IfErr result (λ e. LeavesText (fold_text table.now.members) e
+        (W.contents writer.old) (W.contents writer.new)) }
+{
+    let text = fold_text(alloc, table).map_err(|_| AskFault::NoMemory)?;
+    write_text(writer, text.as_str().as_bytes())
+}
+
+/// Asks the node for its membership, and writes its digest text and digest, a line each, as `fold` does; or with `lines` its
+/// change lines. The node takes nothing from it. At a fault other than of writing nothing is written.
+///
+/// Errors: `NoMemory`, of the link's too; `NoAnswer` where no message came; `Refused` as the node says; `Unexpected` at any other
+/// message, and where the digest that came is not that of the members; `CannotWrite` where the writer fails, a front of the
+/// text having been written.
+pub fn members_over<R: Wait, L: Link, W: Write>(
+    rt: &R,
+    alloc: Global,
+    link: &mut L,
+    host: Address,
+    lines: bool,
+    writer: &mut W,
+) -> Result<(), AskFault>
+    ensures written { OnOk result (WritesSeen L.may_answer host [] (membership_text lines)
+        (W.contents writer.old) (W.contents writer.new)) }
+    ensures fault { IfErr result (λ e. IsUnwritten L.may_answer host [] (membership_text lines) e
+        (W.contents writer.old) (W.contents writer.new)) }
+{
+    let (news, table) = look_only(rt, alloc, link, host)?;
+    if lines {
+        write_changes(alloc, news.changes.as_slice(), writer)
+    } else {
+        write_members(alloc, &table, writer)
+    }
+}
+
+/// `members_over` over sockets, with the standard limits.
+pub fn members_run<R: Net + Clock + Wait, W: Write>(
+    rt: &R,
+    alloc: Global,
+    host: Address,
+    lines: bool,
+    writer: &mut W,
+) -> Result<(), AskFault>
+    ensures written { OnOk result (WritesSeen any_answer host [] (membership_text lines)
+        (W.contents writer.old) (W.contents writer.new)) }
+    ensures fault { IfErr result (λ e. IsUnwritten any_answer host [] (membership_text lines) e
+        (W.contents writer.old) (W.contents writer.new)) }
+{
+    let mut link = TcpLink::new(rt);
+    members_over(rt, alloc, &mut link, host, lines, writer)
+}

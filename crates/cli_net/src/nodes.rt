@@ -1,0 +1,107 @@
+//! The node of a server, and its passes.
+ghost use Rattle.std.specs.Prelude.{◌≡◌, ◌≢◌, ◌⊎◌, ◌<◌, ◌^◌, ◌++◌, ◌∷◌, [], Some, None, Err, length, IfOk, IfErr, IsOk, IsOkUnless, MatchResult};
+ghost use Rattle.std.specs.List.{All};
+ghost use Rattle.locked_node.specs.Passes.{Fits, opening_of};
+ghost use Rattle.cluster_core.specs.Clusters.{AreAll, AreFresh};
+ghost use Rattle.cli_net.specs.Service.{IsBorn, IsJoinedTo, join_fault};
+
+use crate::faults::ServeFault;
+use change_core::{Address, Moment};
+use cli_core::ServeWords;
+use cluster_core::{ClusterError, Link, join, share};
+use hash_ring::PointHash;
+use locked_node::{LockedNode, NodePass};
+use node_core::{Config, NodeError, NodeState};
+use server::Stopwatch;
+use std::alloc::Global;
+use std::sync::Wait;
+
+/// The node that the words ask for.
+fn node_of<H: PointHash>(
+    alloc: Global,
+    hash: H,
+    words: &ServeWords,
+) -> Result<NodeState<H>, ServeFault>
+    ensures born { IfOk result (IsBorn H.hash_of hash words.now) }
+    ensures refusal { IsOkUnless result ServeFault.NoMemory }
+{
+    let mut config = Config::standard();
+    config.replicas = words.replicas;
+    config.weight = words.weight;
+    let seed = words.incarnation.number();
+    let made = NodeState::new(
+        alloc,
+        config,
+        hash,
+        words.address,
+        words.incarnation,
+        seed,
+        Stopwatch::beginning(),
+    );
+    match made {
+        Ok(node) => Ok(node),
+        Err(NodeError::Memory) => Err(ServeFault::NoMemory),
+        Err(_) => unreachable!(),
+    }
+}
+
+/// The node that the words ask for, shared: the pass of its rounds, and those of its workers before it.
+pub fn shared_node<H: PointHash>(
+    alloc: Global,
+    hash: H,
+    words: &ServeWords,
+) -> Result<(LockedNode<H>, NodePass<H>, Vec<NodePass<H>>), ServeFault>
+    ensures born { IfOk result (λ r. IsBorn H.hash_of hash words.now (opening_of r.0)) }
+    ensures fits { IfOk result (λ r. Fits r.0 r.1 × All (Fits r.0) r.2.items) }
+    ensures count { IfOk result (λ r. length r.2.items ≡ words.now.workers) }
+    ensures all { IfOk result (λ r. AreAll r.0 (r.2.items ++ r.1 ∷ [])) }
+    ensures fresh { IfOk result (λ r. AreFresh r.0 (r.2.items ++ r.1 ∷ [])) }
+    ensures refusal { IsOkUnless result ServeFault.NoMemory }
+{
+    let node = node_of(alloc, hash, words)?;
+    match share(alloc, node, words.workers) {
+        Ok(shared) => Ok(shared),
+        Err(_) => Err(ServeFault::NoMemory),
+    }
+}
+
+/// How a server calls why it did not join.
+fn fault_of(error: ClusterError) -> ServeFault
+    ensures is { Some result ≡ join_fault (Err error) }
+    ensures named { (result ≡ ServeFault.NoneJoined) ⊎ (result ≡ ServeFault.NoMemory) }
+{
+    match error {
+        ClusterError::Memory => ServeFault::NoMemory,
+        _ => ServeFault::NoneJoined,
+    }
+}
+
+/// Joins the hosts in their order at a moment, if there are any.
+///
+/// Errors: `NoMemory` where a growth was refused, the link's included; `NoneJoined` where none of them let the node in.
+pub fn join_hosts<R: Wait, H: PointHash, L: Link>(
+    rt: &R,
+    alloc: Global,
+    node: &LockedNode<H>,
+    pass: &mut NodePass<H>,
+    link: &mut L,
+    hosts: &[Address],
+    now: Moment,
+) -> Result<(), ServeFault>
+    requires fits { Fits node.now pass.old }
+    requires few { length hosts.now < 2 ^ 32 }
+    ensures alone { hosts.now ≡ [] → IsOk result × (pass.new ≡ pass.old) }
+    ensures joined { hosts.now ≢ [] → MatchResult result
+        (λ _. IsJoinedTo L.may_answer node.now hosts.now now None pass.old pass.new)
+        (λ e. IsJoinedTo L.may_answer node.now hosts.now now (Some e) pass.old pass.new) }
+    ensures named { IfErr result (λ e. (e ≡ ServeFault.NoneJoined) ⊎ (e ≡ ServeFault.NoMemory)) }
+    ensures fits { Fits node.now pass.new }
+{
+    if hosts.is_empty() {
+        return Ok(());
+    }
+    match join(rt, alloc, node, pass, link, hosts, now) {
+        Ok(_) => Ok(()),
+        Err(error) => Err(fault_of(error)),
+    }
+}

@@ -1,5 +1,0 @@
-use Rattle.cluster_core.proofs.Servings.{servings_rest}
-use Rattle.cluster_core.proofs.laws.servings.Goals as goal
-
-pub returns : goal.returns
-returns g c = servings_rest g.H.PointHash.hash_of g.L.Link.may_answer g.A.Handler.may_handle

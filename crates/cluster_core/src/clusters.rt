@@ -1,0 +1,650 @@
+//! Nodes of one process, each served by workers of its own, that talk over channels.
+ghost use Rattle.std.specs.Prelude.{◌≡◌, ◌≢◌, ◌⊎◌, ◌<◌, ◌≤◌, ◌+◌, ◌++◌, ◌∷◌, [], map, slice_index_or, IsTrue, IsFalse, IfOk, IfErr, IfNone, IfSome, IsOkUnless, Err, All, length};
+ghost use Rattle.std.specs.List.{AllZip};
+ghost use Rattle.std.specs.Arc.{arc_value};
+ghost use Rattle.node_core.specs.Workers.{IsCrew};
+ghost use Rattle.locked_node.specs.Passes.{Fits, opening_of, passes_of};
+ghost use Rattle.cluster_core.specs.Channels.{any_answer, IsChannelFault, failures_of, reached_by};
+ghost use Rattle.cluster_core.specs.Clusters.{address_in, AreAll, AreApart, AreFresh, given_to, HasNoNode, HasNoPost, HasRound, IsGivenUp, IsNotStarted, IsOfSeat, IsRoundBy, NoneHas, Seats, IsStarted};
+ghost use Rattle.cluster_core.specs.Working.{HasWorked, IsMessageServed, Repeats, ServesOnce};
+ghost use Rattle.peer_core.specs.Acts.{Makes};
+ghost use Rattle.peer_core.specs.Errors.{IsRoundRefusal};
+ghost use Rattle.peer_core.specs.Parts.{Does, let_in};
+ghost use Rattle.peer_core.specs.Serving.{Serves};
+
+use crate::channel_links::{ChannelLink, Job, Post, ask_one, post_of, put};
+use crate::seats::{Returned, Seat};
+use change_core::{Address, Moment};
+use crossbeam_channel::{Receiver, Sender, unbounded};
+use hash_ring::PointHash;
+use locked_node::{LockedNode, NodePass};
+use message_core::Message;
+use node_core::{MOST_WORKERS, NodeState};
+use peer_core::{ClusterError, Handler, LinkError, Round, gossip_round, serve_one};
+use std::alloc::{AllocError, AllocFailed, Global};
+use std::fmt;
+use std::marker::Model;
+use std::snapshot::Snapshot;
+use std::sync::{Arc, Wait};
+use std::thread::{self, PromisedHandle, Threads};
+use thiserror::Error;
+use turn_lock::LockError;
+
+/// Why a cluster was not started.
+#[derive(Drop, Error)]
+pub enum StartError<H: PointHash> {
+    /// The number of workers is not from 1 to 16. The nodes are handed back.
+    #[error("bad count of workers")]
+    BadCount(Vec<NodeState<H>>),
+    /// Two of the nodes have one address. The nodes are handed back.
+    #[error("two nodes have one address")]
+    SameAddress(Vec<NodeState<H>>),
+    /// A thread could not be made. The nodes are given up.
+    #[error("no thread could be made")]
+    NoThread,
+    /// A growth was refused. The nodes are given up.
+    #[error("out of memory")]
+    Memory,
+}
+
+impl<H: PointHash> fmt::Debug for StartError<H> {
+    fn fmt<F: fmt::Write>(&self, f: &mut fmt::Formatter<F>) -> fmt::Result {
+        f.write_str(match self {
+            StartError::BadCount(_) => "BadCount",
+            StartError::SameAddress(_) => "SameAddress",
+            StartError::NoThread => "NoThread",
+            StartError::Memory => "Memory",
+        })
+    }
+}
+
+/// Why a cluster gave no nodes back.
+#[derive(Clone, Copy, Debug, PartialEq, Eq, Error)]
+pub enum StopError {
+    /// A node is still held by somebody else.
+    #[error("a node is still held")]
+    StillHeld,
+    /// A growth was refused.
+    #[error("out of memory")]
+    Memory,
+}
+
+/// Nodes that are served.
+#[derive(Drop)]
+pub struct Cluster<H: PointHash> {
+    posts: Arc<Vec<Post>, Global>,
+    seats: Vec<Seat<H>>,
+}
+
+impl<H: PointHash> Model for Cluster<H> {
+    ghost use Rattle.std.specs.Arc.{arc_value};
+    ghost use Rattle.cluster_core.specs.Clusters.{ArePostsOf, ClusterState};
+
+    ghost Value = { ClusterState H };
+
+    ghost view = { λ c. record { posts = (arc_value c.posts).items; seats = c.seats.items } };
+
+    ghost invariant = { λ c. ArePostsOf (arc_value c.posts).items c.seats.items };
+}
+
+/// The moment that a worker hands in, which a node reads as its last one.
+fn beginning() -> Moment
+    ensures { result ≡ 0 }
+{
+    let Some(moment) = Moment::new(0) else {
+        unreachable!()
+    };
+    moment
+}
+
+/// Answers a message, at the moment that a node reads as its last one.
+fn answer_one<R: Wait, H: PointHash, A: Handler>(
+    rt: &R,
+    alloc: Global,
+    node: &LockedNode<H>,
+    pass: &mut NodePass<H>,
+    link: &mut ChannelLink,
+    handler: &A,
+    message: &Message,
+) -> Result<Message, LockError>
+    requires { Fits node.now pass.old }
+    ensures served { Does node.now (Serves H.hash_of any_answer A.may_handle message.now 0 message.now.content) (let_in result) pass.old pass.new }
+    ensures fits { Fits node.now pass.new }
+{
+    serve_one(rt, alloc, node, pass, link, handler, beginning(), message)
+}
+
+/// Answers a message, and sends the answer where somebody waits for it.
+fn answer_to<R: Wait, H: PointHash, A: Handler>(
+    rt: &R,
+    alloc: Global,
+    node: &LockedNode<H>,
+    pass: &mut NodePass<H>,
+    link: &mut ChannelLink,
+    handler: &A,
+    message: &Message,
+    to: &Sender<Message>,
+)
+    requires { Fits node.now pass.old }
+    ensures served { ServesOnce H.hash_of A.may_handle message.now node.now pass.old pass.new }
+    ensures fits { Fits node.now pass.new }
+{
+    if let Ok(answer) = answer_one(rt, alloc, node, pass, link, handler, message) {
+        let _sent = put(rt, to, answer);
+    }
+}
+
+/// Answers the next message that comes. Where there is none to come, or the worker is to end, it is `false`.
+fn serve_next<R: Wait, H: PointHash, A: Handler>(
+    rt: &R,
+    alloc: Global,
+    node: &LockedNode<H>,
+    pass: &mut NodePass<H>,
+    link: &mut ChannelLink,
+    handler: &A,
+    jobs: &Receiver<Job>,
+) -> bool
+    requires { Fits node.now pass.old }
+    ensures served { IsTrue result → (m : _) × ServesOnce H.hash_of A.may_handle m node.now pass.old pass.new }
+    ensures ended { IsFalse result → pass.new ≡ pass.old }
+    ensures fits { Fits node.now pass.new }
+{
+    match &jobs.recv(rt) {
+        Ok(Job::Serve(message, to)) => {
+            answer_to(rt, alloc, node, pass, link, handler, message, to);
+            true
+        }
+        Ok(Job::Stop) | Err(_) => false,
+    }
+}
+
+/// Answers what comes until there is nothing more to come, and gives the pass back.
+fn work<R: Wait + Copy, H: PointHash, A: Handler + Drop>(
+    rt: R,
+    alloc: Global,
+    node: Arc<LockedNode<H>, Global>,
+    mut pass: NodePass<H>,
+    mut link: ChannelLink,
+    handler: Arc<A, Global>,
+    jobs: Receiver<Job>,
+) -> NodePass<H>
+    requires { Fits (arc_value node) pass }
+    ensures made { Makes (arc_value node) (Repeats (IsMessageServed H.hash_of A.may_handle)) pass result }
+    ensures worked { HasWorked H.hash_of (arc_value node) pass result }
+    ensures fits { Fits (arc_value node) result }
+{
+    'jobs: for _ in rt.forever() {
+        if !serve_next(&rt, alloc, &*node, &mut pass, &mut link, &*handler, &jobs) {
+            break;
+        }
+    }
+    pass
+}
+
+/// A post for each node, and where the jobs of each come out.
+fn posts_for<H: PointHash>(
+    alloc: Global,
+    nodes: &[NodeState<H>],
+) -> Result<(Vec<Post>, Vec<Receiver<Job>>), AllocError>
+    ensures posts { IfOk result (λ r. map (λ p. p.address) r.0.items ≡ map address_in nodes.now) }
+    ensures outlets { IfOk result (λ r. length r.1.items ≡ length nodes.now) }
+{
+    let mut posts = Vec::with_capacity(alloc, nodes.len())?;
+    let mut outlets = Vec::with_capacity(alloc, nodes.len())?;
+    for node in nodes {
+        let (jobs, outlet) = unbounded(alloc)?;
+        let address = node.own().address;
+        posts.push(Post { address, jobs })?;
+        outlets.push(outlet)?;
+    }
+    Ok((posts, outlets))
+}
+
+/// Whether one of the nodes has this address.
+fn is_taken<H: PointHash>(nodes: &[NodeState<H>], address: Address) -> bool
+    ensures taken { IsTrue result → ¬ NoneHas nodes.now address }
+    ensures free { IsFalse result → NoneHas nodes.now address }
+{
+    nodes.iter().any(|node| node.own().address == address)
+}
+
+/// Whether two of the nodes have one address.
+fn has_twins<H: PointHash>(nodes: &[NodeState<H>]) -> bool
+    ensures twins { IsTrue result → ¬ AreApart nodes.now }
+    ensures apart { IsFalse result → AreApart nodes.now }
+{
+    for i in 0..nodes.len() {
+        let node = &nodes[i];
+        let address = node.own().address;
+        if is_taken(&nodes[i + 1..], address) {
+            return true;
+        }
+    }
+    false
+}
+
+/// At which place the seat of an address is.
+fn place_of<H: PointHash>(seats: &[Seat<H>], address: Address) -> Option<usize>
+    ensures some { IfSome result (λ i. (i < length seats.now) × ¬ All (λ s. s.address ≢ address) seats.now) }
+    ensures its { IfSome result (λ i. (d : _) → (slice_index_or seats.now i d).address ≡ address) }
+    ensures none { IfNone result (All (λ s. s.address ≢ address) seats.now) }
+{
+    seats.iter().position(|seat| seat.address == address)
+}
+
+/// A node that is shared: the pass of its rounds, and before it, in the order of their numbers, a pass for each of so many workers,
+/// fewer than 1,024. Each may make 4,294,967,295 calls.
+///
+/// # Errors
+/// An allocation failed: the node is given up.
+pub fn share<H: PointHash>(
+    alloc: Global,
+    node: NodeState<H>,
+    workers: u32,
+) -> Result<(LockedNode<H>, NodePass<H>, Vec<NodePass<H>>), AllocError>
+    requires { workers < 1024 }
+    ensures node { IfOk result (λ r. (opening_of r.0 ≡ node) × (passes_of r.0 ≡ workers + 1)) }
+    ensures fits { IfOk result (λ r. Fits r.0 r.1 × All (Fits r.0) r.2.items) }
+    ensures count { IfOk result (λ r. length r.2.items ≡ workers) }
+    ensures all { IfOk result (λ r. AreAll r.0 (r.2.items ++ r.1 ∷ [])) }
+    ensures fresh { IfOk result (λ r. AreFresh r.0 (r.2.items ++ r.1 ∷ [])) }
+{
+    let Ok((locked, mut passes)) = LockedNode::new(alloc, node, workers + 1, u32::MAX) else {
+        return Err(AllocError);
+    };
+    let Some(pass) = passes.pop() else {
+        unreachable!()
+    };
+    Ok((locked, pass, passes))
+}
+
+/// Tells one worker that it is to end. Where there is no memory to tell it, it is tried again.
+fn dismiss_one<R: Wait>(rt: &R, post: &Post) {
+    for _ in rt.forever() {
+        if !matches!(put(rt, &post.jobs, Job::Stop), Err(LinkError::Memory)) {
+            break;
+        }
+        thread::yield_now();
+    }
+}
+
+/// Tells so many workers that they are to end.
+fn dismiss<R: Wait>(rt: &R, posts: &[Post], address: Address, workers: usize) {
+    let Some(post) = post_of(posts, address) else {
+        return;
+    };
+    for _ in 0..workers {
+        dismiss_one(rt, post);
+    }
+}
+
+/// What a worker works with besides its pass: the node, a link to the posts, the handler, and where its jobs come out. `Memory` is the
+/// only refusal.
+fn tools_for<H: PointHash, A: Drop>(
+    node: &Arc<LockedNode<H>, Global>,
+    posts: &Arc<Vec<Post>, Global>,
+    handler: &Arc<A, Global>,
+    outlet: &Receiver<Job>,
+) -> Result<
+    (
+        Arc<LockedNode<H>, Global>,
+        ChannelLink,
+        Arc<A, Global>,
+        Receiver<Job>,
+    ),
+    StartError<H>,
+>
+    ensures node { IfOk result (λ t. arc_value t.0 ≡ arc_value node.now) }
+    ensures refused { IsOkUnless result StartError.Memory }
+{
+    let theirs = Arc::try_clone(node)?;
+    let link = ChannelLink::new(Arc::try_clone(posts)?);
+    let handler = Arc::try_clone(handler)?;
+    let jobs = outlet.clone()?;
+    Ok((theirs, link, handler, jobs))
+}
+
+/// Starts the thread of a worker. `NoThread` is the only refusal.
+fn start_work<R, H, A>(
+    rt: &R,
+    alloc: Global,
+    node: Arc<LockedNode<H>, Global>,
+    pass: NodePass<H>,
+    link: ChannelLink,
+    handler: Arc<A, Global>,
+    jobs: Receiver<Job>,
+) -> Result<PromisedHandle<NodePass<H>, Returned<H>>, StartError<H>>
+where
+    R: Threads + Wait + Copy + Send + 'static,
+    H: PointHash + Send + Sync + 'static,
+    A: Handler + Send + Sync + Drop + 'static,
+    requires { Fits (arc_value node) pass }
+    ensures hired { IfOk result (λ w. (w.promise.node.value ≡ arc_value node) × (given_to w ≡ pass)) }
+    ensures refused { IsOkUnless result StartError.NoThread }
+{
+    let runtime = *rt;
+    let promise = Returned {
+        node: Snapshot::of(&*node),
+        pass: Snapshot::of(&pass),
+    };
+    let started = thread::spawn_with(rt, promise, move || {
+        work(runtime, alloc, node, pass, link, handler, jobs)
+    });
+    match started {
+        Ok(worker) => Ok(worker),
+        Err(_) => Err(StartError::NoThread),
+    }
+}
+
+/// Starts one worker.
+fn hire_one<R, H, A>(
+    rt: &R,
+    alloc: Global,
+    node: &Arc<LockedNode<H>, Global>,
+    pass: NodePass<H>,
+    posts: &Arc<Vec<Post>, Global>,
+    handler: &Arc<A, Global>,
+    outlet: &Receiver<Job>,
+) -> Result<PromisedHandle<NodePass<H>, Returned<H>>, StartError<H>>
+where
+    R: Threads + Wait + Copy + Send + 'static,
+    H: PointHash + Send + Sync + 'static,
+    A: Handler + Send + Sync + Drop + 'static,
+    requires { Fits (arc_value node.now) pass }
+    ensures hired { IfOk result (λ w. (w.promise.node.value ≡ arc_value node.now) × (given_to w ≡ pass)) }
+    ensures given_up { IfErr result IsGivenUp }
+{
+    let (node, link, handler, jobs) = tools_for(node, posts, handler, outlet)?;
+    start_work(rt, alloc, node, pass, link, handler, jobs)
+}
+
+/// Starts a worker for each pass. Where one can't be started the others are ended.
+fn hire<R, H, A>(
+    rt: &R,
+    alloc: Global,
+    address: Address,
+    node: &Arc<LockedNode<H>, Global>,
+    passes: Vec<NodePass<H>>,
+    posts: &Arc<Vec<Post>, Global>,
+    handler: &Arc<A, Global>,
+    outlet: &Receiver<Job>,
+) -> Result<Vec<PromisedHandle<NodePass<H>, Returned<H>>>, StartError<H>>
+where
+    R: Threads + Wait + Copy + Send + 'static,
+    H: PointHash + Send + Sync + 'static,
+    A: Handler + Send + Sync + Drop + 'static,
+    requires { All (Fits (arc_value node.now)) passes.items }
+    ensures hired { IfOk result (λ ws. All (λ w. w.promise.node.value ≡ arc_value node.now) ws.items) }
+    ensures given { IfOk result (λ ws. map given_to ws.items ≡ passes.items) }
+    ensures given_up { IfErr result IsGivenUp }
+{
+    let mut workers = Vec::with_capacity(alloc, passes.len())?;
+    for pass in passes {
+        match hire_one(rt, alloc, node, pass, posts, handler, outlet) {
+            Ok(worker) => workers.push(worker)?,
+            Err(refused) => {
+                dismiss(rt, posts, address, workers.len());
+                let _passes = thread::join_promised(rt, workers);
+                return Err(refused);
+            }
+        }
+    }
+    Ok(workers)
+}
+
+/// A node with its workers.
+fn seat_for<R, H, A>(
+    rt: &R,
+    alloc: Global,
+    node: NodeState<H>,
+    workers: u32,
+    posts: &Arc<Vec<Post>, Global>,
+    handler: &Arc<A, Global>,
+    outlet: &Receiver<Job>,
+) -> Result<Seat<H>, StartError<H>>
+where
+    R: Threads + Wait + Copy + Send + 'static,
+    H: PointHash + Send + Sync + 'static,
+    A: Handler + Send + Sync + Drop + 'static,
+    requires { workers ≤ 16 }
+    ensures serves { IfOk result (Seats workers (arc_value posts.now).items node) }
+    ensures given_up { IfErr result IsGivenUp }
+{
+    let address = node.own().address;
+    let (locked, pass, passes) = share(alloc, node, workers)?;
+    let node = Arc::new(alloc, locked)?;
+    let link = ChannelLink::new(Arc::try_clone(posts)?);
+    let workers = hire(rt, alloc, address, &node, passes, posts, handler, outlet)?;
+    Ok(Seat {
+        address,
+        node,
+        pass,
+        link,
+        workers,
+    })
+}
+
+impl<H: PointHash> Seat<H> {
+    /// Waits for the workers, who were told to end, and closes the node.
+    fn close<R: Threads>(self, rt: &R) -> Result<NodeState<H>, StopError>
+        ensures { IfOk result (IsOfSeat H.hash_of self) }
+    {
+        let Seat {
+            address: _,
+            node,
+            pass,
+            link: _,
+            workers,
+        } = self;
+        let Ok(mut passes) = thread::join_promised(rt, workers) else {
+            return Err(StopError::Memory);
+        };
+        if passes.push(pass).is_err() {
+            return Err(StopError::Memory);
+        }
+        let Some(locked) = Arc::into_inner(node) else {
+            return Err(StopError::StillHeld);
+        };
+        let Ok(node) = locked.close(passes) else {
+            unreachable!()
+        };
+        Ok(node)
+    }
+
+    /// One round of gossip of the node, by the pass that is kept for its rounds.
+    fn round<R: Wait>(&mut self, rt: &R, alloc: Global, now: Moment) -> Result<Round, ClusterError>
+        ensures made { IsRoundBy now result self.old self.new }
+        ensures named { IfErr result IsRoundRefusal }
+    {
+        gossip_round(rt, alloc, &*self.node, &mut self.pass, &mut self.link, now)
+    }
+}
+
+/// Puts an item after the others. `Memory` is the only refusal.
+fn append<T: Drop>(items: &mut Vec<T>, item: T) -> Result<(), StopError>
+    ensures put { IfOk result (λ _. items.new.items ≡ items.old.items ++ item ∷ []) }
+    ensures err { IsOkUnless result StopError.Memory }
+{
+    let Ok(()) = items.push(item) else {
+        return Err(StopError::Memory);
+    };
+    Ok(())
+}
+
+/// Tells the workers of the seats that they are to end.
+fn dismiss_all<R: Wait, H: PointHash>(rt: &R, posts: &[Post], seats: &[Seat<H>]) {
+    for seat in seats {
+        dismiss(rt, posts, seat.address, seat.workers.len());
+    }
+}
+
+/// Ends the workers of the seats, each after the messages that it has, and gives the nodes back in the order of the seats.
+fn end_all<R: Threads + Wait, H: PointHash>(
+    rt: &R,
+    alloc: Global,
+    posts: &[Post],
+    seats: Vec<Seat<H>>,
+) -> Result<Vec<NodeState<H>>, StopError>
+    ensures closed { IfOk result (λ v. AllZip (IsOfSeat H.hash_of) seats.items v.items) }
+    ensures empty { length seats.items ≡ 0 → result ≢ Err StopError.StillHeld }
+{
+    dismiss_all(rt, posts, &seats);
+    let Ok(mut nodes) = Vec::with_capacity(alloc, seats.len()) else {
+        return Err(StopError::Memory);
+    };
+    'closed: for seat in seats {
+        let node = seat.close(rt)?;
+        append(&mut nodes, node)?;
+    }
+    Ok(nodes)
+}
+
+impl<H: PointHash> From<AllocError> for StartError<H> {
+    ghost use Rattle.cluster_core.specs.declared.clusters.StartError.TheVariants.{Memory as no_memory};
+
+    ghost from_gives = { λ _ e. e ≡ no_memory };
+
+    fn from(_refused: AllocError) -> StartError<H> {
+        StartError::Memory
+    }
+}
+
+impl<H: PointHash, T: Drop> From<AllocFailed<T>> for StartError<H> {
+    ghost use Rattle.cluster_core.specs.declared.clusters.StartError.TheVariants.{Memory as no_memory};
+
+    ghost from_gives = { λ _ e. e ≡ no_memory };
+
+    fn from(_refused: AllocFailed<T>) -> StartError<H> {
+        StartError::Memory
+    }
+}
+
+impl<H: PointHash + Send + Sync + 'static> Cluster<H> {
+    /// Serves each of the nodes by so many workers, 1 to 16, each a thread of its own. An empty list of nodes is allowed.
+    ///
+    /// Errors: `BadCount` where the number of workers is another, else `SameAddress` where two nodes have one address, both
+    /// with the very nodes; `NoThread` where a thread could not be made, and `Memory` where a growth was refused. At these
+    /// two the nodes are given up.
+    pub fn start<R, A>(
+        rt: &R,
+        alloc: Global,
+        nodes: Vec<NodeState<H>>,
+        workers: u32,
+        handler: A,
+    ) -> Result<Cluster<H>, StartError<H>>
+    where
+        R: Threads + Wait + Copy + Send + 'static,
+        A: Handler + Send + Sync + Drop + 'static,
+        ensures can { IfOk result (λ c. IsCrew workers × AreApart nodes.items) }
+        ensures serves { IfOk result (IsStarted workers nodes.items) }
+        ensures refused { IfErr result (IsNotStarted nodes.items workers) }
+    {
+        if workers == 0 || workers > MOST_WORKERS {
+            return Err(StartError::BadCount(nodes));
+        }
+        if has_twins(&nodes) {
+            return Err(StartError::SameAddress(nodes));
+        }
+        Cluster::launch(rt, alloc, nodes, workers, handler)
+    }
+
+    /// Serves the nodes, which can be served.
+    fn launch<R, A>(
+        rt: &R,
+        alloc: Global,
+        nodes: Vec<NodeState<H>>,
+        workers: u32,
+        handler: A,
+    ) -> Result<Cluster<H>, StartError<H>>
+    where
+        R: Threads + Wait + Copy + Send + 'static,
+        A: Handler + Send + Sync + Drop + 'static,
+        requires { workers ≤ 16 }
+        ensures serves { IfOk result (IsStarted workers nodes.items) }
+        ensures given_up { IfErr result IsGivenUp }
+    {
+        let handler = Arc::new(alloc, handler)?;
+        let (posts, outlets) = posts_for(alloc, &nodes)?;
+        let posts = Arc::new(alloc, posts)?;
+        let mut seats = Vec::with_capacity(alloc, nodes.len())?;
+        'seated: for node in nodes {
+            let outlet = &outlets[seats.len()];
+            match seat_for(rt, alloc, node, workers, &posts, &handler, outlet) {
+                Ok(seat) => seats.push(seat)?,
+                Err(refused) => {
+                    let _nodes = end_all(rt, alloc, &posts, seats);
+                    return Err(refused);
+                }
+            }
+        }
+        Ok(Cluster { posts, seats })
+    }
+}
+
+impl<H: PointHash> Cluster<H> {
+    /// A link to these nodes that has not failed yet, which may go to another thread. `Memory` is the only refusal.
+    pub fn link(&self) -> Result<ChannelLink, LinkError>
+        ensures made { IfOk result (λ l. (reached_by l ≡ self.now.posts) × (failures_of l ≡ 0)) }
+        ensures only { IfErr result (λ e. e ≡ LinkError.Memory) }
+    {
+        match Arc::try_clone(&self.posts) {
+            Ok(posts) => Ok(ChannelLink::new(posts)),
+            Err(_) => Err(LinkError::Memory),
+        }
+    }
+
+    /// Asks the node of an address, as a new link would.
+    ///
+    /// Errors: `Closed` where no node has the address, or where the node's own pass was refused; `Memory` where a growth was
+    /// refused.
+    pub fn ask<R: Wait>(
+        &self,
+        rt: &R,
+        alloc: Global,
+        to: Address,
+        message: &Message,
+    ) -> Result<Message, LinkError>
+        ensures closed { HasNoPost self.now.posts to → result ≡ Err LinkError.Closed }
+        ensures nobody { HasNoNode self.now to → result ≡ Err LinkError.Closed }
+        ensures only { IfErr result IsChannelFault }
+    {
+        ask_one(rt, alloc, &self.posts, to, message)
+    }
+
+    /// One round of gossip of the node of an address, at a moment, over a link of its own.
+    ///
+    /// Errors: `NoNode` where no node has the address; else those of a round.
+    pub fn round<R: Wait>(
+        &mut self,
+        rt: &R,
+        alloc: Global,
+        address: Address,
+        now: Moment,
+    ) -> Result<Round, ClusterError>
+        ensures nobody { HasNoNode self.old address → (result ≡ Err ClusterError.NoNode) × (self.new ≡ self.old) }
+        ensures only { result ≡ Err ClusterError.NoNode → HasNoNode self.old address }
+        ensures made { ¬ HasNoNode self.old address → HasRound address now result self.old self.new }
+        ensures named { IfErr result (λ e. (e ≡ ClusterError.NoNode) ⊎ IsRoundRefusal e) }
+    {
+        let Some(at) = place_of(&self.seats, address) else {
+            return Err(ClusterError::NoNode);
+        };
+        self.seats[at].round(rt, alloc, now)
+    }
+
+    /// Ends the workers, each after the messages that it has, and gives the nodes back in the order given.
+    ///
+    /// Errors: `Memory` where a growth was refused, `StillHeld` where somebody else holds a node. At both the nodes are given
+    /// up. A cluster without nodes is refused for `Memory` alone.
+    pub fn stop<R: Threads + Wait>(
+        self,
+        rt: &R,
+        alloc: Global,
+    ) -> Result<Vec<NodeState<H>>, StopError>
+        ensures closed { IfOk result (λ v. AllZip (IsOfSeat H.hash_of) self.seats v.items) }
+        ensures empty { length self.seats ≡ 0 → result ≢ Err StopError.StillHeld }
+    {
+        let Cluster { posts, seats } = self;
+        end_all(rt, alloc, &posts, seats)
+    }
+}

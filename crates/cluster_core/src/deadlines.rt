@@ -1,0 +1,154 @@
+//! Streams that are read and written until a moment at the latest.
+ghost use Rattle.std.specs.Prelude.{◌≡◌, ◌≢◌, ◌≤◌, ◌<◌, None, IfOk, IfErr};
+ghost use Rattle.std.specs.Duration.{as_nanos};
+ghost use Rattle.std.specs.Io.{ReadsAtMost, WritesAtMost};
+ghost use Rattle.std.specs.Io.KnownBytes.{Keeps, ReadConsumes, WriteAppends};
+ghost use Rattle.std.specs.IoError.{error_kind};
+ghost use Rattle.cluster_core.specs.Deadlines.{deadline_of, limit_of, stream_of};
+
+use std::io;
+use std::io::{ErrorKind, Read, Write};
+use std::net::OpenStream;
+use std::time::{Clock, Duration, Instant};
+
+/// A limit of time that runs.
+#[derive(Drop)]
+pub struct Deadline<'a, C> {
+    clock: &'a C,
+    start: Instant,
+    limit: Duration,
+}
+
+impl<'a, C: Clock> Deadline<'a, C> {
+    /// The limit runs from now on, by this clock.
+    ///
+    /// Errors: what the clock answers.
+    pub fn after(clock: &'a C, limit: Duration) -> io::Result<Self>
+        ensures { IfOk result (λ d. limit_of d ≡ limit) }
+    {
+        let start = Instant::now(clock)?;
+        Ok(Deadline {
+            clock,
+            start,
+            limit,
+        })
+    }
+
+    /// How long is left, which is some time.
+    ///
+    /// Errors: `TimedOut` where nothing is left, and what the clock answers.
+    pub fn left(&self) -> io::Result<Duration>
+        ensures { IfOk result (λ d. (0 < as_nanos d) × (as_nanos d ≤ as_nanos (limit_of self.now))) }
+    {
+        let spent = self.start.elapsed(self.clock)?;
+        let left = self.limit.saturating_sub(spent);
+        if left.is_zero() {
+            return Err(io::Error::from(ErrorKind::TimedOut));
+        }
+        Ok(left)
+    }
+}
+
+/// A stream with one deadline for all that is read from it and written to it, however few bytes the other side takes or
+/// gives at a time.
+#[derive(Drop)]
+pub struct Timed<'a, S, C> {
+    stream: S,
+    deadline: Deadline<'a, C>,
+}
+
+impl<'a, S, C> Timed<'a, S, C> {
+    /// The stream until the deadline.
+    pub fn new(stream: S, deadline: Deadline<'a, C>) -> Self
+        ensures stream { stream_of result ≡ stream }
+        ensures deadline { deadline_of result ≡ deadline.entry }
+    {
+        Timed { stream, deadline }
+    }
+
+    /// The same stream until another deadline.
+    pub fn until(self, deadline: Deadline<'a, C>) -> Self
+        ensures stream { stream_of result ≡ stream_of self.entry }
+        ensures deadline { deadline_of result ≡ deadline.entry }
+    {
+        Timed {
+            stream: self.stream,
+            deadline,
+        }
+    }
+}
+
+impl<'a, S: Read + OpenStream, C: Clock> Timed<'a, S, C> {
+    /// One read, which takes no longer than what is left.
+    fn read_once(&mut self, buf: &mut [u8]) -> io::Result<usize>
+        ensures { ReadsAtMost result buf.new }
+    {
+        let left = self.deadline.left()?;
+        self.stream.set_read_timeout(Some(left))?;
+        self.stream.read(buf)
+    }
+}
+
+impl<'a, S: Write + OpenStream, C: Clock> Timed<'a, S, C> {
+    /// One write, which takes no longer than what is left.
+    fn write_once(&mut self, buf: &[u8]) -> io::Result<usize>
+        ensures { WritesAtMost result buf.now }
+    {
+        let left = self.deadline.left()?;
+        self.stream.set_write_timeout(Some(left))?;
+        self.stream.write(buf)
+    }
+}
+
+/// A read that a signal interrupts is tried again until the deadline.
+impl<'a, S: Read + OpenStream, C: Clock> Read for Timed<'a, S, C> {
+    fn read(&mut self, buf: &mut [u8]) -> io::Result<usize>
+        ensures bound { ReadsAtMost result buf.new }
+        ensures bytes { ReadConsumes None None result buf.new }
+        ensures retried { IfErr result (λ e. error_kind e ≢ ErrorKind.Interrupted) }
+    {
+        for _ in 0..u64::MAX {
+            match self.read_once(buf) {
+                Ok(count) => return Ok(count),
+                Err(fault) if fault.kind() == ErrorKind::Interrupted => {}
+                Err(fault) => return Err(fault),
+            }
+        }
+        Err(io::Error::from(ErrorKind::TimedOut))
+    }
+}
+
+/// A write or a flush that a signal interrupts is tried again until the deadline.
+impl<'a, S: Write + OpenStream, C: Clock> Write for Timed<'a, S, C> {
+    fn write(&mut self, buf: &[u8]) -> io::Result<usize>
+        ensures bound { WritesAtMost result buf.now }
+        ensures bytes { WriteAppends None None result buf.now }
+        ensures retried { IfErr result (λ e. error_kind e ≢ ErrorKind.Interrupted) }
+    {
+        for _ in 0..u64::MAX {
+            match self.write_once(buf) {
+                Ok(count) => return Ok(count),
+                Err(fault) if fault.kind() == ErrorKind::Interrupted => {}
+                Err(fault) => return Err(fault),
+            }
+        }
+        Err(io::Error::from(ErrorKind::TimedOut))
+    }
+
+    fn flush(&mut self) -> io::Result<()>
+        ensures bytes { Keeps None None }
+        ensures retried { IfErr result (λ e. error_kind e ≢ ErrorKind.Interrupted) }
+    {
+        for _ in 0..u64::MAX {
+            match self.stream.flush() {
+                Ok(()) => return Ok(()),
+                Err(fault) if fault.kind() == ErrorKind::Interrupted => {}
+                Err(fault) => return Err(fault),
+            }
+            if self.deadline.left().is_err() {
+                break;
+            }
+        }
+        Err(io::Error::from(ErrorKind::TimedOut))
+    }
+}

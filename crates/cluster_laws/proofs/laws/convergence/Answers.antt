@@ -1,0 +1,27 @@
+use Rattle.cluster_laws.proofs.Converging.{nodes_converge, sweeps_converge, converged_agree}
+use Rattle.cluster_laws.proofs.Delivering.{delivered_converge}
+use Rattle.cluster_laws.proofs.Exchanging.{calls_take}
+use Rattle.cluster_laws.proofs.Rounds.{rounds_converge}
+use Rattle.cluster_laws.proofs.Worlds.{worlds_converge}
+use Rattle.cluster_laws.proofs.laws.convergence.Goals as goal
+
+pub returns-clause-converge : goal.returns-clause-converge
+returns-clause-converge g c = nodes_converge
+
+pub returns-clause-sweeps : goal.returns-clause-sweeps
+returns-clause-sweeps g c = sweeps_converge
+
+pub returns-clause-agree : goal.returns-clause-agree
+returns-clause-agree g c = converged_agree g.H.PointHash.hash_of
+
+pub returns-clause-delivered : goal.returns-clause-delivered
+returns-clause-delivered g c = delivered_converge
+
+pub returns-clause-calls : goal.returns-clause-calls
+returns-clause-calls g c = calls_take g.H.PointHash.hash_of
+
+pub returns-clause-worlds : goal.returns-clause-worlds
+returns-clause-worlds g c = worlds_converge g.H.PointHash.hash_of
+
+pub returns-clause-rounds : goal.returns-clause-rounds
+returns-clause-rounds g c = rounds_converge g.H.PointHash.hash_of

@@ -1,0 +1,10 @@
+pub mod Convergence
+pub mod Delivery
+pub mod Disagreement
+pub mod Leaving
+pub mod Reconciliation
+pub mod Rounds
+pub mod Running
+pub mod Spreading
+pub mod Witnesses
+pub mod Worlds

@@ -1,0 +1,88 @@
+-- Rounds of pings: in a round every node pings every other node, and no message is lost. That nodes converge in them is this project's own theorem.
+use Rattle.std.specs.Prelude.{◌≡◌, ◌≢◌, ◌≤◌, ◌+◌, ◌*◌, ℕ, List, [], ◌∷◌, length, Some, Ok}
+use Rattle.change_core.specs.declared.changes.Change.{Change}
+use Rattle.change_core.specs.Ascending.{In}
+use Rattle.change_core.specs.Members.{greatest}
+use Rattle.gossip_core.specs.Pending.{limit_for}
+use Rattle.message_core.specs.declared.messages.Message.{Message}
+use Rattle.node_core.specs.declared.events.Event.TheVariants as call
+use Rattle.node_core.specs.declared.events.Received.TheVariants as received
+use Rattle.node_core.specs.declared.events.Reply.TheVariants as answer
+use Rattle.node_core.specs.declared.events.Taken.{Taken}
+use Rattle.node_core.specs.Messages.{digest_of}
+use Rattle.node_core.specs.Node.{Node}
+use Rattle.node_core.specs.Step.{NodeStep}
+use Rattle.node_core.specs.World.{placed_at}
+use Rattle.cluster_laws.specs.Convergence.{Nodes, IsThere, AreNodes, HaveConverged}
+
+-- one node pings another
+pub record Ping : Type 0 where
+  pub pinger : ℕ
+  pub pinged : ℕ
+
+-- a ping and its ack lead from these nodes to those: neither is lost, and all changes of both are taken
+pub record PingStep {H : Type 0} (hash_of : H → List ℕ → ℕ) (before : Nodes H) (p : Ping) (after : Nodes H) : Type 0 where
+  pub pinger : Node H
+  pub waiting : Node H
+  pub done : Node H
+  pub pinged : Node H
+  pub answered : Node H
+  pub ping : Message
+  pub ack : Message
+  pub pinged_took : Taken
+  pub pinger_took : Taken
+  pub pinged_moment : ℕ
+  pub acked_moment : ℕ
+  pub apart : p.pinger ≢ p.pinged
+  pub pinger_is : before p.pinger ≡ Some pinger
+  pub pinged_is : before p.pinged ≡ Some pinged
+  pub makes : NodeStep hash_of pinger (call.PingTo p.pinged) (answer.PingTo (Ok ping)) waiting
+  pub answers : NodeStep hash_of pinged (call.Receive ping pinged_moment) (answer.Receive (received.Answer pinged_took ack)) answered
+  pub takes : NodeStep hash_of waiting (call.Receive ack acked_moment) (answer.Receive (received.Done pinger_took)) done
+  pub after_is : after ≡ placed_at p.pinger done (placed_at p.pinged answered (placed_at p.pinger waiting before))
+  -- no collision: their digests differ if their members do
+  pub no_collision : digest_of pinger.members ≡ digest_of answered.members → pinger.members ≡ answered.members
+
+-- these pings, one after another, lead from these nodes to those
+abbrev pub PingRun : {H : Type 0} → (H → List ℕ → ℕ) → Nodes H → List Ping → Nodes H → Type 0
+PingRun hash_of before [] after = after ≡ before
+PingRun {H} hash_of before (p ∷ ps) after = (between : Nodes H) × PingStep hash_of before p between × PingRun hash_of between ps after
+
+-- in a round each node pings each other, in any order
+abbrev pub IsRound : {H : Type 0} → Nodes H → List Ping → Type 0
+IsRound nodes ps = (a b : ℕ) → IsThere nodes a → IsThere nodes b → a ≢ b → In (record { pinger = a; pinged = b }) ps
+
+-- these rounds, one after another, lead from these nodes to those
+abbrev pub RoundRun : {H : Type 0} → (H → List ℕ → ℕ) → Nodes H → List (List Ping) → Nodes H → Type 0
+RoundRun hash_of before [] after = after ≡ before
+RoundRun {H} hash_of before (r ∷ rs) after = (between : Nodes H) × IsRound before r × PingRun hash_of before r between × RoundRun hash_of between rs after
+
+-- the size of a cluster: where its nodes are, which addresses they hold, and the greatest incarnation, weight and number of times that a change is passed on
+pub record Size : Type 0 where
+  pub places : List ℕ
+  pub named : List ℕ
+  pub incarnation : ℕ
+  pub weight : ℕ
+  pub limit : ℕ
+
+-- these nodes are within the size
+pub record AreWithin {H : Type 0} (nodes : Nodes H) (size : Size) : Type 0 where
+  pub placed : (a : ℕ) → IsThere nodes a → In a size.places
+  pub named : (a x : ℕ) (node : Node H) (c : Change) → nodes a ≡ Some node → greatest node.members x ≡ Some c → In x size.named
+  pub incarnations : (a x : ℕ) (node : Node H) (c : Change) → nodes a ≡ Some node → greatest node.members x ≡ Some c → c.incarnation ≤ size.incarnation
+  pub weights : (a x : ℕ) (node : Node H) (c : Change) → nodes a ≡ Some node → greatest node.members x ≡ Some c → c.weight ≤ size.weight
+  pub limits : (a n : ℕ) (node : Node H) → nodes a ≡ Some node → n ≤ node.config.max_members → limit_for node.config.piggyback n ≤ size.limit
+
+-- how often an entry can change at most, each time to a greater one: the incarnations up to one past the greatest, five statuses, and the weights
+abbrev pub entry_changes : Size → ℕ
+entry_changes size = (size.incarnation + 2) * 5 * (size.weight + 1)
+
+-- how many rounds are enough: in each but one an entry changes or a change is passed on
+abbrev pub enough_rounds : Size → ℕ
+enough_rounds size = length size.places * (length size.named * (entry_changes size * (size.limit + 1) + size.limit)) + 1
+
+-- nodes converge in this many rounds of pings
+abbrev pub RoundsConverge : {H : Type 0} → (H → List ℕ → ℕ) → Type 0
+RoundsConverge {H} hash_of =
+    (before after : Nodes H) (rounds : List (List Ping)) (size : Size) → AreNodes before → AreWithin before size → RoundRun hash_of before rounds after
+    → enough_rounds size ≤ length rounds → HaveConverged before after

@@ -1,0 +1,217 @@
+//! What a thread of a service does by a member of its node: joins, requests with rounds between them, leaving and coming back. If
+//! an allocation failed, a test goes on with another node, once.
+use crate::fakes::{Counting, Fake, Mood};
+use crate::messages::{keys, member as address, moment, text};
+use crate::shared::{ALONE, AMONG_ONE, Start, check_refused, let_go, met};
+use change_core::{Moment, Status};
+use cluster_core::{
+    CallError, Clock, ClusterError, Handler, JoinError, LeaveError, Link, Member, RejoinError,
+    RequestError, RoundError,
+};
+use hash_ring::SumHash;
+use std::alloc::Global;
+use std::env::Env;
+use std::process::Abort;
+use std::sync::Wait;
+
+/// A clock that is never waited for.
+#[derive(Drop)]
+struct Zero;
+
+impl Clock for Zero {
+    ghost time = { record { told = λ _. Unit {0}; waited = λ _. Unit {0} } };
+
+    fn now(&self) -> Moment {
+        match Moment::new(0) {
+            Some(now) => now,
+            None => unreachable!(),
+        }
+    }
+
+    fn wait_until<R: Wait>(&self, _rt: &R, _moment: u64) {}
+}
+
+/// A loop as a service has it, over any link, handler and clock: a request for each rider, and a round after each. The number of
+/// requests that were answered by their body.
+fn serve_riders<R: Wait + Abort, L: Link, A: Handler, C: Clock>(
+    rt: &R,
+    alloc: Global,
+    member: &mut Member<'_, SumHash, L>,
+    handler: &A,
+    clock: &C,
+    riders: &[&str],
+) -> Result<u32, ClusterError> {
+    let mut answered = 0u32;
+    for rider in riders {
+        let keys = keys(rt, alloc, (*rider, *rider));
+        let answer = member.request(rt, handler, clock, keys, text(rt, alloc, "body"))?;
+        if answer.as_str() == "body" {
+            answered = answered.wrapping_add(1);
+        }
+        member.round(rt, clock.now())?;
+    }
+    Ok(answered)
+}
+
+/// How many requests were answered, how often the link was asked, and how often the handler.
+type Served = (Result<u32, ClusterError>, u64, u64);
+
+/// The node owns the first rider, and its peer the second one.
+fn serve_two<R: Wait + Env + Abort>(rt: &R, alloc: Global) -> Served {
+    let (shared, mut pass) = met(rt, alloc, &AMONG_ONE);
+    let mut link = Fake::new(Mood::Willing, Mood::Willing);
+    let handler = Counting::new(Mood::Willing);
+    let mut member = Member::new(&shared, &mut pass, &mut link, alloc);
+    let answered = serve_riders(rt, alloc, &mut member, &handler, &Zero, &["zzzz0", "zzzz1"]);
+    drop(member);
+    let served = (answered, link.calls, handler.calls());
+    let_go(shared, pass);
+    served
+}
+
+#[test]
+fn a_service_answers_requests_between_rounds(rt: HostRuntime) {
+    let wanted: Served = (Ok(2), 3, 1);
+    let mut served = serve_two(&rt, rt.alloc());
+    let (answered, _, _) = served;
+    if answered == Err(ClusterError::Memory) {
+        served = serve_two(&rt, rt.alloc());
+    }
+    assert!(&rt; served == wanted);
+}
+
+/// Leaves and comes back so often, and tells the incarnation that the node is at then.
+fn come_and_go<R: Wait, L: Link>(
+    rt: &R,
+    member: &mut Member<'_, SumHash, L>,
+    times: u32,
+) -> Result<u64, ClusterError> {
+    for _ in 0..times {
+        let left = member.leave(rt)?;
+        if left.status != Status::Leave || member.owner(rt, b"zzzz1")?.is_some() {
+            return Ok(0);
+        }
+        member.rejoin(rt)?;
+    }
+    Ok(member.own(rt)?.incarnation.number())
+}
+
+fn come_and_go_alone<R: Wait + Env + Abort>(
+    rt: &R,
+    alloc: Global,
+    times: u32,
+) -> Result<u64, ClusterError> {
+    let (shared, mut pass) = met(rt, alloc, &ALONE);
+    let mut link = Fake::new(Mood::Willing, Mood::Willing);
+    let mut member = Member::new(&shared, &mut pass, &mut link, alloc);
+    let incarnation = come_and_go(rt, &mut member, times);
+    drop(member);
+    let_go(shared, pass);
+    incarnation
+}
+
+#[test]
+fn a_member_that_is_back_has_the_next_incarnation(rt: HostRuntime) {
+    let mut incarnation = come_and_go_alone(&rt, rt.alloc(), 3);
+    if incarnation == Err(ClusterError::Memory) {
+        incarnation = come_and_go_alone(&rt, rt.alloc(), 3);
+    }
+    assert!(&rt; incarnation == Ok(10));
+}
+
+/// What a member's calls are refused by, one after the other: join, round, request, view, members, leave, rejoin.
+type Refused = (
+    Option<JoinError>,
+    Option<RoundError>,
+    Option<RequestError>,
+    (Option<CallError>, Option<CallError>),
+    (Option<LeaveError>, Option<RejoinError>),
+);
+
+/// How a node begins, in which mood its peers and its handler are, and what its calls are refused by after a first one.
+type Row = (Start, Mood, Refused);
+
+static REFUSALS: [Row; 3] = [
+    (
+        Start { turns: 1, ..ALONE },
+        Mood::Willing,
+        (
+            Some(JoinError::PassSpent),
+            Some(RoundError::PassSpent),
+            Some(RequestError::PassSpent),
+            (Some(CallError::PassSpent), Some(CallError::PassSpent)),
+            (Some(LeaveError::PassSpent), Some(RejoinError::PassSpent)),
+        ),
+    ),
+    (
+        Start {
+            has_left: true,
+            ..ALONE
+        },
+        Mood::Broken,
+        (
+            Some(JoinError::NoneJoined),
+            None,
+            Some(RequestError::Nobody),
+            (None, None),
+            (Some(LeaveError::AlreadyLeft), None),
+        ),
+    ),
+    (
+        ALONE,
+        Mood::Failing,
+        (
+            Some(JoinError::NoneJoined),
+            None,
+            Some(RequestError::HandlerFault),
+            (None, None),
+            (None, None),
+        ),
+    ),
+];
+
+/// What the calls of a member are refused by, once it made one.
+fn refused_by<R: Wait + Abort, L: Link>(
+    rt: &R,
+    alloc: Global,
+    member: &mut Member<'_, SumHash, L>,
+    mood: Mood,
+) -> Refused {
+    let handler = Counting::new(mood);
+    let now = moment(rt, 0);
+    assert!(rt; member.own(rt).is_ok());
+    let joined = member.join(rt, &[address(rt, 2)], now).err();
+    let round = member.round(rt, now).err();
+    let keys = keys(rt, alloc, ("zzzz0", "zzzz0"));
+    let answer = member.request(rt, &handler, &Zero, keys, text(rt, alloc, "body"));
+    let copied = (member.view(rt).err(), member.members(rt).err());
+    let gone = (member.leave(rt).err(), member.rejoin(rt).err());
+    (joined, round, answer.err(), copied, gone)
+}
+
+fn first_refused<R: Wait + Env + Abort>(
+    rt: &R,
+    alloc: Global,
+    start: &Start,
+    mood: Mood,
+) -> Refused {
+    let (shared, mut pass) = met(rt, alloc, start);
+    let mut link = Fake::new(mood, mood);
+    let mut member = Member::new(&shared, &mut pass, &mut link, alloc);
+    let refused = refused_by(rt, alloc, &mut member, mood);
+    drop(member);
+    let_go(shared, pass);
+    refused
+}
+
+#[test]
+fn each_call_of_a_member_says_why_it_is_refused(rt: HostRuntime) {
+    for (start, mood, wanted) in &REFUSALS {
+        let mut refused = first_refused(&rt, rt.alloc(), start, *mood);
+        if refused != *wanted {
+            check_refused(&rt);
+            refused = first_refused(&rt, rt.alloc(), start, *mood);
+        }
+        assert!(&rt; refused == *wanted);
+    }
+}

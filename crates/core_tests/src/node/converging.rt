@@ -1,0 +1,232 @@
+//! Convergence from end to end: nodes that take all of one another until all hold the same, and the theorem that ties them.
+ghost use Rattle.std.specs.Prelude.{◌≡◌, ◌≢◌, IfSome};
+ghost use Rattle.node_core.specs.Agreement.{Agree};
+
+use crate::node::reconciling::{all_of, take_all_of};
+use crate::shared::{A, B, C, D, E, F, Ip, Row, again, hear, moment, node, put, vec_of};
+use change_core::{Moment, Status};
+use cluster_laws::laws::convergence;
+use hash_ring::{PointHash, SumHash};
+use node_core::{NodeError, NodeState, StopCause, Stopped, Taken};
+use std::alloc::Global;
+use std::process::Abort;
+
+/// The nodes of a cluster, the first of them or all.
+const MEMBERS: [Ip; 5] = [A, B, C, D, E];
+
+/// What happens in a cluster. Nodes are numbered from 0.
+#[derive(Clone, Copy)]
+enum Step {
+    /// The first node takes all that the second holds.
+    Takes(usize, usize),
+    /// Every node takes all of every other.
+    Sweep,
+    /// A node hears a rumour.
+    Hears(usize, Row),
+    Leaves(usize),
+    /// A node starts again at this incarnation; it holds itself alone.
+    Restarts(usize, u64),
+    /// A node holds these members.
+    Holds(usize, &'static str),
+    /// Every node does.
+    AllHold(&'static str),
+}
+
+use Step::{AllHold, Hears, Holds, Leaves, Restarts, Sweep, Takes};
+
+/// Three nodes round a ring: six exchanges are enough, and five are not. What the second refutes in the fourth exchange, the first
+/// hears in the sixth.
+const RING: &[Step] = &[
+    Hears(0, (B, 1, Status::Faulty)),
+    Hears(0, (C, 5, Status::Suspect)),
+    Hears(0, (D, 1, Status::Alive)),
+    Hears(1, (A, 3, Status::Faulty)),
+    Hears(1, (C, 2, Status::Faulty)),
+    Hears(1, (D, 1, Status::Leave)),
+    Hears(2, (A, 9, Status::Suspect)),
+    Hears(2, (B, 4, Status::Faulty)),
+    Hears(2, (D, 2, Status::Alive)),
+    Takes(1, 0),
+    Takes(2, 1),
+    Takes(0, 2),
+    Takes(1, 0),
+    Takes(2, 1),
+    Holds(
+        0,
+        "10.0.0.1:1alive10;10.0.0.2:1faulty4;10.0.0.3:1alive6;10.0.0.4:1alive2",
+    ),
+    Takes(0, 2),
+    AllHold("10.0.0.1:1alive10;10.0.0.2:1alive5;10.0.0.3:1alive6;10.0.0.4:1alive2"),
+];
+
+/// Five nodes: two sweeps are enough, and one is not; again so after one more leaves and two restart.
+const SWEEPS: &[Step] = &[
+    Hears(0, (C, 3, Status::Suspect)),
+    Hears(0, (E, 1, Status::Faulty)),
+    Hears(1, (A, 2, Status::Faulty)),
+    Hears(1, (F, 1, Status::Suspect)),
+    Hears(2, (D, 6, Status::Faulty)),
+    Hears(2, (F, 2, Status::Alive)),
+    Hears(4, (B, 4, Status::Faulty)),
+    Leaves(1),
+    Restarts(3, 9),
+    Sweep,
+    Holds(
+        0,
+        "10.0.0.1:1alive3;10.0.0.2:1faulty4;10.0.0.3:1suspect3;10.0.0.4:1alive9;10.0.0.5:1faulty1;10.0.0.6:1alive2",
+    ),
+    Sweep,
+    AllHold(
+        "10.0.0.1:1alive3;10.0.0.2:1leave5;10.0.0.3:1alive4;10.0.0.4:1alive9;10.0.0.5:1alive2;10.0.0.6:1alive2",
+    ),
+    Leaves(2),
+    Hears(0, (B, 9, Status::Faulty)),
+    Restarts(4, 3),
+    Restarts(1, 8),
+    Sweep,
+    Sweep,
+    AllHold(
+        "10.0.0.1:1alive3;10.0.0.2:1alive10;10.0.0.3:1leave4;10.0.0.4:1alive9;10.0.0.5:1alive3;10.0.0.6:1alive2",
+    ),
+];
+
+/// One node takes all that another holds. What memory refuses is tried again.
+fn take_all(
+    rt: &impl Abort,
+    alloc: Global,
+    nodes: &mut [NodeState<SumHash>],
+    taker: usize,
+    giver: usize,
+) {
+    let now = moment(rt, 1);
+    let giver = nodes.get(giver).expect(rt, "a giver");
+    let told = match all_of(alloc, giver) {
+        None => all_of(alloc, giver),
+        told => told,
+    };
+    let told = told.expect(rt, "what it holds");
+    let taker = nodes.get_mut(taker).expect(rt, "a taker");
+    let taken = match taker.take(told.as_slice(), now) {
+        Err(
+            Stopped {
+                cause: StopCause::Memory,
+                ..
+            },
+        ) => taker.take(told.as_slice(), now),
+        taken => taken,
+    };
+    assert!(rt; taken.is_ok());
+}
+
+fn sweep(rt: &impl Abort, alloc: Global, nodes: &mut [NodeState<SumHash>]) {
+    for taker in 0..nodes.len() {
+        for giver in 0..nodes.len() {
+            if giver != taker {
+                take_all(rt, alloc, nodes, taker, giver);
+            }
+        }
+    }
+}
+
+/// Whether a node holds these members.
+fn holds(rt: &impl Abort, node: &NodeState<SumHash>, members: &str) -> bool {
+    let text = again!(node.digest_text()).ok().expect(rt, "a text");
+    text.as_str() == members
+}
+
+fn play(rt: &impl Abort, alloc: Global, nodes: &mut [NodeState<SumHash>], step: Step) {
+    match step {
+        Takes(taker, giver) => take_all(rt, alloc, nodes, taker, giver),
+        Sweep => sweep(rt, alloc, nodes),
+        Hears(at, row) => hear(rt, nodes.get_mut(at).expect(rt, "a node"), row, 0),
+        Leaves(at) => {
+            let leaver = nodes.get_mut(at).expect(rt, "a node");
+            assert!(rt; again!(leaver.leave()).is_ok());
+        }
+        Restarts(at, incarnation) => {
+            let own = *MEMBERS.get(at).expect(rt, "a member");
+            *nodes.get_mut(at).expect(rt, "a node") = node(rt, alloc, own, incarnation);
+        }
+        Holds(at, members) => {
+            assert!(rt; holds(rt, nodes.get(at).expect(rt, "a node"), members));
+        }
+        AllHold(members) => {
+            for node in nodes {
+                assert!(rt; holds(rt, node, members));
+            }
+        }
+    }
+}
+
+/// Plays these steps with this many new nodes.
+fn play_all(rt: &impl Abort, alloc: Global, count: usize, steps: &[Step]) {
+    let mut nodes = vec_of(rt, alloc, count);
+    for own in MEMBERS.iter().take(count) {
+        put(rt, &mut nodes, node(rt, alloc, *own, 1));
+    }
+    for step in steps {
+        play(rt, alloc, &mut nodes, *step);
+    }
+    drop(nodes);
+}
+
+#[test]
+fn three_nodes_converge_round_a_ring(rt: HostRuntime) {
+    play_all(&rt, rt.alloc(), 3, RING);
+}
+
+#[test]
+fn five_nodes_converge_in_two_sweeps(rt: HostRuntime) {
+    play_all(&rt, rt.alloc(), 5, SWEEPS);
+}
+
+/// Three nodes take all of one another round a ring, twice. None if it runs out of memory. Else they agree, if they have different
+/// addresses, one hash and one number of replica points.
+fn round_ring<H: PointHash>(
+    alloc: Global,
+    one: &mut NodeState<H>,
+    two: &mut NodeState<H>,
+    three: &mut NodeState<H>,
+    now: Moment,
+) -> Option<[Taken; 6]>
+    ensures { IfSome result (λ taken. one.old.node.own ≢ two.old.node.own → two.old.node.own ≢ three.old.node.own → one.old.node.own ≢ three.old.node.own
+        → one.new.node.hash ≡ two.new.node.hash → two.new.node.hash ≡ three.new.node.hash
+        → one.new.node.config.replicas ≡ two.new.node.config.replicas → two.new.node.config.replicas ≡ three.new.node.config.replicas
+        → Agree H.hash_of one.new two.new × Agree H.hash_of two.new three.new) }
+{
+    convergence::<H>();
+    // What holds of a node between any two calls is known where its length is asked.
+    let _ = (one.len(), two.len(), three.len());
+    let first = take_all_of(alloc, two, one, now)?;
+    let second = take_all_of(alloc, three, two, now)?;
+    let third = take_all_of(alloc, one, three, now)?;
+    let fourth = take_all_of(alloc, two, one, now)?;
+    let fifth = take_all_of(alloc, three, two, now)?;
+    let sixth = take_all_of(alloc, one, three, now)?;
+    let _ = (one.len(), two.len(), three.len());
+    Some([first, second, third, fourth, fifth, sixth])
+}
+
+#[test]
+fn three_nodes_agree(rt: HostRuntime) {
+    let alloc = rt.alloc();
+    let mut one = node(&rt, alloc, A, 1);
+    let mut two = node(&rt, alloc, B, 1);
+    let mut three = node(&rt, alloc, C, 1);
+    hear(&rt, &mut one, (B, 1, Status::Faulty), 0);
+    hear(&rt, &mut two, (C, 1, Status::Faulty), 0);
+    hear(&rt, &mut three, (A, 1, Status::Faulty), 0);
+    let now = moment(&rt, 1);
+    let done = match round_ring(alloc, &mut one, &mut two, &mut three, now) {
+        None => round_ring(alloc, &mut one, &mut two, &mut three, now),
+        done => done,
+    };
+    assert!(&rt; done.is_some());
+    let members = "10.0.0.1:1alive2;10.0.0.2:1alive2;10.0.0.3:1alive2";
+    assert!(&rt; holds(&rt, &one, members));
+    assert!(&rt; holds(&rt, &two, members));
+    assert!(&rt; holds(&rt, &three, members));
+    drop(one);
+    drop(two);
+    drop(three);
+}

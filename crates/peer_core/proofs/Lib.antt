@@ -1,0 +1,13 @@
+pub mod Acts
+pub mod Hosts
+pub mod Named
+pub mod Parts
+pub mod Turns
+pub mod Hands
+pub mod Joined
+pub mod Judged
+pub mod Rests
+pub mod Served
+pub mod Servings
+pub mod Forwarded
+pub mod Requested

@@ -1,0 +1,169 @@
+-- What is served, put together from its calls.
+use Rattle.std.proofs.Common.{◌≡◌, ◌≢◌, ℕ, Bool, true, false, true≢false, refl, sym, subst, ◌∙◌, inl, inr, List, Option, Some, Result, Ok, Err}
+use Rattle.change_core.specs.declared.addresses.Address.{Address}
+use Rattle.node_core.specs.declared.errors.NodeError.{NodeError}
+use Rattle.node_core.specs.declared.errors.NodeError.TheVariants as node
+use Rattle.node_core.specs.declared.events.Event.TheVariants as call
+use Rattle.node_core.specs.declared.events.Reply.TheVariants as reply
+use Rattle.turn_lock.specs.declared.errors.LockError.{LockError}
+use Rattle.message_core.specs.declared.kinds.Reason.{Reason}
+use Rattle.message_core.specs.declared.kinds.Reason.TheVariants as reason
+use Rattle.message_core.specs.declared.messages.Content.{Content}
+use Rattle.message_core.specs.declared.messages.Content.TheVariants as content
+use Rattle.message_core.specs.declared.messages.Content.TheVariants.{Refused}
+use Rattle.message_core.specs.declared.messages.Message.{Message}
+use Rattle.message_core.specs.declared.messages.News.{News}
+use Rattle.node_core.specs.declared.events.Received.TheVariants as received
+use Rattle.node_core.specs.declared.events.Taken.{Taken}
+use Rattle.node_core.specs.Calls.{CallStep, OfEvent, OfView, WithReply, WithView}
+use Rattle.node_core.specs.Node.{Node}
+use Rattle.node_core.specs.Receiving.{AnswerStep, ReceiveStep, is_answered, is_gossip}
+use Rattle.node_core.specs.Viewing.{Viewed}
+use Rattle.locked_node.specs.declared.node.LockedNode.{LockedNode}
+use Rattle.locked_node.specs.Passes.{NodePass, IsCalled, Refuses}
+use Rattle.peer_core.specs.declared.errors.ClusterError.{ClusterError}
+use Rattle.peer_core.specs.declared.hearing.Heard.{Heard}
+use Rattle.peer_core.specs.Asking.{Pinged}
+use Rattle.peer_core.specs.Errors.{error_of_lock}
+use Rattle.peer_core.specs.Handling.{MayHandle}
+use Rattle.peer_core.specs.Links.{MayAnswer}
+use Rattle.peer_core.specs.Parts.{Asks, Does, Next}
+use Rattle.peer_core.specs.Serving.{Decides, IsDecided, PassesOn, Reaches, Says, Seeks, GivesMade, Serves, TellsRequester, Views}
+use Rattle.peer_core.proofs.Acts.{makes_as, makes_one}
+use Rattle.peer_core.proofs.Parts.{does_give, does_part, locked_out}
+
+-- what is answered is of the membership
+gossip_of_answered : (c : Content) → is_answered c ≡ true → is_gossip c ≡ true
+gossip_of_answered (content.Join news) e = refl
+gossip_of_answered (content.Joined news) e = refl
+gossip_of_answered (content.Ping news) e = refl
+gossip_of_answered (content.Ack news) e = refl
+gossip_of_answered (content.PingReq news target) e = refl
+gossip_of_answered (content.PingReqAck news target reached) e = refl
+gossip_of_answered (content.Forward keys body) e = e
+gossip_of_answered (content.Reply body) e = e
+gossip_of_answered content.NotOwner e = e
+gossip_of_answered (content.Refused reason) e = e
+
+module _ {H : Type 0} where
+  -- only what wants an answer is answered
+  answered_only : (mid : Node H) (source : ℕ) (c : Content) (answer : Message) (new : Node H)
+      → AnswerStep mid source c answer new → is_answered c ≡ true
+  answered_only mid source (content.Join news) answer new step = refl
+  answered_only mid source (content.Ping news) answer new step = refl
+  answered_only mid source (content.Joined news) answer new step = absurd step
+  answered_only mid source (content.Ack news) answer new step = absurd step
+  answered_only mid source (content.PingReq news target) answer new step = absurd step
+  answered_only mid source (content.PingReqAck news target reached) answer new step = absurd step
+  answered_only mid source (content.Forward keys body) answer new step = absurd step
+  answered_only mid source (content.Reply body) answer new step = absurd step
+  answered_only mid source content.NotOwner answer new step = absurd step
+  answered_only mid source (content.Refused reason) answer new step = absurd step
+
+  -- a message that wants an answer is not just taken
+  pub not_done : (old new : Node H) (m : Message) (now : ℕ) (taken : Taken) → is_answered m.content ≡ true → ReceiveStep old m now (received.Done taken) new → ⊥
+  not_done old new m now taken e step = true≢false (sym e ∙ step.1)
+
+  -- a message that wants an answer is of the membership
+  pub not_foreign : (old new : Node H) (m : Message) (now : ℕ) → is_gossip m.content ≡ true → ReceiveStep old m now received.NotGossip new → ⊥
+  not_foreign old new m now e step = true≢false (sym e ∙ step.0)
+
+  pub not_foreign_answered : (old new : Node H) (m : Message) (now : ℕ) → is_answered m.content ≡ true → ReceiveStep old m now received.NotGossip new → ⊥
+  not_foreign_answered old new m now e = not_foreign old new m now (gossip_of_answered m.content e)
+
+  -- a message that wants no answer gets none
+  pub not_answered : (old new : Node H) (m : Message) (now : ℕ) (taken : Taken) (answer : Message)
+      → is_answered m.content ≡ false → ReceiveStep old m now (received.Answer taken answer) new → ⊥
+  not_answered old new m now taken answer e step = true≢false (sym (answered_only step.0 m.source m.content answer new step.2) ∙ e)
+
+  pub not_wanting : (old new : Node H) (m : Message) (now : ℕ) (taken : Taken) → is_answered m.content ≡ false → ReceiveStep old m now (received.NoAnswer taken) new → ⊥
+  not_wanting old new m now taken e step = true≢false (sym step.0 ∙ e)
+
+  -- the node refuses a view and an answer for want of memory alone
+  no_view : (hash_of : H → List ℕ → ℕ) (old new : Node H) (n : NodeError) → CallStep hash_of old OfView (WithView (Err n)) new → n ≡ node.Memory
+  no_view hash_of old new node.Memory s = refl
+  no_view hash_of old new (node.BadConfig field) s = absurd s.0
+  no_view hash_of old new node.Exhausted s = absurd s.0
+  no_view hash_of old new node.Full s = absurd s.0
+  no_view hash_of old new node.AlreadyLeft s = absurd s.0
+  no_view hash_of old new node.NotLeft s = absurd s.0
+  no_view hash_of old new node.Busy s = absurd s.0
+  no_view hash_of old new node.Spent s = absurd s.0
+  no_view hash_of old new node.StaleProbe s = absurd s.0
+  no_view hash_of old new node.NotAsked s = absurd s.0
+
+  no_answer : (hash_of : H → List ℕ → ℕ) (old new : Node H) (requester target : Address) (reached : Bool) (n : NodeError)
+      → CallStep hash_of old (OfEvent (call.PingReqAckTo requester target reached)) (WithReply (reply.PingReqAckTo (Err n))) new → n ≡ node.Memory
+  no_answer hash_of old new requester target reached node.Memory s = refl
+  no_answer hash_of old new requester target reached (node.BadConfig field) s = absurd s
+  no_answer hash_of old new requester target reached node.Exhausted s = absurd s
+  no_answer hash_of old new requester target reached node.Full s = absurd s
+  no_answer hash_of old new requester target reached node.AlreadyLeft s = absurd s
+  no_answer hash_of old new requester target reached node.NotLeft s = absurd s
+  no_answer hash_of old new requester target reached node.Busy s = absurd s
+  no_answer hash_of old new requester target reached node.Spent s = absurd s
+  no_answer hash_of old new requester target reached node.StaleProbe s = absurd s
+  no_answer hash_of old new requester target reached node.NotAsked s = absurd s
+
+  pub sends_nothing : {hash_of : H → List ℕ → ℕ} {locked : LockedNode H} {p q s : NodePass H} {r : Result Message ClusterError}
+      (requester target : Address) (reached : Bool) (made : Result Message NodeError) (n : NodeError) → made ≡ Err n
+      → IsCalled hash_of locked p q (OfEvent (call.PingReqAckTo requester target reached)) (WithReply (reply.PingReqAckTo made))
+      → Does locked (Says (Refused reason.Memory)) r q s → Does locked (GivesMade (Err n)) r q s
+  sends_nothing {hash_of = hash_of} {locked = locked} {q = q} {s = s} {r = r} requester target reached made n is c d =
+      let step : CallStep hash_of c.before (OfEvent (call.PingReqAckTo requester target reached)) (WithReply (reply.PingReqAckTo (Err n))) c.after =
+      subst
+      (λ (x : Result Message NodeError).
+      CallStep hash_of c.before (OfEvent (call.PingReqAckTo requester target reached)) (WithReply (reply.PingReqAckTo x)) c.after)
+      is c.step in
+      subst (λ (x : NodeError). Does locked (GivesMade (Err x)) r q s) (sym (no_answer hash_of c.before c.after requester target reached n step)) d
+
+  -- a view was asked for; the same where the lock refused it
+  pub did_view : {hash_of : H → List ℕ → ℕ} {locked : LockedNode H} {p q : NodePass H} (view : Result (Viewed H) NodeError)
+      → IsCalled hash_of locked p q OfView (WithView view) → Does locked Views (Ok view) p q
+  did_view (Ok view) c = record { makes = makes_one c; barred = tt }
+  did_view {hash_of = hash_of} (Err n) c = record {
+    makes = makes_as (Views (Ok (Err n))) (λ acts j. (j, no_view hash_of c.before c.after n c.step)) (makes_one c);
+    barred = tt;
+  }
+
+  pub barred_view : {locked : LockedNode H} {p q : NodePass H} (l : LockError)
+      → (q ≡ p) × Refuses locked p l → Does locked Views (Err (error_of_lock l)) p q
+  barred_view l h = locked_out Views l h (λ acts n. n)
+
+  -- what is refused for a reason is refused for the one that it is known by
+  pub refuses_as : {locked : LockedNode H} {p q : NodePass H} {r : Result Message ClusterError} (why known : Reason)
+      → why ≡ known → Does locked (Says (Refused why)) r p q → Does locked (Says (Refused known)) r p q
+  refuses_as {locked = locked} {p = p} {q = q} {r = r} why known e d = subst (λ (x : Reason). Does locked (Says (Refused x)) r p q) e d
+
+  -- what is known of the heard, and of the found
+  pub seeks_as : (now : ℕ) (heard known : Heard) {locked : LockedNode H} {p q : NodePass H} {r : Result (Option Bool) ClusterError}
+      → heard ≡ known → Does locked (Seeks now known) r p q → Does locked (Seeks now heard) r p q
+  seeks_as now heard known {locked = locked} {p = p} {q = q} {r = r} e d = subst (λ (x : Heard). Does locked (Seeks now x) r p q) (sym e) d
+
+  pub tells_as : (requester target : Address) (found known : Option Bool) {locked : LockedNode H} {p q : NodePass H} {r : Result Message ClusterError}
+      → found ≡ known → Does locked (TellsRequester requester target known) r p q → Does locked (TellsRequester requester target found) r p q
+  tells_as requester target found known {locked = locked} {p = p} {q = q} {r = r} e d =
+      subst (λ (x : Option Bool). Does locked (TellsRequester requester target x) r p q) (sym e) d
+
+  -- the target is the node itself
+  pub reaches_itself : (Came : MayAnswer) (now : ℕ) (target own : Address) (locked : LockedNode H) (p : NodePass H)
+      → own ≡ target → Does locked (Reaches Came now target own) (Ok (Some true)) p p
+  reaches_itself Came now target own locked p e = does_part (Reaches Came now target own) (λ acts h. inl (e, h)) (does_give locked p (Some true))
+
+  -- or another
+  pub reaches_other : (Came : MayAnswer) (now : ℕ) (target own : Address) {locked : LockedNode H} {p q : NodePass H} {r : Result (Option Bool) ClusterError}
+      → own ≢ target → Does locked (Next (Asks (Pinged Came target)) (Seeks now)) r p q → Does locked (Reaches Came now target own) r p q
+  reaches_other Came now target own e d = does_part (Reaches Came now target own) (λ acts h. inr (e, h)) d
+
+  -- what one view decides is said
+  pub decides_so : (hash_of : H → List ℕ → ℕ) (Handled : MayHandle) (keys : List (List ℕ)) (body : List ℕ) (view : Result (Viewed H) NodeError)
+      {locked : LockedNode H} {p q : NodePass H} {r : Result Message ClusterError} (told : Content)
+      → IsDecided hash_of Handled keys body view told → Does locked (Says told) r p q → Does locked (Decides hash_of Handled keys body view) r p q
+  decides_so hash_of Handled keys body view told h d = does_part (Decides hash_of Handled keys body view) (λ acts s. (told, h, s)) d
+
+  -- a PingReq is what was served
+  pub serves_ping_req : (hash_of : H → List ℕ → ℕ) (Came : MayAnswer) (Handled : MayHandle) (message : Message) (now : ℕ) (news : News) (target : Address)
+      {locked : LockedNode H} {p q : NodePass H} {r : Result Message ClusterError} → message.content ≡ content.PingReq news target
+      → Does locked (PassesOn Came message now target) r p q → Does locked (Serves hash_of Came Handled message now message.content) r p q
+  serves_ping_req hash_of Came Handled message now news target {locked = locked} {p = p} {q = q} {r = r} e d =
+      subst (λ (x : Content). Does locked (Serves hash_of Came Handled message now x) r p q) (sym e) d

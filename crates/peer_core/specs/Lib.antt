@@ -1,0 +1,14 @@
+pub mod Links
+pub mod Errors
+pub mod Acts
+pub mod Asking
+pub mod Parts
+pub mod Rounds
+pub mod Joining
+pub mod Handling
+pub mod Serving
+pub mod Forwarding
+pub mod Provenance
+pub mod Requests
+pub mod MemberErrors
+pub mod Members

@@ -1,0 +1,154 @@
+-- What a node answers to a message, and by which of its calls: all of them, and each of them once, up to the answer or to the call that
+-- the lock refused. The kinds of message are those of SWIM (ping, ping-req) and of ringpop-go's packages swim (join) and forward.
+use Rattle.std.specs.Prelude.{◌≡◌, ◌≢◌, ◌⊎◌, ℕ, Bool, true, false, List, Option, Some, None, Result, Ok, Err}
+use Rattle.change_core.specs.declared.addresses.Address.{Address}
+use Rattle.change_core.specs.declared.changes.Change.{Change}
+use Rattle.message_core.specs.declared.kinds.Reason.{Reason}
+use Rattle.message_core.specs.declared.kinds.Reason.TheVariants as reason
+use Rattle.message_core.specs.declared.messages.Content.{Content}
+use Rattle.message_core.specs.declared.messages.Content.TheVariants as content
+use Rattle.message_core.specs.declared.messages.Message.{Message}
+use Rattle.node_core.specs.declared.errors.NodeError.{NodeError}
+use Rattle.node_core.specs.declared.errors.NodeError.TheVariants as node
+use Rattle.node_core.specs.declared.events.Event.TheVariants as call
+use Rattle.node_core.specs.declared.events.Reply.TheVariants as reply
+use Rattle.node_core.specs.declared.events.Received.{Received}
+use Rattle.node_core.specs.declared.events.Received.TheVariants as received
+use Rattle.node_core.specs.declared.events.StopCause.{StopCause}
+use Rattle.node_core.specs.declared.events.StopCause.TheVariants as cause
+use Rattle.node_core.specs.Viewing.{Viewed}
+use Rattle.forward_core.specs.declared.errors.ForwardError.{ForwardError}
+use Rattle.forward_core.specs.declared.errors.ForwardError.TheVariants as refusal
+use Rattle.forward_core.specs.declared.routes.Route.{Route}
+use Rattle.forward_core.specs.declared.routes.Route.TheVariants as route
+use Rattle.forward_core.specs.Routes.{IsRouteOf}
+use Rattle.peer_core.specs.declared.errors.HandlerFault.{HandlerFault}
+use Rattle.peer_core.specs.declared.hearing.Heard.{Heard}
+use Rattle.peer_core.specs.declared.hearing.Heard.TheVariants as heard
+use Rattle.peer_core.specs.Acts.{looked, Just, Nothing}
+use Rattle.peer_core.specs.Asking.{Pinged}
+use Rattle.peer_core.specs.Handling.{MayHandle, handled_as}
+use Rattle.peer_core.specs.Links.{MayAnswer}
+use Rattle.peer_core.specs.Parts.{Part, IsOfLock, Calls, Asks, Gives, Next}
+
+-- how a refusal names what stopped a taking
+abbrev pub reason_of : StopCause → Reason
+reason_of cause.Exhausted = reason.Exhausted
+reason_of cause.Full = reason.Full
+reason_of cause.Memory = reason.Memory
+
+-- a message of a member's own, at the incarnation of its entry
+abbrev pub message_by : Change → Content → Message
+message_by own told = record { source = own.address; source_incarnation = own.incarnation; content = told }
+
+-- where a request goes is decided by what a view of the node names as the owner of its keys; where it is this node, the handler answers it
+abbrev pub IsRouted : MayHandle → List (List ℕ) → List ℕ → Result Route ForwardError → Content → Type 0
+IsRouted Handled keys body (Ok route.Here) told = (answer : Result (List ℕ) HandlerFault) × Handled keys body answer × (told ≡ handled_as answer)
+IsRouted Handled keys body (Ok (route.To owner)) told = told ≡ content.NotOwner
+IsRouted Handled keys body (Ok route.Nobody) told = told ≡ content.Refused reason.Nobody
+IsRouted Handled keys body (Err refusal.Diverged) told = told ≡ content.Refused reason.Diverged
+IsRouted Handled keys body (Err other) told = ⊥
+
+-- the content of the answer to a request, by the view that the node gave; a refusal `memory` if it gave none
+abbrev pub IsDecided : {H : Type 0} → (H → List ℕ → ℕ) → MayHandle → List (List ℕ) → List ℕ → Result (Viewed H) NodeError → Content → Type 0
+IsDecided hash_of Handled keys body (Ok view) told =
+    (way : Result Route ForwardError) × IsRouteOf hash_of view keys way × IsRouted Handled keys body way told
+IsDecided hash_of Handled keys body (Err error) told = told ≡ content.Refused reason.Memory
+
+module _ {H : Type 0} where
+  -- what never comes
+  abbrev pub Never : {A : Type 0} → Part H A
+  Never r acts = ⊥
+
+  -- the node says this, with itself as the source
+  abbrev pub Says : Content → Part H Message
+  Says told = Next (Calls call.Own reply.Own) (λ own. Gives (message_by own told))
+
+  -- the node answers by a refusal for this reason
+  abbrev pub Refuses : Reason → Part H Message
+  Refuses why = Says (content.Refused why)
+
+  -- the message is taken
+  abbrev pub Receives : Message → ℕ → Part H Received
+  Receives message now = Calls (call.Receive message now) reply.Receive
+
+  -- what is answered to a message that the node answers, by what its taking came to
+  abbrev pub Answers : Received → Part H Message
+  Answers (received.Answer taken made) = Gives made
+  Answers (received.NoAnswer taken) = Refuses reason.Memory
+  Answers (received.Stopped stopped) = Refuses (reason_of stopped.cause)
+  Answers (received.Done taken) = Never
+  Answers received.NotGossip = Never
+
+  -- a message of gossip is received, and answered by what that gives
+  abbrev pub Gossips : Message → ℕ → Part H Message
+  Gossips message now = Next (Receives message now) Answers
+
+  -- whether a target was reached, by what was heard of it: its Ack is taken, whatever that comes to
+  abbrev pub Seeks : ℕ → Heard → Part H (Option Bool)
+  Seeks now (heard.Answer ack) = Next (Receives ack now) (λ received. Gives (Some true))
+  Seeks now heard.Other = Gives (Some false)
+  Seeks now heard.NoMemory = Gives None
+
+  -- the target is the node itself, which is reached, or is pinged
+  abbrev pub Reaches : MayAnswer → ℕ → Address → Address → Part H (Option Bool)
+  Reaches Came now target own r acts =
+      ((own ≡ target) × Gives (Some true) r acts) ⊎ ((own ≢ target) × Next (Asks (Pinged Came target)) (Seeks now) r acts)
+
+  -- whether the target is reached; there may be no memory to find it out
+  abbrev pub Finds : MayAnswer → ℕ → Address → Part H (Option Bool)
+  Finds Came now target = Next (Calls call.Own reply.Own) (λ own. Reaches Came now target own.address)
+
+  -- the message that was made, or a refusal where there was no memory for it
+  abbrev pub GivesMade : Result Message NodeError → Part H Message
+  GivesMade (Ok made) = Gives made
+  GivesMade (Err node.Memory) = Refuses reason.Memory
+  GivesMade (Err other) = Never
+
+  -- the requester is told what was found out about the target
+  abbrev pub TellsRequester : Address → Address → Option Bool → Part H Message
+  TellsRequester requester target (Some reached) = Next (Calls (call.PingReqAckTo requester target reached) reply.PingReqAckTo) GivesMade
+  TellsRequester requester target None = Refuses reason.Memory
+
+  -- it is found out whether the target is reached, and the requester is told
+  abbrev pub Reports : MayAnswer → Address → ℕ → Address → Part H Message
+  Reports Came requester now target = Next (Finds Came now target) (TellsRequester requester target)
+
+  -- what is answered to a PingReq, by what its taking came to
+  abbrev pub AnswersPingReq : MayAnswer → Address → ℕ → Address → Received → Part H Message
+  AnswersPingReq Came requester now target (received.Done taken) = Reports Came requester now target
+  AnswersPingReq Came requester now target (received.Stopped stopped) = Refuses (reason_of stopped.cause)
+  AnswersPingReq Came requester now target (received.Answer taken made) = Never
+  AnswersPingReq Came requester now target (received.NoAnswer taken) = Never
+  AnswersPingReq Came requester now target received.NotGossip = Never
+
+  -- a PingReq is received, its target is pinged, and the requester is told whether that was reached
+  abbrev pub PassesOn : MayAnswer → Message → ℕ → Address → Part H Message
+  PassesOn Came message now target = Next (Receives message now) (AnswersPingReq Came message.source now target)
+
+  -- the node is asked for a view; there may be no memory for one
+  abbrev pub Views : Part H (Result (Viewed H) NodeError)
+  Views (Ok (Ok view)) acts = Just (looked (Ok view)) acts
+  Views (Ok (Err n)) acts = Just (looked (Err n)) acts × (n ≡ node.Memory)
+  Views (Err e) acts = Nothing acts × IsOfLock e
+
+  -- the node says what one view decides
+  abbrev pub Decides : (H → List ℕ → ℕ) → MayHandle → List (List ℕ) → List ℕ → Result (Viewed H) NodeError → Part H Message
+  Decides hash_of Handled keys body view r acts = (told : Content) × IsDecided hash_of Handled keys body view told × Says told r acts
+
+  -- one view decides what is answered to a request
+  abbrev pub Forwards : (H → List ℕ → ℕ) → MayHandle → List (List ℕ) → List ℕ → Part H Message
+  Forwards hash_of Handled keys body = Next Views (Decides hash_of Handled keys body)
+
+  -- what is answered to a message received at this moment, by its content
+  abbrev pub Serves : (H → List ℕ → ℕ) → MayAnswer → MayHandle → Message → ℕ → Content → Part H Message
+  Serves hash_of Came Handled message now (content.Join news) = Gossips message now
+  Serves hash_of Came Handled message now (content.Ping news) = Gossips message now
+  Serves hash_of Came Handled message now (content.PingReq news target) = PassesOn Came message now target
+  Serves hash_of Came Handled message now (content.Forward keys body) = Forwards hash_of Handled keys body
+  Serves hash_of Came Handled message now (content.Joined news) = Refuses reason.Unexpected
+  Serves hash_of Came Handled message now (content.Ack news) = Refuses reason.Unexpected
+  Serves hash_of Came Handled message now (content.PingReqAck news target reached) = Refuses reason.Unexpected
+  Serves hash_of Came Handled message now (content.Reply body) = Refuses reason.Unexpected
+  Serves hash_of Came Handled message now content.NotOwner = Refuses reason.Unexpected
+  Serves hash_of Came Handled message now (content.Refused why) = Refuses reason.Unexpected

@@ -1,0 +1,205 @@
+//! One round of gossip.
+ghost use Rattle.std.specs.Prelude.{◌≡◌, IfErr};
+ghost use Rattle.locked_node.specs.Passes.{Fits};
+ghost use Rattle.peer_core.specs.Errors.{IsRoundRefusal};
+ghost use Rattle.peer_core.specs.Parts.{Does};
+ghost use Rattle.peer_core.specs.Rounds.{Begins, BeginsAgain, Expires, FailsFrom, FailsOne, Finishes, IsRound, waited_for};
+
+use crate::errors::ClusterError;
+use crate::links::Link;
+use crate::probing::bring_to_end;
+use crate::rounds::Round;
+use crate::steps::{ask_for_probe, begin_probe, expire, find_running, tell_word};
+use change_core::{Address, Moment};
+use detector_core::{Probe, Running, Said};
+use hash_ring::PointHash;
+use locked_node::{LockedNode, NodePass};
+use node_core::{NodeError, NodeOutcome};
+use std::alloc::Global;
+use std::sync::Wait;
+
+/// Brings every entry that is due to its next status.
+fn expire_all<R: Wait, H: PointHash>(
+    rt: &R,
+    node: &LockedNode<H>,
+    pass: &mut NodePass<H>,
+    now: Moment,
+) -> Result<(), ClusterError>
+    requires { Fits node.now pass.old }
+    ensures did { Does node.now (Expires now) result pass.old pass.new }
+    ensures fits { Fits node.now pass.new }
+    ensures named { IfErr result IsRoundRefusal }
+{
+    for _ in rt.forever() {
+        let expired = expire(rt, node, pass, now)?;
+        if expired.is_none() {
+            return Ok(());
+        }
+    }
+    unreachable!()
+}
+
+/// The helper that the probe of this number waits for, if it is the one that runs.
+fn waited_for(number: u64, running: Option<Running>) -> Option<Address>
+    ensures { result ≡ waited_for number running }
+{
+    match running {
+        Some(running) => {
+            if running.number == number {
+                running.waiting
+            } else {
+                None
+            }
+        }
+        None => None,
+    }
+}
+
+/// Gives up a helper that a probe waits for. The one that it waits for then, if it has not ended.
+fn fail_one<R: Wait, H: PointHash>(
+    rt: &R,
+    node: &LockedNode<H>,
+    pass: &mut NodePass<H>,
+    now: Moment,
+    number: u64,
+    helper: Address,
+) -> Result<Option<Address>, ClusterError>
+    requires { Fits node.now pass.old }
+    ensures did { Does node.now (FailsOne now number helper) result pass.old pass.new }
+    ensures fits { Fits node.now pass.new }
+    ensures named { IfErr result IsRoundRefusal }
+{
+    let outcome = tell_word(rt, node, pass, now, number, helper, Said::Failed)?;
+    match outcome {
+        NodeOutcome::Waiting => {
+            let running = find_running(rt, node, pass)?;
+            Ok(waited_for(number, running))
+        }
+        NodeOutcome::Reached | NodeOutcome::Suspect(_) | NodeOutcome::Inconclusive => Ok(None),
+    }
+}
+
+/// Gives up each helper that a probe still waits for, this one first, until the probe has ended.
+fn fail_waiting<R: Wait, H: PointHash>(
+    rt: &R,
+    node: &LockedNode<H>,
+    pass: &mut NodePass<H>,
+    now: Moment,
+    number: u64,
+    first: Address,
+) -> Result<(), ClusterError>
+    requires { Fits node.now pass.old }
+    ensures did { Does node.now (FailsFrom now number first) result pass.old pass.new }
+    ensures fits { Fits node.now pass.new }
+    ensures named { IfErr result IsRoundRefusal }
+{
+    let mut helper = first;
+    for _ in rt.forever() {
+        let next = fail_one(rt, node, pass, now, number, helper)?;
+        let Some(waiting) = next else {
+            return Ok(());
+        };
+        helper = waiting;
+    }
+    unreachable!()
+}
+
+/// Brings the probe that was found running to its end: where no helper was asked its target is pinged anew, else the helpers
+/// that have not answered have failed.
+fn finish<R: Wait, H: PointHash, L: Link>(
+    rt: &R,
+    alloc: Global,
+    node: &LockedNode<H>,
+    pass: &mut NodePass<H>,
+    link: &mut L,
+    now: Moment,
+    running: Option<Running>,
+) -> Result<(), ClusterError>
+    requires { Fits node.now pass.old }
+    ensures did { Does node.now (Finishes L.may_answer now running) result pass.old pass.new }
+    ensures fits { Fits node.now pass.new }
+    ensures named { IfErr result IsRoundRefusal }
+{
+    let Some(running) = running else {
+        return Ok(());
+    };
+    if let Some(helper) = running.waiting {
+        return fail_waiting(rt, node, pass, now, running.number, helper);
+    }
+    let probe = Probe {
+        number: running.number,
+        target: running.target,
+    };
+    let _round = bring_to_end(rt, alloc, node, pass, link, now, &probe)?;
+    Ok(())
+}
+
+/// Brings the probe that runs to its end, and begins another.
+fn begin_again<R: Wait, H: PointHash, L: Link>(
+    rt: &R,
+    alloc: Global,
+    node: &LockedNode<H>,
+    pass: &mut NodePass<H>,
+    link: &mut L,
+    now: Moment,
+) -> Result<Option<Probe>, ClusterError>
+    requires { Fits node.now pass.old }
+    ensures did { Does node.now (BeginsAgain L.may_answer now) result pass.old pass.new }
+    ensures fits { Fits node.now pass.new }
+    ensures named { IfErr result IsRoundRefusal }
+{
+    let running = find_running(rt, node, pass)?;
+    finish(rt, alloc, node, pass, link, now, running)?;
+    begin_probe(rt, node, pass)
+}
+
+/// Begins a probe. One that runs is brought to its end first.
+fn begin<R: Wait, H: PointHash, L: Link>(
+    rt: &R,
+    alloc: Global,
+    node: &LockedNode<H>,
+    pass: &mut NodePass<H>,
+    link: &mut L,
+    now: Moment,
+) -> Result<Option<Probe>, ClusterError>
+    requires { Fits node.now pass.old }
+    ensures did { Does node.now (Begins L.may_answer now) result pass.old pass.new }
+    ensures fits { Fits node.now pass.new }
+    ensures named { IfErr result IsRoundRefusal }
+{
+    let first = ask_for_probe(rt, node, pass)?;
+    match first {
+        Ok(probe) => Ok(probe),
+        Err(NodeError::Busy) => begin_again(rt, alloc, node, pass, link, now),
+        Err(refused) => Err(ClusterError::from(refused)),
+    }
+}
+
+/// One round of gossip at a moment: what is due expires, the next member in turn is pinged, and where it does not answer others
+/// are asked to ping it. A probe that an earlier round left running is brought to its end first. How the round ended. What
+/// a taking comes to changes nothing else of it.
+///
+/// Errors, each with what the calls before did: `ForeignPass` where the pass bears another node's name, else `PassSpent`
+/// where it may make no call more; `Memory` where a growth was refused, the link's included; `Busy` where a probe runs still
+/// after the one that ran was brought to its end; `Spent` where no probe number is left; `StaleProbe` and `NotAsked` where
+/// another pass ended the probe meanwhile.
+pub fn gossip_round<R: Wait, H: PointHash, L: Link>(
+    rt: &R,
+    alloc: Global,
+    node: &LockedNode<H>,
+    pass: &mut NodePass<H>,
+    link: &mut L,
+    now: Moment,
+) -> Result<Round, ClusterError>
+    requires { Fits node.now pass.old }
+    ensures round { Does node.now (IsRound L.may_answer now) result pass.old pass.new }
+    ensures fits { Fits node.now pass.new }
+    ensures named { IfErr result IsRoundRefusal }
+{
+    expire_all(rt, node, pass, now)?;
+    let probe = begin(rt, alloc, node, pass, link, now)?;
+    match probe {
+        None => Ok(Round::Idle),
+        Some(probe) => bring_to_end(rt, alloc, node, pass, link, now, &probe),
+    }
+}

@@ -1,0 +1,80 @@
+//! What is heard in an answer that came over a link.
+ghost use Rattle.std.specs.Prelude.{◌≡◌};
+ghost use Rattle.peer_core.specs.Links.{IsAckOf, IsHeard, IsJoined, TellsOf, word_on};
+
+use crate::errors::LinkError;
+use change_core::Address;
+use message_core::{Content, Kind, Message};
+
+/// What came of asking another node.
+#[derive(Drop)]
+pub(crate) enum Heard {
+    /// The answer that was wanted.
+    Answer(Message),
+    /// Another answer, a fault of the link included.
+    Other,
+    /// There was no memory for asking.
+    NoMemory,
+}
+
+/// The Ack of the target, where the answer is one.
+pub(crate) fn ack_in(answer: Result<Message, LinkError>, target: Address) -> Heard
+    ensures { IsHeard (IsAckOf target) answer result }
+{
+    match answer {
+        Ok(message) => {
+            let is_ack = message.content.kind() == Kind::Ack;
+            if is_ack && message.source == target {
+                Heard::Answer(message)
+            } else {
+                Heard::Other
+            }
+        }
+        Err(LinkError::Memory) => Heard::NoMemory,
+        Err(_) => Heard::Other,
+    }
+}
+
+/// The Joined, where the answer is one.
+pub(crate) fn joined_in(answer: Result<Message, LinkError>) -> Heard
+    ensures { IsHeard IsJoined answer result }
+{
+    match answer {
+        Ok(message) => {
+            if message.content.kind() == Kind::Joined {
+                Heard::Answer(message)
+            } else {
+                Heard::Other
+            }
+        }
+        Err(LinkError::Memory) => Heard::NoMemory,
+        Err(_) => Heard::Other,
+    }
+}
+
+/// Whether the target was reached, where the content is a PingReqAck about it.
+pub(crate) fn word_on_target(content: &Content, target: Address) -> Option<bool>
+    ensures { result ≡ word_on target content.now }
+{
+    match content {
+        Content::PingReqAck(_, about, reached) if *about == target => Some(*reached),
+        _ => None,
+    }
+}
+
+/// The PingReqAck about the target, where the answer is one.
+pub(crate) fn word_in(answer: Result<Message, LinkError>, target: Address) -> Heard
+    ensures { IsHeard (TellsOf target) answer result }
+{
+    match answer {
+        Ok(message) => {
+            if word_on_target(&message.content, target).is_some() {
+                Heard::Answer(message)
+            } else {
+                Heard::Other
+            }
+        }
+        Err(LinkError::Memory) => Heard::NoMemory,
+        Err(_) => Heard::Other,
+    }
+}

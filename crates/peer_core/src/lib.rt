@@ -1,0 +1,32 @@
+//! What a node says to its peers and what it answers them: rounds of gossip, joining, serving, and requests that find their
+//! owner, over any link, handler and clock.
+#![tactic(auto)]
+
+mod asking;
+mod clocks;
+mod errors;
+mod forwarding;
+mod gossiping;
+mod handlers;
+mod hearing;
+mod joining;
+pub mod laws;
+mod links;
+mod member_errors;
+mod members;
+mod probing;
+mod rounds;
+mod serving;
+mod steps;
+
+pub use clocks::Clock;
+pub use errors::{ClusterError, HandlerFault, LinkError};
+pub use forwarding::handle_or_forward;
+pub use gossiping::gossip_round;
+pub use handlers::Handler;
+pub use joining::join;
+pub use links::Link;
+pub use member_errors::{CallError, JoinError, LeaveError, RejoinError, RequestError, RoundError};
+pub use members::Member;
+pub use rounds::Round;
+pub use serving::{refuse, serve_one};

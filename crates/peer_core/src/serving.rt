@@ -1,0 +1,337 @@
+//! What a node answers to a message. No turn is held while the link or the handler is called.
+ghost use Rattle.std.specs.Prelude.{◌≡◌, true, false, Ok, IfOk, IfErr};
+ghost use Rattle.node_core.specs.Receiving.{is_answered, is_gossip};
+ghost use Rattle.locked_node.specs.Passes.{Fits};
+ghost use Rattle.peer_core.specs.Asking.{Pinged};
+ghost use Rattle.peer_core.specs.Parts.{Asks, Does, Next, let_in};
+ghost use Rattle.peer_core.specs.Serving.{Finds, Forwards, Gossips, IsDecided, IsRouted, PassesOn, Refuses, Reports, Says, Seeks, Serves, TellsRequester, reason_of};
+
+use crate::asking::ping;
+use crate::errors::HandlerFault;
+use crate::handlers::Handler;
+use crate::hearing::Heard;
+use crate::links::Link;
+use change_core::{Address, Moment};
+use forward_core::{ForwardError, Route, route_keys};
+use hash_ring::PointHash;
+use locked_node::{LockedNode, NodePass};
+use message_core::{Content, Keys, Message, Reason, Text};
+use node_core::{NodeError, Received, StopCause, View};
+use std::alloc::Global;
+use std::sync::Wait;
+use turn_lock::LockError;
+
+/// A message of the node's own.
+pub(crate) fn say<R: Wait, H: PointHash>(
+    rt: &R,
+    node: &LockedNode<H>,
+    pass: &mut NodePass<H>,
+    content: Content,
+) -> Result<Message, LockError>
+    requires { Fits node.now pass.old }
+    ensures did { Does node.now (Says content) (let_in result) pass.old pass.new }
+    ensures content { IfOk result (λ m. m.content ≡ content) }
+    ensures fits { Fits node.now pass.new }
+{
+    let own = node.own(rt, pass)?;
+    Ok(Message {
+        source: own.address,
+        source_incarnation: own.incarnation,
+        content,
+    })
+}
+
+/// Refuses for a reason: a message of the node, at the incarnation of its own entry. Whoever reads messages answers what is no
+/// message so, by `Malformed`.
+///
+/// Errors: `ForeignPass` where the pass bears another node's name, else `PassSpent` where it may make no call more.
+pub fn refuse<R: Wait, H: PointHash>(
+    rt: &R,
+    node: &LockedNode<H>,
+    pass: &mut NodePass<H>,
+    reason: Reason,
+) -> Result<Message, LockError>
+    requires { Fits node.now pass.old }
+    ensures did { Does node.now (Refuses reason) (let_in result) pass.old pass.new }
+    ensures fits { Fits node.now pass.new }
+{
+    say(rt, node, pass, Content::Refused(reason))
+}
+
+fn reason_for(cause: StopCause) -> Reason
+    ensures { result ≡ reason_of cause }
+{
+    match cause {
+        StopCause::Exhausted => Reason::Exhausted,
+        StopCause::Full => Reason::Full,
+        StopCause::Memory => Reason::Memory,
+    }
+}
+
+/// Answers a Join or a Ping by what the node answers to it.
+fn serve_gossip<R: Wait, H: PointHash>(
+    rt: &R,
+    node: &LockedNode<H>,
+    pass: &mut NodePass<H>,
+    now: Moment,
+    message: &Message,
+) -> Result<Message, LockError>
+    requires fits { Fits node.now pass.old }
+    requires answered { is_answered message.now.content ≡ true }
+    ensures did { Does node.now (Gossips message.now now) (let_in result) pass.old pass.new }
+    ensures fits { Fits node.now pass.new }
+{
+    let received = node.receive(rt, pass, message, now)?;
+    match received {
+        Received::Answer(_, answer) => Ok(answer),
+        Received::NoAnswer(_) => refuse(rt, node, pass, Reason::Memory),
+        Received::Stopped(stopped) => {
+            let reason = reason_for(stopped.cause);
+            refuse(rt, node, pass, reason)
+        }
+        Received::Done(_) | Received::NotGossip => unreachable!(),
+    }
+}
+
+/// Whether a target was reached, by what was heard of it; its Ack is taken. None where there was no memory to find out.
+fn seek<R: Wait, H: PointHash>(
+    rt: &R,
+    node: &LockedNode<H>,
+    pass: &mut NodePass<H>,
+    now: Moment,
+    heard: &Heard,
+) -> Result<Option<bool>, LockError>
+    requires { Fits node.now pass.old }
+    ensures did { Does node.now (Seeks now heard.now) (let_in result) pass.old pass.new }
+    ensures fits { Fits node.now pass.new }
+{
+    match heard {
+        Heard::Answer(ack) => {
+            let _received = node.receive(rt, pass, ack, now)?;
+            Ok(Some(true))
+        }
+        Heard::Other => Ok(Some(false)),
+        Heard::NoMemory => Ok(None),
+    }
+}
+
+/// Whether a target answers a ping. None where there was no memory to find out.
+fn reach<R: Wait, H: PointHash, L: Link>(
+    rt: &R,
+    alloc: Global,
+    node: &LockedNode<H>,
+    pass: &mut NodePass<H>,
+    link: &mut L,
+    now: Moment,
+    target: Address,
+) -> Result<Option<bool>, LockError>
+    requires { Fits node.now pass.old }
+    ensures did { Does node.now (Next (Asks (Pinged L.may_answer target)) (Seeks now)) (let_in result) pass.old pass.new }
+    ensures fits { Fits node.now pass.new }
+{
+    let heard = ping(rt, alloc, node, pass, link, target)?;
+    seek(rt, node, pass, now, &heard)
+}
+
+/// Whether a target is the node itself or answers its ping. None where there was no memory to find out.
+fn find_out<R: Wait, H: PointHash, L: Link>(
+    rt: &R,
+    alloc: Global,
+    node: &LockedNode<H>,
+    pass: &mut NodePass<H>,
+    link: &mut L,
+    now: Moment,
+    target: Address,
+) -> Result<Option<bool>, LockError>
+    requires { Fits node.now pass.old }
+    ensures did { Does node.now (Finds L.may_answer now target) (let_in result) pass.old pass.new }
+    ensures fits { Fits node.now pass.new }
+{
+    let own = node.own(rt, pass)?;
+    if own.address == target {
+        return Ok(Some(true));
+    }
+    reach(rt, alloc, node, pass, link, now, target)
+}
+
+/// Tells a requester what was found out about a target.
+fn tell<R: Wait, H: PointHash>(
+    rt: &R,
+    node: &LockedNode<H>,
+    pass: &mut NodePass<H>,
+    requester: Address,
+    target: Address,
+    found: Option<bool>,
+) -> Result<Message, LockError>
+    requires { Fits node.now pass.old }
+    ensures did { Does node.now (TellsRequester requester target found) (let_in result) pass.old pass.new }
+    ensures fits { Fits node.now pass.new }
+{
+    let Some(reached) = found else {
+        return refuse(rt, node, pass, Reason::Memory);
+    };
+    let made = node.ping_req_ack_to(rt, pass, requester, target, reached)?;
+    match made {
+        Ok(answer) => Ok(answer),
+        Err(_) => refuse(rt, node, pass, Reason::Memory),
+    }
+}
+
+/// Finds out about a target and tells the requester.
+fn report<R: Wait, H: PointHash, L: Link>(
+    rt: &R,
+    alloc: Global,
+    node: &LockedNode<H>,
+    pass: &mut NodePass<H>,
+    link: &mut L,
+    now: Moment,
+    requester: Address,
+    target: Address,
+) -> Result<Message, LockError>
+    requires { Fits node.now pass.old }
+    ensures did { Does node.now (Reports L.may_answer requester now target) (let_in result) pass.old pass.new }
+    ensures fits { Fits node.now pass.new }
+{
+    let found = find_out(rt, alloc, node, pass, link, now, target)?;
+    tell(rt, node, pass, requester, target, found)
+}
+
+/// Takes the changes of a PingReq and answers about its target.
+fn serve_ping_req<R: Wait, H: PointHash, L: Link>(
+    rt: &R,
+    alloc: Global,
+    node: &LockedNode<H>,
+    pass: &mut NodePass<H>,
+    link: &mut L,
+    now: Moment,
+    message: &Message,
+    target: Address,
+) -> Result<Message, LockError>
+    requires fits { Fits node.now pass.old }
+    requires gossip { is_gossip message.now.content ≡ true }
+    requires unanswered { is_answered message.now.content ≡ false }
+    ensures did { Does node.now (PassesOn L.may_answer message.now now target) (let_in result) pass.old pass.new }
+    ensures fits { Fits node.now pass.new }
+{
+    let received = node.receive(rt, pass, message, now)?;
+    match received {
+        Received::Done(_) => report(rt, alloc, node, pass, link, now, message.source, target),
+        Received::Stopped(stopped) => {
+            let reason = reason_for(stopped.cause);
+            refuse(rt, node, pass, reason)
+        }
+        Received::Answer(_, _) | Received::NoAnswer(_) | Received::NotGossip => unreachable!(),
+    }
+}
+
+/// What is said of a handler's answer.
+fn handled<R: Wait, A: Handler>(
+    rt: &R,
+    alloc: Global,
+    handler: &A,
+    keys: &Keys,
+    body: &Text,
+) -> Content
+    ensures { IsRouted A.may_handle keys.now body.now (Ok Route.Here) result }
+{
+    let answer = handler.handle(rt, alloc, keys, body);
+    match answer {
+        Ok(text) => Content::Reply(text),
+        Err(HandlerFault::Failed) => Content::Refused(Reason::Failed),
+        Err(HandlerFault::Memory) => Content::Refused(Reason::Memory),
+    }
+}
+
+/// What is answered to a request that goes there.
+fn routed<R: Wait, A: Handler>(
+    rt: &R,
+    alloc: Global,
+    handler: &A,
+    keys: &Keys,
+    body: &Text,
+    route: Result<Route, ForwardError>,
+) -> Content
+    requires { IfErr route (λ e. e ≡ ForwardError.Diverged) }
+    ensures { IsRouted A.may_handle keys.now body.now route result }
+{
+    match route {
+        Ok(Route::Here) => handled(rt, alloc, handler, keys, body),
+        Ok(Route::To(_)) => Content::NotOwner,
+        Ok(Route::Nobody) => Content::Refused(Reason::Nobody),
+        Err(_) => Content::Refused(Reason::Diverged),
+    }
+}
+
+/// What is answered to a request, by one view of the node.
+fn decided<R: Wait, H: PointHash, A: Handler>(
+    rt: &R,
+    alloc: Global,
+    handler: &A,
+    view: &Result<View<H>, NodeError>,
+    keys: &Keys,
+    body: &Text,
+) -> Content
+    ensures { IsDecided H.hash_of A.may_handle keys.now body.now view.now result }
+{
+    let Ok(view) = view else {
+        return Content::Refused(Reason::Memory);
+    };
+    let route = route_keys(view, keys);
+    routed(rt, alloc, handler, keys, body, route)
+}
+
+/// Answers a request by the handler, if one view says that the node owns all its keys.
+fn serve_forward<R: Wait, H: PointHash, A: Handler>(
+    rt: &R,
+    alloc: Global,
+    node: &LockedNode<H>,
+    pass: &mut NodePass<H>,
+    handler: &A,
+    keys: &Keys,
+    body: &Text,
+) -> Result<Message, LockError>
+    requires { Fits node.now pass.old }
+    ensures did { Does node.now (Forwards H.hash_of A.may_handle keys.now body.now) (let_in result) pass.old pass.new }
+    ensures fits { Fits node.now pass.new }
+{
+    let view = node.view(rt, pass)?;
+    let content = decided(rt, alloc, handler, &view, keys, body);
+    say(rt, node, pass, content)
+}
+
+/// Answers a message at a moment. A Join, a Ping and a PingReq are taken, and answered by what the node makes of them; for a
+/// PingReq its target is pinged over the link, if it is another node. A Forward is answered by the handler where one view of
+/// the node says that it owns all keys. Any other kind is refused as unexpected, and nothing of it is taken. No turn is held
+/// while the link or the handler is called. A refusal of the node's, want of memory among them, is an answer too: `Refused`
+/// with its reason.
+///
+/// Errors: `ForeignPass` where the pass bears another node's name, else `PassSpent` where it may make no call more. The
+/// calls before the refused one are those of the answer, and what they did stays.
+pub fn serve_one<R: Wait, H: PointHash, L: Link, A: Handler>(
+    rt: &R,
+    alloc: Global,
+    node: &LockedNode<H>,
+    pass: &mut NodePass<H>,
+    link: &mut L,
+    handler: &A,
+    now: Moment,
+    message: &Message,
+) -> Result<Message, LockError>
+    requires { Fits node.now pass.old }
+    ensures served { Does node.now (Serves H.hash_of L.may_answer A.may_handle message.now now message.now.content) (let_in result) pass.old pass.new }
+    ensures fits { Fits node.now pass.new }
+{
+    match &message.content {
+        Content::Join(_) | Content::Ping(_) => serve_gossip(rt, node, pass, now, message),
+        Content::PingReq(_, target) => {
+            serve_ping_req(rt, alloc, node, pass, link, now, message, *target)
+        }
+        Content::Forward(keys, body) => serve_forward(rt, alloc, node, pass, handler, keys, body),
+        Content::Joined(_)
+        | Content::Ack(_)
+        | Content::PingReqAck(_, _, _)
+        | Content::Reply(_)
+        | Content::NotOwner
+        | Content::Refused(_) => refuse(rt, node, pass, Reason::Unexpected),
+    }
+}

@@ -1,4 +1,0 @@
-//! Reconciliation: two nodes that tell each other all that they hold come to agree.
-#![tactic(auto)]
-
-pub mod laws;

@@ -1,9 +1,0 @@
-use Rattle.round_core.proofs.Named.{named_call}
-use Rattle.round_core.proofs.Parts.{does_as, does_ask}
-use Rattle.round_core.proofs.probing.ask_about.Goals as goal
-
-pub returns-clause-did : goal.returns-clause-did
-returns-clause-did g c = does_as c.let_in.ensures (does_ask _ c.ask-heard.result c.ask-heard.ensures.asked c.ask-heard.ensures.refused)
-
-pub returns-clause-named : goal.returns-clause-named
-returns-clause-named g c = named_call c.ask-heard.result c.let_in.result c.let_in.ensures

@@ -1,9 +1,0 @@
-use Rattle.round_core.proofs.Named.{named_call}
-use Rattle.round_core.proofs.Parts.{does_as, does_ask}
-use Rattle.round_core.proofs.probing.ping_target.Goals as goal
-
-pub returns-clause-did : goal.returns-clause-did
-returns-clause-did g c = does_as c.let_in.ensures (does_ask _ c.ping-heard.result c.ping-heard.ensures.pinged c.ping-heard.ensures.refused)
-
-pub returns-clause-named : goal.returns-clause-named
-returns-clause-named g c = named_call c.ping-heard.result c.let_in.result c.let_in.ensures

@@ -1,7 +1,0 @@
-use Rattle.serve_core.proofs.Answered.{unsent_refusal}
-use Rattle.serve_core.proofs.answering.line_of.Goals as goal
-
-pub returns-in-Err-clause-silent : goal.returns-in-Err-clause-silent
-returns-in-Err-clause-silent g c =
-    unsent_refusal c.args.node.now c.args.answer.now c.in-Err.reason c.refusal_line.result c.args.pass.now c.refusal_line.new.pass
-    c.in-Err.ensures.reason c.refusal_line.ensures.silent

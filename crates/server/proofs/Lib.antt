@@ -1,0 +1,5 @@
+pub mod Answered
+pub mod Heard
+pub mod Worked
+pub mod Crew
+pub mod Starts

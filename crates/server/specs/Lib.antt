@@ -1,0 +1,6 @@
+pub mod Answering
+pub mod Running
+pub mod Starting
+pub mod Threads
+pub mod Timeouts
+pub mod Working

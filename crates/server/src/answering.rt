@@ -1,0 +1,185 @@
+//! What a server answers to what came.
+ghost use Rattle.std.specs.Prelude.{◌≡◌, ◌≤◌, Ok, IfOk, IfErr, IfNone, IfSome, length};
+ghost use Rattle.wire_json.specs.Lines.{IsLine, max_line};
+ghost use Rattle.wire_json.specs.Messages.{MessageForm};
+ghost use Rattle.locked_node.specs.Passes.{Fits};
+ghost use Rattle.peer_core.specs.Acts.{Makes};
+ghost use Rattle.peer_core.specs.Parts.{Does, let_in};
+ghost use Rattle.peer_core.specs.Serving.{Refuses};
+ghost use Rattle.server.specs.Answering.{AnswersInput, AnswersLine, AnswersMessage, IsNotAnswered, IsRefusalLine, IsSentAs, IsSilent, IsTried, IsUnread, IsUnsent, Responds, SendsNothing, line_text, unread_as};
+
+use crate::inputs::Input;
+use change_core::Moment;
+use hash_ring::PointHash;
+use locked_node::{LockedNode, NodePass};
+use message_core::{Message, Reason, WireError};
+use peer_core::{Handler, Link, refuse, serve_one};
+use std::alloc::Global;
+use std::sync::Wait;
+use turn_lock::LockError;
+use wire_json::{decode, encode};
+
+/// How a refusal names what is wrong with a line.
+fn reason_of(fault: WireError) -> Reason
+    ensures { result ≡ unread_as fault }
+{
+    match fault {
+        WireError::Memory => Reason::Memory,
+        _ => Reason::Malformed,
+    }
+}
+
+/// The message that a line is, or why it is refused: `Malformed` where it is none, `Memory` where there was none to read it.
+fn read_message(alloc: Global, line: &[u8]) -> Result<Message, Reason>
+    ensures message { IfOk result (λ m. IsLine (λ v. MessageForm v m) line.now) }
+    ensures reason { IfErr result (IsUnread line.now) }
+{
+    match decode(alloc, line) {
+        Ok(message) => Ok(message),
+        Err(fault) => Err(reason_of(fault)),
+    }
+}
+
+/// What is answered to a message.
+fn answer_message<R: Wait, H: PointHash, L: Link, A: Handler>(
+    rt: &R,
+    alloc: Global,
+    node: &LockedNode<H>,
+    pass: &mut NodePass<H>,
+    link: &mut L,
+    handler: &A,
+    now: Moment,
+    message: &Message,
+) -> Result<Message, LockError>
+    requires { Fits node.now pass.old }
+    ensures did { Does node.now (AnswersMessage H.hash_of L.may_answer A.may_handle now message.now) (let_in result) pass.old pass.new }
+    ensures fits { Fits node.now pass.new }
+{
+    serve_one(rt, alloc, node, pass, link, handler, now, message)
+}
+
+/// What is answered to a line.
+fn answer_line<R: Wait, H: PointHash, L: Link, A: Handler>(
+    rt: &R,
+    alloc: Global,
+    node: &LockedNode<H>,
+    pass: &mut NodePass<H>,
+    link: &mut L,
+    handler: &A,
+    now: Moment,
+    line: &[u8],
+) -> Result<Message, LockError>
+    requires { Fits node.now pass.old }
+    ensures did { Does node.now (AnswersLine H.hash_of L.may_answer A.may_handle now line.now) (let_in result) pass.old pass.new }
+    ensures fits { Fits node.now pass.new }
+{
+    match read_message(alloc, line) {
+        Ok(message) => answer_message(rt, alloc, node, pass, link, handler, now, &message),
+        Err(reason) => refuse(rt, node, pass, reason),
+    }
+}
+
+/// What is answered to what came; none where nothing is answered, or the lock refused a call of the answer.
+fn answer<R: Wait, H: PointHash, L: Link, A: Handler>(
+    rt: &R,
+    alloc: Global,
+    node: &LockedNode<H>,
+    pass: &mut NodePass<H>,
+    link: &mut L,
+    handler: &A,
+    now: Moment,
+    input: &Input,
+) -> Option<Message>
+    requires { Fits node.now pass.old }
+    ensures answered { IfSome result (λ m. Makes node.now (AnswersInput H.hash_of L.may_answer A.may_handle now input.now (Ok m)) pass.old pass.new) }
+    ensures unanswered { IfNone result (IsNotAnswered H.hash_of L.may_answer A.may_handle now input.now node.now pass.old pass.new) }
+    ensures fits { Fits node.now pass.new }
+{
+    match input {
+        Input::Line(line) => {
+            answer_line(rt, alloc, node, pass, link, handler, now, line.as_slice()).ok()
+        }
+        Input::Refused(reason) => refuse(rt, node, pass, *reason).ok(),
+        Input::Nothing => None,
+    }
+}
+
+/// The line of an answer, or the reason why it has none: `Failed` where it is too long, else `Memory`.
+fn own_line(alloc: Global, answer: &Message) -> Result<Vec<u8>, Reason>
+    ensures line { IfOk result (λ v. v.items ≡ line_text answer.now) }
+    ensures short { IfOk result (λ v. length v.items ≤ max_line) }
+    ensures reason { IfErr result (IsUnsent answer.now) }
+{
+    match encode(alloc, answer) {
+        Ok(line) => Ok(line),
+        Err(WireError::LineTooLong) => Err(Reason::Failed),
+        Err(_) => Err(Reason::Memory),
+    }
+}
+
+/// The line of a refusal; none where the lock refuses the call for it, or there is no memory for its line.
+fn refusal_line<R: Wait, H: PointHash>(
+    rt: &R,
+    alloc: Global,
+    node: &LockedNode<H>,
+    pass: &mut NodePass<H>,
+    reason: Reason,
+) -> Option<Vec<u8>>
+    requires { Fits node.now pass.old }
+    ensures refusal { IfSome result (λ v. Makes node.now (IsRefusalLine reason v.items) pass.old pass.new) }
+    ensures silent { IfNone result (IsTried (Refuses reason) node.now pass.old pass.new) }
+    ensures fits { Fits node.now pass.new }
+{
+    let Ok(refusal) = refuse(rt, node, pass, reason) else {
+        return None;
+    };
+    match encode(alloc, &refusal) {
+        Ok(line) => Some(line),
+        Err(_) => None,
+    }
+}
+
+/// The line of an answer, or of the refusal that stands for it where it has none.
+fn line_of<R: Wait, H: PointHash>(
+    rt: &R,
+    alloc: Global,
+    node: &LockedNode<H>,
+    pass: &mut NodePass<H>,
+    answer: &Message,
+) -> Option<Vec<u8>>
+    requires { Fits node.now pass.old }
+    ensures sent { IfSome result (λ v. Makes node.now (IsSentAs answer.now v.items) pass.old pass.new) }
+    ensures silent { IfNone result (IsTried (SendsNothing answer.now) node.now pass.old pass.new) }
+    ensures fits { Fits node.now pass.new }
+{
+    match own_line(alloc, answer) {
+        Ok(line) => Some(line),
+        Err(reason) => refusal_line(rt, alloc, node, pass, reason),
+    }
+}
+
+/// The line, without its newline, that goes back for what came at a moment. To a line that is a message it is that of what
+/// `serve_one` answers, requests by the handler; to any other line, and to one that was too long, a refusal `malformed`; and `memory` where
+/// there was none to read a line. Where the answer's line would have more than 1,048,576 bytes it is that of a refusal `failed`, where
+/// there was no memory for it that of a refusal `memory`, by one call of the node more.
+///
+/// None where the connection is to be closed without an answer: where nothing that is answered came, where the lock refused a call, and
+/// where there was no memory even for a refusal.
+pub fn respond<R: Wait, H: PointHash, L: Link, A: Handler>(
+    rt: &R,
+    alloc: Global,
+    node: &LockedNode<H>,
+    pass: &mut NodePass<H>,
+    link: &mut L,
+    handler: &A,
+    now: Moment,
+    input: &Input,
+) -> Option<Vec<u8>>
+    requires { Fits node.now pass.old }
+    ensures sent { IfSome result (λ v. Makes node.now (Responds H.hash_of L.may_answer A.may_handle now input.now v.items) pass.old pass.new) }
+    ensures silent { IfNone result (IsSilent H.hash_of L.may_answer A.may_handle now input.now node.now pass.old pass.new) }
+    ensures fits { Fits node.now pass.new }
+{
+    let answer = answer(rt, alloc, node, pass, link, handler, now, input)?;
+    line_of(rt, alloc, node, pass, &answer)
+}

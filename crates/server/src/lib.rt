@@ -1,0 +1,29 @@
+//! A server of one node over TCP, for any handler: threads that serve connections and one that makes the rounds, from `start` to
+//! `stop`.
+#![tactic(auto)]
+
+mod answering;
+mod clocks;
+mod connections;
+mod errors;
+mod inputs;
+mod promises;
+mod running;
+mod runtimes;
+mod servers;
+mod starting;
+mod stopwatches;
+mod threads;
+mod timeouts;
+
+pub use answering::respond;
+pub use clocks::ServerClock;
+pub use connections::serve_connection;
+pub use errors::ServerError;
+pub use inputs::{Input, hear};
+pub use running::{Ended, Running};
+pub use runtimes::Runtime;
+pub use servers::{Server, make_rounds, work};
+pub use starting::{MAX_HANDLES, Settings, StartError, start};
+pub use stopwatches::Stopwatch;
+pub use timeouts::Timeouts;

@@ -1,0 +1,228 @@
+//! A node and its server, from their settings to the first connection.
+ghost use Rattle.std.specs.Prelude.{◌≡◌, ◌↔◌, ◌++◌, ◌∷◌, [], true, length, IfOk, IfErr, IsOkUnless};
+ghost use Rattle.std.specs.List.{All};
+ghost use Rattle.cluster_core.specs.Clusters.{AreAll};
+ghost use Rattle.locked_node.specs.Passes.{Fits, opening_of};
+ghost use Rattle.server.specs.Starting.{AreCountsInRange, AreStandardFor, IsBorn, IsNotBorn, IsNotStarted, IsStarted, seed_of, start_error};
+
+use crate::errors::ServerError;
+use crate::running::Running;
+use crate::runtimes::Runtime;
+use crate::servers::Server;
+use crate::stopwatches::Stopwatch;
+use crate::timeouts::Timeouts;
+use change_core::{Address, Incarnation, Moment};
+use cluster_core::{share, socket_address};
+use hash_ring::PointHash;
+use locked_node::{LockedNode, NodePass};
+use node_core::{Config, ConfigField, MOST_WORKERS, NodeError, NodeState};
+use peer_core::Handler;
+use std::alloc::Global;
+use std::net::{Net, TcpListener, TcpStream};
+use thiserror::Error;
+
+/// How many handles of a node the threads of a service have at most.
+pub const MAX_HANDLES: u32 = 1_000;
+
+/// What a node and its server are started with.
+#[derive(Clone, Copy, Debug)]
+pub struct Settings {
+    /// Where the server listens, and what other nodes call the node.
+    pub address: Address,
+    /// The version of the node's own state, greater than at any earlier start at this address: as the milliseconds since 1970 are.
+    pub incarnation: Incarnation,
+    /// How the node is configured.
+    pub config: Config,
+    /// How many threads serve connections, from 1 to 16.
+    pub workers: u32,
+    /// How many handles of the node the service's own threads get, from 0 to 1,000.
+    pub handles: u32,
+    /// How many milliseconds lie between two rounds; 0: no rounds are made.
+    pub period: u64,
+    /// How long others are waited for.
+    pub timeouts: Timeouts,
+}
+
+impl Settings {
+    /// The standard configuration, but up to 256 changes a message; 4 workers, one handle, a round each 200 milliseconds, and the
+    /// standard timeouts. More changes a message let a cluster whose nodes start together agree sooner.
+    pub fn new(address: Address, incarnation: Incarnation) -> Self
+        ensures { AreStandardFor address incarnation result }
+    {
+        Settings {
+            address,
+            incarnation,
+            config: Config {
+                per_message: 256,
+                ..Config::standard()
+            },
+            workers: 4,
+            handles: 1,
+            period: 200,
+            timeouts: Timeouts::standard(),
+        }
+    }
+
+    /// Whether the numbers of threads and handles are in their ranges.
+    fn are_counts_in_range(&self) -> bool
+        ensures { result ≡ true ↔ AreCountsInRange self.now }
+    {
+        self.workers >= 1 && self.workers <= MOST_WORKERS && self.handles <= MAX_HANDLES
+    }
+}
+
+/// Why a node and its server were not started. None of its threads is left.
+#[derive(Clone, Copy, Debug, PartialEq, Eq, Error)]
+pub enum StartError {
+    /// The first field of the configuration that is out of its range.
+    #[error("bad configuration: {0}")]
+    BadConfig(ConfigField),
+    /// The workers or the handles are out of their range.
+    #[error("bad count")]
+    BadCount,
+    /// The address can't be listened at.
+    #[error("cannot listen")]
+    CannotListen,
+    /// The system gave no thread.
+    #[error("no thread")]
+    NoThread,
+    /// An allocation failed.
+    #[error("out of memory")]
+    Memory,
+}
+
+impl From<ServerError> for StartError {
+    ghost use Rattle.server.specs.Starting.{error_of_server};
+
+    ghost from_gives = { λ e f. f ≡ error_of_server e };
+
+    fn from(error: ServerError) -> StartError {
+        match error {
+            ServerError::NoThread => StartError::NoThread,
+            ServerError::Memory => StartError::Memory,
+        }
+    }
+}
+
+/// A seed of random choices. Nodes that start at one incarnation have different seeds, so that they do not probe in step.
+fn seed_of(address: Address, incarnation: Incarnation) -> u64
+    ensures { result ≡ seed_of address incarnation }
+{
+    address.number() * 32_768 + incarnation.number()
+}
+
+/// Why there is no node, as a start answers it.
+fn start_error(error: NodeError) -> StartError
+    ensures { result ≡ start_error error }
+{
+    match error {
+        NodeError::BadConfig(field) => StartError::BadConfig(field),
+        _ => StartError::Memory,
+    }
+}
+
+/// The node that the settings ask for.
+fn node_of<H: PointHash>(
+    alloc: Global,
+    hash: H,
+    settings: &Settings,
+) -> Result<NodeState<H>, StartError>
+    ensures born { IfOk result (IsBorn H.hash_of hash settings.now) }
+    ensures refused { IfErr result (IsNotBorn settings.now) }
+{
+    let made = NodeState::new(
+        alloc,
+        settings.config,
+        hash,
+        settings.address,
+        settings.incarnation,
+        seed_of(settings.address, settings.incarnation),
+        Stopwatch::beginning(),
+    );
+    match made {
+        Ok(node) => Ok(node),
+        Err(error) => Err(start_error(error)),
+    }
+}
+
+/// The node, shared as the settings say, with the pass of its rounds, those of its workers, and the handles.
+///
+/// # Errors
+/// - `Memory`: an allocation failed, and the node is given up.
+fn share_out<H: PointHash>(
+    alloc: Global,
+    node: NodeState<H>,
+    settings: &Settings,
+) -> Result<
+    (
+        LockedNode<H>,
+        NodePass<H>,
+        Vec<NodePass<H>>,
+        Vec<NodePass<H>>,
+    ),
+    StartError,
+>
+    requires { AreCountsInRange settings.now }
+    ensures opening { IfOk result (λ r. opening_of r.0 ≡ node) }
+    ensures rounds { IfOk result (λ r. Fits r.0 r.1) }
+    ensures workers { IfOk result (λ r. All (Fits r.0) r.2.items) }
+    ensures handles { IfOk result (λ r. All (Fits r.0) r.3.items) }
+    ensures count { IfOk result (λ r. length r.2.items ≡ settings.now.workers) }
+    ensures left { IfOk result (λ r. length r.3.items ≡ settings.now.handles) }
+    ensures all { IfOk result (λ r. AreAll r.0 (r.2.items ++ r.3.items ++ r.1 ∷ [])) }
+    ensures refusal { IsOkUnless result StartError.Memory }
+{
+    let Ok((node, rounds, mut workers)) = share(alloc, node, settings.workers + settings.handles)
+    else {
+        return Err(StartError::Memory);
+    };
+    match workers.split_off(settings.workers as usize) {
+        Ok(handles) => Ok((node, rounds, workers, handles)),
+        Err(_) => Err(StartError::Memory),
+    }
+}
+
+/// Starts a node and its server: it listens at the address of the settings, serves each connection by one line in and one line
+/// out, requests by the handler, and makes rounds, until it is stopped. The handles are for the service's own threads: each makes
+/// its calls of the node by one, as a [`Member`](peer_core::Member) does. To be known to others the node has to join one of them.
+///
+/// # Errors
+/// - `BadConfig`: a field of the configuration is out of its range.
+/// - `BadCount`: the workers or the handles are.
+/// - `CannotListen`: the address can't be listened at.
+/// - `NoThread`: the system gave no thread.
+/// - `Memory`: an allocation failed.
+pub fn start<
+    R: Net<Listener = TcpListener, Stream = TcpStream> + Runtime,
+    H: PointHash + Send + Sync + 'static,
+    A: Handler + Drop + Send + Sync + 'static,
+>(
+    rt: &R,
+    alloc: Global,
+    hash: H,
+    handler: A,
+    settings: &Settings,
+) -> Result<(Running<H, A>, Vec<NodePass<H>>), StartError>
+    ensures started { IfOk result (λ r. IsStarted H.hash_of hash handler settings.now r.0 r.1.items) }
+    ensures refused { IfErr result (IsNotStarted settings.now) }
+{
+    let born = node_of(alloc, hash, settings)?;
+    if !settings.are_counts_in_range() {
+        return Err(StartError::BadCount);
+    }
+    let Ok(listener) = TcpListener::bind(rt, socket_address(settings.address)) else {
+        return Err(StartError::CannotListen);
+    };
+    let (node, rounds, workers, handles) = share_out(alloc, born, settings)?;
+    let stopwatch = Stopwatch::start(rt);
+    let server = Server::new(
+        node,
+        handler,
+        stopwatch,
+        settings.timeouts,
+        listener,
+        u64::MAX,
+    );
+    let running = Running::start(rt, alloc, server, rounds, workers, settings.period)?;
+    Ok((running, handles))
+}

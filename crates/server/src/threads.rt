@@ -1,0 +1,203 @@
+//! The threads of a server.
+ghost use Rattle.std.specs.Prelude.{◌≡◌, ◌+◌, ◌≤◌, [], reverse, vec_len, IfOk, IfErr, OnOk};
+ghost use Rattle.std.specs.List.{All, AllZip};
+ghost use Rattle.std.specs.Arc.{arc_value};
+ghost use Rattle.std.specs.Vec.{vec_capacity};
+ghost use Rattle.locked_node.specs.Passes.{Fits};
+ghost use Rattle.peer_core.specs.Acts.{Makes};
+ghost use Rattle.server.specs.Threads.{AreBack, IsTimer, IsTimerBack, IsWorker, ServeAlone};
+ghost use Rattle.server.specs.Working.{IsConnection, IsOneRound, Repeats};
+
+use crate::errors::ServerError;
+use crate::promises::{RoundsPromise, Timer, WorkerPromise};
+use crate::runtimes::Runtime;
+use crate::servers::{Server, make_rounds, work};
+use hash_ring::PointHash;
+use locked_node::NodePass;
+use peer_core::Handler;
+use std::alloc::Global;
+use std::marker::PhantomData;
+use std::net::{Net, TcpListener, TcpStream};
+use std::snapshot::Snapshot;
+use std::sync::{Arc, Wait};
+use std::thread;
+use std::thread::{PromisedHandle, Threads};
+use std::time::Clock;
+
+/// Serves connections by a pass, and gives it back.
+fn work_by<R: Net + Wait + Clock + Copy, H: PointHash, A: Handler + Drop>(
+    rt: R,
+    alloc: Global,
+    server: Arc<Server<H, A>, Global>,
+    mut pass: NodePass<H>,
+) -> NodePass<H>
+    requires { Fits (arc_value server).node pass }
+    ensures { Makes (arc_value server).node (Repeats (IsConnection H.hash_of A.may_handle)) pass result }
+{
+    work(&*server, &mut pass, &rt, alloc);
+    pass
+}
+
+/// Makes rounds by a pass, and gives it back.
+fn make_rounds_by<R: Net + Wait + Clock + Copy, H: PointHash, A: Drop>(
+    rt: R,
+    alloc: Global,
+    server: Arc<Server<H, A>, Global>,
+    mut pass: NodePass<H>,
+    period: u64,
+) -> NodePass<H>
+    requires { Fits (arc_value server).node pass }
+    ensures { Makes (arc_value server).node (Repeats IsOneRound) pass result }
+{
+    make_rounds(&*server, &mut pass, &rt, alloc, period);
+    pass
+}
+
+/// A thread that serves connections.
+fn start_worker<
+    R: Net<Listener = TcpListener, Stream = TcpStream> + Runtime,
+    H: PointHash + Send + Sync + 'static,
+    A: Handler + Drop + Send + Sync + 'static,
+>(
+    rt: &R,
+    alloc: Global,
+    server: &Arc<Server<H, A>, Global>,
+    pass: NodePass<H>,
+) -> Result<PromisedHandle<NodePass<H>, WorkerPromise<H, A>>, ServerError>
+    requires { Fits (arc_value server.now).node pass }
+    ensures started { IfOk result (IsWorker (arc_value server.now).node pass) }
+{
+    let server = Arc::try_clone(server)?;
+    let host = *rt;
+    let promise = WorkerPromise {
+        node: Snapshot::of(&server.node),
+        pass: Snapshot::of(&pass),
+        handler: PhantomData,
+    };
+    let started = thread::spawn_with(rt, promise, move || work_by(host, alloc, server, pass));
+    match started {
+        Ok(worker) => Ok(worker),
+        Err(_) => Err(ServerError::NoThread),
+    }
+}
+
+/// A thread that makes rounds; none if the period is 0.
+fn start_rounds<
+    R: Net<Listener = TcpListener, Stream = TcpStream> + Runtime,
+    H: PointHash + Send + Sync + 'static,
+    A: Handler + Drop + Send + Sync + 'static,
+>(
+    rt: &R,
+    alloc: Global,
+    server: &Arc<Server<H, A>, Global>,
+    pass: NodePass<H>,
+    period: u64,
+) -> Result<Timer<H>, ServerError>
+    requires { Fits (arc_value server.now).node pass }
+    ensures started { IfOk result (IsTimer (arc_value server.now).node period pass) }
+{
+    if period == 0 {
+        return Ok(Timer::Resting(pass));
+    }
+    let server = Arc::try_clone(server)?;
+    let host = *rt;
+    let promise = RoundsPromise {
+        node: Snapshot::of(&server.node),
+        pass: Snapshot::of(&pass),
+    };
+    let started = thread::spawn_with(rt, promise, move || {
+        make_rounds_by(host, alloc, server, pass, period)
+    });
+    match started {
+        Ok(rounds) => Ok(Timer::Running(rounds)),
+        Err(_) => Err(ServerError::NoThread),
+    }
+}
+
+/// Waits for the thread that makes rounds, if any does. The pass of the rounds.
+pub(crate) fn end_timer<R: Threads, H: PointHash>(rt: &R, timer: Timer<H>) -> NodePass<H>
+    ensures { IsTimerBack timer result }
+{
+    match timer {
+        Timer::Resting(pass) => pass,
+        Timer::Running(rounds) => rounds.join(rt),
+    }
+}
+
+/// Starts a worker for each pass, the last one first, into `workers`, which has room for all. At an error those that were started
+/// before are there too.
+fn start_workers<
+    R: Net<Listener = TcpListener, Stream = TcpStream> + Runtime,
+    H: PointHash + Send + Sync + 'static,
+    A: Handler + Drop + Send + Sync + 'static,
+>(
+    rt: &R,
+    alloc: Global,
+    server: &Arc<Server<H, A>, Global>,
+    passes: &mut Vec<NodePass<H>>,
+    workers: &mut Vec<PromisedHandle<NodePass<H>, WorkerPromise<H, A>>>,
+) -> Result<(), ServerError>
+    requires fits { All (Fits (arc_value server.now).node) passes.old.items }
+    requires none { workers.old.items ≡ [] }
+    requires room { vec_len passes.old ≤ vec_capacity workers.old }
+    ensures started { OnOk result (AllZip (IsWorker (arc_value server.now).node) (reverse passes.old.items) workers.new.items) }
+    ensures all { OnOk result (passes.new.items ≡ []) }
+    ensures back { vec_len passes.new + vec_len workers.new ≤ vec_capacity passes.new }
+{
+    'passes: while let Some(pass) = passes.pop() {
+        let worker = start_worker(rt, alloc, server, pass)?;
+        workers.push_reserved(worker);
+    }
+    Ok(())
+}
+
+/// Starts a worker for each pass, into `workers`, and then the thread that makes rounds, if any is to be made. No worker serves
+/// before all run; at an error none ever does.
+pub(crate) fn start_all<
+    R: Net<Listener = TcpListener, Stream = TcpStream> + Runtime,
+    H: PointHash + Send + Sync + 'static,
+    A: Handler + Drop + Send + Sync + 'static,
+>(
+    rt: &R,
+    alloc: Global,
+    server: &Arc<Server<H, A>, Global>,
+    timer: NodePass<H>,
+    passes: &mut Vec<NodePass<H>>,
+    period: u64,
+    workers: &mut Vec<PromisedHandle<NodePass<H>, WorkerPromise<H, A>>>,
+) -> Result<Timer<H>, ServerError>
+    requires timer { Fits (arc_value server.now).node timer }
+    requires passes { All (Fits (arc_value server.now).node) passes.old.items }
+    requires none { workers.old.items ≡ [] }
+    requires room { vec_len passes.old ≤ vec_capacity workers.old }
+    ensures timer { IfOk result (IsTimer (arc_value server.now).node period timer) }
+    ensures workers { OnOk result (AllZip (IsWorker (arc_value server.now).node) (reverse passes.old.items) workers.new.items) }
+    ensures all { OnOk result (passes.new.items ≡ []) }
+    ensures back { vec_len passes.new + vec_len workers.new ≤ vec_capacity passes.new }
+{
+    let blocked = server.block_workers(rt);
+    let started = start_workers(rt, alloc, server, passes, workers);
+    let started = match started {
+        Ok(()) => start_rounds(rt, alloc, server, timer, period),
+        Err(fault) => Err(fault),
+    };
+    if started.is_err() {
+        server.end();
+    }
+    drop(blocked);
+    started
+}
+
+/// Waits for the workers, the last one first, and puts the passes that they give back into `passes`, which has room for all.
+pub(crate) fn end_workers<R: Threads, H: PointHash, A: Handler>(
+    rt: &R,
+    mut workers: Vec<PromisedHandle<NodePass<H>, WorkerPromise<H, A>>>,
+    passes: &mut Vec<NodePass<H>>,
+)
+    requires { vec_len passes.old + vec_len workers ≤ vec_capacity passes.old }
+    ensures { AreBack H.hash_of A.may_handle passes.old.items (reverse workers.items) passes.new.items }
+{
+    'workers: while let Some(worker) = workers.pop() {
+        passes.push_reserved(worker.join(rt));
+    }
+}

@@ -1,0 +1,3 @@
+module ringpop
+
+go 1.19

@@ -1,5 +1,5 @@
 -- What a worker does to its node, message by message.
-use Rattle.std.proofs.Common.{◌≡◌, ℕ, List, Result, Ok, Err, subst, sym, inl, inr}
+use Rattle.std.proofs.Common.{ℕ, List, Result, Ok, Err, subst, sym, inl, inr}
 use Rattle.message_core.specs.declared.messages.Content.{Content}
 use Rattle.message_core.specs.declared.messages.Content.TheVariants as content
 use Rattle.message_core.specs.declared.messages.Message.{Message}
@@ -15,7 +15,6 @@ use Rattle.peer_core.specs.declared.errors.ClusterError.{ClusterError}
 use Rattle.peer_core.specs.Acts.{Act, OfActs, Makes}
 use Rattle.peer_core.proofs.Acts.{makes_as, makes_none, makes_then}
 use Rattle.peer_core.specs.Handling.{MayHandle}
-use Rattle.peer_core.specs.Members.{Caller}
 use Rattle.peer_core.specs.Serving.{Forwards, IsDecided, IsRouted, Serves}
 use Rattle.cluster_core.specs.Channels.{any_answer}
 use Rattle.cluster_core.specs.Working.{HasWorked, IsMessageServed, Repeats, ServesOnce, any_text}
@@ -24,18 +23,14 @@ module _ {H : Type 0} (locked : LockedNode H) where
   pub none_yet : (One : OfActs H) (p : NodePass H) → Makes locked (Repeats One) p p
   none_yet One p = makes_as (Repeats One) (λ acts n. subst (λ (xs : List (Act H)). Repeats One xs) (sym n) Repeats.none) (makes_none locked p)
 
-  one_more : (One : OfActs H) (p q s : NodePass H) → Makes locked (Repeats One) p q → Makes locked One q s → Makes locked (Repeats One) p s
+  pub one_more : (One : OfActs H) (p q s : NodePass H) → Makes locked (Repeats One) p q → Makes locked One q s → Makes locked (Repeats One) p s
   one_more One p q s before next =
       makes_as (Repeats One) (λ acts t. subst (λ (xs : List (Act H)). Repeats One xs) (sym t.2) (Repeats.more t.3 t.4)) (makes_then before next)
 
-  -- a member of the node served one message more
-  pub served_more : (hash_of : H → List ℕ → ℕ) (Handled : MayHandle) (message : Message) (p : NodePass H) (old new : Caller H) → old.node ≡ locked
-      → Makes locked (Repeats (IsMessageServed hash_of Handled)) p old.pass.now → ServesOnce hash_of Handled message old new
-      → Makes locked (Repeats (IsMessageServed hash_of Handled)) p new.pass.now
-  served_more hash_of Handled message p old new same before d =
-      one_more (IsMessageServed hash_of Handled) p old.pass.now new.pass.now before
-      (subst (λ (x : LockedNode H). Makes x (IsMessageServed hash_of Handled) old.pass.now new.pass.now) same
-      (makes_as (IsMessageServed hash_of Handled) (λ acts h. (message, d.0, h)) d.1.does.makes))
+  -- a message is served, whatever that comes to
+  pub a_message : (hash_of : H → List ℕ → ℕ) (Handled : MayHandle) (message : Message) (p q : NodePass H)
+      → ServesOnce hash_of Handled message locked p q → Makes locked (IsMessageServed hash_of Handled) p q
+  a_message hash_of Handled message p q d = makes_as (IsMessageServed hash_of Handled) (λ acts h. (message, d.0, h)) d.1.makes
 
 -- acts of which each time more is said
 pub repeats_as : {H : Type 0} (One More : OfActs H) → ((acts : List (Act H)) → One acts → More acts) → (acts : List (Act H)) → Repeats One acts → Repeats More acts

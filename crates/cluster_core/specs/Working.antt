@@ -5,7 +5,7 @@ use Rattle.locked_node.specs.declared.node.LockedNode.{LockedNode}
 use Rattle.locked_node.specs.Passes.{NodePass}
 use Rattle.peer_core.specs.declared.errors.ClusterError.{ClusterError}
 use Rattle.peer_core.specs.Acts.{Act, OfActs, Makes}
-use Rattle.peer_core.specs.Members.{Caller, Done}
+use Rattle.peer_core.specs.Parts.{Does}
 use Rattle.peer_core.specs.Handling.{MayHandle}
 use Rattle.peer_core.specs.Serving.{Serves}
 use Rattle.cluster_core.specs.Channels.{any_answer}
@@ -25,10 +25,10 @@ module _ {H : Type 0} where
   IsMessageServed hash_of Handled acts =
       (message : Message) × (r : Result Message ClusterError) × Serves hash_of any_answer Handled message 0 message.content r acts
 
-  -- by this member the message was served once, at the moment 0, over a link of which nothing is known: to its answer, or to where the lock refuses the pass
-  abbrev pub ServesOnce : (H → List ℕ → ℕ) → MayHandle → Message → Caller H → Caller H → Type 0
-  ServesOnce hash_of Handled message old new =
-      (r : Result Message ClusterError) × Done (Serves hash_of any_answer Handled message 0 message.content) r old new
+  -- by this pass the message was served once, at the moment 0, over a link of which nothing is known: to its answer, or to where the lock refuses the pass
+  abbrev pub ServesOnce : (H → List ℕ → ℕ) → MayHandle → Message → LockedNode H → NodePass H → NodePass H → Type 0
+  ServesOnce hash_of Handled message locked old new =
+      (r : Result Message ClusterError) × Does locked (Serves hash_of any_answer Handled message 0 message.content) r old new
 
   -- by this pass messages were served so, by a handler of which nothing is known, and no other call was made
   abbrev pub HasWorked : (H → List ℕ → ℕ) → LockedNode H → NodePass H → NodePass H → Type 0

@@ -9,8 +9,7 @@ ghost use Rattle.cluster_core.specs.Clusters.{address_in, AreAll, AreApart, AreF
 ghost use Rattle.cluster_core.specs.Working.{HasWorked, IsMessageServed, Repeats, ServesOnce};
 ghost use Rattle.peer_core.specs.Acts.{Makes};
 ghost use Rattle.peer_core.specs.Errors.{IsRoundRefusal};
-ghost use Rattle.peer_core.specs.Members.{Done};
-ghost use Rattle.peer_core.specs.Parts.{let_in};
+ghost use Rattle.peer_core.specs.Parts.{Does, let_in};
 ghost use Rattle.peer_core.specs.Serving.{Serves};
 
 use crate::channel_links::{ChannelLink, Job, Post, ask_one, post_of, put};
@@ -21,7 +20,7 @@ use hash_ring::PointHash;
 use locked_node::{LockedNode, NodePass};
 use message_core::Message;
 use node_core::{MOST_WORKERS, NodeState};
-use peer_core::{ClusterError, Handler, LinkError, Member, Round, gossip_round};
+use peer_core::{ClusterError, Handler, LinkError, Round, gossip_round, serve_one};
 use std::alloc::{AllocError, AllocFailed, Global};
 use std::fmt;
 use std::marker::Model;
@@ -101,26 +100,36 @@ fn beginning() -> Moment
 /// Answers a message, at the moment that a node reads as its last one.
 fn answer_one<R: Wait, H: PointHash, A: Handler>(
     rt: &R,
-    member: &mut Member<'_, H, ChannelLink>,
+    alloc: Global,
+    node: &LockedNode<H>,
+    pass: &mut NodePass<H>,
+    link: &mut ChannelLink,
     handler: &A,
     message: &Message,
 ) -> Result<Message, LockError>
-    ensures { Done (Serves H.hash_of any_answer A.may_handle message.now 0 message.now.content) (let_in result) member.old member.new }
+    requires { Fits node.now pass.old }
+    ensures served { Does node.now (Serves H.hash_of any_answer A.may_handle message.now 0 message.now.content) (let_in result) pass.old pass.new }
+    ensures fits { Fits node.now pass.new }
 {
-    member.serve(rt, handler, beginning(), message)
+    serve_one(rt, alloc, node, pass, link, handler, beginning(), message)
 }
 
 /// Answers a message, and sends the answer where somebody waits for it.
 fn answer_to<R: Wait, H: PointHash, A: Handler>(
     rt: &R,
-    member: &mut Member<'_, H, ChannelLink>,
+    alloc: Global,
+    node: &LockedNode<H>,
+    pass: &mut NodePass<H>,
+    link: &mut ChannelLink,
     handler: &A,
     message: &Message,
     to: &Sender<Message>,
 )
-    ensures { ServesOnce H.hash_of A.may_handle message.now member.old member.new }
+    requires { Fits node.now pass.old }
+    ensures served { ServesOnce H.hash_of A.may_handle message.now node.now pass.old pass.new }
+    ensures fits { Fits node.now pass.new }
 {
-    if let Ok(answer) = answer_one(rt, member, handler, message) {
+    if let Ok(answer) = answer_one(rt, alloc, node, pass, link, handler, message) {
         let _sent = put(rt, to, answer);
     }
 }
@@ -128,16 +137,21 @@ fn answer_to<R: Wait, H: PointHash, A: Handler>(
 /// Answers the next message that comes. Where there is none to come, or the worker is to end, it is `false`.
 fn serve_next<R: Wait, H: PointHash, A: Handler>(
     rt: &R,
-    member: &mut Member<'_, H, ChannelLink>,
+    alloc: Global,
+    node: &LockedNode<H>,
+    pass: &mut NodePass<H>,
+    link: &mut ChannelLink,
     handler: &A,
     jobs: &Receiver<Job>,
 ) -> bool
-    ensures served { IsTrue result → (m : _) × ServesOnce H.hash_of A.may_handle m member.old member.new }
-    ensures ended { IsFalse result → member.new ≡ member.old }
+    requires { Fits node.now pass.old }
+    ensures served { IsTrue result → (m : _) × ServesOnce H.hash_of A.may_handle m node.now pass.old pass.new }
+    ensures ended { IsFalse result → pass.new ≡ pass.old }
+    ensures fits { Fits node.now pass.new }
 {
     match &jobs.recv(rt) {
         Ok(Job::Serve(message, to)) => {
-            answer_to(rt, member, handler, message, to);
+            answer_to(rt, alloc, node, pass, link, handler, message, to);
             true
         }
         Ok(Job::Stop) | Err(_) => false,
@@ -159,13 +173,11 @@ fn work<R: Wait + Copy, H: PointHash, A: Handler + Drop>(
     ensures worked { HasWorked H.hash_of (arc_value node) pass result }
     ensures fits { Fits (arc_value node) result }
 {
-    let mut member = Member::new(&*node, &mut pass, &mut link, alloc);
     'jobs: for _ in rt.forever() {
-        if !serve_next(&rt, &mut member, &*handler, &jobs) {
+        if !serve_next(&rt, alloc, &*node, &mut pass, &mut link, &*handler, &jobs) {
             break;
         }
     }
-    let _pass = member.into_pass();
     pass
 }
 

@@ -29,18 +29,17 @@ pub fn reconciliation<H: PointHash>()
 /// - of each node what it holds of itself: that it is alive, or that it has left, as at the start. No rumour against it is left.
 /// - of every other address the greatest change that any node held at the start.
 ///
-/// To gather, a node needs a path of whole exchanges from every node; to broadcast, one to every node, after that. An exchange is
-/// whole if the taker then holds nothing less than the giver. Every node is at its own address, and is as a node is between two
-/// calls. No node starts, leaves, rejoins, suspects a member or lets an entry expire in between: each of these is a new change, and
-/// nodes have to gather and broadcast again. Other calls do no harm, nor does an exchange that is stopped by memory or by a full
-/// member list: it takes only a part. That nodes meet, and how soon, is a premise.
+/// To gather, a node needs a path of whole exchanges from every node; to broadcast, one to every node, after that. Every node
+/// stands at its own address and is as a node is between two calls. No node starts, leaves, rejoins, suspects a member or lets an
+/// entry expire meanwhile: each of these is a new change, and nodes have to gather and broadcast again. Other calls do no harm,
+/// nor does an exchange that memory or a full member list stops half-way; it brings only a part.
 pub fn convergence<H: PointHash>()
     ensures converge { NodesConverge H }
     // Two sweeps are enough: in each, every node takes the whole of every other, in any order.
     ensures sweeps { SweepsConverge H }
     // Converged nodes agree on owners, ring and digest, if they have one hash and one number of replica points.
     ensures agree { ConvergedAgree H.hash_of }
-    // Every call of a node but those that make a new change merges the changes that it counts as taken, and no others.
+    // Every call of a node but those that make a new change is such a taking, of what it counts as taken.
     ensures calls { CallsTake H.hash_of }
     // Nodes converge too where messages are late, lost, repeated or in any order: a path then leads from node to message to node.
     ensures delivered { NetworksConverge H }

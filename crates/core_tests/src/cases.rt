@@ -178,49 +178,6 @@ pub(crate) const RUNS_OUT: Case = (
     ),
 );
 
-/// A suspicion waits from the moment at which it was first taken, whatever is heard of it again.
-pub(crate) const WAITS: Case = (
-    A_AT_7,
-    (
-        "waits",
-        &[
-            (
-                Call::Take((B, 1, Status::Suspect), 1_000),
-                Told::Taken(1, 0),
-            ),
-            (
-                Call::Take((B, 1, Status::Suspect), 3_000),
-                Told::Taken(0, 0),
-            ),
-            (Call::Expire(5_999), Told::Nothing),
-            (Call::Expire(6_000), Told::Change((B, 1, Status::Faulty))),
-        ],
-    ),
-);
-
-/// A member that left stays out at its incarnation, whatever is heard of it there, and owns no key until it is back at a later one.
-pub(crate) const STAYS_OUT: Case = (
-    A_AT_7,
-    (
-        "stays out",
-        &[
-            (Call::Take((B, 1, Status::Alive), 0), Told::Taken(1, 0)),
-            (Call::Owner("zzzz1"), Told::Owner(B)),
-            (Call::Take((B, 1, Status::Leave), 0), Told::Taken(1, 0)),
-            (Call::Owner("zzzz1"), Told::Owner(A)),
-            (Call::Take((B, 1, Status::Alive), 0), Told::Taken(0, 0)),
-            (Call::Take((B, 1, Status::Suspect), 0), Told::Taken(0, 0)),
-            (Call::Take((B, 1, Status::Faulty), 0), Told::Taken(0, 0)),
-            (Call::Member(B), Told::Held(1, Status::Leave)),
-            (Call::Take((B, 1, Status::Tombstone), 0), Told::Taken(1, 0)),
-            (Call::Take((B, 1, Status::Leave), 0), Told::Taken(0, 0)),
-            (Call::Owner("zzzz1"), Told::Owner(A)),
-            (Call::Take((B, 2, Status::Alive), 0), Told::Taken(1, 0)),
-            (Call::Owner("zzzz1"), Told::Owner(B)),
-        ],
-    ),
-);
-
 /// A suspicion that was answered does not run out, and no other at the greatest moment.
 pub(crate) const DOES_NOT_RUN_OUT: Case = (
     A_AT_7,

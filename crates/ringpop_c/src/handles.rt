@@ -102,9 +102,8 @@ impl RingpopView {
     }
 }
 
-/// Takes out what a handle holds, evaluates an expression over it, puts it back, and answers the number of the code that the
-/// expression came to; `NoNode` if the handle is empty. A macro, since a closure that is not called would leave nothing known of
-/// the out pointers that it captures.
+/// The number of the code that an expression over what a handle holds comes to; `NoNode` where the handle is empty. The handle
+/// holds the same value after it.
 macro_rules! with_handle {
     ($alloc:ident, $handle:ident, |$value:ident| $code:expr) => {
         match $handle.take($alloc) {

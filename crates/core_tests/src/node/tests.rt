@@ -37,12 +37,6 @@ fn a_node_keeps_its_weight(rt: HostRuntime) {
 fn entries_run_out_in_turn(rt: HostRuntime) {
     check(&rt, rt.alloc(), &RUNS_OUT);
     check(&rt, rt.alloc(), &DOES_NOT_RUN_OUT);
-    check(&rt, rt.alloc(), &WAITS);
-}
-
-#[test]
-fn a_leaver_stays_out(rt: HostRuntime) {
-    check(&rt, rt.alloc(), &STAYS_OUT);
 }
 
 #[test]

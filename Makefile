@@ -14,7 +14,7 @@ try:
 library:
 	cd crates/ringpop_c && rt lib
 
-# What is handed on, in dist/. GATE=LOG names the output of make check on this commit.
+# The files to pass on, in dist/. GATE=LOG names the output of make check on this commit.
 package: all library
 	scripts/package $(if $(GATE),--gate $(GATE))
 

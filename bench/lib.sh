@@ -1,8 +1,8 @@
 # shellcheck shell=bash disable=SC2034
 # What the benchmarks share; each run.sh reads it by `source`, and so takes --try as its first word:
-#   prepare FOLDER LINE    copies the program of a benchmark and the crates that it stands on; LINE is its line in crates.txt, the name left out
+#   prepare FOLDER LINE    copies the program of a benchmark and the crates that it uses; LINE is its line in crates.txt, the name left out
 #   play [WORD ..]         runs the program with these words; it is built before it first runs
-#   has PEER COMMAND ..    whether a peer can be built or run; says so where not
+#   has PEER COMMAND ..    whether a peer can be built or run; prints so if not
 #   cargo_build FOLDER     builds the Rust program of a folder, in the copy $work/rust
 # A benchmark is built in a copy, so nothing is left in the repository. There its files end with .txt, since a check reads each .rt and
 # .antt file. It is proved first, over the work that earlier checks kept in out/: some minutes. With --try it is built unproved, in a

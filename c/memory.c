@@ -1,5 +1,5 @@
-/* Three nodes come to one owner though an allocation fails, each in turn by scripts/c-examples: what answers MEMORY is as it
-   was, and is called again. UNANSWERED is told on standard error, and the line comes again. */
+/* Three nodes agree on one owner though an allocation fails, each in turn by scripts/c-examples: a call that returns MEMORY changes
+   nothing, and is made again. UNANSWERED is printed on standard error, and the line comes again. */
 #include <stdio.h>
 #include <string.h>
 
@@ -20,7 +20,7 @@ static void expect(const char *what, uint32_t code, uint32_t wanted) {
   }
 }
 
-/* The members of a node: how many bytes of text, 0 of an empty handle. */
+/* Writes the members of a node as text; returns its number of bytes, 0 of an empty handle. */
 static size_t members(int at, uint8_t *text, size_t room) {
   size_t length = 0;
   uint32_t code = ringpop_node_members(&nodes[at], text, room, &length);
@@ -28,7 +28,7 @@ static size_t members(int at, uint8_t *text, size_t room) {
   return code == RINGPOP_DONE ? length : 0;
 }
 
-/* Makes a call of a node, and once more where it found no memory, when the members have to be those before. */
+/* Makes a call of a node, and again if it was out of memory, when the members have to be those before. */
 #define AGAIN(at, code, call)                                                                              \
   do {                                                                                                     \
     uint8_t before[1024], after[1024];                                                                     \
@@ -41,7 +41,7 @@ static size_t members(int at, uint8_t *text, size_t room) {
     }                                                                                                      \
   } while (0)
 
-/* One node says something to another, which answers it. An answer that found no memory does not come. */
+/* One node sends a line to another, which answers. If it is out of memory for the answer, none comes. */
 static void talk(int from, int to, bool join) {
   size_t length = 0, answered = 0;
   uint32_t code;

@@ -121,7 +121,7 @@ static uint32_t kind_of(const char *line, uint8_t *kind) {
 
 #define FROM "\"source\":\"10.0.0.2:7946\",\"sourceIncarnationNumber\":1"
 
-/* Lines that are read beside a node. */
+/* Lines that are read without a node. */
 static void read_lines(void) {
   static const char *requests[4] = {"{\"kind\":\"forward\"," FROM ",\"keys\":[\"a\"],\"body\":\"\"}",
                                     "{\"kind\":\"reply\"," FROM ",\"body\":\"\"}", "{\"kind\":\"not-owner\"," FROM "}",
@@ -268,7 +268,7 @@ static void probe_others(ringpop_config config) {
   expect("free", ringpop_node_free(&node), RINGPOP_DONE);
 }
 
-/* A target is lost where nobody can be asked, and once more when it is suspect already. */
+/* A target is lost without a helper to ask, and again when it is suspect already. */
 static void lose_without_helpers(ringpop_config config) {
   ringpop_node node = RINGPOP_NODE_EMPTY;
   uint64_t number = 0;

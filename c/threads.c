@@ -1,5 +1,5 @@
-/* Threads share a node: each of its calls stands under one lock, whichever thread makes it, and each thread looks keys up in a
-   view of its own with none, while the node goes on. */
+/* Threads share a node: each of its calls is made under one lock, by any thread, and each thread looks keys up in a separate view
+   without a lock, while the node changes. */
 #define _POSIX_C_SOURCE 200809L
 #include <pthread.h>
 #include <stdio.h>
@@ -24,7 +24,7 @@ static void expect(const char *what, uint32_t code, uint32_t wanted) {
   pthread_mutex_unlock(&lock);
 }
 
-/* The node hears of a member, and goes on. */
+/* Gives the node a change about a member. */
 static void hear_of(unsigned last) {
   char line[256];
   int length = snprintf(line, sizeof line,
@@ -37,7 +37,7 @@ static void hear_of(unsigned last) {
   expect("take", code, RINGPOP_DONE);
 }
 
-/* Makes a view, and notes what the node says at that moment of each key. */
+/* Makes a view, and notes which node owns each key at that moment. */
 static void look(ringpop_view *view, uint32_t *owners) {
   uint32_t made = 0, named = 0;
   uint16_t port = 0;
@@ -74,7 +74,7 @@ static void *end(void *given) {
   return NULL;
 }
 
-/* A thread that does this; the program ends where there is none to be had. */
+/* Starts a thread that does this; the program ends if there is none. */
 static pthread_t started(void *(*work)(void *), void *given) {
   pthread_t thread;
   int fault = pthread_create(&thread, NULL, work, given);

@@ -32,7 +32,7 @@ static void expect_source(const uint8_t *said, size_t length, uint8_t wanted, in
   expect("its port", port, PORT);
 }
 
-/* One node says something to another, which answers it. */
+/* One node sends a line to another, which answers. */
 static void talk(int from, int to, bool join) {
   size_t length = 0, answered = 0;
   uint32_t code = join ? ringpop_node_join(&nodes[from], line, sizeof line, &length)
@@ -44,14 +44,14 @@ static void talk(int from, int to, bool join) {
   expect("answer", ringpop_node_receive(&nodes[from], answer, answered, ++moment, line, sizeof line, &length), RINGPOP_NOTHING);
 }
 
-/* A line that wants no answer goes from one node, of which it was just written, to another. */
+/* Passes the line that a node just wrote, and that needs no answer, to another node. */
 static void tell(uint32_t written, int to, size_t length) {
   size_t answered = 0;
   expect("say", written, RINGPOP_DONE);
   expect("hear", ringpop_node_receive(&nodes[to], line, length, ++moment, answer, sizeof answer, &answered), RINGPOP_NOTHING);
 }
 
-/* A helper does as the line asks that was just written: it pings the target, and tells the requester, whom the line names. */
+/* A helper does what the line just written asks: it pings the target, and reports to the requester, which the line names. */
 static size_t help(int helper, size_t length) {
   uint8_t kind = 0;
   uint32_t requester_ip = 0, target_ip = 0;
@@ -161,7 +161,7 @@ static void count_lookups(void) {
   fprintf(stderr, "%zu members: %.0f look-ups a second of processor time (%u)\n", members, LOOKUPS / seconds, sum);
 }
 
-/* Members are told to the first node, until it holds so many. */
+/* Gives the first node members, until it holds this many. */
 static void tell_members(size_t wanted) {
   for (size_t i = 4; i <= wanted; i++) {
     int length = snprintf((char *)line, sizeof line,

@@ -2,19 +2,24 @@
 _ringpop() {
     local word=${COMP_WORDS[COMP_CWORD]} before=${COMP_WORDS[COMP_CWORD - 1]} words
     case $before in
-        --n | --replicas | --workers | --period | --weight) return ;;
+        --n | --replicas | --workers | --period | --weight | --bind | --http | --app | --hands | --per-message | --piggyback | --incarnation) return ;;
+        --log)
+            mapfile -t COMPREPLY < <(compgen -W 'off error warn info debug' -- "$word")
+            return
+            ;;
     esac
     case ${COMP_WORDS[1]} in
         owner) words='--n --replicas --sum --help' ;;
         sim) words='--replicas --sum --help' ;;
-        serve) words='--workers --period --replicas --sum --weight --help' ;;
+        serve) words='--workers --period --replicas --sum --weight --per-message --piggyback --heal --help' ;;
+        agent) words='--bind --http --http-any --app --hands --period --per-message --replicas --weight --incarnation --log --help' ;;
         ask) words='--any --replicas --sum --help' ;;
         members) words='--lines --help' ;;
         fold | hash | tell) words='--help' ;;
-        help) words='fold hash owner sim serve ask members tell' ;;
+        help) words='fold hash owner sim serve agent ask members tell' ;;
     esac
     if [ "$COMP_CWORD" -eq 1 ]; then
-        words='fold hash owner sim serve ask members tell help --help --version'
+        words='fold hash owner sim serve agent ask members tell help --help --version'
     fi
     mapfile -t COMPREPLY < <(compgen -W "$words" -- "$word")
 }

@@ -1,6 +1,6 @@
 # Completion of ringpop's words for fish: `source docs/ringpop.fish`, or copy it to ~/.config/fish/completions/ringpop.fish.
 complete -c ringpop -f
-set -l commands fold hash owner sim serve ask members tell help
+set -l commands fold hash owner sim serve agent ask members tell help
 
 function __ringpop_in
     set -l words (commandline -opc)
@@ -8,10 +8,11 @@ function __ringpop_in
 end
 
 complete -c ringpop -n __fish_use_subcommand -a fold -d 'members that change lines come to, and their digest'
-complete -c ringpop -n __fish_use_subcommand -a hash -d 'where a text stands on the ring'
+complete -c ringpop -n __fish_use_subcommand -a hash -d 'the place of a text on the ring'
 complete -c ringpop -n __fish_use_subcommand -a owner -d 'owners of a key'
 complete -c ringpop -n __fish_use_subcommand -a sim -d 'nodes in one process, by a script'
 complete -c ringpop -n __fish_use_subcommand -a serve -d 'run a node'
+complete -c ringpop -n __fish_use_subcommand -a agent -d 'run a node next to an application'
 complete -c ringpop -n __fish_use_subcommand -a ask -d 'send a request to a node'
 complete -c ringpop -n __fish_use_subcommand -a members -d 'members that a node holds'
 complete -c ringpop -n __fish_use_subcommand -a tell -d 'tell changes to a node'
@@ -20,10 +21,21 @@ complete -c ringpop -n __fish_use_subcommand -l version -d 'the version'
 complete -c ringpop -l help -d 'what to write'
 complete -c ringpop -n '__ringpop_in help' -a "$commands[1..-2]"
 complete -c ringpop -n '__ringpop_in owner' -l n -x -d 'how many owners, 0 to 4096'
-complete -c ringpop -n '__ringpop_in owner sim serve ask' -l replicas -x -d 'points for each unit of weight, 1 to 1000'
+complete -c ringpop -n '__ringpop_in owner sim serve agent ask' -l replicas -x -d 'points for each unit of weight, 1 to 1000'
 complete -c ringpop -n '__ringpop_in owner sim serve ask' -l sum -d 'hash by the sum of the bytes'
 complete -c ringpop -n '__ringpop_in serve' -l workers -x -d 'connections at a time, 1 to 16'
 complete -c ringpop -n '__ringpop_in serve' -l period -x -d 'milliseconds between two rounds; 0: none'
-complete -c ringpop -n '__ringpop_in serve' -l weight -x -d 'share of the keys, 1 to 8'
+complete -c ringpop -n '__ringpop_in agent' -l period -x -d 'milliseconds between two rounds, 1 to 60000'
+complete -c ringpop -n '__ringpop_in serve agent' -l weight -x -d 'share of the keys, 1 to 8'
+complete -c ringpop -n '__ringpop_in serve agent' -l per-message -x -d 'changes in a message, 1 to 4096'
+complete -c ringpop -n '__ringpop_in serve' -l piggyback -x -d 'how often a change is passed on, for each digit, 1 to 1000'
+complete -c ringpop -n '__ringpop_in serve' -l heal -d 'find members again that parted'
+complete -c ringpop -n '__ringpop_in agent' -l bind -x -d 'where the node listens, if not at ADDRESS'
+complete -c ringpop -n '__ringpop_in agent' -l http -x -d 'where HTTP is answered'
+complete -c ringpop -n '__ringpop_in agent' -l http-any -d 'let that be beyond 127.0.0.0/8'
+complete -c ringpop -n '__ringpop_in agent' -l app -x -d 'where the application takes requests'
+complete -c ringpop -n '__ringpop_in agent' -l hands -x -d 'requests of other nodes at a time, 1 to 256'
+complete -c ringpop -n '__ringpop_in agent' -l incarnation -x -d 'first incarnation'
+complete -c ringpop -n '__ringpop_in agent' -l log -x -a 'off error warn info debug' -d 'log level on standard error'
 complete -c ringpop -n '__ringpop_in ask' -l any -d 'ask the owner of the key, through any node'
 complete -c ringpop -n '__ringpop_in members' -l lines -d 'a change line for each member'

@@ -1,5 +1,5 @@
-/* Preloaded into a test program: makes its Nth allocation fail, N being FAIL_ALLOC, and none where that is absent.
-   Where FAIL_ALLOC_COUNT names a file, the number of allocations is written to it at the end. */
+/* Preloaded into a test program: makes its Nth allocation fail, N being FAIL_ALLOC, and none if that is absent.
+   If FAIL_ALLOC_COUNT names a file, the number of allocations is written to it at the end. */
 #define _GNU_SOURCE
 #include <errno.h>
 #include <stdatomic.h>

@@ -2,9 +2,9 @@
 
 usage: scripts/mutants.py CRATE/NAME FOLDER     plants one in FOLDER, a copy of the crate's folder
 
-The mutants of a crate are in bugs/CRATE.edits, and those of the gate in crates/CRATE/must-fail/NAME.edit. A line '# NAME' begins a
+The mutants of a crate are in bugs/CRATE.edits, and those of the gate in crates/CRATE/must-fail/NAME.edit. A line '# NAME' starts a
 mutant of an .edits file. Its other lines are 'fn: PATH', a function that is to be refused, named as `rt check` names it without its
-crate; 'file: PATH', a file of the crate; 'old: TEXT', a text that this file has once; and 'new: TEXT', what replaces it. A mutant has
+crate; 'file: PATH', a file of the crate, in src/, or in specs/ where each function is one of `laws`, which does nothing; 'old: TEXT', a text that this file has once; and 'new: TEXT', what replaces it. A mutant has
 one function or several, and one replacement or several; a later one sees what the earlier ones made. A mutant of the gate has no
 function.
 """
@@ -43,8 +43,8 @@ class Edit:
 
 
 def source(folder, path):
-    if not path.startswith("src/"):
-        raise Fault(f"{path} is not below src/: only an edit of code shows what a contract is worth")
+    if not path.startswith(("src/", "specs/")):
+        raise Fault(f"{path} is not below src/ or specs/")
     if not (folder / path).is_file():
         raise Fault(f"there is no file {path}")
     return (folder / path).read_text()
@@ -69,6 +69,8 @@ def read_edit(name, lines):
             raise Fault(f"line {number} is not one of 'fn:', 'file:', 'old:' and 'new:', in this order")
     if not replacements or old is not None:
         raise Fault("it has no 'old:' line with a 'new:' line" if old is None else "its last 'old:' line has no 'new:' line")
+    if any(it.startswith("specs/") for it, _, _ in replacements) and not (functions and all(it.startswith("laws::") for it in functions)):
+        raise Fault("it is of a definition, and not of laws alone: only an edit of code shows what a contract is worth")
     return Edit(name, tuple(functions), tuple(replacements))
 
 
@@ -100,7 +102,7 @@ def find_edit(crate, name):
 
 
 def enclosing(lines, place):
-    """The name of the function in which a line stands, counted from 0; none between functions. The layout is that of `rt fmt`."""
+    """The name of the function of a line, counted from 0; none between functions. The layout is that of `rt fmt`."""
     for at in range(place, -1, -1):
         found = FUNCTION.match(lines[at])
         if found:
@@ -110,7 +112,7 @@ def enclosing(lines, place):
 
 @dataclasses.dataclass(frozen=True)
 class Change:
-    """The lines of a file from `start` up to `end`, counted from 0, and what stands there once the mutant is planted."""
+    """The lines of a file from `start` up to `end`, counted from 0, and their text in the mutant."""
 
     file: str
     start: int
@@ -119,12 +121,13 @@ class Change:
 
 
 class Mutant:
-    """An edit of a crate as it lies in a folder: the functions to be refused, and the lines that it changes."""
+    """A mutant of a crate in a folder: the functions to be refused, and the lines that it changes."""
 
     def __init__(self, edit, folder):
         if not edit.functions:
             raise Fault("it has no 'fn:' line")
         self.name, self.functions, self.changes, self.is_inside = edit.name, edit.functions, [], True
+        self.is_of_definitions = any(path.startswith("specs/") for path, _, _ in edit.replacements)
         before, after = edit.applied(folder)
         for path, text in before.items():
             self.compare(path, text.splitlines(True), after[path].splitlines(True))

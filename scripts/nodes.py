@@ -1,4 +1,4 @@
-"""Nodes in processes of their own, and what scripts ask of them."""
+"""Nodes in separate processes, and what scripts ask of them."""
 import argparse
 import contextlib
 import json
@@ -17,7 +17,7 @@ PROGRAM = ROOT / "crates" / "ringpop_cli" / "out" / "ringpop_cli"
 NOBODY = "e3b0c44298fc1c149afbf4c8996fb92427ae41e4649b934ca495991b7852b855"
 # the greatest number of connections that a node serves
 MOST = 1_000_000
-# within how many seconds a node says that it serves
+# within how many seconds a node prints that it serves
 PATIENCE = 30
 
 
@@ -26,7 +26,7 @@ class Wrong(Exception):
 
 
 def words(text):
-    """The words of a script, the program among them; `text` is the script's."""
+    """The arguments of a script, the program among them; `text` is the script's."""
     given = argparse.ArgumentParser(description=text.splitlines()[0])
     given.add_argument("--program", type=pathlib.Path, default=PROGRAM)
     return given
@@ -60,7 +60,7 @@ def first_line(stream, seconds):
 
 
 class Node:
-    """A node as a process of its own, at a port of 127.0.0.1, that serves the given number of connections."""
+    """A node as a separate process, at a port of 127.0.0.1, that serves the given number of connections."""
 
     def __init__(self, program, port, incarnation, hosts=(), period=200, more=(), requests=MOST):
         self.program, self.port, self.address = program, port, address(port)
@@ -95,7 +95,7 @@ class Node:
             time.sleep(0.01)
 
     def descriptors(self):
-        """How many descriptors it holds between its rounds, which have a link of their own."""
+        """How many descriptors it holds between its rounds, which use one more."""
         return min(self.counts())
 
     def most_descriptors(self):
@@ -103,7 +103,7 @@ class Node:
         return max(self.counts())
 
     def ended(self, seconds):
-        """How it ends by itself in time, and what it wrote behind its first line."""
+        """How it ends by itself in time, and what it wrote after its first line."""
         status = self.process.wait(seconds)
         return status, self.process.stdout.read().decode()
 
@@ -166,7 +166,7 @@ def run(program, *given, text=""):
 
 
 def until(what, seconds, ports, is_so):
-    """Waits until `is_so` holds of the views of the nodes at all ports, and tells how long that took."""
+    """Waits until `is_so` holds of the views of the nodes at all ports, and prints how long that took."""
     begun = time.monotonic()
     while True:
         views = [view(port) for port in ports]
@@ -180,7 +180,7 @@ def until(what, seconds, ports, is_so):
 
 
 def agree(views):
-    """Whether all tell the same members, each of them alive."""
+    """Whether all report the same members, each of them alive."""
     digests = {digest for digest, _ in views}
     return len(digests) == 1 and all(status == "alive" for _, status in views[0][1].values())
 

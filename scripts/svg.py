@@ -47,7 +47,7 @@ class Picture:
         self.path([(x, y), (x - u + v / 2, y - v - u / 2), (x - u - v / 2, y - v + u / 2)], "none", fill=fill)
 
     def text(self, x, y, text, fill=INK, size=13, anchor="start", weight=None):
-        """One line of text; y is where its letters stand."""
+        """One line of text; y is the line below its letters."""
         self.add("text", html.escape(text), x=float(x), y=float(y), fill=fill, font_size=size, text_anchor=anchor, font_weight=weight)
 
     def lines(self, x, y, texts, gap=16, **more):

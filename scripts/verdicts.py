@@ -7,7 +7,7 @@ A goal left open next to such a name counts only where the prover found values a
 import collections
 import re
 
-# What the prover says of a proof file that names what is not there, or that rests on what was refused.
+# The prover's lines about a proof file that names what is not there, or that rests on what was refused.
 ABSENT = re.compile(r"has no field|is not in scope|has no `|was not admitted|were not checked|was not checked")
 ABSENT_GOAL = re.compile(r"Goals` has no `|`goal\.")
 IS_FALSE = "allow values at which this goal is false"
@@ -38,7 +38,7 @@ class Said:
             elif goal:
                 goals.append(goal[2])
             elif verdict:
-                # (the goals that a function leaves open stand right above its verdict)
+                # (the goals that a function leaves open are right above its verdict)
                 self.functions[verdict[1]] = (verdict[2], goals)
                 goals = []
         self.errors = errors
@@ -64,6 +64,12 @@ class Said:
         elif not goals and "did not prove" in verdict:
             goals = [re.sub(r"^.*?`search` did not prove", "of", verdict)]
         return wrong + [f"not proved {it}" for it in goals], absent
+
+    def of_law(self, function):
+        """What refuses a law, of which a definition was changed: the first error of the proofs, where the definitions still hold together."""
+        errors = re.findall(r"^(?:\./)?(\w+)/\S+: error: (.*)", self.text, re.M)
+        is_refused = self.functions.get(function, ("", []))[0].startswith("not proved") and all(it == "proofs" for it, _ in errors)
+        return [text for _, text in errors[:1]] if is_refused else []
 
     def first_error(self):
         found = re.search(r"^.*\berror\b.*$|^rattle: .*$|^rt: .*$", self.text, re.M)

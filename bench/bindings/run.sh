@@ -11,7 +11,7 @@ trap 'rm -rf "$work"' EXIT
 tar -C "$work" -xzf "$root"/dist/ringpop-*.tar.gz --strip-components=1
 export RINGPOP_LIBRARY=$work/lib/libringpop.so.1 LD_LIBRARY_PATH=$work/lib PKG_CONFIG_PATH=$work/lib/pkgconfig
 
-# The system's own python3 has the system's packages, also where another stands before it.
+# The system's own python3 has the system's packages, also if another comes first in PATH.
 python=python3
 "$python" -c 'import uhashring' 2> /dev/null || python=$(PATH=$(getconf PATH) command -v python3) || true
 if "$python" -c 'import uhashring' 2> /dev/null; then

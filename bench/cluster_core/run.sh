@@ -1,5 +1,5 @@
 #!/usr/bin/env bash
-# A round of gossip in a node of 2 to 4,096 members whose peers answer immediately, and the answer to a Forward of a key of its own in one
+# A round of gossip in a node of 2 to 4,096 members whose peers answer immediately, and the answer to a Forward of one of its keys in one
 # of 2 to 4,000, in nanoseconds; and how many requests a second a node answers over channels with 1, 2 and 4 workers.
 # usage: bench/cluster_core/run.sh [--try]
 source "$(dirname "$0")/../lib.sh"

@@ -1,5 +1,5 @@
 #!/usr/bin/env bash
-# Rings of 10, 100, 1,000 and 4,096 servers of 100 points by SHA-256: builds server by server and at once in micro- or milliseconds, one,
+# Rings of 10, 100, 1,000 and 4,096 servers of 100 points by SHA-256: builds server by server and in one call in micro- or milliseconds, one,
 # few and all owners in nanoseconds a call, adds and removes in microseconds; and what no search can be without, the hash of a key and one
 # read of a random place among as many points. Then, one after another, the peers: a sorted vector in Rust by the soft SHA-256 of the crate
 # sha2, groupcache in Go, uhashring in Python and libmemcached's ketama in C. A peer that is not there is named: cargo with the crate sha2
@@ -19,7 +19,7 @@ go_build() {
 }
 if has "go with groupcache" go_build; then GOMAXPROCS=1 "$work/go_ring"; fi
 
-# The system's own python3 has the system's packages, also where another stands before it.
+# The system's own python3 has the system's packages, also if another comes first in PATH.
 python=python3
 "$python" -c 'import uhashring' 2> /dev/null || python=$(PATH=$(getconf PATH) command -v python3) || true
 if has "python3 with uhashring" "$python" -c 'import uhashring'; then "$python" "$here/py/ring.py"; fi

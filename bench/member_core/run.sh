@@ -1,6 +1,6 @@
 #!/usr/bin/env bash
 # Takes, judgements of a node that holds them all, digest texts and digests of 100, 1,000 and 4,096 members, in nanoseconds a call; then
-# sha256sum over a thousand of the largest text, and the same table in Python. Wants python3 and sha256sum.
+# sha256sum over a thousand of the largest text, and the same table in Python. Needs python3 and sha256sum.
 # usage: bench/member_core/run.sh [--try]
 source "$(dirname "$0")/../lib.sh"
 prepare "$here/member_bench" ': change_core member_core anyhow'

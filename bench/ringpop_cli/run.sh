@@ -3,7 +3,7 @@
 # lines in a second, the best of seven runs. All have to print the same. Then the command `owner` over 4,096 servers of weight 1, for one
 # owner and for all, and of weight 8: milliseconds, the best of seven.
 # usage: bench/ringpop_cli/run.sh [LINES [ADDRESSES]]     100,000 lines of 1,000 addresses, if not given
-# Wants rustc and python3, and the program that `rt run` left; PROGRAM names another, as build/ringpop.
+# Needs rustc and python3, and the program that `rt run` left; PROGRAM names another, as build/ringpop.
 source "$(dirname "$0")/../lib.sh"
 program=$(realpath -m "${PROGRAM:-$root/crates/ringpop_cli/out/ringpop_cli}")
 lines=${1:-100000}

@@ -1,7 +1,7 @@
 #!/usr/bin/env bash
-# Decode and encode of pings with 0, 64 and 4,096 changes, in MB/s, in one run: this product, serde_json in Rust (where cargo finds it),
-# and Python's json (and orjson where it is there); how much memory the longest lines take, each read once; and, where valgrind is there,
-# how many instructions one line takes (`value`: its reading as a `Value` alone). Wants python3; PYTHON may name another Python.
+# Decode and encode of pings with 0, 64 and 4,096 changes, in MB/s, in one run: this product, serde_json in Rust (if cargo finds it),
+# and Python's json (and orjson if it is there); how much memory the longest lines take, each read once; and, if valgrind is there,
+# how many instructions one line takes (`value`: its reading as a `Value` alone). Needs python3; PYTHON may name another Python.
 # usage: bench/wire_json/run.sh [--try]
 source "$(dirname "$0")/../lib.sh"
 prepare "$here/wire_bench" ': change_core wire_json serde_json anyhow'

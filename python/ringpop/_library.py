@@ -4,7 +4,7 @@ import os
 
 DONE, NOTHING = 0, 1
 MAX_LINE = 1 << 20
-# What a call may answer about a line or the members, as ringpop.h says it.
+# What a call may answer about a line or the members, as in ringpop.h.
 TEXTS = {
     7: "the weight is not 1 to 8",
     8: "replicas is out of its range",
@@ -68,7 +68,7 @@ _CALLS = {
 def load() -> c.CDLL:
     """Loads the file that RINGPOP_LIBRARY names, or the system's library.
 
-    A call holds the interpreter's lock (PyDLL): a ring has one call at a time, and a look-up is shorter than a turn of the lock.
+    A call holds the interpreter's lock (PyDLL): a ring has one call at a time, and a lookup is shorter than a turn of the lock.
     """
     library = c.PyDLL(os.environ.get("RINGPOP_LIBRARY", "libringpop.so.1"))
     library.ringpop_config_standard.argtypes = [c.POINTER(Config)]

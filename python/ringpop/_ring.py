@@ -16,7 +16,7 @@ _library = load()
 
 
 class RingpopError(ValueError):
-    """A line or a value that the library refuses: its code, and the number of the line, from 1, where one is at fault."""
+    """A line or a value that the library refuses: its code, and the number of the line, from 1, if one has an error."""
 
     def __init__(self, code: int, line: int | None = None) -> None:
         text = TEXTS.get(code, f"code {code}")
@@ -74,7 +74,7 @@ class Ring:
         count = c.c_size_t()
         _library.ringpop_node_len(node.handle, count)
         self._members = count.value - 1
-        # What a look-up uses, made once: an address is written into eight bytes, and read as one number.
+        # What a lookup uses, made once: an address is written into eight bytes, and read as one number.
         self._place = c.c_uint64()
         ip, port = c.c_uint32.from_buffer(self._place), c.c_uint16.from_buffer(self._place, 4)
         self._given = c.byref(self._view), c.byref(ip), c.byref(port)
@@ -87,9 +87,9 @@ class Ring:
     def from_members(cls, lines: Text | Iterable[Text], *, replicas: int = 100) -> Ring:
         """Makes the ring of change lines, as `ringpop members --lines` prints them: one text, or a line at a time.
 
-        `replicas` is that of the cluster, 1 to 1,000. Of changes of one member the greatest counts, wherever it stands.
+        `replicas` is that of the cluster, 1 to 1,000. Of changes of one member the greatest counts, wherever it is.
 
-        Raises RingpopError at the first line that is no change or is a member past MAX_MEMBERS, or where `replicas` is out of its range,
+        Raises RingpopError at the first line that is not a change or is a member past MAX_MEMBERS, or if `replicas` is out of its range,
         and MemoryError.
         """
         if isinstance(lines, (str, bytes)):
@@ -107,14 +107,14 @@ class Ring:
     def from_joined(cls, line: Text, *, replicas: int = 100) -> Ring:
         """Makes the ring of a `joined` message, the line that a node answers to a `join`; `replicas` as above.
 
-        Raises RingpopError where the line is no message of the membership, or has more than MAX_MEMBERS, and MemoryError.
+        Raises RingpopError if the line is not a message of the membership, or has more than MAX_MEMBERS, and MemoryError.
         """
         with _Node(replicas) as node:
             node.receive(_encoded(line).rstrip(b"\n"))
             return cls(node)
 
     def owner(self, key: Text) -> str | None:
-        """The address of the key's owner, as '10.0.0.1:7946'. None where no member serves. A text counts as its UTF-8."""
+        """The address of the key's owner, as '10.0.0.1:7946'. None if no member serves. A text counts as its UTF-8."""
         encoded = key.encode() if isinstance(key, str) else key
         view, ip, port = self._given
         length = len(encoded)
@@ -147,7 +147,7 @@ class Ring:
         return self._members
 
     def close(self) -> None:
-        """Frees the ring; a look-up raises ValueError from then on. Closing it again does nothing."""
+        """Frees the ring; a lookup raises ValueError from then on. Closing it again does nothing."""
         _library.ringpop_view_free(self._view)
 
     def __enter__(self) -> Ring:

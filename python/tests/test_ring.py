@@ -1,4 +1,4 @@
-"""What a ring names beside the program's answers, and where it is refused. scripts/bindings makes the folder of answers."""
+"""What a ring names compared with the program's answers, and when it is refused. scripts/bindings makes the folder of answers."""
 import json
 import os
 import pathlib

@@ -1,5 +1,5 @@
 /* The ketama ring of libmemcached, of 10, 50 and 96 servers by MD5: nanoseconds an owner, microseconds an add (which
-   makes the whole ring anew), milliseconds a build, each the least of its rounds. Wants -lmemcached. */
+   makes the whole ring again), milliseconds a build, each the least of its rounds. Needs -lmemcached. */
 #define _POSIX_C_SOURCE 200809L
 #include <libmemcached/memcached.h>
 #include <stdio.h>

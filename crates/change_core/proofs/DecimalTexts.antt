@@ -1,25 +1,16 @@
 -- How long decimal numbers and addresses are.
-use Rattle.std.proofs.Common.{◌≡◌, ℕ, List, ◌+◌, ◌/◌, ◌%◌, ◌^◌, ◌<◌, ◌≤◌, [], ◌∷◌, ◌++◌, length, ap, sym, ◌∙◌, append_assoc, append-nil, arith, length-append, inl, inr, refl, zero, suc}
+use Rattle.std.proofs.Common.{◌≡◌, ℕ, List, ◌+◌, ◌/◌, ◌%◌, ◌^◌, ◌<◌, ◌≤◌, [], ◌∷◌, ◌++◌, ap, sym, ◌∙◌, append_assoc, append-nil, arith, inl, inr, refl, zero, suc}
 use Rattle.std.specs.Fmt.{decimal}
 use Rattle.change_core.specs.Address.{address_text, ip_of, port_of, IsAddress}
 use Rattle.change_core.specs.IpText.{address_decimals}
 use Rattle.change_core.proofs.AddressTexts.{address_text-decimals}
 use Rattle.std.proofs.lemmas.Bool.{cases_order}
-use Rattle.std.proofs.lemmas.Fmt.{decimal_step, decimal_digit, length-decimal-le}
+use Rattle.std.proofs.lemmas.Fmt.{decimal_step, decimal_digit}
 use Rattle.change_core.specs.Printing.{upto}
 
 pub upto_is : (n : ℕ) → 0 < n → upto n ≡ decimal n
 upto_is zero h = absurd (omega arith)
 upto_is (suc n) h = refl
-
-decimal_front : (n : ℕ) → 10 ≤ n → n < 2 ^ 32 → length (decimal n) ≡ length (decimal (n / 10)) + 1
-decimal_front n h small = ap length (decimal_step n h (omega arith)) ∙ length-append (decimal (n / 10)) _
-
-pub length-octet : (n : ℕ) → n < 256 → length (decimal n) ≤ 3
-length-octet n small = length-decimal-le 3 n (omega arith) (omega arith) (omega arith)
-
-pub length-port : (n : ℕ) → n < 65536 → length (decimal n) ≤ 5
-length-port n small = length-decimal-le 5 n (omega arith) (omega arith) (omega arith)
 
 small_digit : (n : ℕ) → n < 10 → decimal n ≡ upto (n / 10) ++ (48 + n % 10) ∷ []
 small_digit n h = let none : n / 10 ≡ 0 = omega arith in let low : n % 10 ≡ n = omega arith in rw (none, low) (decimal_digit n h)

@@ -1,4 +1,4 @@
--- What a list of changes comes to: the greatest change of each address it names.
+-- The members of a list of changes: the greatest change of each address that it names.
 use Rattle.std.specs.Prelude.{Bool, true, ◌≡◌, ℕ, ◌<◌, cond, ◌==◌, List, [], ◌∷◌, ◌++◌, map, Option, Some, None, filter}
 use Rattle.std.specs.List.{filter_map, join_with_byte, Contains}
 use Rattle.std.specs.Ordering.{nat_cmp}
@@ -9,7 +9,7 @@ use Rattle.change_core.specs.Address.{address_text}
 use Rattle.change_core.specs.Change.{Exceeds, exceeds}
 use Rattle.change_core.specs.Status.{status_word, is_serving}
 
--- of two changes that may be there the one that is; where both are, the second if it exceeds the first, and else the first
+-- of two changes that may be there the one that is; if both are, the second if it exceeds the first, and else the first
 abbrev pub greater : Option Change → Option Change → Option Change
 greater None d = d
 greater (Some c) None = Some c
@@ -31,11 +31,11 @@ pub record HaveSameChanges (cs ds : List Change) : Type 0 where
   pub to : (c : Change) → Contains cs c → Contains ds c
   pub from : (c : Change) → Contains ds c → Contains cs c
 
--- a change that would alter what is held: it exceeds all changes about its address in the list, if there are any
+-- a change that would alter the members: it exceeds all changes about its address in the list, if there are any
 pub record IsNews (cs : List Change) (c : Change) : Type 0 where
   pub exceeds_all : (d : Change) → Contains cs d → d.address ≡ c.address → Exceeds c d
 
--- a change alters what is held of its address: nothing is, or the change exceeds it
+-- a change alters the entry of its address: there is none, or the change exceeds it
 abbrev pub alters : Option Change → Change → Bool
 alters None given = true
 alters (Some held) given = exceeds given held
@@ -48,7 +48,7 @@ is_news cs c = alters (greatest cs c.address) c
 abbrev pub address_of_change : Change → ℕ
 address_of_change c = c.address
 
--- the addresses that a list names, ascending, each once
+-- the addresses that a list names, ascending, without repetition
 abbrev pub addresses : List Change → List ℕ
 addresses cs = ascending nat_cmp (map address_of_change cs)
 

@@ -5,7 +5,7 @@ use Rattle.std.specs.Prelude.{ℕ, ◌≤◌}
 abbrev pub greatest_number : ℕ
 greatest_number = 9007199254740991
 
--- how many members a node holds at most, and so how many changes a message carries
+-- the greatest number of members of a node, and so of changes in a message
 abbrev pub most_members : ℕ
 most_members = 4096
 

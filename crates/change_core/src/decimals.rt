@@ -4,7 +4,7 @@ ghost use Rattle.std.specs.Fmt.{decimal};
 ghost use Rattle.change_core.specs.Numbers.{greatest_number};
 ghost use Rattle.change_core.specs.Numeral.{IsPlain, StopsDigits, number_text};
 
-use crate::numbers::GREATEST_NUMBER;
+use crate::numbers::MAX_NUMBER;
 
 /// Reads a number from 0 to 9,007,199,254,740,991 in decimal, with no sign and no leading zero. None for any other text.
 pub fn read_number(text: &str) -> Option<u64>
@@ -12,7 +12,7 @@ pub fn read_number(text: &str) -> Option<u64>
     ensures exact { (n : ℕ) → n ≤ greatest_number → text.now ≡ number_text n → result ≡ Some n }
 {
     let number = read_decimal(text)?;
-    if number <= GREATEST_NUMBER {
+    if number <= MAX_NUMBER {
         Some(number)
     } else {
         None
@@ -33,7 +33,7 @@ fn read_decimal(text: &str) -> Option<u64>
     }
 }
 
-/// Whether no sign stands in front, and no zero but alone.
+/// Returns whether there is no sign in front, and no leading zero.
 fn is_plain(bytes: &[u8]) -> bool
     ensures { IsTrue result ↔ IsPlain bytes.now }
 {
@@ -43,7 +43,7 @@ fn is_plain(bytes: &[u8]) -> bool
     bytes[0] != b'+' && (bytes[0] != b'0' || bytes.len() == 1)
 }
 
-/// The value of the digit at the front, and what stands behind it.
+/// Returns the value of the digit in front, and what follows it.
 #[inline(always)]
 fn first_digit(bytes: &[u8]) -> Option<(u32, &[u8])>
     ensures digit { IfSome result (λ p. (p.0 < 10) × (bytes.now ≡ (48 + p.0) ∷ p.1.now)) }
@@ -55,8 +55,8 @@ fn first_digit(bytes: &[u8]) -> Option<(u32, &[u8])>
     Some((u32::from(bytes[0] - b'0'), &bytes[1..]))
 }
 
-/// Reads the number at the front in decimal, as far as digits go, and gives what stands behind it; a zero in front is read
-/// alone, so that no number has leading zeros. None where no digit stands in front, and where the number is over `most`.
+/// Reads the decimal number at the front, as far as digits go, and returns what follows it. A zero in front is read
+/// alone, so that no number has leading zeros. None without a digit in front, or if the number is over `most`.
 #[inline(always)]
 pub(crate) fn read_front(bytes: &[u8], most: u32) -> Option<(u32, &[u8])>
     requires { most < 2 ^ 16 }

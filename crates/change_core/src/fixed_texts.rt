@@ -9,10 +9,10 @@ use crate::addresses::Address;
 use crate::digests::Digest;
 use std::marker::Model;
 
-/// How many bytes the longest address has, `255.255.255.255:65535`.
+/// The number of bytes of the longest address, `255.255.255.255:65535`.
 const ADDRESS_BYTES: usize = 21;
 
-/// How many bytes the digits of a digest have.
+/// The number of digits of a digest.
 const DIGEST_BYTES: usize = 64;
 
 /// The one text of an address, as `Address::text` gives it, in a buffer of 21 bytes: it takes no memory. Contracts see its
@@ -51,8 +51,8 @@ impl AddressText {
     }
 }
 
-/// Puts a byte behind the first `len`, and answers how many there are then. The length is no field of what is written, so
-/// that it stays in a register.
+/// Writes a byte after the first `len`, and returns the new length. The length is not a field of the buffer, so that it
+/// stays in a register.
 #[inline(always)]
 fn put(bytes: &mut [u8; ADDRESS_BYTES], len: usize, byte: u8) -> usize
     requires room { len < 21 }

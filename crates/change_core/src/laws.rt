@@ -1,6 +1,6 @@
-//! The laws of what this crate defines. Each is the contract of a function that does nothing, for every list of changes
-//! and every number; `limits` alone hands out the constants, and the orders compare. The calls of this crate and of those
-//! above promise their results in the same words.
+//! Theorems about what this crate defines. Each is the contract of a function that does nothing, for every list of
+//! changes and every number; `limits` alone returns the constants, and the orders compare. The contracts of this crate
+//! and of those above use the same definitions.
 ghost use Rattle.std.specs.Prelude.{◌≡◌, ◌≢◌, ◌⊎◌, ◌↔◌, ℕ, ◌≤◌, List, [], ◌∷◌, ◌++◌, map, length, Some, None, IsTrue, IsSomeAnd};
 ghost use Rattle.std.specs.List.{Contains};
 ghost use Rattle.std.specs.List.Sorted.{IsStrictlyIncreasing};
@@ -20,8 +20,8 @@ ghost use Rattle.change_core.specs.Refutation.{refutation, is_refuted, log_one};
 ghost use Rattle.change_core.specs.Status.{status_word, IsServing};
 
 use crate::changes::{Change, Sourced};
-use crate::numbers::{GREATEST_NUMBER, MOST_MEMBERS};
-use crate::weights::GREATEST_WEIGHT;
+use crate::numbers::{MAX_MEMBERS, MAX_NUMBER};
+use crate::weights::MAX_WEIGHT;
 use std::cmp::Ordering;
 
 /// Precedence is one strict total order of the changes about each address: of two that differ one overrides the other.
@@ -36,8 +36,8 @@ pub fn precedence()
         → (Overrides c d ↔ (change_cmp d c ≡ Less)) }
 {}
 
-/// The greatest change about an address stands in the list and overrides every other one about the address there. No
-/// other change is the greatest, and there is none exactly where no change of the list is about the address.
+/// The greatest change about an address is in the list and overrides every other one about the address there. No other
+/// change is the greatest, and there is none if and only if no change of the list is about the address.
 pub fn greatest_change()
     ensures stands { (L : List Change) (a : ℕ) (c : Change)
         → (greatest L a ≡ Some c) ↔ IsGreatest L a c }
@@ -71,8 +71,8 @@ pub fn ascending_lists()
     ensures increasing { (L : List ℕ) → IsStrictlyIncreasing (ascending nat_cmp L) }
 {}
 
-/// What a list comes to depends on the set of its changes alone: not on their order, their grouping or how often each
-/// stands there.
+/// The members of a list depend on the set of its changes alone: not on their order, their grouping or how often each
+/// appears.
 pub fn merge()
     ensures members_same { (L K : List Change) → HaveSameChanges L K → members L ≡ members K }
     ensures serving_same { (L K : List Change) → HaveSameChanges L K → serving L ≡ serving K }
@@ -84,7 +84,7 @@ pub fn merge()
     ensures repeated { (L : List Change) → members (L ++ L) ≡ members L }
 {}
 
-/// One change more is an insertion where its address is new, a replacement of the change that it overrides, or nothing.
+/// Adding one change is an insertion if its address is new, a replacement of the change that it overrides, or nothing.
 pub fn one_change_more()
     ensures unknown { (L : List Change) (c : Change) → greatest L c.address ≡ None
         → IsInserted (members L) c (members (L ++ c ∷ [])) }
@@ -94,23 +94,24 @@ pub fn one_change_more()
         → ¬ Overrides c d → members (L ++ c ∷ []) ≡ members L }
 {}
 
-/// A change is news to a list where it exceeds every change about its address there. The members of a list tell what is
-/// news to it.
+/// A change is new to a list if it exceeds every change about its address there. The members of a list decide which
+/// changes are new to it.
 pub fn news()
     ensures exceeds_all { (L : List Change) (c : Change) → IsTrue (is_news L c) ↔ IsNews L c }
     ensures by_members { (L : List Change) (c : Change) → is_news (members L) c ≡ is_news L c }
 {}
 
-/// The serving addresses are those whose greatest change is alive or suspect, ascending, each once.
+/// The serving addresses are those whose greatest change is alive or suspect, ascending, without repetition.
 pub fn serving_addresses()
     ensures exactly { (L : List Change) (a : ℕ)
         → Contains (serving L) a ↔ IsSomeAnd (greatest L a) (λ c. IsServing c.status) }
     ensures increasing { (L : List Change) → IsStrictlyIncreasing (serving L) }
 {}
 
-/// A change calls for a refutation where it is about the node itself, overrides what the node holds of itself and has
-/// another status. The refutation keeps the status and the weight that were held, overrides the change that it answers
-/// and the one that was held, and is what is held directly after it. A change that calls for none stands alone.
+/// A change calls for a refutation if it is about the node itself, overrides the node's own entry and has another
+/// status. The refutation keeps the status and the weight of the own entry, overrides both the change and the own
+/// entry, and is the greatest change about the node directly after it. No refutation follows a change that calls for
+/// none.
 pub fn refutation_holds()
     ensures exactly { (own : ℕ) (held given : Change) → held.address ≡ own
         → (IsTrue (is_refuted own (Some held) given) ↔ (Overrides given held × (given.status ≢ held.status))) }
@@ -137,7 +138,7 @@ pub fn one_text()
     ensures changes { (L K : List Change) → digest_text L ≡ digest_text K → L ≡ K }
 {}
 
-/// How many bytes a text has: at most 21 of an address, 9 of a status and 48 of a change, 64 of a digest.
+/// Lengths of texts in bytes: at most 21 of an address, 9 of a status and 48 of a change, 64 of a digest.
 pub fn text_lengths()
     ensures address { (a : ℕ) → IsAddress a → length (address_text a) ≤ 21 }
     ensures status { (s : Status) → length (status_word s) ≤ 9 }
@@ -146,14 +147,14 @@ pub fn text_lengths()
     ensures digest { (x : List ℕ) → IsDigest x → length (digest_digits x) ≡ 64 }
 {}
 
-/// The limits of this crate's constants are those that contracts name: how many members there are at most, the greatest
+/// The constants of this crate are the limits that contracts name: the greatest number of members, the greatest
 /// incarnation or moment, and the greatest weight.
 pub fn limits() -> (usize, u64, u8)
     ensures members { result.0 ≡ most_members }
     ensures number { result.1 ≡ greatest_number }
     ensures weight { result.2 ≡ greatest_weight }
 {
-    (MOST_MEMBERS, GREATEST_NUMBER, GREATEST_WEIGHT)
+    (MAX_MEMBERS, MAX_NUMBER, MAX_WEIGHT)
 }
 
 /// Changes are sorted by address, then incarnation, then rank, then weight.

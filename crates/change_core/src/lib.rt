@@ -1,8 +1,8 @@
-//! What one node says of another: addresses, incarnations, statuses, weights and changes, and which of two changes
-//! holds.
+//! The updates that nodes exchange about one another: addresses, incarnations, statuses, weights and changes, and which
+//! of two changes has precedence.
 //!
-//! The membership of SWIM (Das, Gupta, Motivala, DSN 2002, section 4.2) with the statuses of ringpop-go's package `swim`.
-//! Every format, bound and order here is this project's choice. `laws` has what holds of all of them.
+//! The membership of SWIM (Das, Gupta, Motivala, DSN 2002, section 4.2) with the statuses of ringpop-go's package
+//! `swim`. Every format, bound and order here is this project's choice. `laws` has the theorems about them.
 #![tactic(auto)]
 
 mod addresses;
@@ -22,6 +22,6 @@ pub use decimals::read_number;
 pub use digests::Digest;
 pub use errors::ChangeError;
 pub use fixed_texts::{AddressText, DigestText};
-pub use numbers::{GREATEST_NUMBER, Incarnation, MOST_MEMBERS, Moment};
+pub use numbers::{Incarnation, MAX_MEMBERS, MAX_NUMBER, Moment};
 pub use statuses::Status;
-pub use weights::{GREATEST_WEIGHT, Weight};
+pub use weights::{MAX_WEIGHT, Weight};

@@ -3,15 +3,15 @@ ghost use Rattle.change_core.specs.Numbers.{greatest_number};
 
 use std::marker::Model;
 
-/// How many members a node holds at most, and how many changes a message carries at most.
-pub const MOST_MEMBERS: usize = 4_096;
+/// The greatest number of members of a node, and of changes in a message.
+pub const MAX_MEMBERS: usize = 4_096;
 
 /// The greatest incarnation, moment and probe number, 2^53 - 1: the greatest whole number up to which JSON readers agree.
-pub const GREATEST_NUMBER: u64 = 9_007_199_254_740_991;
+pub const MAX_NUMBER: u64 = 9_007_199_254_740_991;
 
-/// The number of what a node asserts of itself, 0 to 9,007,199,254,740,991: of two changes about it that of the later
-/// incarnation holds (SWIM, DSN 2002, section 4.2). A node begins at the one that its caller chooses, and goes on to a later
-/// one, by one or more, to override what others say of it or to come back. Contracts see the number.
+/// A node's version of its own state, 0 to 9,007,199,254,740,991: of two changes about a node that of the later
+/// incarnation has precedence (SWIM, DSN 2002, section 4.2). The caller chooses a node's first incarnation. The node
+/// raises it, by one or more, to override what others assert of it or to come back. Contracts see the number.
 #[derive(Clone, Copy, Debug, PartialEq, Eq, PartialOrd, Ord, Hash)]
 pub struct Incarnation {
     number: u64,
@@ -32,7 +32,7 @@ impl Incarnation {
     pub fn new(number: u64) -> Option<Self>
         ensures { SomeIff result (number ≤ greatest_number) number }
     {
-        if number <= GREATEST_NUMBER {
+        if number <= MAX_NUMBER {
             Some(Incarnation { number })
         } else {
             None
@@ -51,7 +51,7 @@ impl Incarnation {
     pub fn next(self) -> Option<Self>
         ensures { SomeIff result (self < greatest_number) (self + 1) }
     {
-        if self.number < GREATEST_NUMBER {
+        if self.number < MAX_NUMBER {
             Some(Incarnation {
                 number: self.number + 1,
             })
@@ -61,7 +61,7 @@ impl Incarnation {
     }
 }
 
-/// A count of milliseconds, 0 to 9,007,199,254,740,991, since a beginning that the caller chooses; this crate reads no
+/// A count of milliseconds, 0 to 9,007,199,254,740,991, since a start that the caller chooses; this crate reads no
 /// clock. Contracts see the number.
 #[derive(Clone, Copy, Debug, PartialEq, Eq, PartialOrd, Ord, Hash)]
 pub struct Moment {
@@ -79,11 +79,18 @@ impl Model for Moment {
 }
 
 impl Moment {
+    /// Returns the moment 0, at which a node's time begins.
+    pub fn beginning() -> Self
+        ensures { result ≡ 0 }
+    {
+        Moment { number: 0 }
+    }
+
     /// The moment with this number of milliseconds. None over the greatest.
     pub fn new(number: u64) -> Option<Self>
         ensures { SomeIff result (number ≤ greatest_number) number }
     {
-        if number <= GREATEST_NUMBER {
+        if number <= MAX_NUMBER {
             Some(Moment { number })
         } else {
             None

@@ -9,10 +9,10 @@ use Rattle.change_core.specs.Numbers.{most_members}
 use Rattle.change_core.proofs.Members.{greatest-members}
 use Rattle.change_core.proofs.News.{length-members_known, length-members_new}
 use Rattle.wire_json.proofs.Uniqueness.{one_line_change, sound_line}
-use Rattle.cli_core.specs.declared.faults.LineFault.{LineFault}
-use Rattle.cli_core.specs.declared.faults.LineFault.TheVariants.{Wire, TooManyMembers, ReadFailed, OutOfMemory}
-use Rattle.cli_core.specs.declared.faults.RunFault.{RunFault}
-use Rattle.cli_core.specs.declared.faults.RunFault.TheVariants.{AtLine, NoMemory, CannotWrite}
+use Rattle.cli_core.specs.declared.faults.LineError.{LineError}
+use Rattle.cli_core.specs.declared.faults.LineError.TheVariants.{Wire, TooManyMembers, ReadFailed, OutOfMemory}
+use Rattle.cli_core.specs.declared.faults.RunError.{RunError}
+use Rattle.cli_core.specs.declared.faults.RunError.TheVariants.{AtLine, NoMemory, CannotWrite}
 use Rattle.cli_core.specs.Input.{lines_of}
 use Rattle.cli_core.specs.Changes.{IsChangeLine, AreChangeLines, ComeTo, IsLineFault, IsFaultAt, IsFirstFault, IsRefused, IsTooMany, IsOutside}
 use Rattle.cli_core.specs.Runs.{RunsTo}
@@ -73,7 +73,7 @@ too_many cs c ds t few =
     let full = t.full in
     omega (arith, length-members_new cs c unknown, counted)
 
-no_line_fault : (cs : List Change) (line : List ℕ) (c : Sourced) (ds : List Change) (f : LineFault) → IsChangeLine line c → IsLineFault (members cs) line f
+no_line_fault : (cs : List Change) (line : List ℕ) (c : Sourced) (ds : List Change) (f : LineError) → IsChangeLine line c → IsLineFault (members cs) line f
     → length (members (cs ++ c.change ∷ ds)) ≤ most_members → IsOutside (AtLine 0 f)
 no_line_fault cs line c ds (Wire e) p f few = absurd (sound_line line c e p f)
 no_line_fault cs line c ds TooManyMembers p f few =
@@ -83,7 +83,7 @@ no_line_fault cs line c ds TooManyMembers p f few =
 no_line_fault cs line c ds ReadFailed p f few = tt
 no_line_fault cs line c ds OutOfMemory p f few = tt
 
-no_fault_at : (cs : List Change) (left : List (List ℕ)) (ys : List Sourced) (f : LineFault) → AreChangeLines left ys → IsFaultAt (members cs) left f
+no_fault_at : (cs : List Change) (left : List (List ℕ)) (ys : List Sourced) (f : LineError) → AreChangeLines left ys → IsFaultAt (members cs) left f
     → length (members (cs ++ map change_of ys)) ≤ most_members → IsOutside (AtLine 0 f)
 no_fault_at cs [] ys (Wire e) p h few = absurd h
 no_fault_at cs [] ys TooManyMembers p h few = absurd h
@@ -92,14 +92,14 @@ no_fault_at cs [] ys OutOfMemory p h few = tt
 no_fault_at cs (line ∷ left) [] f p h few = absurd p
 no_fault_at cs (line ∷ left) (c ∷ ys) f p h few = no_line_fault cs line c (map change_of ys) f p.0 h few
 
-pub outside_anywhere : (m n : ℕ) (f : LineFault) → IsOutside (AtLine m f) → IsOutside (AtLine n f)
+pub outside_anywhere : (m n : ℕ) (f : LineError) → IsOutside (AtLine m f) → IsOutside (AtLine n f)
 outside_anywhere m n (Wire e) h = h
 outside_anywhere m n TooManyMembers h = h
 outside_anywhere m n ReadFailed h = tt
 outside_anywhere m n OutOfMemory h = tt
 
 -- lines that come to members have no fault of their own
-pub no_fault_before : (before left : List (List ℕ)) (held now : List Change) (f : LineFault) → ComeTo before held → ComeTo (before ++ left) now → IsFaultAt held left f
+pub no_fault_before : (before left : List (List ℕ)) (held now : List Change) (f : LineError) → ComeTo before held → ComeTo (before ++ left) now → IsFaultAt held left f
     → IsOutside (AtLine 0 f)
 no_fault_before before left held now f p q is =
     let (xs, ys, all, front, back) = parted before left q.heard q.read in
@@ -111,11 +111,11 @@ no_fault_before before left held now f p q is =
     no_fault_at (map change_of xs) left ys f back (rw are at is) few
 
 -- an input that has an output has no fault of its own
-pub no_first_fault : (text : List Change → List ℕ) (input output : List ℕ) (n : ℕ) (f : LineFault) → RunsTo text input output → IsFirstFault input n f → IsOutside (AtLine n f)
+pub no_first_fault : (text : List Change → List ℕ) (input output : List ℕ) (n : ℕ) (f : LineError) → RunsTo text input output → IsFirstFault input n f → IsOutside (AtLine n f)
 no_first_fault text input output n f p q =
     outside_anywhere 0 n f (no_fault_before q.before q.left q.held p.held f q.come_to (subst (λ ls. ComeTo ls p.held) q.lines p.come_to) q.is)
 
-pub no_refusal : (text : List Change → List ℕ) (input output : List ℕ) (e : RunFault) → RunsTo text input output → IsRefused input e → IsOutside e
+pub no_refusal : (text : List Change → List ℕ) (input output : List ℕ) (e : RunError) → RunsTo text input output → IsRefused input e → IsOutside e
 no_refusal text input output (AtLine n f) p q = no_first_fault text input output n f p q
 no_refusal text input output NoMemory p q = tt
 no_refusal text input output CannotWrite p q = tt

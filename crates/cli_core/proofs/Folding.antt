@@ -1,6 +1,6 @@
 -- Folding an input line by line.
-use Rattle.std.proofs.Common.{◌≡◌, ◌≢◌, ℕ, ◌+◌, ◌<◌, ◌≤◌, true, false, List, [], ◌∷◌, ◌++◌, map, length, length-append, Option, Some, None, Ok, Err, Vec, Global, refl, sym, ap, subst, ◌∙◌, append_assoc, append-nil, inl, inr, arith, lit≤}
-use Rattle.std.specs.Prelude.{IfSome, IfOk, IfErr, Result, Bool, ◌⊎◌}
+use Rattle.std.proofs.Common.{◌≡◌, ◌≢◌, ℕ, ◌+◌, ◌≤◌, true, false, List, [], ◌∷◌, ◌++◌, map, length, length-append, Option, Some, None, Ok, Err, Vec, Global, refl, sym, ap, subst, ◌∙◌, append_assoc, append-nil, inl, inr, arith, lit≤}
+use Rattle.std.specs.Prelude.{IfSome}
 use Rattle.std.specs.Io.KnownBytes.{Appends}
 use Rattle.std.proofs.lemmas.List.{map-append}
 use Rattle.change_core.specs.declared.changes.Change.{Change}
@@ -14,10 +14,9 @@ use Rattle.wire_json.specs.Lines.{Faults}
 use Rattle.wire_json.specs.Input.{AppendsFront}
 use Rattle.message_core.specs.declared.errors.WireError.{WireError}
 use Rattle.message_core.specs.declared.errors.WireError.TheVariants.{LineTooLong, BadJson, NotObject, UnknownKind, MissingField, BadField, TooMany, Io, Memory}
-use Rattle.cli_core.specs.declared.faults.LineFault.{LineFault}
-use Rattle.cli_core.specs.declared.faults.LineFault.TheVariants.{Wire, ReadFailed, OutOfMemory}
-use Rattle.cli_core.specs.declared.faults.RunFault.{RunFault}
-use Rattle.cli_core.specs.declared.faults.RunFault.TheVariants.{AtLine, NoMemory, CannotWrite}
+use Rattle.cli_core.specs.declared.faults.LineError.{LineError}
+use Rattle.cli_core.specs.declared.faults.RunError.{RunError}
+use Rattle.cli_core.specs.declared.faults.RunError.TheVariants.{AtLine, NoMemory, CannotWrite}
 use Rattle.cli_core.specs.Input.{lines_of}
 use Rattle.cli_core.specs.Counted.{IsCountedFault, IsUnread, ReadsLine}
 use Rattle.cli_core.specs.Faults.{fault_of_wire}
@@ -63,7 +62,7 @@ last_line None new held h = tt
 last_line (Some xs) new held h = (h, refl)
 
 -- a line was read, and it is at fault
-pub bad_line : (known new : Option (List ℕ)) (held : List Change) (v : Vec ℕ Global) (f : LineFault) → IfSome known (λ xs. ReadsLine xs (Ok (Some v)) new) → IsLineFault held v.items f
+pub bad_line : (known new : Option (List ℕ)) (held : List Change) (v : Vec ℕ Global) (f : LineError) → IfSome known (λ xs. ReadsLine xs (Ok (Some v)) new) → IsLineFault held v.items f
     → IfSome known (λ xs. IsFaultAt held (lines_of xs) f)
 bad_line None new held v f h i = tt
 bad_line (Some xs) new held v f h i = let (rest, e, lines) = h in rw lines i
@@ -142,7 +141,7 @@ ends (Some input) left new number held now p h few =
     let all : lines_of input ≡ before = lines ∙ ap (λ xs. before ++ lines_of xs) none ∙ append-nil before in
     rw (all, same) (come_to, omega arith)
 
-pub faults : (known left new : Option (List ℕ)) (number : ℕ) (held now : List Change) (f : LineFault) → HasHeard known left number held
+pub faults : (known left new : Option (List ℕ)) (number : ℕ) (held now : List Change) (f : LineError) → HasHeard known left number held
     → IfSome left (λ xs. Hears xs held (Err f) new now) → IsCounted number f → IfSome known (λ input. IsRefused input (AtLine number f))
 faults None left new number held now f p h counted = tt
 faults (Some input) left new number held now f p h counted =
@@ -151,11 +150,6 @@ faults (Some input) left new number held now f p h counted =
     record { before = before; left = lines_of rest; held = held; lines = lines; come_to = come_to; place = place; is = fault; counted = counted }
 
 -- ---- the output
-
--- memory is refused, and a write fails, after all lines
-pub after_all : (known : Option (List ℕ)) (held : List Change) → ComesTo known held → IfSome known (λ input. IsRefused input NoMemory)
-after_all None held p = tt
-after_all (Some input) held p = (held, p)
 
 pub unwritten : (known : Option (List ℕ)) (held : List Change) → ComesTo known held → IfSome known (λ input. IsRefused input CannotWrite)
 unwritten None held p = tt
@@ -178,13 +172,7 @@ front_written text (Some input) old new held output p e a = (text held, RunsTo-t
 held_members : (input : List ℕ) (held : List Change) → IsHeard input held → IsMemberList held
 held_members input held p = let c = p.0 in subst IsMemberList (sym c.are_members) (IsMemberList-members (map change_of c.heard))
 
--- the same of an output that is the text of a member list
-pub written_by : (text : List Change → List ℕ) (known old new : Option (List ℕ)) (held : List Change) (output : List ℕ) → ComesTo known held
-    → (IsMemberList held → output ≡ text held) → Appends old new output → Writes text known old new
-written_by text None old new held output p e a = tt
-written_by text (Some input) old new held output p e a = written text (Some input) old new held output p (e (held_members input held p)) a
-
-pub left_by : (text : List Change → List ℕ) (known old new : Option (List ℕ)) (held : List Change) (output : List ℕ) (fault : RunFault) → ComesTo known held
+pub left_by : (text : List Change → List ℕ) (known old new : Option (List ℕ)) (held : List Change) (output : List ℕ) (fault : RunError) → ComesTo known held
     → (IsMemberList held → output ≡ text held) → LeavesPart output fault old new → Leaves text fault known old new
 left_by text known old new held output (AtLine number fault) p e h = absurd h
 left_by text known old new held output NoMemory p e h = h

@@ -3,9 +3,9 @@ use Rattle.std.proofs.Common.{◌≡◌, ℕ, ◌+◌, List, [], ◌∷◌, ◌+
 use Rattle.std.specs.Prelude.{◌⊎◌}
 use Rattle.change_core.specs.declared.changes.Change.{Change}
 use Rattle.wire_json.proofs.OneFault.{one_fault_of_change}
-use Rattle.cli_core.specs.declared.faults.LineFault.{LineFault}
-use Rattle.cli_core.specs.declared.faults.LineFault.TheVariants.{Wire, TooManyMembers, ReadFailed, OutOfMemory}
-use Rattle.cli_core.specs.declared.faults.RunFault.TheVariants.{AtLine}
+use Rattle.cli_core.specs.declared.faults.LineError.{LineError}
+use Rattle.cli_core.specs.declared.faults.LineError.TheVariants.{Wire, TooManyMembers, ReadFailed, OutOfMemory}
+use Rattle.cli_core.specs.declared.faults.RunError.TheVariants.{AtLine}
 use Rattle.cli_core.specs.Changes.{ComeTo, IsFaultAt, IsFirstFault, IsOutside}
 use Rattle.wire_json.proofs.Uniqueness.{sound_line}
 use Rattle.cli_core.proofs.Exact.{one_come_to, no_fault_before, outside_anywhere}
@@ -28,7 +28,7 @@ fronts (a ∷ as') bs (c ∷ cs) ds e =
     ]
 
 -- what stands first has one fault of its own
-one_fault_at : (held : List Change) (left : List (List ℕ)) (e f : LineFault) → IsFaultAt held left e → IsFaultAt held left f
+one_fault_at : (held : List Change) (left : List (List ℕ)) (e f : LineError) → IsFaultAt held left e → IsFaultAt held left f
     → (IsOutside (AtLine 0 e) → ⊥) → (IsOutside (AtLine 0 f) → ⊥) → e ≡ f
 one_fault_at held left ReadFailed f p q own other = absurd (own tt)
 one_fault_at held left OutOfMemory f p q own other = absurd (own tt)
@@ -45,17 +45,17 @@ one_fault_at held (line ∷ lines) (Wire e) TooManyMembers p q own other = absur
 one_fault_at held (line ∷ lines) TooManyMembers (Wire f) p q own other = absurd (sound_line line p.0 f p.1 q)
 one_fault_at held (line ∷ lines) TooManyMembers TooManyMembers p q own other = refl
 
-inside_anywhere : (m n : ℕ) (f : LineFault) → (IsOutside (AtLine m f) → ⊥) → IsOutside (AtLine n f) → ⊥
+inside_anywhere : (m n : ℕ) (f : LineError) → (IsOutside (AtLine m f) → ⊥) → IsOutside (AtLine n f) → ⊥
 inside_anywhere m n f own outside = own (outside_anywhere n m f outside)
 
 -- where a fault of its own stands earlier than a line that was heard, it is none
-too_early : (before left later : List (List ℕ)) (x : List ℕ) (xs : List (List ℕ)) (held now : List Change) (f : LineFault) → ComeTo before held → ComeTo later now
+too_early : (before left later : List (List ℕ)) (x : List ℕ) (xs : List (List ℕ)) (held now : List Change) (f : LineError) → ComeTo before held → ComeTo later now
     → later ≡ before ++ x ∷ xs → (rest : List (List ℕ)) → left ≡ x ∷ rest → IsFaultAt held left f → IsOutside (AtLine 0 f)
 too_early before left later x xs held now f p q e rest first is =
     no_fault_before before (x ∷ xs) held now f p (subst (λ ls. ComeTo ls now) e q) (subst (λ ls. IsFaultAt held ls f) first is)
 
 -- an input has one fault of its own, at one line
-pub one_first_fault : (input : List ℕ) (m n : ℕ) (e f : LineFault) → IsFirstFault input m e → IsFirstFault input n f
+pub one_first_fault : (input : List ℕ) (m n : ℕ) (e f : LineError) → IsFirstFault input m e → IsFirstFault input n f
     → (IsOutside (AtLine m e) → ⊥) → (IsOutside (AtLine n f) → ⊥) → AtLine m e ≡ AtLine n f
 one_first_fault input m n e f p q own other =
     elim (fronts p.before p.left q.before q.left (sym p.lines ∙ q.lines)) [

@@ -1,8 +1,6 @@
 -- Addresses, a line each.
-use Rattle.std.proofs.Common.{◌≡◌, ℕ, ◌+◌, ◌<◌, List, [], ◌∷◌, ◌++◌, length, get_or, take, sym, ap, ◌∙◌, append_assoc, append-nil}
+use Rattle.std.proofs.Common.{◌≡◌, ℕ, ◌+◌, List, [], ◌∷◌, ◌++◌, sym, ap, ◌∙◌, append_assoc, append-nil}
 use Rattle.std.specs.List.{flat_map}
-use Rattle.std.proofs.lemmas.Grind.{flat_map-append}
-use Rattle.std.proofs.lemmas.List.{take_more}
 use Rattle.change_core.specs.Address.{address_text}
 use Rattle.cli_core.specs.Owner.{owner_line}
 
@@ -22,11 +20,3 @@ flat_map-later_line t (a ∷ owners) =
     ∙ append_assoc t (10 ∷ text) (10 ∷ rest)
     ∙ ap (λ z. t ++ 10 ∷ z) (sym (append_assoc text (10 ∷ []) rest))
     ∙ sym (append_assoc t (10 ∷ []) ((text ++ 10 ∷ []) ++ rest))
-
--- one more of them
-pub later_lines-more : (owners : List ℕ) (i a : ℕ) → i < length owners → a ≡ get_or owners i a
-    → flat_map later_line (take i owners) ++ later_line a ≡ flat_map later_line (take (i + 1) owners)
-later_lines-more owners i a l e =
-    ap (λ z. flat_map later_line (take i owners) ++ z) (sym (append-nil (later_line a)))
-    ∙ sym (flat_map-append later_line (take i owners) (a ∷ []))
-    ∙ ap (flat_map later_line) (ap (λ b. take i owners ++ b ∷ []) e ∙ sym (take_more owners i a l))

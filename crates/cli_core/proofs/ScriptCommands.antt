@@ -12,8 +12,8 @@ use Rattle.cli_core.specs.declared.scripts.answers.Answer.{Answer}
 use Rattle.cli_core.specs.declared.scripts.lines.Command.TheVariants as command
 use Rattle.cli_core.specs.declared.scripts.lines.Question.{Question}
 use Rattle.cli_core.specs.declared.scripts.messages.Sent.{Sent}
-use Rattle.cli_core.specs.declared.scripts.faults.ScriptFault.{ScriptFault}
-use Rattle.cli_core.specs.declared.scripts.faults.ScriptFault.TheVariants as fault
+use Rattle.cli_core.specs.declared.scripts.faults.ScriptError.{ScriptError}
+use Rattle.cli_core.specs.declared.scripts.faults.ScriptError.TheVariants as fault
 use Rattle.cli_core.specs.Simulated.{Comes, GoesOn, IsPlace, IsRefusedFor, NodeAnswers, NodeLacks, Obeys, Simulated, most_messages, node_at, nodes_in, with_node}
 use Rattle.cli_core.proofs.ScriptPlaces.{place_node}
 
@@ -71,13 +71,13 @@ restarted seen a i held given x born p h l is =
 
 -- ---- nodes that are asked
 
-pub asks : {H : Type 0} (hash_of : H → List ℕ → ℕ) (old : Simulated H) (a : ℕ) (question : Question) (nodes : List (Node H)) (r : Result Answer ScriptFault)
+pub asks : {H : Type 0} (hash_of : H → List ℕ → ℕ) (old : Simulated H) (a : ℕ) (question : Question) (nodes : List (Node H)) (r : Result Answer ScriptError)
     → IfOk r (λ answer. GoesOn old.nodes a (λ before after. NodeAnswers hash_of old.moment before question answer after) nodes)
     → IfOk r (λ answer. Obeys hash_of old (command.Ask a question) answer (record old { nodes = nodes }))
 asks hash_of old a question nodes (Ok answer) h = (nodes, h, refl)
 asks hash_of old a question nodes (Err f) h = tt
 
-pub lacks : {H : Type 0} (hash_of : H → List ℕ → ℕ) (old : Simulated H) (a : ℕ) (question : Question) (nodes : List (Node H)) (r : Result Answer ScriptFault)
+pub lacks : {H : Type 0} (hash_of : H → List ℕ → ℕ) (old : Simulated H) (a : ℕ) (question : Question) (nodes : List (Node H)) (r : Result Answer ScriptError)
     → IfErr r (λ f. (f ≡ fault.OutOfMemory) ⊎ ((f ≡ fault.UnknownNode) × (node_at old.nodes a ≡ None)))
     → IfErr r (λ f. f ≡ fault.OutOfMemory → GoesOn old.nodes a (λ before after. NodeLacks hash_of old.moment before question after) nodes)
     → IfErr r (λ f. IsRefusedFor hash_of old (command.Ask a question) f)
@@ -88,15 +88,15 @@ lacks hash_of old a question nodes (Err f) (inr p) memory = rw p.0 p.1
 -- ---- messages
 
 -- what keeping a message is refused for
-abbrev pub IsUnkept : List Sent → ScriptFault → Type 0
+abbrev pub IsUnkept : List Sent → ScriptError → Type 0
 IsUnkept messages f = ((f ≡ fault.OutOfMemory) × (length messages < most_messages)) ⊎ ((f ≡ fault.TooManyMessages) × (most_messages ≤ length messages))
 
-pub send_refused : {H : Type 0} (hash_of : H → List ℕ → ℕ) (old : Simulated H) (a target : ℕ) (f : ScriptFault) → (node_at old.nodes a ≡ None → ⊥) → IsUnkept old.messages f
+pub send_refused : {H : Type 0} (hash_of : H → List ℕ → ℕ) (old : Simulated H) (a target : ℕ) (f : ScriptError) → (node_at old.nodes a ≡ None → ⊥) → IsUnkept old.messages f
     → IsRefusedFor hash_of old (command.Send a target) f
 send_refused hash_of old a target f held (inl p) = rw p.0 (held, p.1)
 send_refused hash_of old a target f held (inr p) = rw p.0 (held, p.1)
 
-pub answer_refused : {H : Type 0} (hash_of : H → List ℕ → ℕ) (old : Simulated H) (n : ℕ) (sent : Sent) (nodes : List (Node H)) (taken : Taken) (message : Message) (f : ScriptFault)
+pub answer_refused : {H : Type 0} (hash_of : H → List ℕ → ℕ) (old : Simulated H) (n : ℕ) (sent : Sent) (nodes : List (Node H)) (taken : Taken) (message : Message) (f : ScriptError)
     → Comes hash_of old n sent (received.Answer taken message) nodes → IsUnkept old.messages f → IsRefusedFor hash_of old (command.Deliver n) f
 answer_refused hash_of old n sent nodes taken message f h (inl p) = rw p.0 (sent, nodes, taken, inr (message, h, p.1))
 answer_refused hash_of old n sent nodes taken message f h (inr p) = rw p.0 (sent, nodes, taken, message, h, p.1)

@@ -9,8 +9,8 @@ use Rattle.change_core.specs.declared.changes.Change.{Change}
 use Rattle.change_core.specs.Members.{greatest}
 use Rattle.change_core.proofs.Members.{IsGreatest-greatest}
 use Rattle.node_core.specs.Node.{Node, Seen, or_birth, own_change}
-use Rattle.cli_core.specs.declared.scripts.faults.ScriptFault.{ScriptFault}
-use Rattle.cli_core.specs.declared.scripts.faults.ScriptFault.TheVariants.{OutOfMemory}
+use Rattle.cli_core.specs.declared.scripts.faults.ScriptError.{ScriptError}
+use Rattle.cli_core.specs.declared.scripts.faults.ScriptError.TheVariants.{OutOfMemory}
 use Rattle.cli_core.specs.Simulated.{IsPlace, GoesOn, node_at, nodes_in, with_node}
 
 -- what a node holds of itself is of its address
@@ -62,7 +62,7 @@ place_answers seen a i old new (Ok x) P p e h = place_goes seen a i old new (P x
 place_answers seen a i old new (Err x) P p e h = tt
 
 -- and so where it has no memory
-pub place_lacks : {H X : Type 0} (seen : List (Seen H)) (a i : ℕ) (old new : Seen H) (r : Result X ScriptFault) (P : Node H → Node H → Type 0) → IsPlace seen a i → old ≡ get_or seen i old
+pub place_lacks : {H X : Type 0} (seen : List (Seen H)) (a i : ℕ) (old new : Seen H) (r : Result X ScriptError) (P : Node H → Node H → Type 0) → IsPlace seen a i → old ≡ get_or seen i old
     → IfErr r (λ f. P old.node new.node) → IfErr r (λ f. f ≡ OutOfMemory → GoesOn (nodes_in seen) a P (nodes_in (set seen i new)))
 place_lacks seen a i old new (Ok x) P p e h = tt
 place_lacks seen a i old new (Err f) P p e h = λ q. place_goes seen a i old new P p e h

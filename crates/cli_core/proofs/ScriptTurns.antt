@@ -4,29 +4,18 @@ use Rattle.std.specs.Prelude.{IfSome}
 use Rattle.std.specs.Io.KnownBytes.{Appends}
 use Rattle.change_core.specs.Numbers.{greatest_number}
 use Rattle.wire_json.specs.Input.{AppendsFront}
-use Rattle.message_core.specs.declared.errors.WireError.{WireError}
-use Rattle.cli_core.specs.declared.scripts.faults.ScriptFault.{ScriptFault}
-use Rattle.cli_core.specs.declared.scripts.faults.SimFault.{SimFault}
-use Rattle.cli_core.specs.declared.scripts.faults.SimFault.TheVariants.{AtLine, CannotWrite}
-use Rattle.cli_core.specs.Counted.{IsCountedFault, ReadsLine}
+use Rattle.cli_core.specs.declared.scripts.faults.ScriptError.{ScriptError}
+use Rattle.cli_core.specs.declared.scripts.faults.SimError.{SimError}
+use Rattle.cli_core.specs.declared.scripts.faults.SimError.TheVariants.{AtLine, CannotWrite}
+use Rattle.cli_core.specs.Counted.{ReadsLine}
 use Rattle.cli_core.specs.Input.{lines_of}
 use Rattle.cli_core.specs.Simulated.{Simulated}
-use Rattle.cli_core.specs.ScriptRuns.{AnswersAll, AnswersLine, Completes, IsCountedLine, IsLineRefused, IsRefusedAt, Stops, Turns, fault_of_read}
-use Rattle.cli_core.proofs.Scripting.{answers_more, appends_more, appends_nothing, counted_line, refused_first, unread_refused}
+use Rattle.cli_core.specs.ScriptRuns.{AnswersAll, AnswersLine, Completes, IsCountedLine, IsLineRefused, IsRefusedAt, Stops, Turns}
+use Rattle.cli_core.proofs.Scripting.{answers_more, appends_more, appends_nothing, refused_first}
 
 -- ---- one turn
 
-pub turn_end : {H : Type 0} (hash_of : H → List ℕ → ℕ) (s : Simulated H) (known left written : Option (List ℕ)) (number : ℕ) → IfSome known (λ xs. ReadsLine xs (Ok None) left)
-    → IfSome known (λ xs. Turns hash_of s xs written number (Ok false) s left written)
-turn_end hash_of s None left written number h = tt
-turn_end hash_of s (Some xs) left written number h = (h, refl, refl)
-
-pub turn_unread : {H : Type 0} (hash_of : H → List ℕ → ℕ) (s : Simulated H) (known left written : Option (List ℕ)) (number : ℕ) (e : WireError)
-    → IfSome known (λ xs. ReadsLine xs (Err e) left) → IsCountedFault number e → IfSome known (λ xs. Turns hash_of s xs written number (Err (AtLine number (fault_of_read e))) s left written)
-turn_unread hash_of s None left written number e h counted = tt
-turn_unread hash_of s (Some xs) left written number e h counted = (refl, unread_refused hash_of s (lines_of xs) e h, counted_line number e counted, refl)
-
-pub turn_refused : {H : Type 0} (hash_of : H → List ℕ → ℕ) (s then : Simulated H) (known left written : Option (List ℕ)) (number : ℕ) (v : Vec ℕ Global) (f : ScriptFault)
+pub turn_refused : {H : Type 0} (hash_of : H → List ℕ → ℕ) (s then : Simulated H) (known left written : Option (List ℕ)) (number : ℕ) (v : Vec ℕ Global) (f : ScriptError)
     → IfSome known (λ xs. ReadsLine xs (Ok (Some v)) left) → IsLineRefused hash_of s v.items f → IsCountedLine number f
     → IfSome known (λ xs. Turns hash_of s xs written number (Err (AtLine number f)) then left written)
 turn_refused hash_of s then None left written number v f h is counted = tt
@@ -94,7 +83,7 @@ ends hash_of start (Some input) left new old written now number s then p few h =
       subst (λ (w : Option (List ℕ)). Appends old w output) (sym same) appended,
     )
 
-stops_known : {H : Type 0} (hash_of : H → List ℕ → ℕ) (start : Simulated H) (input rest : List ℕ) (before : List (List ℕ)) (output : List ℕ) (new old written now : Option (List ℕ)) (number : ℕ) (s then : Simulated H) (e : SimFault)
+stops_known : {H : Type 0} (hash_of : H → List ℕ → ℕ) (start : Simulated H) (input rest : List ℕ) (before : List (List ℕ)) (output : List ℕ) (new old written now : Option (List ℕ)) (number : ℕ) (s then : Simulated H) (e : SimError)
     → lines_of input ≡ before ++ lines_of rest → AnswersAll hash_of start before output s → number ≡ length before + 1 → Appends old written output → Turns hash_of s rest written number (Err e) then new now
     → Stops hash_of start e (Some input) old now
 stops_known hash_of start input rest before output new old written now number s then (AtLine n f) lines answers place appended h =
@@ -123,7 +112,7 @@ stops_known hash_of start input rest before output new old written now number s 
       part,
     )
 
-pub stops : {H : Type 0} (hash_of : H → List ℕ → ℕ) (start : Simulated H) (known left new old written now : Option (List ℕ)) (number : ℕ) (s then : Simulated H) (e : SimFault)
+pub stops : {H : Type 0} (hash_of : H → List ℕ → ℕ) (start : Simulated H) (known left new old written now : Option (List ℕ)) (number : ℕ) (s then : Simulated H) (e : SimError)
     → HasAnswered hash_of start known left old written number s → IfSome left (λ xs. Turns hash_of s xs written number (Err e) then new now)
     → Stops hash_of start e known old now
 stops hash_of start None left new old written now number s then (AtLine n f) p h = tt

@@ -1,18 +1,17 @@
 -- A script, line by line.
-use Rattle.std.proofs.Common.{◌≡◌, ℕ, ◌<◌, ◌≤◌, true, false, List, [], ◌∷◌, ◌++◌, length, Option, Some, None, Ok, Err, Vec, Global, refl, sym, ap, subst, ◌∙◌, append_assoc, append-nil, inl, inr}
-use Rattle.std.specs.Prelude.{IfSome, IfOk, IfErr, IsOkUnless, IsSome, Result, ◌⊎◌}
+use Rattle.std.proofs.Common.{ℕ, ◌≤◌, List, [], ◌∷◌, ◌++◌, length, Option, Some, None, Ok, Err, refl, sym, ap, subst, ◌∙◌, append_assoc, append-nil, inl, inr}
+use Rattle.std.specs.Prelude.{IfErr, IsOkUnless, Result}
 use Rattle.std.specs.Io.KnownBytes.{Appends}
-use Rattle.change_core.specs.Numbers.{greatest_number}
 use Rattle.wire_json.specs.Lines.{max_line}
 use Rattle.message_core.specs.declared.errors.WireError.{WireError}
 use Rattle.message_core.specs.declared.errors.WireError.TheVariants.{LineTooLong, Io, Memory}
 use Rattle.cli_core.specs.declared.scripts.answers.Answer.{Answer}
 use Rattle.cli_core.specs.declared.scripts.lines.Command.{Command}
 use Rattle.cli_core.specs.declared.scripts.lines.Command.TheVariants as command
-use Rattle.cli_core.specs.declared.scripts.faults.ScriptFault.{ScriptFault}
-use Rattle.cli_core.specs.declared.scripts.faults.ScriptFault.TheVariants as fault
+use Rattle.cli_core.specs.declared.scripts.faults.ScriptError.{ScriptError}
+use Rattle.cli_core.specs.declared.scripts.faults.ScriptError.TheVariants as fault
 use Rattle.cli_core.specs.Counted.{IsCountedFault, IsUnread}
-use Rattle.cli_core.specs.Simulated.{Simulated, IsRefusedFor, Obeys}
+use Rattle.cli_core.specs.Simulated.{Simulated, Obeys}
 use Rattle.cli_core.specs.ScriptLines.{IsCommand}
 use Rattle.cli_core.specs.ScriptRuns.{AnswersAll, AnswersLine, IsCountedLine, IsLineRefused, IsRefusedAt, fault_of_read}
 
@@ -26,52 +25,14 @@ counted_line number e (inr (inr q)) = inr q.1
 
 -- ---- one line that is answered
 
-no_bad : {H : Type 0} (hash_of : H → List ℕ → ℕ) (s : Simulated H) (c : Command) → IsRefusedFor hash_of s c fault.BadCommand → ⊥
-no_bad hash_of s (command.Node birth) h = h
-no_bad hash_of s (command.At moment) h = h
-no_bad hash_of s (command.Ask a question) h = h
-no_bad hash_of s (command.Send a target) h = h
-no_bad hash_of s (command.Deliver n) h = h
-no_bad hash_of s (command.Restart birth) h = h
-
-no_long : {H : Type 0} (hash_of : H → List ℕ → ℕ) (s : Simulated H) (c : Command) → IsRefusedFor hash_of s c fault.LineTooLong → ⊥
-no_long hash_of s (command.Node birth) h = h
-no_long hash_of s (command.At moment) h = h
-no_long hash_of s (command.Ask a question) h = h
-no_long hash_of s (command.Send a target) h = h
-no_long hash_of s (command.Deliver n) h = h
-no_long hash_of s (command.Restart birth) h = h
-
-no_read : {H : Type 0} (hash_of : H → List ℕ → ℕ) (s : Simulated H) (c : Command) → IsRefusedFor hash_of s c fault.ReadFailed → ⊥
-no_read hash_of s (command.Node birth) h = h
-no_read hash_of s (command.At moment) h = h
-no_read hash_of s (command.Ask a question) h = h
-no_read hash_of s (command.Send a target) h = h
-no_read hash_of s (command.Deliver n) h = h
-no_read hash_of s (command.Restart birth) h = h
-
--- what is wrong with a command is wrong with its line
-pub refused_line : {H : Type 0} (hash_of : H → List ℕ → ℕ) (s : Simulated H) (line : List ℕ) (c : Command) (f : ScriptFault) → length line ≤ max_line → IsCommand c line
-    → IsRefusedFor hash_of s c f → IsLineRefused hash_of s line f
-refused_line hash_of s line c fault.ReadFailed short is h = absurd (no_read hash_of s c h)
-refused_line hash_of s line c fault.LineTooLong short is h = absurd (no_long hash_of s c h)
-refused_line hash_of s line c fault.OutOfMemory short is h = (short, c, is, inl h)
-refused_line hash_of s line c fault.BadCommand short is h = absurd (no_bad hash_of s c h)
-refused_line hash_of s line c fault.UnknownNode short is h = (short, c, is, h)
-refused_line hash_of s line c fault.NodeExists short is h = (short, c, is, h)
-refused_line hash_of s line c fault.TooManyNodes short is h = (short, c, is, h)
-refused_line hash_of s line c fault.UnknownMessage short is h = (short, c, is, h)
-refused_line hash_of s line c fault.TooManyMessages short is h = (short, c, is, h)
-refused_line hash_of s line c fault.IncarnationNotGreater short is h = (short, c, is, h)
-
 -- the command was done, and its answer has no text
-pub untold_line : {H X : Type 0} (hash_of : H → List ℕ → ℕ) (s then : Simulated H) (line : List ℕ) (c : Command) (answer : Answer) (r : Result X ScriptFault) → length line ≤ max_line → IsCommand c line
+pub untold_line : {H X : Type 0} (hash_of : H → List ℕ → ℕ) (s then : Simulated H) (line : List ℕ) (c : Command) (answer : Answer) (r : Result X ScriptError) → length line ≤ max_line → IsCommand c line
     → Obeys hash_of s c answer then → IsOkUnless r fault.OutOfMemory → IfErr r (λ f. IsLineRefused hash_of s line f)
 untold_line hash_of s then line c answer (Ok x) short is o e = tt
 untold_line hash_of s then line c answer (Err f) short is o e = rw e (short, c, is, inr (answer, then, o))
 
 -- what is wrong with a line that was read is wrong with the first of the lines
-pub refused_first : {H : Type 0} (hash_of : H → List ℕ → ℕ) (s : Simulated H) (line : List ℕ) (lines : List (List ℕ)) (f : ScriptFault) → IsLineRefused hash_of s line f → IsRefusedAt hash_of s (line ∷ lines) f
+pub refused_first : {H : Type 0} (hash_of : H → List ℕ → ℕ) (s : Simulated H) (line : List ℕ) (lines : List (List ℕ)) (f : ScriptError) → IsLineRefused hash_of s line f → IsRefusedAt hash_of s (line ∷ lines) f
 refused_first hash_of s line lines fault.ReadFailed h = tt
 refused_first hash_of s line lines fault.OutOfMemory h = tt
 refused_first hash_of s line lines other h = h

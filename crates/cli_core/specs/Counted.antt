@@ -7,7 +7,7 @@ use Rattle.message_core.specs.declared.errors.WireError.{WireError}
 use Rattle.message_core.specs.declared.errors.WireError.TheVariants.{LineTooLong, Io, Memory}
 use Rattle.cli_core.specs.Input.{lines_of}
 
--- why none of the lines that are left was read: a failed read, or, where there is a line, that it is too long, or a want of memory
+-- the error if none of the remaining lines was read: a failed read, or, if there is a line, that it is too long, or out of memory
 abbrev pub IsUnread : List (List ℕ) → WireError → Type 0
 IsUnread [] e = e ≡ Io
 IsUnread (line ∷ lines) Io = Unit {0}
@@ -15,22 +15,22 @@ IsUnread (line ∷ lines) LineTooLong = max_line < length line
 IsUnread (line ∷ lines) Memory = Unit {0}
 IsUnread (line ∷ lines) other = ⊥
 
--- what was read as a line: a line of the known bytes, or nothing at their end, or a fault
+-- the result of reading a line: a line of the known bytes, or nothing at their end, or an error
 abbrev pub ReadsLine : List ℕ → Result (Option (Vec ℕ Global)) WireError → Option (List ℕ) → Type 0
 ReadsLine xs (Ok None) new = xs ≡ []
 ReadsLine xs (Ok (Some v)) new = (rest : List ℕ) × (new ≡ Some rest) × (lines_of xs ≡ v.items ∷ lines_of rest)
 ReadsLine xs (Err e) new = IsUnread (lines_of xs) e
 
--- what is made of what was read where no line can be counted any more: at the end nothing, and else a fault of the machine
+-- the result once no line can be counted any more: at the end nothing, and else an error of the machine
 abbrev pub EndsLines : Result (Option (Vec ℕ Global)) WireError → Result (Option (Vec ℕ Global)) WireError → Type 0
 EndsLines (Ok None) now = now ≡ Ok None
 EndsLines (Ok (Some line)) now = now ≡ Err Io
 EndsLines (Err e) now = ((e ≢ Memory) × (now ≡ Err Io)) ⊎ ((e ≡ Memory) × (now ≡ Err Memory))
 
--- what is made of what was read as the line of this number: the same, or, where it can't be counted, the end of the lines
+-- the result for the line of this number: the one that was read, or, if it can't be counted, the end of the lines
 abbrev pub IsCountedAs : ℕ → Result (Option (Vec ℕ Global)) WireError → Result (Option (Vec ℕ Global)) WireError → Type 0
 IsCountedAs number read now = ((number ≤ greatest_number) × (now ≡ read)) ⊎ ((greatest_number < number) × EndsLines read now)
 
--- the line of this number was not read for a fault of the machine, or it is one that is counted, and too long
+-- the error of the line of this number is of the machine, or the line is one that is counted, and too long
 abbrev pub IsCountedFault : ℕ → WireError → Type 0
 IsCountedFault number e = (e ≡ Io) ⊎ ((e ≡ Memory) ⊎ ((e ≡ LineTooLong) × (number ≤ greatest_number)))

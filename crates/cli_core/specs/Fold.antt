@@ -1,4 +1,4 @@
--- What `fold` writes.
+-- The output of `fold`.
 use Rattle.std.specs.Prelude.{ℕ, List, [], ◌∷◌, ◌++◌}
 use Rattle.sha2.specs.Sha256.{sha256}
 use Rattle.change_core.specs.declared.changes.Change.{Change}

@@ -1,4 +1,4 @@
--- What `hash` writes.
+-- The output of `hash`.
 use Rattle.std.specs.Prelude.{ℕ, List, take}
 use Rattle.sha2.specs.Sha256.{sha256}
 use Rattle.change_core.specs.Digest.{digest_digits}

@@ -1,4 +1,4 @@
--- What `owner` writes.
+-- The output of `owner`.
 use Rattle.std.specs.Prelude.{ℕ, ◌%◌, ◌^◌, Bool, true, false, List, [], ◌∷◌, ◌++◌, sum, take}
 use Rattle.std.specs.List.{flat_map}
 use Rattle.std.specs.Int.{w64, from_be_bytes}

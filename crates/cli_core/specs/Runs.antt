@@ -4,8 +4,8 @@ use Rattle.std.specs.Io.KnownBytes.{Appends, Keeps}
 use Rattle.change_core.specs.declared.changes.Change.{Change}
 use Rattle.change_core.specs.Numbers.{greatest_number}
 use Rattle.wire_json.specs.Input.{AppendsFront}
-use Rattle.cli_core.specs.declared.faults.RunFault.{RunFault}
-use Rattle.cli_core.specs.declared.faults.RunFault.TheVariants.{AtLine, NoMemory, CannotWrite}
+use Rattle.cli_core.specs.declared.faults.RunError.{RunError}
+use Rattle.cli_core.specs.declared.faults.RunError.TheVariants.{AtLine, NoMemory, CannotWrite}
 use Rattle.cli_core.specs.Input.{lines_of}
 use Rattle.cli_core.specs.Changes.{ComeTo}
 
@@ -16,18 +16,18 @@ pub record RunsTo (text : List Change → List ℕ) (input output : List ℕ) : 
   pub counted : length (lines_of input) ≤ greatest_number
   pub is : output ≡ text held
 
--- what is written for the input, where all of it is
+-- the output for the input, if all of it is written
 abbrev pub Writes : (List Change → List ℕ) → Option (List ℕ) → Option (List ℕ) → Option (List ℕ) → Type 0
 Writes text known old new = IfSome known (λ input. (output : List ℕ) × RunsTo text input output × Appends old new output)
 
--- what a fault leaves written: nothing, or a front of the output where the writer failed
-abbrev pub Leaves : (List Change → List ℕ) → RunFault → Option (List ℕ) → Option (List ℕ) → Option (List ℕ) → Type 0
+-- the output at an error: nothing, or a prefix of the output if the writer failed
+abbrev pub Leaves : (List Change → List ℕ) → RunError → Option (List ℕ) → Option (List ℕ) → Option (List ℕ) → Type 0
 Leaves text (AtLine number fault) known old new = Keeps old new
 Leaves text NoMemory known old new = Keeps old new
 Leaves text CannotWrite known old new = IfSome known (λ input. (output : List ℕ) × RunsTo text input output × AppendsFront old new output)
 
--- what a fault leaves of this output: nothing at a want of memory, a front of it where the writer failed
-abbrev pub LeavesPart : List ℕ → RunFault → Option (List ℕ) → Option (List ℕ) → Type 0
+-- the part of this output that is written at an error: nothing if out of memory, a prefix of it if the writer failed
+abbrev pub LeavesPart : List ℕ → RunError → Option (List ℕ) → Option (List ℕ) → Type 0
 LeavesPart output (AtLine number fault) old new = ⊥
 LeavesPart output NoMemory old new = Keeps old new
 LeavesPart output CannotWrite old new = AppendsFront old new output

@@ -26,7 +26,7 @@ taken_text t = codes "taken " ++ (number_text t.applied ++ 32 ∷ number_text t.
 abbrev pub message_text : ℕ → List ℕ
 message_text n = codes "message " ++ number_text n
 
--- how many changes were taken, and why no more
+-- how many changes were processed, and why no more
 abbrev pub stopped_text : Stopped → List ℕ
 stopped_text s = codes "stopped " ++ (number_text s.taken ++ 32 ∷ cause_word s.cause)
 

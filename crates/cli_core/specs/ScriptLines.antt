@@ -1,4 +1,4 @@
--- Which command a line of a script is.
+-- The command of a line of a script.
 use Rattle.std.specs.Prelude.{◌≡◌, ℕ, ◌<◌, ◌≤◌, All, Option, Some, None, List, ◌∷◌, ◌++◌, codes}
 use Rattle.change_core.specs.declared.changes.Change.{Change}
 use Rattle.change_core.specs.Address.{IsAddress, address_text}
@@ -20,17 +20,17 @@ IsVisible = All (λ x. (32 < x) × (x < 128))
 abbrev pub Leads : List ℕ → (List ℕ → Type 0) → List ℕ → Type 0
 Leads word P line = (rest : List ℕ) × (line ≡ word ++ 32 ∷ rest) × P rest
 
--- the last word, and what stands behind its space if there is one
+-- the last word, and the bytes after its space if there is one
 abbrev pub IsLast : List ℕ → Option (List ℕ) → List ℕ → Type 0
 IsLast word None line = line ≡ word
 IsLast word (Some behind) line = line ≡ word ++ 32 ∷ behind
 
--- a weight's word, which may be left out where the weight is 1
+-- a weight's word, which may be left out if the weight is 1
 abbrev pub IsWeightWord : ℕ → Option (List ℕ) → Type 0
 IsWeightWord weight None = weight ≡ 1
 IsWeightWord weight (Some word) = IsWeight weight × (word ≡ number_text weight)
 
--- a word, and the weight that may stand behind it
+-- a word, and the weight after it if there is one
 abbrev pub IsWeighted : List ℕ → ℕ → List ℕ → Type 0
 IsWeighted word weight line = (behind : Option (List ℕ)) × IsLast word behind line × IsWeightWord weight behind
 
@@ -57,11 +57,11 @@ IsAddressed a line = IsAddress a × (line ≡ address_text a)
 abbrev pub Addresses : ℕ → (List ℕ → Type 0) → List ℕ → Type 0
 Addresses a P line = IsAddress a × Leads (address_text a) P line
 
--- an address, how many owners, and the key, which is all that stands behind their spaces
+-- an address, how many owners, and the key, which is the rest after their spaces
 abbrev pub CountsOwners : ℕ → ℕ → List ℕ → List ℕ → Type 0
 CountsOwners a count key = Addresses a (λ line. (count ≤ most_members) × Leads (number_text count) (λ rest. rest ≡ key) line)
 
--- how the first word of a command is written
+-- the first word of a command
 abbrev pub verb_word : Verb → List ℕ
 verb_word verb.Node = codes "node"
 verb_word verb.At = codes "at"
@@ -91,7 +91,7 @@ verb_of (Send a target) = verb.Send
 verb_of (Deliver number) = verb.Deliver
 verb_of (Restart birth) = verb.Restart
 
--- what stands behind its space
+-- the bytes after its space
 abbrev pub HasArguments : Command → List ℕ → Type 0
 HasArguments (Node birth) = IsBirth birth
 HasArguments (At moment) = IsNumber greatest_number moment

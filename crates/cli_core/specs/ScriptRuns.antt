@@ -1,4 +1,4 @@
--- A run of a script: the answers to its lines, and the first line at fault.
+-- A run of a script: the answers to its lines, and the first line with an error.
 use Rattle.std.specs.Prelude.{◌≡◌, ℕ, ◌+◌, ◌<◌, ◌≤◌, ◌⊎◌, Bool, true, false, List, [], ◌∷◌, ◌++◌, length, Option, Some, None, IfSome, Result, Ok, Err}
 use Rattle.message_core.specs.declared.errors.WireError.{WireError}
 use Rattle.message_core.specs.declared.errors.WireError.TheVariants.{LineTooLong, Memory}
@@ -8,10 +8,10 @@ use Rattle.wire_json.specs.Input.{AppendsFront}
 use Rattle.wire_json.specs.Lines.{max_line}
 use Rattle.cli_core.specs.declared.scripts.answers.Answer.{Answer}
 use Rattle.cli_core.specs.declared.scripts.lines.Command.{Command}
-use Rattle.cli_core.specs.declared.scripts.faults.ScriptFault.{ScriptFault}
-use Rattle.cli_core.specs.declared.scripts.faults.ScriptFault.TheVariants as fault
-use Rattle.cli_core.specs.declared.scripts.faults.SimFault.{SimFault}
-use Rattle.cli_core.specs.declared.scripts.faults.SimFault.TheVariants.{AtLine, CannotWrite}
+use Rattle.cli_core.specs.declared.scripts.faults.ScriptError.{ScriptError}
+use Rattle.cli_core.specs.declared.scripts.faults.ScriptError.TheVariants as fault
+use Rattle.cli_core.specs.declared.scripts.faults.SimError.{SimError}
+use Rattle.cli_core.specs.declared.scripts.faults.SimError.TheVariants.{AtLine, CannotWrite}
 use Rattle.hash_ring.specs.declared.hash.Sha256Hash.{Sha256Hash}
 use Rattle.hash_ring.specs.declared.hash.SumHash.{SumHash}
 use Rattle.cli_core.specs.Input.{lines_of}
@@ -25,9 +25,9 @@ abbrev pub AnswersLine : {H : Type 0} → (H → List ℕ → ℕ) → Simulated
 AnswersLine hash_of old line text new =
     (length line ≤ max_line) × (c : Command) × (answer : Answer) × IsCommand c line × Obeys hash_of old c answer new × (text ≡ answer_text answer)
 
--- what is wrong with a line that was read, where the script is this one: that it is too long, or else that it is no command, or what is
--- wrong with the command; or the command is done, and there is no memory for the text of its answer
-abbrev pub IsLineRefused : {H : Type 0} → (H → List ℕ → ℕ) → Simulated H → List ℕ → ScriptFault → Type 0
+-- an error of a line that was read, in this state of the script: that it is too long, or else that it is not a command, or an error of the
+-- command; or the command is run, and out of memory for the text of its answer
+abbrev pub IsLineRefused : {H : Type 0} → (H → List ℕ → ℕ) → Simulated H → List ℕ → ScriptError → Type 0
 IsLineRefused hash_of s line fault.ReadFailed = ⊥
 IsLineRefused hash_of s line fault.LineTooLong = max_line < length line
 IsLineRefused hash_of s line fault.BadCommand = (length line ≤ max_line) × ((c : Command) → IsCommand c line → ⊥)
@@ -35,38 +35,38 @@ IsLineRefused {H} hash_of s line fault.OutOfMemory =
     (length line ≤ max_line) × (c : Command) × IsCommand c line × (IsRefusedFor hash_of s c fault.OutOfMemory ⊎ ((answer : Answer) × (then : Simulated H) × Obeys hash_of s c answer then))
 IsLineRefused hash_of s line other = (length line ≤ max_line) × (c : Command) × IsCommand c line × IsRefusedFor hash_of s c other
 
--- what is wrong with the first of the lines that are left; a want of memory and a failed read say nothing of its bytes, since they may come
--- before it is read; where none is left a read can fail, and nothing else
-abbrev pub IsRefusedAt : {H : Type 0} → (H → List ℕ → ℕ) → Simulated H → List (List ℕ) → ScriptFault → Type 0
+-- an error of the first of the remaining lines; out of memory and a failed read depend on none of its bytes, since they may come before it
+-- is read; if no line remains a read can fail, and nothing else
+abbrev pub IsRefusedAt : {H : Type 0} → (H → List ℕ → ℕ) → Simulated H → List (List ℕ) → ScriptError → Type 0
 IsRefusedAt hash_of s (line ∷ lines) fault.ReadFailed = Unit {0}
 IsRefusedAt hash_of s (line ∷ lines) fault.OutOfMemory = Unit {0}
 IsRefusedAt hash_of s (line ∷ lines) f = IsLineRefused hash_of s line f
 IsRefusedAt hash_of s [] f = f ≡ fault.ReadFailed
 
--- the lines are answered one after another, each with a line of the output
+-- each line has its answer, one after another, as a line of the output
 abbrev pub AnswersAll : {H : Type 0} → (H → List ℕ → ℕ) → Simulated H → List (List ℕ) → List ℕ → Simulated H → Type 0
 AnswersAll hash_of old [] output new = (output ≡ []) × (new ≡ old)
 AnswersAll {H} hash_of old (line ∷ lines) output new =
     (text rest : List ℕ) × (mid : Simulated H) × AnswersLine hash_of old line text mid × AnswersAll hash_of mid lines rest new × (output ≡ (text ++ 10 ∷ []) ++ rest)
 
--- a fault that the line has no part in
-abbrev pub IsOfMachine : ScriptFault → Type 0
+-- an error that the line has no part in
+abbrev pub IsOfMachine : ScriptError → Type 0
 IsOfMachine fault.ReadFailed = Unit {0}
 IsOfMachine fault.OutOfMemory = Unit {0}
 IsOfMachine other = ⊥
 
--- the fault of the line with this number is of the machine, or the line is one that is counted
-abbrev pub IsCountedLine : ℕ → ScriptFault → Type 0
+-- the error of the line with this number is of the machine, or the line is one that is counted
+abbrev pub IsCountedLine : ℕ → ScriptError → Type 0
 IsCountedLine number f = IsOfMachine f ⊎ (number ≤ greatest_number)
 
--- all lines of the input are answered by this output, and they are not too many to be counted
+-- this output has the answers to all lines of the input, and they are not too many to be counted
 pub record IsAnswered {H : Type 0} (hash_of : H → List ℕ → ℕ) (start : Simulated H) (input output : List ℕ) : Type 0 where
   pub last : Simulated H
   pub answers : AnswersAll hash_of start (lines_of input) output last
   pub counted : length (lines_of input) ≤ greatest_number
 
--- the first line at fault: its number from 1, and what is wrong with it after those before it, which this output answers
-pub record IsStoppedAt {H : Type 0} (hash_of : H → List ℕ → ℕ) (start : Simulated H) (input : List ℕ) (number : ℕ) (f : ScriptFault) (output : List ℕ) : Type 0 where
+-- the first line with an error: its number from 1, and the error after the lines before it, whose answers are this output
+pub record IsStoppedAt {H : Type 0} (hash_of : H → List ℕ → ℕ) (start : Simulated H) (input : List ℕ) (number : ℕ) (f : ScriptError) (output : List ℕ) : Type 0 where
   pub before : List (List ℕ)
   pub left : List (List ℕ)
   pub then : Simulated H
@@ -76,7 +76,7 @@ pub record IsStoppedAt {H : Type 0} (hash_of : H → List ℕ → ℕ) (start : 
   pub is : IsRefusedAt hash_of then left f
   pub counted : IsCountedLine number f
 
--- the first lines of the input are answered by this output, and the one behind them, which can be counted, by this text
+-- this output has the answers to the first lines of the input, and this text is the answer to the next one, which can be counted
 pub record IsCutAfter {H : Type 0} (hash_of : H → List ℕ → ℕ) (start : Simulated H) (input output text : List ℕ) : Type 0 where
   pub before : List (List ℕ)
   pub line : List ℕ
@@ -88,25 +88,25 @@ pub record IsCutAfter {H : Type 0} (hash_of : H → List ℕ → ℕ) (start : S
   pub answer : AnswersLine hash_of then line text last
   pub counted : length before < greatest_number
 
--- what is written for an input, where it is known, and all its lines are answered
+-- the output for an input, if that is known, with the answers to all its lines
 abbrev pub Completes : {H : Type 0} → (H → List ℕ → ℕ) → Simulated H → Option (List ℕ) → Option (List ℕ) → Option (List ℕ) → Type 0
 Completes hash_of start known old new = IfSome known (λ input. (output : List ℕ) × IsAnswered hash_of start input output × Appends old new output)
 
--- why not all are answered, and what is written then: the answers to the lines before the first at fault; or where the writer failed the answers
--- before the one that it failed at, and a front of that one
-abbrev pub Stops : {H : Type 0} → (H → List ℕ → ℕ) → Simulated H → SimFault → Option (List ℕ) → Option (List ℕ) → Option (List ℕ) → Type 0
+-- the error if not all lines have answers, and the output then: the answers to the lines before the first with an error; or if the writer
+-- failed the answers before the one at which it failed, and a prefix of that one
+abbrev pub Stops : {H : Type 0} → (H → List ℕ → ℕ) → Simulated H → SimError → Option (List ℕ) → Option (List ℕ) → Option (List ℕ) → Type 0
 Stops hash_of start (AtLine number f) known old new = IfSome known (λ input. (output : List ℕ) × IsStoppedAt hash_of start input number f output × Appends old new output)
 Stops hash_of start CannotWrite known old new =
     IfSome known (λ input. (output text : List ℕ) × (written : Option (List ℕ)) × IsCutAfter hash_of start input output text × Appends old written output × AppendsFront written new (text ++ 10 ∷ []))
 
--- what a fault of reading is to a script
-abbrev pub fault_of_read : WireError → ScriptFault
+-- a script's error for an error of reading
+abbrev pub fault_of_read : WireError → ScriptError
 fault_of_read LineTooLong = fault.LineTooLong
 fault_of_read Memory = fault.OutOfMemory
 fault_of_read e = fault.ReadFailed
 
--- what one turn did with the known bytes: a line and its answer, or nothing at the end, or a fault
-abbrev pub Turns : {H : Type 0} → (H → List ℕ → ℕ) → Simulated H → List ℕ → Option (List ℕ) → ℕ → Result Bool SimFault → Simulated H → Option (List ℕ) → Option (List ℕ) → Type 0
+-- the effect of one turn on the known bytes: a line and its answer, or nothing at the end, or an error
+abbrev pub Turns : {H : Type 0} → (H → List ℕ → ℕ) → Simulated H → List ℕ → Option (List ℕ) → ℕ → Result Bool SimError → Simulated H → Option (List ℕ) → Option (List ℕ) → Type 0
 Turns hash_of old xs written number (Ok false) new rest now = (xs ≡ []) × (now ≡ written) × (new ≡ old)
 Turns hash_of old xs written number (Ok true) new rest now =
     (line text left : List ℕ) × (rest ≡ Some left) × (lines_of xs ≡ line ∷ lines_of left) × AnswersLine hash_of old line text new × Appends written now (text ++ 10 ∷ [])
@@ -114,12 +114,12 @@ Turns hash_of old xs written number (Err (AtLine n f)) new rest now = (n ≡ num
 Turns {H} hash_of old xs written number (Err CannotWrite) new rest now =
     (line text : List ℕ) × (left : List (List ℕ)) × (then : Simulated H) × (lines_of xs ≡ line ∷ left) × AnswersLine hash_of old line text then × AppendsFront written now (text ++ 10 ∷ []) × (number ≤ greatest_number)
 
--- by the sum of the bytes, or by SHA-256's first eight: all lines are answered
+-- by the sum of the bytes, or by SHA-256's first eight: all lines have answers
 abbrev pub CompletesBy : Bool → ℕ → Option (List ℕ) → Option (List ℕ) → Option (List ℕ) → Type 0
 CompletesBy true replicas = let hash : SumHash = record {} in Completes (λ (h : SumHash). hash_by true) (beginning hash replicas)
 CompletesBy false replicas = let hash : Sha256Hash = record {} in Completes (λ (h : Sha256Hash). hash_by false) (beginning hash replicas)
 
 -- and not all are
-abbrev pub StopsBy : Bool → ℕ → SimFault → Option (List ℕ) → Option (List ℕ) → Option (List ℕ) → Type 0
+abbrev pub StopsBy : Bool → ℕ → SimError → Option (List ℕ) → Option (List ℕ) → Option (List ℕ) → Type 0
 StopsBy true replicas = let hash : SumHash = record {} in Stops (λ (h : SumHash). hash_by true) (beginning hash replicas)
 StopsBy false replicas = let hash : Sha256Hash = record {} in Stops (λ (h : Sha256Hash). hash_by false) (beginning hash replicas)

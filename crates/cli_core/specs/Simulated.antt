@@ -1,4 +1,4 @@
--- What a run of a script holds: its nodes, its messages and its moment; and what each command does and answers.
+-- The state of a run of a script: its nodes, its messages and its moment; and the effect and the answer of each command.
 use Rattle.std.specs.Prelude.{◌≡◌, ◌≢◌, ℕ, zero, suc, ◌+◌, ◌<◌, ◌≤◌, ◌==◌, ◌⊎◌, cond, Option, Some, None, Ok, Err, List, [], ◌∷◌, ◌++◌, length, map, slice_get, slice_index_or}
 use Rattle.std.specs.List.{find}
 use Rattle.change_core.specs.declared.changes.Change.{Change}
@@ -23,18 +23,19 @@ use Rattle.cli_core.specs.declared.scripts.lines.Question.{Question}
 use Rattle.cli_core.specs.declared.scripts.lines.Question.TheVariants as question
 use Rattle.cli_core.specs.declared.scripts.lines.Command.{Command}
 use Rattle.cli_core.specs.declared.scripts.lines.Command.TheVariants.{Node as Makes, At, Ask, Send, Deliver, Restart}
-use Rattle.cli_core.specs.declared.scripts.faults.ScriptFault.{ScriptFault}
-use Rattle.cli_core.specs.declared.scripts.faults.ScriptFault.TheVariants as fault
+use Rattle.cli_core.specs.declared.scripts.faults.ScriptError.{ScriptError}
+use Rattle.cli_core.specs.declared.scripts.faults.ScriptError.TheVariants as fault
 
--- how many nodes a script has at most
+-- the greatest number of nodes of a script
 abbrev pub most_nodes : ℕ
 most_nodes = 64
 
--- how many messages a script has at most
+-- the greatest number of messages of a script
 abbrev pub most_messages : ℕ
 most_messages = 65536
 
--- the hash, how many points a unit of weight has, the moment, the nodes in the order of their making, and the messages by their numbers
+-- the hash, the number of points for each unit of weight, the moment, the nodes in the order of their making, and the messages by their
+-- numbers
 pub record Simulated (H : Type 0) : Type 0 where
   pub hash : H
   pub replicas : ℕ
@@ -50,7 +51,7 @@ beginning hash replicas = record { hash = hash; replicas = replicas; moment = 0;
 abbrev pub node_at : {H : Type 0} → List (Node H) → ℕ → Option (Node H)
 node_at nodes a = find (λ n. n.own == a) nodes
 
--- the nodes with this one in place of the node of an address
+-- the nodes with this one instead of the node of an address
 abbrev pub with_node : {H : Type 0} → List (Node H) → ℕ → Node H → List (Node H)
 with_node [] a node = []
 with_node (n ∷ ns) a node = cond (n.own == a) (node ∷ ns) (n ∷ with_node ns a node)
@@ -59,7 +60,7 @@ with_node (n ∷ ns) a node = cond (n.own == a) (node ∷ ns) (n ∷ with_node n
 abbrev pub nodes_in : {H : Type 0} → List (Seen H) → List (Node H)
 nodes_in {H} seen = map (λ (s : Seen H). s.node) seen
 
--- where the first node of an address stands
+-- the place of the first node of an address
 pub record IsPlace {H : Type 0} (seen : List (Seen H)) (a i : ℕ) : Type 0 where
   pub within : i < length seen
   pub here : (d : Seen H) → (slice_index_or seen i d).node.own ≡ a
@@ -70,7 +71,7 @@ abbrev pub message_of : List Sent → ℕ → Option Sent
 message_of messages zero = None
 message_of messages (suc n) = slice_get messages n
 
--- a node as it is made, at a moment: standard, but for its points of the ring and its weight
+-- a new node, at a moment: standard, apart from its points of the ring and its weight
 abbrev pub born : {H : Type 0} → H → ℕ → ℕ → Birth → Node H
 born hash replicas moment birth =
     newborn hash (record standard { replicas = replicas; weight = birth.weight }) birth.address birth.incarnation moment (seeded 0)
@@ -79,11 +80,11 @@ born hash replicas moment birth =
 abbrev pub born_in : {H : Type 0} → Simulated H → Birth → Node H
 born_in s birth = born s.hash s.replicas s.moment birth
 
--- a change that its subject says of itself
+-- a change with its subject as its source
 abbrev pub of_itself : Change → Sourced
 of_itself c = record { change = c; source = c.address; source_incarnation = c.incarnation }
 
--- what one of the nodes answers at a moment, and what it is then: one call of it
+-- the answer of one of the nodes at a moment, and the node after it: one call of it
 abbrev pub NodeAnswers : {H : Type 0} → (H → List ℕ → ℕ) → ℕ → Node H → Question → Answer → Node H → Type 0
 NodeAnswers hash_of now old (question.Take c) (answer.Taken taken) new = NodeStep hash_of old (call.Take (of_itself c ∷ []) now) (reply.Take (Ok taken)) new
 NodeAnswers hash_of now old (question.Take c) (answer.Stopped stopped) new = NodeStep hash_of old (call.Take (of_itself c ∷ []) now) (reply.Take (Err stopped)) new
@@ -108,10 +109,10 @@ NodeLacks hash_of now old question.Expire new = NodeStep hash_of old (call.Expir
 NodeLacks hash_of now old question.Members new = NodeStep hash_of old call.DigestText (reply.DigestText (Err refused.Memory)) new
 NodeLacks hash_of now old question.Digest new = NodeStep hash_of old call.Digest (reply.Digest (Err refused.Memory)) new
 NodeLacks hash_of now old (question.Owners count key) new = NodeStep hash_of old (call.Owners key.now count) (reply.Owners (Err refused.Memory)) new
--- a batch that stops for it is answered
+-- a batch that stops out of memory has an answer
 NodeLacks hash_of now old (question.Take c) new = ⊥
 
--- the node of this address goes on, so that P holds of it before and after
+-- the node of this address changes so that P holds of it before and after
 abbrev pub GoesOn : {H : Type 0} → List (Node H) → ℕ → (Node H → Node H → Type 0) → List (Node H) → Type 0
 GoesOn {H} old a P new = (before after : Node H) × (node_at old a ≡ Some before) × P before after × (new ≡ with_node old a after)
 
@@ -119,20 +120,20 @@ GoesOn {H} old a P new = (before after : Node H) × (node_at old a ≡ Some befo
 abbrev pub Pings : {H : Type 0} → (H → List ℕ → ℕ) → ℕ → Message → Node H → Node H → Type 0
 Pings hash_of target message before after = NodeStep hash_of before (call.PingTo target) (reply.PingTo (Ok message)) after
 
--- the node receives this message at a moment, which comes to this
+-- the node receives this message at a moment, with this result
 abbrev pub Receives : {H : Type 0} → (H → List ℕ → ℕ) → ℕ → Message → Received → Node H → Node H → Type 0
 Receives hash_of now message result before after = NodeStep hash_of before (call.Receive message now) (reply.Receive result) after
 
--- the message of this number comes to its node, which receives it so
+-- the message of this number arrives at its node, with this result
 abbrev pub Comes : {H : Type 0} → (H → List ℕ → ℕ) → Simulated H → ℕ → Sent → Received → List (Node H) → Type 0
 Comes hash_of s n sent result nodes =
     (message_of s.messages n ≡ Some sent) × GoesOn s.nodes sent.to (Receives hash_of s.moment sent.message result) nodes
 
--- the messages with one more, to this address
+-- the messages with another one, to this address
 abbrev pub with_message : List Sent → ℕ → Message → List Sent
 with_message messages to message = messages ++ record { to = to; message = message } ∷ []
 
--- what a command is answered, and what the script is then
+-- the answer to a command, and the script after it
 abbrev pub Obeys : {H : Type 0} → (H → List ℕ → ℕ) → Simulated H → Command → Answer → Simulated H → Type 0
 Obeys hash_of old (Makes birth) answer.Done new =
     (node_at old.nodes birth.address ≡ None) × (length old.nodes < most_nodes) × (new ≡ record old { nodes = old.nodes ++ born_in old birth ∷ [] })
@@ -151,7 +152,7 @@ Obeys {H} hash_of old (Deliver n) (answer.Answered taken number) new =
     × (new ≡ record old { nodes = nodes; messages = with_message old.messages sent.message.source message })
 Obeys {H} hash_of old (Deliver n) (answer.Stopped stopped) new =
     (sent : Sent) × (nodes : List (Node H)) × Comes hash_of old n sent (received.Stopped stopped) nodes × (new ≡ record old { nodes = nodes })
--- a message that is none of the membership, of which a script makes none
+-- a message that is not of the membership; a script makes none
 Obeys {H} hash_of old (Deliver n) answer.Nothing new =
     (sent : Sent) × (nodes : List (Node H)) × Comes hash_of old n sent received.NotGossip nodes × (new ≡ record old { nodes = nodes })
 Obeys {H} hash_of old (Restart birth) answer.Done new =
@@ -160,14 +161,14 @@ Obeys {H} hash_of old (Restart birth) answer.Done new =
 -- no other answer is given
 Obeys hash_of old command other new = ⊥
 
--- the message of this number is taken, and there is no memory for the answer to it, or none to keep that
+-- the message of this number is processed, and out of memory for the answer to it, or for keeping that
 abbrev pub IsUnanswered : {H : Type 0} → (H → List ℕ → ℕ) → Simulated H → ℕ → Type 0
 IsUnanswered {H} hash_of s n =
     (sent : Sent) × (nodes : List (Node H)) × (taken : Taken)
     × (Comes hash_of s n sent (received.NoAnswer taken) nodes ⊎ ((message : Message) × Comes hash_of s n sent (received.Answer taken message) nodes × (length s.messages < most_messages)))
 
--- what is wrong with a command; memory is wanting in a call of a node, or for a node or a message more, where nothing else is wrong
-abbrev pub IsRefusedFor : {H : Type 0} → (H → List ℕ → ℕ) → Simulated H → Command → ScriptFault → Type 0
+-- an error of a command; out of memory in a call of a node, or for another node or message, if there is no other error
+abbrev pub IsRefusedFor : {H : Type 0} → (H → List ℕ → ℕ) → Simulated H → Command → ScriptError → Type 0
 IsRefusedFor hash_of s (Makes birth) fault.OutOfMemory = (node_at s.nodes birth.address ≡ None) × (length s.nodes < most_nodes)
 IsRefusedFor {H} hash_of s (Ask a question) fault.OutOfMemory = (nodes : List (Node H)) × GoesOn s.nodes a (λ before after. NodeLacks hash_of s.moment before question after) nodes
 IsRefusedFor hash_of s (Send a target) fault.OutOfMemory = (node_at s.nodes a ≢ None) × (length s.messages < most_messages)

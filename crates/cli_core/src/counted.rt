@@ -4,20 +4,21 @@ ghost use Rattle.change_core.specs.Numbers.{greatest_number};
 ghost use Rattle.wire_json.specs.Lines.{max_line};
 ghost use Rattle.cli_core.specs.Counted.{IsCountedAs, IsCountedFault, ReadsLine};
 
-use change_core::GREATEST_NUMBER;
+use change_core::MAX_NUMBER;
 use message_core::WireError;
 use std::alloc::Global;
 use std::io::Read;
 use wire_json::read_line;
 
-/// What was read as the line of this number; where it can't be counted, nothing at the end of the input, and a fault for any line.
+/// Returns the read line of this number. If it can't be counted, that is None at the end of the input, and an
+/// error for any line.
 fn counted(
     number: u64,
     read: Result<Option<Vec<u8>>, WireError>,
 ) -> Result<Option<Vec<u8>>, WireError>
     ensures { IsCountedAs number read result }
 {
-    if number <= GREATEST_NUMBER {
+    if number <= MAX_NUMBER {
         return read;
     }
     match read {
@@ -29,8 +30,11 @@ fn counted(
 
 /// Reads the line of this number; None at the end of the input. Lines are counted from 1 to 9007199254740991.
 ///
-/// Errors: `LineTooLong`, for more than 1,048,576 bytes; `Io`, where the reader failed, and for a line that can't be
-/// counted, whatever it is; `Memory`, where a growth was refused in reading the line.
+/// # Errors
+///
+/// - `LineTooLong`: the line has more than 1,048,576 bytes.
+/// - `Io`: the reader failed, or the line can't be counted, whatever it is.
+/// - `Memory`: out of memory for the line.
 pub(crate) fn next_line<R: Read>(
     alloc: Global,
     reader: &mut R,

@@ -1,15 +1,15 @@
-//! Why a run ends before its end.
+//! The errors of a run.
 ghost use Rattle.std.specs.Prelude.{◌≡◌};
-ghost use Rattle.cli_core.specs.declared.faults.RunFault.TheVariants.{NoMemory};
+ghost use Rattle.cli_core.specs.declared.faults.RunError.TheVariants.{NoMemory};
 
 use message_core::WireError;
 use std::alloc::AllocError;
 use thiserror::Error;
 
-/// What is wrong with a line of the input.
+/// An error of a line of the input.
 #[derive(Clone, Copy, Debug, PartialEq, Eq, Error)]
-pub enum LineFault {
-    /// It is no change.
+pub enum LineError {
+    /// It is not the line of a change.
     #[error("{0}")]
     Wire(WireError),
     /// Its address would be one too many.
@@ -18,18 +18,18 @@ pub enum LineFault {
     /// The reader failed.
     #[error("read failed")]
     ReadFailed,
-    /// A growth was refused while it was read or taken.
+    /// Out of memory, for the line or for its change.
     #[error("out of memory")]
     OutOfMemory,
 }
 
-/// Why a run ended before its end.
+/// The errors of a run.
 #[derive(Clone, Copy, Debug, PartialEq, Eq, Error)]
-pub enum RunFault {
-    /// The line with this number, from 1, is at fault.
+pub enum RunError {
+    /// The line with this number, from 1, has this error.
     #[error("line {0}: {1}")]
-    AtLine(u64, LineFault),
-    /// A growth was refused outside the lines.
+    AtLine(u64, LineError),
+    /// Out of memory for something else than a line.
     #[error("out of memory")]
     NoMemory,
     /// The writer failed.
@@ -37,24 +37,24 @@ pub enum RunFault {
     CannotWrite,
 }
 
-impl From<WireError> for LineFault {
+impl From<WireError> for LineError {
     ghost use Rattle.cli_core.specs.Faults.{fault_of_wire};
 
     ghost from_gives = { λ e f. f ≡ fault_of_wire e };
 
-    fn from(error: WireError) -> LineFault {
+    fn from(error: WireError) -> LineError {
         match error {
-            WireError::Io => LineFault::ReadFailed,
-            WireError::Memory => LineFault::OutOfMemory,
-            other => LineFault::Wire(other),
+            WireError::Io => LineError::ReadFailed,
+            WireError::Memory => LineError::OutOfMemory,
+            other => LineError::Wire(other),
         }
     }
 }
 
-impl From<AllocError> for RunFault {
+impl From<AllocError> for RunError {
     ghost from_gives = { λ _ f. f ≡ NoMemory };
 
-    fn from(_refused: AllocError) -> RunFault {
-        RunFault::NoMemory
+    fn from(_refused: AllocError) -> RunError {
+        RunError::NoMemory
     }
 }

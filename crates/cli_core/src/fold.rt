@@ -4,32 +4,41 @@ ghost use Rattle.cli_core.specs.Changes.{IsRefused};
 ghost use Rattle.cli_core.specs.Runs.{Leaves, Writes};
 ghost use Rattle.cli_core.specs.Fold.{fold_text};
 
-use crate::faults::RunFault;
+use crate::faults::RunError;
 use crate::members::read_members;
 use crate::outputs::write_text;
 use member_core::MemberTable;
 use std::alloc::Global;
 use std::io::{Read, Write};
 
-/// The digest text and the digest, a line each; the last newline is left to the writing.
-pub fn fold_text(alloc: Global, table: &MemberTable) -> Result<String, RunFault>
+/// Returns the digest text and the digest, a line each, without the last newline.
+///
+/// # Errors
+///
+/// - `NoMemory`: out of memory.
+pub fn fold_text(alloc: Global, table: &MemberTable) -> Result<String, RunError>
     ensures text { IfOk result (λ s. string_bytes s ++ 10 ∷ [] ≡ fold_text table.now.members) }
-    ensures refusal { IsOkUnless result RunFault.NoMemory }
+    ensures refusal { IsOkUnless result RunError.NoMemory }
 {
-    let digest = table.digest().map_err(|_| RunFault::NoMemory)?;
-    let digits = digest.text(alloc).map_err(|_| RunFault::NoMemory)?;
-    let mut text = table.digest_text().map_err(|_| RunFault::NoMemory)?;
+    let digest = table.digest().map_err(|_| RunError::NoMemory)?;
+    let digits = digest.text(alloc).map_err(|_| RunError::NoMemory)?;
+    let mut text = table.digest_text().map_err(|_| RunError::NoMemory)?;
     write!(text, "\n{digits}")?;
     Ok(text)
 }
 
-/// Reads change lines to the end, and writes the digest text of the members that they come to and its SHA-256, a line
-/// each. At a fault of reading or a want of memory nothing is written; at one of writing a front of that is.
+/// Reads change lines to the end, and writes the digest text of their members and its SHA-256, a line each.
+///
+/// # Errors
+///
+/// - `AtLine`: a line has an error; the first one is named. There is no output.
+/// - `NoMemory`: out of memory. There is no output.
+/// - `CannotWrite`: the writer failed. A prefix of the output is written.
 pub fn fold_run<R: Read, W: Write>(
     alloc: Global,
     reader: &mut R,
     writer: &mut W,
-) -> Result<(), RunFault>
+) -> Result<(), RunError>
     ensures output { OnOk result (Writes fold_text
         (R.remaining reader.old) (W.contents writer.old) (W.contents writer.new)) }
     ensures fault { IfErr result (λ e. IfSome (R.remaining reader.old) (λ input. IsRefused input e)) }

@@ -4,24 +4,32 @@ ghost use Rattle.std.specs.Io.KnownBytes.{Appends};
 ghost use Rattle.cli_core.specs.Hash.{hash_text};
 ghost use Rattle.cli_core.specs.Runs.{LeavesPart};
 
-use crate::faults::RunFault;
+use crate::faults::RunError;
 use crate::outputs::write_text;
 use hash_ring::{PointHash, Sha256Hash};
 use std::alloc::Global;
 use std::io::Write;
 
-/// The 16 lower-case hexadecimal digits of a text's `Sha256Hash`. A want of memory is `RunFault::NoMemory`.
-pub fn hash_text(alloc: Global, text: &str) -> Result<String, RunFault>
+/// Returns the 16 lower-case hexadecimal digits of a text's `Sha256Hash`.
+///
+/// # Errors
+///
+/// - `NoMemory`: out of memory.
+pub fn hash_text(alloc: Global, text: &str) -> Result<String, RunError>
     ensures text { IfOk result (λ s. string_bytes s ≡ hash_text text.now) }
-    ensures refusal { IsOkUnless result RunFault.NoMemory }
+    ensures refusal { IsOkUnless result RunError.NoMemory }
 {
     let hash = Sha256Hash.hash(text.as_bytes());
     Ok(format!(in alloc; "{hash:016x}")?)
 }
 
-/// Writes the digits of a text's hash and a newline. At a want of memory nothing is written; at a fault of writing a
-/// front of that is.
-pub fn hash_run<W: Write>(alloc: Global, text: &str, writer: &mut W) -> Result<(), RunFault>
+/// Writes the digits of a text's hash and a newline.
+///
+/// # Errors
+///
+/// - `NoMemory`: out of memory. There is no output.
+/// - `CannotWrite`: the writer failed. A prefix of the output is written.
+pub fn hash_run<W: Write>(alloc: Global, text: &str, writer: &mut W) -> Result<(), RunError>
     ensures ok { OnOk result (Appends (W.contents writer.old) (W.contents writer.new)
         (hash_text text.now ++ 10 ∷ [])) }
     ensures left { IfErr result (λ e. LeavesPart (hash_text text.now ++ 10 ∷ []) e

@@ -1,4 +1,4 @@
-//! Laws of runs, over all inputs and all that may be written of the members.
+//! Theorems about runs, over all inputs and all texts that may be written of the members.
 ghost use Rattle.std.specs.Prelude.{◌≡◌, ◌≤◌, ℕ, List, length};
 ghost use Rattle.change_core.specs.declared.changes.Change.{Change};
 ghost use Rattle.change_core.specs.Numbers.{greatest_number};
@@ -6,21 +6,21 @@ ghost use Rattle.cli_core.specs.Input.{lines_of};
 ghost use Rattle.cli_core.specs.Changes.{HaveSameLines, IsFirstFault, IsOutside, IsRefused};
 ghost use Rattle.cli_core.specs.Runs.{RunsTo};
 ghost use Rattle.cli_core.specs.ScriptLines.{IsCommand, IsSameCommand};
-ghost use Rattle.cli_core.specs.declared.faults.LineFault.{LineFault};
-ghost use Rattle.cli_core.specs.declared.faults.RunFault.{RunFault};
+ghost use Rattle.cli_core.specs.declared.faults.LineError.{LineError};
+ghost use Rattle.cli_core.specs.declared.faults.RunError.{RunError};
 ghost use Rattle.cli_core.specs.declared.scripts.lines.Command.{Command};
 
-/// An input has one output at most. One that has an output is refused for no fault of its own, and one that is so
-/// refused has one such fault, at one line. The order of the lines and how often each stands make no difference.
+/// An input has at most one output. One that has an output is never refused for an error in its lines, and one that is
+/// so refused has one such error, at one line. The order of the lines and repetition make no difference.
 pub fn one_run()
     ensures one_output { (text : List Change → List ℕ) (input output other : List ℕ)
         → RunsTo text input output → RunsTo text input other → output ≡ other }
-    ensures no_fault { (text : List Change → List ℕ) (input output : List ℕ) (fault : RunFault)
+    ensures no_fault { (text : List Change → List ℕ) (input output : List ℕ) (fault : RunError)
         → RunsTo text input output → IsRefused input fault → IsOutside fault }
-    ensures one_fault { (input : List ℕ) (m n : ℕ) (e f : LineFault)
+    ensures one_fault { (input : List ℕ) (m n : ℕ) (e f : LineError)
         → IsFirstFault input m e → IsFirstFault input n f
-        → ¬ IsOutside (RunFault.AtLine m e) → ¬ IsOutside (RunFault.AtLine n f)
-        → RunFault.AtLine m e ≡ RunFault.AtLine n f }
+        → ¬ IsOutside (RunError.AtLine m e) → ¬ IsOutside (RunError.AtLine n f)
+        → RunError.AtLine m e ≡ RunError.AtLine n f }
     ensures any_order { (text : List Change → List ℕ) (input other output : List ℕ)
         → RunsTo text input output → HaveSameLines (lines_of input) (lines_of other)
         → length (lines_of other) ≤ greatest_number → RunsTo text other output }

@@ -13,13 +13,13 @@ mod scripts;
 mod subcommands;
 mod words;
 
-pub use faults::{LineFault, RunFault};
+pub use faults::{LineError, RunError};
 pub use fold::{fold_run, fold_text};
 pub use hashes::{hash_run, hash_text};
 pub use owners::{owner_run, ring_of};
-pub use scripts::{ScriptFault, SimFault, sim_run};
-pub use subcommands::{Subcommand, SubcommandFault, subcommand_run};
+pub use scripts::{ScriptError, SimError, sim_run};
+pub use subcommands::{Subcommand, SubcommandError, subcommand_run};
 pub use words::{
-    AskAnyWords, AskWords, ClusterCommand, MOST_REQUESTS, MembersWords, OwnerWords, ServeWords,
+    AskAnyWords, AskWords, ClusterCommand, MAX_REQUESTS, MembersWords, OwnerWords, ServeWords,
     SimWords,
 };

@@ -9,7 +9,7 @@ ghost use Rattle.cli_core.specs.Changes.{IsRefused};
 ghost use Rattle.cli_core.specs.Runs.{Leaves, LeavesPart, Writes};
 ghost use Rattle.cli_core.specs.Owner.{hash_by, owner_line, owner_text};
 
-use crate::faults::RunFault;
+use crate::faults::RunError;
 use crate::members::read_members;
 use crate::outputs::write_text;
 use crate::words::OwnerWords;
@@ -20,9 +20,9 @@ use std::alloc::Global;
 use std::io::{Read, Write};
 
 /// The members that serve, with their weights.
-fn servers_among(alloc: Global, members: &[Change]) -> Result<Vec<Server>, RunFault>
+fn servers_among(alloc: Global, members: &[Change]) -> Result<Vec<Server>, RunError>
     ensures servers { IfOk result (λ servers. IsMemberList members.now → servers.items ≡ servers_of members.now) }
-    ensures refusal { IsOkUnless result RunFault.NoMemory }
+    ensures refusal { IsOkUnless result RunError.NoMemory }
 {
     let mut servers = Vec::with_capacity(alloc, members.len())?;
     'members: for member in members {
@@ -36,40 +36,44 @@ fn servers_among(alloc: Global, members: &[Change]) -> Result<Vec<Server>, RunFa
     Ok(servers)
 }
 
-/// The ring of the members that serve, by their weights.
+/// Makes the ring of the members that serve, by their weights.
+///
+/// # Errors
+///
+/// - `NoMemory`: out of memory.
 pub fn ring_of<H: PointHash>(
     alloc: Global,
     hash: H,
     replicas: u32,
     members: &[Change],
-) -> Result<Ring<H>, RunFault>
+) -> Result<Ring<H>, RunError>
     requires { IsReplicas replicas }
     ensures hash { IfOk result (λ ring. ring.hash ≡ hash) }
     ensures replicas { IfOk result (λ ring. ring.replicas ≡ replicas) }
     ensures servers { IfOk result (λ ring. IsMemberList members.now → ring.servers ≡ servers_of members.now) }
-    ensures refusal { IsOkUnless result RunFault.NoMemory }
+    ensures refusal { IsOkUnless result RunError.NoMemory }
 {
     let servers = servers_among(alloc, members)?;
     let Ok(ring) = Ring::with_servers(alloc, hash, replicas, servers.as_slice()) else {
-        return Err(RunFault::NoMemory);
+        return Err(RunError::NoMemory);
     };
     Ok(ring)
 }
 
 /// The addresses, a line each; the last newline is left to the writing.
-fn owners_text(alloc: Global, first: Address, others: &[Address]) -> Result<String, RunFault>
+fn owners_text(alloc: Global, first: Address, others: &[Address]) -> Result<String, RunError>
     ensures text { IfOk result (λ s. string_bytes s ++ 10 ∷ [] ≡ flat_map owner_line (first ∷ others.now)) }
-    ensures refusal { IsOkUnless result RunFault.NoMemory }
+    ensures refusal { IsOkUnless result RunError.NoMemory }
 {
-    let mut text = first.text(alloc).map_err(|_| RunFault::NoMemory)?;
+    let mut text = first.text(alloc).map_err(|_| RunError::NoMemory)?;
     'others: for other in others {
         write!(text, "\n{other}")?;
     }
     Ok(text)
 }
 
-/// Writes the addresses, a line each, and nothing where there is none.
-fn write_owners<W: Write>(alloc: Global, writer: &mut W, owners: &[Address]) -> Result<(), RunFault>
+/// Writes the addresses, a line each; no address, no output.
+fn write_owners<W: Write>(alloc: Global, writer: &mut W, owners: &[Address]) -> Result<(), RunError>
     ensures ok { OnOk result (Appends (W.contents writer.old) (W.contents writer.new) (flat_map owner_line owners.now)) }
     ensures left { IfErr result (λ e. LeavesPart (flat_map owner_line owners.now) e
         (W.contents writer.old) (W.contents writer.new)) }
@@ -81,23 +85,24 @@ fn write_owners<W: Write>(alloc: Global, writer: &mut W, owners: &[Address]) -> 
     write_text(writer, text.as_str())
 }
 
-/// The first owners of the key among the members of the table that serve, as many as the words say or all there are.
+/// Returns the first owners of the key among the members of the table that serve, as many as requested or all there
+/// are.
 fn owners_among<H: PointHash>(
     alloc: Global,
     hash: H,
     words: &OwnerWords<'_>,
     table: &MemberTable,
-) -> Result<Vec<Address>, RunFault>
+) -> Result<Vec<Address>, RunError>
     ensures owners { IfOk result (λ named. IsMemberList table.now.members → named.items
         ≡ take words.now.count (owners (H.hash_of hash) words.now.replicas (servers_of table.now.members) words.now.key.now)) }
-    ensures refusal { IsOkUnless result RunFault.NoMemory }
+    ensures refusal { IsOkUnless result RunError.NoMemory }
 {
     let Ok(members) = table.list() else {
-        return Err(RunFault::NoMemory);
+        return Err(RunError::NoMemory);
     };
     let ring = ring_of(alloc, hash, words.replicas, members.as_slice())?;
     let Ok(owners) = ring.owners(words.key.as_bytes(), words.count) else {
-        return Err(RunFault::NoMemory);
+        return Err(RunError::NoMemory);
     };
     Ok(owners)
 }
@@ -109,7 +114,7 @@ fn owner_run_by<H: PointHash, R: Read, W: Write>(
     words: &OwnerWords<'_>,
     reader: &mut R,
     writer: &mut W,
-) -> Result<(), RunFault>
+) -> Result<(), RunError>
     ensures output { OnOk result (Writes
         (owner_text (H.hash_of hash) words.now.replicas words.now.count words.now.key.now)
         (R.remaining reader.old) (W.contents writer.old) (W.contents writer.new)) }
@@ -123,15 +128,20 @@ fn owner_run_by<H: PointHash, R: Read, W: Write>(
     write_owners(alloc, writer, owners.as_slice())
 }
 
-/// Reads change lines to the end, and writes the first owners of the key among the members that serve, as many as the
-/// words say or all there are, a line each. At a fault of reading or a want of memory nothing is written; at one of
-/// writing a front of that is.
+/// Reads change lines to the end, and writes the first owners of the key among the members that serve, as many as
+/// requested or all there are, a line each.
+///
+/// # Errors
+///
+/// - `AtLine`: a line has an error; the first one is named. There is no output.
+/// - `NoMemory`: out of memory. There is no output.
+/// - `CannotWrite`: the writer failed. A prefix of the output is written.
 pub fn owner_run<R: Read, W: Write>(
     alloc: Global,
     words: &OwnerWords<'_>,
     reader: &mut R,
     writer: &mut W,
-) -> Result<(), RunFault>
+) -> Result<(), RunError>
     ensures output { OnOk result (Writes
         (owner_text (hash_by words.now.sum) words.now.replicas words.now.count words.now.key.now)
         (R.remaining reader.old) (W.contents writer.old) (W.contents writer.new)) }

@@ -1,4 +1,4 @@
-//! Scripts: nodes by hand in one process, a command a line.
+//! Scripts: several nodes in one process, driven by a command a line.
 
 mod answers;
 mod asked;
@@ -10,5 +10,5 @@ mod readers;
 mod runs;
 mod simulation;
 
-pub use faults::{ScriptFault, SimFault};
+pub use faults::{ScriptError, SimError};
 pub use runs::sim_run;

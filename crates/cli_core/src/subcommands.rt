@@ -1,19 +1,19 @@
-//! The subcommands of the program, each as its words say.
+//! The subcommands of the program, each with its arguments.
 ghost use Rattle.std.specs.Prelude.{◌≡◌, IfErr, OnOk};
 ghost use Rattle.cli_core.specs.Subcommands.{Fails, Finishes, Reads};
-ghost use Rattle.cli_core.specs.declared.subcommands.SubcommandFault.TheVariants.{Run, Sim};
+ghost use Rattle.cli_core.specs.declared.subcommands.SubcommandError.TheVariants.{Run, Sim};
 
-use crate::faults::RunFault;
+use crate::faults::RunError;
 use crate::fold::fold_run;
 use crate::hashes::hash_run;
 use crate::owners::owner_run;
-use crate::scripts::{SimFault, sim_run};
+use crate::scripts::{SimError, sim_run};
 use crate::words::{OwnerWords, SimWords};
 use std::alloc::Global;
 use std::io::{Read, Write};
 use thiserror::Error;
 
-/// What the program is asked for.
+/// A subcommand with its arguments.
 #[derive(Clone, Copy, Debug, PartialEq, Eq)]
 pub enum Subcommand<'a> {
     /// The members' digest text and digest.
@@ -26,41 +26,45 @@ pub enum Subcommand<'a> {
     Sim(SimWords),
 }
 
-/// Why a subcommand ended before its end.
+/// The errors of a subcommand.
 #[derive(Clone, Copy, Debug, PartialEq, Eq, Error)]
-pub enum SubcommandFault {
+pub enum SubcommandError {
     /// That of `fold`, `hash` and `owner`.
     #[error("{0}")]
-    Run(RunFault),
+    Run(RunError),
     /// That of `sim`.
     #[error("{0}")]
-    Sim(SimFault),
+    Sim(SimError),
 }
 
-impl From<RunFault> for SubcommandFault {
+impl From<RunError> for SubcommandError {
     ghost from_gives = { λ e f. f ≡ Run e };
 
-    fn from(fault: RunFault) -> SubcommandFault {
-        SubcommandFault::Run(fault)
+    fn from(fault: RunError) -> SubcommandError {
+        SubcommandError::Run(fault)
     }
 }
 
-impl From<SimFault> for SubcommandFault {
+impl From<SimError> for SubcommandError {
     ghost from_gives = { λ e f. f ≡ Sim e };
 
-    fn from(fault: SimFault) -> SubcommandFault {
-        SubcommandFault::Sim(fault)
+    fn from(fault: SimError) -> SubcommandError {
+        SubcommandError::Sim(fault)
     }
 }
 
-/// Runs the subcommand over the reader and the writer, as `fold_run`, `hash_run`, `owner_run` or `sim_run` does. `hash`
-/// reads nothing.
+/// Runs the subcommand over the reader and the writer. `hash` reads nothing.
+///
+/// # Errors
+///
+/// - `Run`: the error of `fold_run`, `hash_run` or `owner_run`.
+/// - `Sim`: the error of `sim_run`.
 pub fn subcommand_run<R: Read, W: Write>(
     alloc: Global,
     subcommand: &Subcommand<'_>,
     reader: &mut R,
     writer: &mut W,
-) -> Result<(), SubcommandFault>
+) -> Result<(), SubcommandError>
     ensures output { OnOk result (Finishes subcommand.now
         (R.remaining reader.old) (W.contents writer.old) (W.contents writer.new)) }
     ensures fault { IfErr result (λ e. Fails subcommand.now e

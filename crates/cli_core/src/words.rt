@@ -1,20 +1,20 @@
-//! What the commands are told beside their input: those of lines, and those that speak to nodes.
+//! The arguments of the commands: those of commands that read lines, and those of commands that speak to nodes.
 ghost use Rattle.std.specs.Prelude.{◌≤◌, ◌<◌, ◌^◌, vec_len};
 ghost use Rattle.change_core.specs.Numbers.{greatest_number, most_members};
 ghost use Rattle.hash_ring.specs.Points.{IsReplicas};
 ghost use Rattle.node_core.specs.Workers.{IsCrew};
-ghost use Rattle.cli_core.specs.Words.{IsRequests};
+ghost use Rattle.cli_core.specs.Words.{IsPerMessage, IsPiggyback, IsRequests};
 
 use change_core::{Address, Incarnation, Weight};
 
-/// The words of `owner`.
+/// The arguments of `owner`.
 #[derive(Clone, Copy, Debug, PartialEq, Eq)]
 pub struct OwnerWords<'a> {
-    /// How many owners to name, 0 to 4,096.
+    /// The number of owners to name, 0 to 4,096.
     pub count: usize,
-    /// How many points a server has for each unit of its weight, 1 to 1,000.
+    /// The number of a server's points for each unit of its weight, 1 to 1,000.
     pub replicas: u32,
-    /// Whether the hash is the sum of the bytes, in place of SHA-256's first eight.
+    /// True if the hash is the sum of the bytes instead of SHA-256's first eight.
     pub sum: bool,
     /// The key.
     pub key: &'a str,
@@ -22,48 +22,57 @@ pub struct OwnerWords<'a> {
     pub ghost replicas_range: { IsReplicas replicas },
 }
 
-/// The words of `sim`.
+/// The arguments of `sim`.
 #[derive(Clone, Copy, Debug, PartialEq, Eq)]
 pub struct SimWords {
-    /// How many points a server has for each unit of its weight, 1 to 1,000.
+    /// The number of a server's points for each unit of its weight, 1 to 1,000.
     pub replicas: u32,
-    /// Whether the hash is the sum of the bytes, in place of SHA-256's first eight.
+    /// True if the hash is the sum of the bytes instead of SHA-256's first eight.
     pub sum: bool,
     pub ghost replicas_range: { IsReplicas replicas },
 }
 
-/// How many connections a server serves at most.
-pub const MOST_REQUESTS: u64 = 1_000_000;
+/// The greatest number of connections that a server serves.
+pub const MAX_REQUESTS: u64 = 1_000_000;
 
-/// The words of `serve`.
+/// The arguments of `serve`.
 #[derive(Debug, PartialEq, Drop)]
 pub struct ServeWords {
-    /// Where the node listens, and how the others name it.
+    /// The address at which the node listens, and by which the others name it.
     pub address: Address,
     /// The node's first incarnation, and its seed.
     pub incarnation: Incarnation,
-    /// How many connections are served, 1 to 1,000,000; those of gossip count.
+    /// The number of connections that are served, 1 to 1,000,000; those of gossip count.
     pub requests: u64,
-    /// How many connections are served at a time, 1 to 16.
+    /// The number of connections that are served at a time, 1 to 16.
     pub workers: u32,
     /// Milliseconds between two rounds of gossip, at most 9,007,199,254,740,991; 0 makes none.
     pub period: u64,
-    /// How many points a server has for each unit of its weight, 1 to 1,000.
+    /// The number of a server's points for each unit of its weight, 1 to 1,000.
     pub replicas: u32,
     /// The node's weight.
     pub weight: Weight,
-    /// Whether the hash is the sum of the bytes, in place of SHA-256's first eight.
+    /// How many changes a message carries at most, 1 to 4,096.
+    pub per_message: usize,
+    /// How often a change is passed on for each decimal digit of the number of serving members, 1 to 1,000.
+    pub piggyback: u32,
+    /// Whether members that parted are met again: after each tenth round the node pings one member at random, whatever it
+    /// holds it as, and sends a Join to one of the hosts, if it does not hold that host as serving.
+    pub heal: bool,
+    /// True if the hash is the sum of the bytes instead of SHA-256's first eight.
     pub sum: bool,
-    /// The nodes that are asked to let the node join, before it listens.
+    /// The nodes that are asked to admit the node, before it listens.
     pub hosts: Vec<Address>,
     pub ghost requests_range: { IsRequests requests },
     pub ghost workers_range: { IsCrew workers },
     pub ghost period_range: { period ≤ greatest_number },
     pub ghost replicas_range: { IsReplicas replicas },
+    pub ghost per_message_range: { IsPerMessage per_message },
+    pub ghost piggyback_range: { IsPiggyback piggyback },
     pub ghost few: { vec_len hosts < 2 ^ 32 },
 }
 
-/// The words of `ask`.
+/// The arguments of `ask`.
 #[derive(Clone, Copy, Debug, PartialEq, Eq)]
 pub struct AskWords<'a> {
     /// The node that is asked.
@@ -74,14 +83,14 @@ pub struct AskWords<'a> {
     pub body: &'a str,
 }
 
-/// The words of `ask --any`.
+/// The arguments of `ask --any`.
 #[derive(Clone, Copy, Debug, PartialEq, Eq)]
 pub struct AskAnyWords<'a> {
     /// A node of the cluster, which is asked for the members.
     pub host: Address,
-    /// How many points a server has for each unit of its weight in the cluster, 1 to 1,000.
+    /// The number of a server's points in the cluster for each unit of its weight, 1 to 1,000.
     pub replicas: u32,
-    /// Whether the cluster's hash is the sum of the bytes, in place of SHA-256's first eight.
+    /// True if the cluster's hash is the sum of the bytes instead of SHA-256's first eight.
     pub sum: bool,
     /// The key.
     pub key: &'a str,
@@ -90,16 +99,16 @@ pub struct AskAnyWords<'a> {
     pub ghost replicas_range: { IsReplicas replicas },
 }
 
-/// The words of `members`.
+/// The arguments of `members`.
 #[derive(Clone, Copy, Debug, PartialEq, Eq)]
 pub struct MembersWords {
     /// The node that is asked.
     pub host: Address,
-    /// Whether a change line is written for each member, in place of the digest text and the digest.
+    /// True if a change line is written for each member instead of the digest text and the digest.
     pub lines: bool,
 }
 
-/// What the program is asked to do with nodes.
+/// A command that speaks to nodes, with its arguments.
 #[derive(Debug, PartialEq, Drop)]
 pub enum ClusterCommand<'a> {
     /// A node that serves.
@@ -110,6 +119,6 @@ pub enum ClusterCommand<'a> {
     AskAny(AskAnyWords<'a>),
     /// The members that a node holds.
     Members(MembersWords),
-    /// Changes that a node is told.
+    /// Passes changes to a node.
     Tell(Address),
 }

@@ -12,43 +12,44 @@ use Rattle.cli_net.specs.Service.{HasEntered, HasServed, IsBorn, IsJoinedTo, IsT
 use Rattle.server.specs.Threads.{ServeAlone}
 use Rattle.cli_net.specs.Echoes.{MayEcho}
 use Rattle.cli_net.specs.declared.echoes.Echo.{Echo}
-use Rattle.server.specs.Working.{IsOneRound, Repeats}
-use Rattle.cli_net.specs.declared.faults.ServeFault.{ServeFault}
-use Rattle.cli_net.specs.declared.faults.ServeFault.TheVariants as serve
+use Rattle.server.specs.Starting.{IsHealedAs}
+use Rattle.server.specs.Working.{AreRounds}
+use Rattle.cli_net.specs.declared.faults.ServeError.{ServeError}
+use Rattle.cli_net.specs.declared.faults.ServeError.TheVariants as serve
 use Rattle.server.specs.declared.servers.Server.{Server}
 use Rattle.server.specs.declared.timeouts.Timeouts.{Timeouts}
 use Rattle.cli_core.specs.declared.words.ServeWords.{ServeWords}
 
 -- what may end a server that was let in
-abbrev pub MayFollow : ServeFault → Type 0
+abbrev pub MayFollow : ServeError → Type 0
 MayFollow serve.NoneJoined = ⊥
 MayFollow other = Unit {0}
 
-pub cannot_listen : (e : ServeFault) → e ≡ serve.CannotListen → MayFollow e
+pub cannot_listen : (e : ServeError) → e ≡ serve.CannotListen → MayFollow e
 cannot_listen e is = subst MayFollow (sym is) tt
 
-pub cannot_serve : (e : ServeFault) → IsThreadFault e → MayFollow e
+pub cannot_serve : (e : ServeError) → IsThreadFault e → MayFollow e
 cannot_serve serve.NoneJoined h = h
 cannot_serve serve.CannotListen h = tt
 cannot_serve serve.NoThread h = tt
 cannot_serve serve.CannotWrite h = tt
 cannot_serve serve.NoMemory h = tt
 
-pub cannot_begin : (a : ℕ) (e : ServeFault) (old new : Option (List ℕ)) → LeavesServing a e old new → MayFollow e
+pub cannot_begin : (a : ℕ) (e : ServeError) (old new : Option (List ℕ)) → LeavesServing a e old new → MayFollow e
 cannot_begin a serve.NoneJoined old new h = h
 cannot_begin a serve.CannotListen old new h = tt
 cannot_begin a serve.NoThread old new h = tt
 cannot_begin a serve.CannotWrite old new h = tt
 cannot_begin a serve.NoMemory old new h = tt
 
-pub cannot_end : (e : ServeFault) → e ≡ serve.CannotWrite → MayFollow e
+pub cannot_end : (e : ServeError) → e ≡ serve.CannotWrite → MayFollow e
 cannot_end e is = subst MayFollow (sym is) tt
 
 module _ {H : Type 0} (hash_of : H → List ℕ → ℕ) (Came : MayAnswer) (hash : H) (words : ServeWords) (node : LockedNode H) (passes : List (NodePass H)) (timer new : NodePass H)
     (hosts : List Address) (now : ℕ) (born : IsBorn hash_of hash words (opening_of node)) (fresh : AreFresh node (passes ++ timer ∷ [])) (same : hosts ≡ words.hosts.items)
     (alone : hosts ≡ [] → new ≡ timer) where
   -- what its join came to, if it had hosts to ask
-  pub entered_by : (fault : Option ServeFault) → (hosts ≢ [] → IsJoinedTo Came node hosts now fault timer new) → HasEntered hash_of Came hash words fault
+  pub entered_by : (fault : Option ServeError) → (hosts ≢ [] → IsJoinedTo Came node hosts now fault timer new) → HasEntered hash_of Came hash words fault
   entered_by fault joined = record {
     node = node;
     now = now;
@@ -61,7 +62,7 @@ module _ {H : Type 0} (hash_of : H → List ℕ → ℕ) (Came : MayAnswer) (has
   }
 
   -- it entered, and ended after that
-  pub let_in_by : {T : Type 0} (r : Result T ServeFault) → IfErr r MayFollow → (hosts ≢ [] → IsJoinedTo Came node hosts now None timer new)
+  pub let_in_by : {T : Type 0} (r : Result T ServeError) → IfErr r MayFollow → (hosts ≢ [] → IsJoinedTo Came node hosts now None timer new)
       → TellsEntry (HasEntered hash_of Came hash words) r
   let_in_by (Ok t) after joined = entered_by None joined
   let_in_by (Err serve.NoneJoined) after joined = absurd after
@@ -71,34 +72,35 @@ module _ {H : Type 0} (hash_of : H → List ℕ → ℕ) (Came : MayAnswer) (has
   let_in_by (Err serve.NoMemory) after joined = tt
 
   -- it did not
-  pub kept_out_by : {T : Type 0} (e : ServeFault) (out : Result T ServeFault) → (e ≡ serve.NoneJoined) ⊎ (e ≡ serve.NoMemory)
+  pub kept_out_by : {T : Type 0} (e : ServeError) (out : Result T ServeError) → (e ≡ serve.NoneJoined) ⊎ (e ≡ serve.NoMemory)
       → (hosts ≢ [] → IsJoinedTo Came node hosts now (Some e) timer new) → IsErrAnd out (λ x. x ≡ e)
       → TellsEntry {T = T} (HasEntered hash_of Came hash words) out
   kept_out_by {T} e (Ok t) which joined so = absurd so
   kept_out_by {T} e (Err x) (inl none) joined so =
       let refused : hosts ≢ [] → IsJoinedTo Came node hosts now (Some serve.NoneJoined) timer new =
-      λ named. subst (λ (f : ServeFault). IsJoinedTo Came node hosts now (Some f) timer new) none (joined named) in
-      subst (λ (f : ServeFault). TellsEntry {T = T} (HasEntered hash_of Came hash words) (Err f)) (sym (so ∙ none)) (entered_by (Some serve.NoneJoined) refused)
+      λ named. subst (λ (f : ServeError). IsJoinedTo Came node hosts now (Some f) timer new) none (joined named) in
+      subst (λ (f : ServeError). TellsEntry {T = T} (HasEntered hash_of Came hash words) (Err f)) (sym (so ∙ none)) (entered_by (Some serve.NoneJoined) refused)
   kept_out_by {T} e (Err x) (inr memory) joined so =
-      subst (λ (f : ServeFault). TellsEntry {T = T} (HasEntered hash_of Came hash words) (Err f)) (sym (so ∙ memory)) tt
+      subst (λ (f : ServeError). TellsEntry {T = T} (HasEntered hash_of Came hash words) (Err f)) (sym (so ∙ memory)) tt
 
   -- who does not enter had hosts to ask
-  pub had_hosts : (e : ServeFault) → (hosts ≡ [] → IsOk {T = Unit {0}} (Err e) × (new ≡ timer)) → words.hosts.items ≢ []
+  pub had_hosts : (e : ServeError) → (hosts ≡ [] → IsOk {T = Unit {0}} (Err e) × (new ≡ timer)) → words.hosts.items ≢ []
   had_hosts e never none = false≢true (never (same ∙ none)).0
 
   -- it entered, and then its threads served
   pub served_by : (timeouts : Timeouts) (server it : Server H Echo) (last : NodePass H) (workers : List (NodePass H)) → server ≡ it → it.node ≡ node → it.handler.address ≡ words.address
-      → it.timeouts ≡ timeouts → length passes ≡ words.workers → AreAll node (passes ++ timer ∷ []) → (hosts ≢ [] → IsJoinedTo Came node hosts now None timer new)
-      → Makes it.node (Repeats IsOneRound) new last → (words.period ≡ 0 → last ≡ new) → ServeAlone hash_of MayEcho it.node passes workers
+      → it.timeouts ≡ timeouts → IsHealedAs words.heal words.address words.hosts.items it.healing → length passes ≡ words.workers → AreAll node (passes ++ timer ∷ []) → (hosts ≢ [] → IsJoinedTo Came node hosts now None timer new)
+      → Makes it.node (AreRounds it.healing) new last → (words.period ≡ 0 → last ≡ new) → ServeAlone hash_of MayEcho it.node passes workers
       → HasServed hash_of Came hash timeouts words server last workers
   unfolding entered_by
-  served_by timeouts server it last workers is its own waiting count all joined rounds resting connections =
+  served_by timeouts server it last workers is its own waiting healing count all joined rounds resting connections =
       subst (λ (s : Server H Echo). HasServed hash_of Came hash timeouts words s last workers) (sym is) (record {
         entry = entered_by None joined;
         crew = passes;
         its = sym its;
         own = own;
         waiting = waiting;
+        healing = healing;
         count = count;
         all = subst (λ (x : LockedNode H). AreAll x (passes ++ timer ∷ [])) (sym its) all;
         fresh = subst (λ (x : LockedNode H). AreFresh x (passes ++ timer ∷ [])) (sym its) fresh;

@@ -5,12 +5,12 @@ use Rattle.change_core.specs.declared.addresses.Address.{Address}
 use Rattle.peer_core.specs.Links.{MayAnswer}
 use Rattle.cli_net.specs.Asking.{IsUnasked, LeavesReply, request}
 use Rattle.cli_net.specs.Owning.{IsOwner, IsUnanswered}
-use Rattle.cli_net.specs.declared.faults.AskFault.{AskFault}
-use Rattle.cli_net.specs.declared.faults.AskFault.TheVariants as fault
+use Rattle.cli_net.specs.declared.faults.AskError.{AskError}
+use Rattle.cli_net.specs.declared.faults.AskError.TheVariants as fault
 
 -- the owner did not reply
 pub unsaid_by : {A : Type 0} (May : MayAnswer) (host : Address) (hash : List ℕ → ℕ) (replicas : ℕ) (key body : List ℕ) (to : Address)
-    → IsOwner May host hash replicas key to → (r : Result A AskFault) → IfErr r (IsUnasked May to (request key body))
+    → IsOwner May host hash replicas key to → (r : Result A AskError) → IfErr r (IsUnasked May to (request key body))
     → IfErr r (IsUnanswered May host hash replicas key body)
 unsaid_by May host hash replicas key body to o (Ok a) h = tt
 unsaid_by May host hash replicas key body to o (Err e) h = IsUnanswered.unsaid to o h
@@ -21,7 +21,7 @@ module _ (May : MayAnswer) (host : Address) (hash : List ℕ → ℕ) (replicas 
   not_written (IsUnanswered.unsaid to o n) = n
 
   -- where no owner replied nothing is written
-  pub left_by : (Came : List ℕ → Type 0) (e : AskFault) (old : Option (List ℕ)) → IsUnanswered May host hash replicas key body e
+  pub left_by : (Came : List ℕ → Type 0) (e : AskError) (old : Option (List ℕ)) → IsUnanswered May host hash replicas key body e
       → LeavesReply Came (IsUnanswered May host hash replicas key body) e old old
   left_by Came fault.NoAnswer old u = (u, Keeps-refl old)
   left_by Came fault.NotOwner old u = (u, Keeps-refl old)

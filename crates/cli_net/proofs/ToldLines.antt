@@ -17,18 +17,18 @@ use Rattle.cli_core.proofs.Lines.{lines_of-first}
 use Rattle.cli_core.specs.Changes.{AreChangeLines, IsChangeLine, IsFaultAt}
 use Rattle.cli_core.specs.Faults.{fault_of_wire}
 use Rattle.cli_core.specs.Input.{lines_of}
-use Rattle.cli_core.specs.declared.faults.LineFault.{LineFault}
-use Rattle.cli_core.specs.declared.faults.LineFault.TheVariants as line
+use Rattle.cli_core.specs.declared.faults.LineError.{LineError}
+use Rattle.cli_core.specs.declared.faults.LineError.TheVariants as line
 use Rattle.peer_core.specs.Links.{MayAnswer}
 use Rattle.cli_net.specs.Telling.{Gives, HearsChange, IsNoNews, IsUntold, IsWrong, TakesTurn}
-use Rattle.cli_net.specs.declared.faults.AskFault.{AskFault}
-use Rattle.cli_net.specs.declared.faults.TellFault.{TellFault}
-use Rattle.cli_net.specs.declared.faults.TellFault.TheVariants as tell
+use Rattle.cli_net.specs.declared.faults.AskError.{AskError}
+use Rattle.cli_net.specs.declared.faults.TellError.{TellError}
+use Rattle.cli_net.specs.declared.faults.TellError.TheVariants as tell
 
 -- ---- one line
 
 -- what is wrong with a line alone is wrong with it where nobody is held, but for a member too many
-wrong : (lines : List (List ℕ)) (what : LineFault) → (what ≡ line.TooManyMembers → ⊥) → IsFaultAt [] lines what → IsWrong lines what
+wrong : (lines : List (List ℕ)) (what : LineError) → (what ≡ line.TooManyMembers → ⊥) → IsFaultAt [] lines what → IsWrong lines what
 wrong (l ∷ ls) (line.Wire e) n h = h
 wrong (l ∷ ls) line.TooManyMembers n h = absurd (n refl)
 wrong (l ∷ ls) line.ReadFailed n h = tt
@@ -69,21 +69,6 @@ a_change None left v c t i = tt
 a_change (Some xs) left v c t i = (line_of xs, after_line xs, t.2, lines_of-first xs t.0, subst (λ (l : List ℕ). IsChangeLine l c) t.1 i)
 
 -- ---- one turn
-
-pub ends_turns : (known left : Option (List ℕ)) (old : List Sourced) → IfSome known (λ xs. HearsChange xs (Ok None) left)
-    → IfSome known (λ xs. TakesTurn xs old (Ok false) left old)
-ends_turns None left old h = tt
-ends_turns (Some xs) left old h = (h, refl)
-
-pub wrong_turn : (known left : Option (List ℕ)) (old new : List Sourced) (number : ℕ) (what : LineFault) → number ≡ length old + 1
-    → IfSome known (λ xs. HearsChange xs (Err what) left) → IfSome known (λ xs. TakesTurn xs old (Err (tell.AtLine number what)) left new)
-wrong_turn None left old new number what n h = tt
-wrong_turn (Some xs) left old new number what n h = (n, h)
-
-pub one_too_many : (known left : Option (List ℕ)) (old new : List Sourced) (c : Sourced) → length old ≡ most_members
-    → IfSome known (λ xs. HearsChange xs (Ok (Some c)) left) → IfSome known (λ xs. TakesTurn xs old (Err tell.TooManyChanges) left new)
-one_too_many None left old new c full h = tt
-one_too_many (Some xs) left old new c full h = (h.0, lines_of h.1, c, h.3, h.4, full)
 
 pub no_room : (known left : Option (List ℕ)) (old new : List Sourced) (number : ℕ) (c : Sourced) → number ≡ length old + 1
     → IfSome known (λ xs. HearsChange xs (Ok (Some c)) left)
@@ -138,9 +123,9 @@ ends (Some input) left later old new p h few =
 counted : (lines : List (List ℕ)) (changes : List Sourced) → AreChangeLines lines changes → length lines ≡ length changes
 counted lines changes h = sym (AllZip-long IsChangeLine lines changes h)
 
-faults_known : (input : List ℕ) (left later : Option (List ℕ)) (old new : List Sourced) (e : TellFault)
+faults_known : (input : List ℕ) (left later : Option (List ℕ)) (old new : List Sourced) (e : TellError)
     → (rest : List ℕ) × (before : List (List ℕ)) × (left ≡ Some rest) × (lines_of input ≡ before ++ lines_of rest) × AreChangeLines before old
-    → length old ≤ most_members → IfSome left (λ xs. TakesTurn xs old (Err e) later new) → ((f : AskFault) → e ≡ tell.Asked f → ⊥)
+    → length old ≤ most_members → IfSome left (λ xs. TakesTurn xs old (Err e) later new) → ((f : AskError) → e ≡ tell.Asked f → ⊥)
     → IsNoNews (Some input) e
 faults_known input left later old new (tell.AtLine number what) p few h n =
     let (rest, before, is, lines, read) = p in
@@ -170,15 +155,15 @@ faults_known input left later old new tell.TooManyChanges p few h n =
     }
 faults_known input left later old new (tell.Asked f) p few h n = absurd (n f refl)
 
-pub faults : (known left later : Option (List ℕ)) (old new : List Sourced) (e : TellFault) → HasRead known left old → length old ≤ most_members
-    → IfSome left (λ xs. TakesTurn xs old (Err e) later new) → ((f : AskFault) → e ≡ tell.Asked f → ⊥) → IsNoNews known e
+pub faults : (known left later : Option (List ℕ)) (old new : List Sourced) (e : TellError) → HasRead known left old → length old ≤ most_members
+    → IfSome left (λ xs. TakesTurn xs old (Err e) later new) → ((f : AskError) → e ≡ tell.Asked f → ⊥) → IsNoNews known e
 faults None left later old new (tell.AtLine number what) p few h n = tt
 faults None left later old new tell.TooManyChanges p few h n = tt
 faults None left later old new (tell.Asked f) p few h n = absurd (n f refl)
 faults (Some input) left later old new e p few h n = faults_known input left later old new e p.is few h n
 
 -- where the lines are not told nothing is written
-pub unread_by : (May : MayAnswer) (to : Address) (known old : Option (List ℕ)) (e : TellFault) → IsNoNews known e → IsUntold May to known e old old
+pub unread_by : (May : MayAnswer) (to : Address) (known old : Option (List ℕ)) (e : TellError) → IsNoNews known e → IsUntold May to known e old old
 unread_by May to known old (tell.AtLine number what) h = (h, Keeps-refl old)
 unread_by May to known old tell.TooManyChanges h = (h, Keeps-refl old)
 unread_by May to known old (tell.Asked e) h = absurd h

@@ -6,11 +6,11 @@ use Rattle.std.specs.Io.KnownBytes.{Appends}
 use Rattle.wire_json.specs.Input.{AppendsFront}
 use Rattle.wire_json.proofs.Writing.{front_more, front_then}
 use Rattle.cli_net.specs.Service.{LeavesService, LeavesServing, serving_line, service_text}
-use Rattle.cli_net.specs.declared.faults.ServeFault.{ServeFault}
-use Rattle.cli_net.specs.declared.faults.ServeFault.TheVariants as serve
+use Rattle.cli_net.specs.declared.faults.ServeError.{ServeError}
+use Rattle.cli_net.specs.declared.faults.ServeError.TheVariants as serve
 
 -- a fault of the first line, as a fault of all
-left_serving : (a : ℕ) (e : ServeFault) (old new : Option (List ℕ)) → LeavesServing a e old new → LeavesService a e old new
+left_serving : (a : ℕ) (e : ServeError) (old new : Option (List ℕ)) → LeavesServing a e old new → LeavesService a e old new
 left_serving a serve.CannotWrite old new h = front_more old new (serving_line a) (codes "done" ++ 10 ∷ []) h
 left_serving a serve.NoMemory old new h = inl h
 left_serving a serve.NoneJoined old new h = absurd h
@@ -23,12 +23,12 @@ said_both a old mid new first last = Appends-trans old mid new (serving_line a) 
 
 module _ {T : Type 0} (a : ℕ) (old mid new : Option (List ℕ)) where
   -- the first line was not said
-  pub unsaid_first : (e : ServeFault) (r : Result T ServeFault) → IsErrAnd r (λ x. x ≡ e) → LeavesServing a e old new → IfErr r (λ x. LeavesService a x old new)
+  pub unsaid_first : (e : ServeError) (r : Result T ServeError) → IsErrAnd r (λ x. x ≡ e) → LeavesServing a e old new → IfErr r (λ x. LeavesService a x old new)
   unsaid_first e (Ok t) is h = tt
   unsaid_first e (Err x) is h = subst (λ y. LeavesService a y old new) (sym is) (left_serving a e old new h)
 
   -- the first line was said, and of the last a front
-  pub unsaid_last : (e : ServeFault) (r : Result T ServeFault) → IsErrAnd r (λ x. x ≡ e) → Appends old mid (serving_line a) → AppendsFront mid new (codes "done" ++ 10 ∷ [])
+  pub unsaid_last : (e : ServeError) (r : Result T ServeError) → IsErrAnd r (λ x. x ≡ e) → Appends old mid (serving_line a) → AppendsFront mid new (codes "done" ++ 10 ∷ [])
       → e ≡ serve.CannotWrite → IfErr r (λ x. LeavesService a x old new)
   unsaid_last e (Ok t) is first front fault = tt
   unsaid_last e (Err x) is first front fault =

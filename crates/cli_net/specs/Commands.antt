@@ -1,4 +1,4 @@
--- What a command that speaks to nodes reads and writes.
+-- The input and the output of a command that speaks to nodes.
 use Rattle.std.specs.Prelude.{◌≡◌, ℕ, List, [], Option}
 use Rattle.cli_core.specs.Owner.{hash_by}
 use Rattle.cluster_core.specs.Channels.{any_answer}
@@ -9,11 +9,10 @@ use Rattle.cli_net.specs.Service.{IsUnserved, Served}
 use Rattle.cli_net.specs.Telling.{IsUntold, Tells}
 use Rattle.cli_core.specs.declared.words.ClusterCommand.{ClusterCommand}
 use Rattle.cli_core.specs.declared.words.ClusterCommand.TheVariants.{Serve, Ask, AskAny, Members, Tell}
-use Rattle.cli_net.specs.declared.commands.ClusterFault.{ClusterFault}
-use Rattle.cli_net.specs.declared.commands.ClusterFault.TheVariants as fault
+use Rattle.cli_net.specs.declared.commands.ClusterCommandError.{ClusterCommandError}
+use Rattle.cli_net.specs.declared.commands.ClusterCommandError.TheVariants as fault
 
--- What is written where the command comes to its end, by what was answered; of `serve` all that `Served` says. `tell` tells the
--- known input.
+-- The output of a command that succeeds, by the answer; for `serve` all that `Served` has. `tell` passes on the known input.
 abbrev pub CommandFinishes : ClusterCommand → Option (List ℕ) → Option (List ℕ) → Option (List ℕ) → Type 0
 CommandFinishes (Serve words) known old new = Served words old new
 CommandFinishes (Ask words) known old new = WritesReply (IsReply any_answer words.address (request words.key.now words.body.now)) old new
@@ -22,8 +21,8 @@ CommandFinishes (AskAny words) known old new =
 CommandFinishes (Members words) known old new = WritesSeen any_answer words.host [] (membership_text words.lines) old new
 CommandFinishes (Tell host) known old new = Tells any_answer host known old new
 
--- why it does not, and what is written then; `serve` and `tell` have faults of their own
-abbrev pub CommandFails : ClusterCommand → ClusterFault → Option (List ℕ) → Option (List ℕ) → Option (List ℕ) → Type 0
+-- the error of one that fails, and the output then; `serve` and `tell` have separate errors
+abbrev pub CommandFails : ClusterCommand → ClusterCommandError → Option (List ℕ) → Option (List ℕ) → Option (List ℕ) → Type 0
 CommandFails (Serve words) (fault.Serve e) known old new = IsUnserved words e old new
 CommandFails (Ask words) (fault.Ask e) known old new =
     LeavesReply (IsReply any_answer words.address (request words.key.now words.body.now))
@@ -35,7 +34,7 @@ CommandFails (Members words) (fault.Ask e) known old new = IsUnwritten any_answe
 CommandFails (Tell host) (fault.Tell e) known old new = IsUntold any_answer host known e old new
 CommandFails other e known old new = ⊥
 
--- what is read, where that is said: only `tell` reads
+-- the input that is read, if that is specified: only `tell` reads
 abbrev pub CommandReads : ClusterCommand → Option (List ℕ) → Option (List ℕ) → Type 0
 CommandReads (Tell host) known left = Unit {0}
 CommandReads other known left = left ≡ known

@@ -1,4 +1,4 @@
--- How a server handles a request.
+-- The handler of a server's requests.
 use Rattle.std.specs.Prelude.{◌≡◌, ℕ, List, ◌∷◌, ◌++◌, Ok, Err}
 use Rattle.change_core.specs.Address.{address_text}
 use Rattle.peer_core.specs.Handling.{MayHandle}
@@ -8,7 +8,7 @@ use Rattle.peer_core.specs.declared.errors.HandlerFault.TheVariants.{Failed, Mem
 abbrev pub echo_text : ℕ → List ℕ → List ℕ
 echo_text a body = address_text a ++ 32 ∷ body
 
--- the echo of some node, or that there was no memory for it
+-- the echo of some node, or out of memory for it
 abbrev pub MayEcho : MayHandle
 MayEcho keys body (Ok text) = (a : ℕ) × (text ≡ echo_text a body)
 MayEcho keys body (Err Memory) = Unit {0}

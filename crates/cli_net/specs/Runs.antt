@@ -1,24 +1,30 @@
--- What the program's words read and write: a subcommand's lines, or what a command that speaks to nodes tells.
-use Rattle.std.specs.Prelude.{ℕ, List, Option}
+-- What the program's words read and write: a subcommand's lines, what a command that speaks to nodes tells, or what an agent says.
+use Rattle.std.specs.Prelude.{◌≡◌, ℕ, List, Option}
+use Rattle.std.specs.Io.KnownBytes.{Appends}
+use Rattle.wire_json.specs.Input.{AppendsFront}
+use Rattle.agent.specs.Texts.{agent_text}
 use Rattle.cli_core.specs.Subcommands.{Finishes, Fails, Reads}
 use Rattle.cli_net.specs.Commands.{CommandFinishes, CommandFails, CommandReads}
 use Rattle.cli_net.specs.declared.program_errors.Fault.{Fault}
 use Rattle.cli_net.specs.declared.program_errors.Fault.TheVariants as fault
 use Rattle.cli_words.specs.declared.words.Words.{Words}
-use Rattle.cli_words.specs.declared.words.Words.TheVariants.{Lines, Cluster}
+use Rattle.cli_words.specs.declared.words.Words.TheVariants.{Lines, Cluster, Agent}
 
--- what is written for the known input, where what the words ask for comes to its end
+-- the output for the known input, if the command of the arguments succeeds
 abbrev pub WordsFinish : Words → Option (List ℕ) → Option (List ℕ) → Option (List ℕ) → Type 0
 WordsFinish (Lines subcommand) known old new = Finishes subcommand known old new
 WordsFinish (Cluster command) known old new = CommandFinishes command known old new
+WordsFinish (Agent words) known old new = Appends old new (agent_text words.address)
 
--- why it does not, and what is written then: the fault is its own
+-- why it does not, and what is written then: the fault is its own; of what an agent says a front
 abbrev pub WordsFail : Words → Fault → Option (List ℕ) → Option (List ℕ) → Option (List ℕ) → Type 0
 WordsFail (Lines subcommand) (fault.Subcommand e) known old new = Fails subcommand e known old new
 WordsFail (Cluster command) (fault.Cluster e) known old new = CommandFails command e known old new
+WordsFail (Agent words) (fault.Agent e) known old new = AppendsFront old new (agent_text words.address)
 WordsFail other e known old new = ⊥
 
--- what is read, where that is said
+-- the input that is read, if that is specified
 abbrev pub WordsRead : Words → Option (List ℕ) → Option (List ℕ) → Type 0
 WordsRead (Lines subcommand) known left = Reads subcommand known left
 WordsRead (Cluster command) known left = CommandReads command known left
+WordsRead (Agent words) known left = left ≡ known

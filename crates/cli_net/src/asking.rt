@@ -3,7 +3,7 @@ ghost use Rattle.std.specs.Prelude.{◌≡◌, IfOk, IfErr, OnOk, IsOkUnless};
 ghost use Rattle.cluster_core.specs.Channels.{any_answer};
 ghost use Rattle.cli_net.specs.Asking.{IsNoReply, IsReply, IsUnasked, LeavesReply, WritesReply, request};
 
-use crate::faults::AskFault;
+use crate::faults::AskError;
 use crate::questions::{ask_for, write_text};
 use change_core::Address;
 use cluster_core::{Link, TcpLink};
@@ -15,40 +15,41 @@ use std::sync::Wait;
 use std::time::Clock;
 
 /// A request for a key.
-fn request(alloc: Global, key: &str, body: &str) -> Result<Content, AskFault>
+fn request(alloc: Global, key: &str, body: &str) -> Result<Content, AskError>
     ensures ok { IfOk result (λ c. c ≡ request key.now body.now) }
-    ensures refusal { IsOkUnless result AskFault.NoMemory }
+    ensures refusal { IsOkUnless result AskError.NoMemory }
 {
-    let key = Text::new(alloc, key).map_err(|_| AskFault::NoMemory)?;
-    let keys = Keys::new(alloc, key).map_err(|_| AskFault::NoMemory)?;
-    let body = Text::new(alloc, body).map_err(|_| AskFault::NoMemory)?;
+    let key = Text::new(alloc, key).map_err(|_| AskError::NoMemory)?;
+    let keys = Keys::new(alloc, key).map_err(|_| AskError::NoMemory)?;
+    let body = Text::new(alloc, body).map_err(|_| AskError::NoMemory)?;
     Ok(Content::Forward(keys, body))
 }
 
-/// What the node replies to a request.
-///
-/// Errors: those of `ask_over` but `CannotWrite`; `NoMemory` only where the link found none.
+/// Returns the node's reply to a request. The errors are those of `ask_over` but `CannotWrite`; `NoMemory` only if the
+/// link ran out of memory.
 fn reply_to<R: Wait, L: Link>(
     rt: &R,
     alloc: Global,
     link: &mut L,
     to: Address,
     content: Content,
-) -> Result<Text, AskFault>
+) -> Result<Text, AskError>
     ensures reply { IfOk result (IsReply L.may_answer to content) }
     ensures fault { IfErr result (IsNoReply L.may_answer to content) }
 {
     match ask_for(rt, alloc, link, to, content)? {
         Content::Reply(text) => Ok(text),
-        Content::NotOwner => Err(AskFault::NotOwner),
-        Content::Refused(reason) => Err(AskFault::Refused(reason)),
-        _ => Err(AskFault::Unexpected),
+        Content::NotOwner => Err(AskError::NotOwner),
+        Content::Refused(reason) => Err(AskError::Refused(reason)),
+        _ => Err(AskError::Unexpected),
     }
 }
 
-/// Sends the request for a key to the node. The text of its reply.
+/// Sends the request for a key to the node, and returns the text of its reply.
 ///
-/// Errors: those of `ask_over` but `CannotWrite`.
+/// # Errors
+///
+/// - The errors of `ask_over` but `CannotWrite`.
 pub fn reply_of<R: Wait, L: Link>(
     rt: &R,
     alloc: Global,
@@ -56,7 +57,7 @@ pub fn reply_of<R: Wait, L: Link>(
     to: Address,
     key: &str,
     body: &str,
-) -> Result<Text, AskFault>
+) -> Result<Text, AskError>
     ensures reply { IfOk result (IsReply L.may_answer to (request key.now body.now)) }
     ensures fault { IfErr result (IsUnasked L.may_answer to (request key.now body.now)) }
 {
@@ -64,10 +65,17 @@ pub fn reply_of<R: Wait, L: Link>(
     reply_to(rt, alloc, link, to, content)
 }
 
-/// Sends the request for a key to the node, and writes the reply's text and a newline. Where no reply came nothing is written.
+/// Sends the request for a key to the node, and writes the reply's text and a newline. Without a reply there is no
+/// output.
 ///
-/// Errors: `NoMemory`, of the link's too; `NoAnswer` where no message came; `NotOwner` and `Refused` as the node says, and
-/// `Unexpected` at any other message; `CannotWrite` where the writer fails, a front of the line having been written.
+/// # Errors
+///
+/// - `NoMemory`: out of memory, here or in the link.
+/// - `NoAnswer`: no message came.
+/// - `NotOwner`: the node does not own the key.
+/// - `Refused`: the node refused the request, for this reason.
+/// - `Unexpected`: any other message came.
+/// - `CannotWrite`: the writer failed. A prefix of the line is written.
 pub fn ask_over<R: Wait, L: Link, W: Write>(
     rt: &R,
     alloc: Global,
@@ -76,7 +84,7 @@ pub fn ask_over<R: Wait, L: Link, W: Write>(
     key: &str,
     body: &str,
     writer: &mut W,
-) -> Result<(), AskFault>
+) -> Result<(), AskError>
     ensures replied { OnOk result (WritesReply (IsReply L.may_answer address (request key.now body.now))
         (W.contents writer.old) (W.contents writer.new)) }
     ensures fault { IfErr result (λ e. LeavesReply (IsReply L.may_answer address (request key.now body.now))
@@ -86,8 +94,12 @@ pub fn ask_over<R: Wait, L: Link, W: Write>(
     write_text(writer, text.as_str().as_bytes())
 }
 
-/// `ask_over` over sockets, with the standard limits. A request whose line would have more than 1,048,576 bytes is not sent:
-/// `NoAnswer`.
+/// Does as `ask_over`, over sockets, with the standard limits. A request whose line would have more than 1,048,576
+/// bytes is not sent.
+///
+/// # Errors
+///
+/// - The errors of `ask_over`; `NoAnswer` also if the request's line is too long.
 pub fn ask_run<R: Net + Clock + Wait, W: Write>(
     rt: &R,
     alloc: Global,
@@ -95,7 +107,7 @@ pub fn ask_run<R: Net + Clock + Wait, W: Write>(
     key: &str,
     body: &str,
     writer: &mut W,
-) -> Result<(), AskFault>
+) -> Result<(), AskError>
     ensures replied { OnOk result (WritesReply (IsReply any_answer address (request key.now body.now))
         (W.contents writer.old) (W.contents writer.new)) }
     ensures fault { IfErr result (λ e. LeavesReply (IsReply any_answer address (request key.now body.now))

@@ -1,10 +1,10 @@
-//! The commands of the program that speak to nodes, each as its words say.
+//! The commands of the program that speak to nodes, each with its arguments.
 ghost use Rattle.std.specs.Prelude.{◌≡◌, IfErr, OnOk};
 ghost use Rattle.cli_net.specs.Commands.{CommandFails, CommandFinishes, CommandReads};
-ghost use Rattle.cli_net.specs.declared.commands.ClusterFault.TheVariants as fault;
+ghost use Rattle.cli_net.specs.declared.commands.ClusterCommandError.TheVariants as fault;
 
 use crate::asking::ask_run;
-use crate::faults::{AskFault, ServeFault, TellFault};
+use crate::faults::{AskError, ServeError, TellError};
 use crate::looks::members_run;
 use crate::owners::ask_any_run;
 use crate::serving::serve_run;
@@ -16,46 +16,50 @@ use std::io::{Read, Write};
 use std::net::{Net, TcpListener, TcpStream};
 use thiserror::Error;
 
-/// Why such a command ended before its end.
+/// The errors of such a command.
 #[derive(Clone, Copy, Debug, PartialEq, Eq, Error)]
-pub enum ClusterFault {
+pub enum ClusterCommandError {
     /// That of `serve`.
     #[error("{0}")]
-    Serve(ServeFault),
+    Serve(ServeError),
     /// That of `ask`, `ask --any` and `members`.
     #[error("{0}")]
-    Ask(AskFault),
+    Ask(AskError),
     /// That of `tell`.
     #[error("{0}")]
-    Tell(TellFault),
+    Tell(TellError),
 }
 
-impl From<ServeFault> for ClusterFault {
+impl From<ServeError> for ClusterCommandError {
     ghost from_gives = { λ e f. f ≡ fault.Serve e };
 
-    fn from(fault: ServeFault) -> ClusterFault {
-        ClusterFault::Serve(fault)
+    fn from(fault: ServeError) -> ClusterCommandError {
+        ClusterCommandError::Serve(fault)
     }
 }
 
-impl From<AskFault> for ClusterFault {
+impl From<AskError> for ClusterCommandError {
     ghost from_gives = { λ e f. f ≡ fault.Ask e };
 
-    fn from(fault: AskFault) -> ClusterFault {
-        ClusterFault::Ask(fault)
+    fn from(fault: AskError) -> ClusterCommandError {
+        ClusterCommandError::Ask(fault)
     }
 }
 
-impl From<TellFault> for ClusterFault {
+impl From<TellError> for ClusterCommandError {
     ghost from_gives = { λ e f. f ≡ fault.Tell e };
 
-    fn from(fault: TellFault) -> ClusterFault {
-        ClusterFault::Tell(fault)
+    fn from(fault: TellError) -> ClusterCommandError {
+        ClusterCommandError::Tell(fault)
     }
 }
 
-/// Runs the command over sockets, the reader and the writer, as `serve_run`, `ask_run`, `ask_any_run`, `members_run` or `tell_run`
-/// does. Only `tell` reads.
+/// Runs the command over sockets, the reader and the writer, as `serve_run`, `ask_run`, `ask_any_run`, `members_run` or
+/// `tell_run` does. Only `tell` reads.
+///
+/// # Errors
+///
+/// - `Serve`, `Ask`, `Tell`: the error of that function.
 pub fn cluster_command_run<
     R: Net<Listener = TcpListener, Stream = TcpStream> + Runtime,
     I: Read,
@@ -66,7 +70,7 @@ pub fn cluster_command_run<
     command: &ClusterCommand<'_>,
     reader: &mut I,
     writer: &mut W,
-) -> Result<(), ClusterFault>
+) -> Result<(), ClusterCommandError>
     ensures output { OnOk result (CommandFinishes command.now
         (I.remaining reader.old) (W.contents writer.old) (W.contents writer.new)) }
     ensures fault { IfErr result (λ e. CommandFails command.now e

@@ -1,4 +1,4 @@
-//! How a server handles a request.
+//! The handler of a server's requests.
 
 use change_core::Address;
 use cluster_core::{Handler, HandlerFault};

@@ -1,17 +1,17 @@
-//! Why a command ends before its end.
+//! The errors of commands.
 ghost use Rattle.std.specs.Prelude.{◌≡◌};
-ghost use Rattle.cli_net.specs.declared.faults.AskFault.TheVariants as ask;
-ghost use Rattle.cli_net.specs.declared.faults.ServeFault.TheVariants as serve;
-ghost use Rattle.cli_net.specs.declared.faults.TellFault.TheVariants as tell;
+ghost use Rattle.cli_net.specs.declared.faults.AskError.TheVariants as ask;
+ghost use Rattle.cli_net.specs.declared.faults.ServeError.TheVariants as serve;
+ghost use Rattle.cli_net.specs.declared.faults.TellError.TheVariants as tell;
 
-use cli_core::LineFault;
+use cli_core::LineError;
 use message_core::Reason;
 use std::alloc::AllocError;
 use thiserror::Error;
 
-/// Why a question to a running node came to nothing.
+/// The error of a question to a running node.
 #[derive(Clone, Copy, Debug, PartialEq, Eq, Error)]
-pub enum AskFault {
+pub enum AskError {
     /// Nothing came that is a message.
     #[error("no answer")]
     NoAnswer,
@@ -27,23 +27,23 @@ pub enum AskFault {
     /// The writer failed.
     #[error("cannot write")]
     CannotWrite,
-    /// A growth was refused.
+    /// Out of memory.
     #[error("out of memory")]
     NoMemory,
 }
 
-impl From<AllocError> for AskFault {
+impl From<AllocError> for AskError {
     ghost from_gives = { λ _ f. f ≡ ask.NoMemory };
 
-    fn from(_refused: AllocError) -> AskFault {
-        AskFault::NoMemory
+    fn from(_refused: AllocError) -> AskError {
+        AskError::NoMemory
     }
 }
 
-/// Why a server ended before its last connection.
+/// The errors of a server.
 #[derive(Clone, Copy, Debug, PartialEq, Eq, Error)]
-pub enum ServeFault {
-    /// Hosts were named, and none of them let the node join.
+pub enum ServeError {
+    /// Hosts were named, and none of them admitted the node.
     #[error("no host joined")]
     NoneJoined,
     /// The address can't be listened at.
@@ -55,37 +55,37 @@ pub enum ServeFault {
     /// The writer failed.
     #[error("cannot write")]
     CannotWrite,
-    /// A growth was refused.
+    /// Out of memory.
     #[error("out of memory")]
     NoMemory,
 }
 
-/// Why a node was not told changes, or how many members it then holds was not written.
+/// The errors of passing changes to a node and writing how many members it then holds.
 #[derive(Clone, Copy, Debug, PartialEq, Eq, Error)]
-pub enum TellFault {
-    /// The line with this number, from 1 to 4,097, is at fault: the node was asked nothing.
+pub enum TellError {
+    /// The line with this number, from 1 to 4,097, has an error: the node was not asked.
     #[error("line {0}: {1}")]
-    AtLine(u64, LineFault),
-    /// Line 4,097 is a change, one more than a message has: the node was asked nothing.
+    AtLine(u64, LineError),
+    /// Line 4,097 is a change, and a message has at most 4,096: the node was not asked.
     #[error("line 4097: too many changes")]
     TooManyChanges,
-    /// The node was told the changes, or was to be.
+    /// The node was asked to process the changes, or was to be.
     #[error("{0}")]
-    Asked(AskFault),
+    Asked(AskError),
 }
 
-impl From<AskFault> for TellFault {
+impl From<AskError> for TellError {
     ghost from_gives = { λ e f. f ≡ tell.Asked e };
 
-    fn from(fault: AskFault) -> TellFault {
-        TellFault::Asked(fault)
+    fn from(fault: AskError) -> TellError {
+        TellError::Asked(fault)
     }
 }
 
-impl From<AllocError> for ServeFault {
+impl From<AllocError> for ServeError {
     ghost from_gives = { λ _ f. f ≡ serve.NoMemory };
 
-    fn from(_refused: AllocError) -> ServeFault {
-        ServeFault::NoMemory
+    fn from(_refused: AllocError) -> ServeError {
+        ServeError::NoMemory
     }
 }

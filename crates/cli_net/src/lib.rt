@@ -2,6 +2,7 @@
 //! command line asks for.
 #![tactic(auto)]
 
+mod agents;
 mod asking;
 mod commands;
 mod echoes;
@@ -15,13 +16,12 @@ mod runs;
 mod serving;
 mod telling;
 
+pub use agents::agent_run;
 pub use asking::{ask_over, ask_run};
-pub use cli_core::{
-    AskAnyWords, AskWords, ClusterCommand, MOST_REQUESTS, MembersWords, ServeWords,
-};
-pub use commands::{ClusterFault, cluster_command_run};
+pub use cli_core::{AskAnyWords, AskWords, ClusterCommand, MAX_REQUESTS, MembersWords, ServeWords};
+pub use commands::{ClusterCommandError, cluster_command_run};
 pub use echoes::Echo;
-pub use faults::{AskFault, ServeFault, TellFault};
+pub use faults::{AskError, ServeError, TellError};
 pub use looks::{members_over, members_run};
 pub use owners::{ask_any_over, ask_any_run};
 pub use program_errors::Fault;

@@ -11,9 +11,9 @@ ghost use Rattle.cli_core.specs.Fold.{fold_text};
 ghost use Rattle.cluster_core.specs.Channels.{any_answer};
 ghost use Rattle.cli_net.specs.Membership.{IsNotSeen, IsSeen, IsUnwritten, LeavesText, WritesSeen, change_line, membership_text, told_members};
 
-use crate::faults::AskFault;
+use crate::faults::AskError;
 use crate::questions::{join_with, write_text};
-use change_core::{Address, MOST_MEMBERS, Sourced};
+use change_core::{Address, MAX_MEMBERS, Sourced};
 use cli_core::fold_text;
 use cluster_core::{Link, TcpLink};
 use member_core::{MemberError, MemberTable};
@@ -25,54 +25,62 @@ use std::sync::Wait;
 use std::time::Clock;
 use wire_json::encode_change;
 
-/// The members that changes come to.
-fn folded(alloc: Global, changes: &[Sourced]) -> Result<MemberTable, AskFault>
+/// Returns the members of these changes.
+fn folded(alloc: Global, changes: &[Sourced]) -> Result<MemberTable, AskError>
     requires { length changes.now ≤ most_members }
     ensures members { IfOk result (λ t. t.members ≡ members (map change_of changes.now)) }
-    ensures refusal { IsOkUnless result AskFault.NoMemory }
+    ensures refusal { IsOkUnless result AskError.NoMemory }
 {
-    let mut table = MemberTable::new(alloc, MOST_MEMBERS).unwrap();
+    let mut table = MemberTable::new(alloc, MAX_MEMBERS).unwrap();
     'changes: for sourced in changes {
         match table.take(sourced.change) {
             Ok(_) => {}
-            Err(MemberError::Memory) => return Err(AskFault::NoMemory),
+            Err(MemberError::Memory) => return Err(AskError::NoMemory),
             Err(MemberError::Full | MemberError::BadLimit) => unreachable!(),
         }
     }
     Ok(table)
 }
 
-/// The membership that a node holds once it was told these changes, as it tells it to whoever joins.
+/// Returns the membership that a node holds once it has processed these changes, as it answers a join.
 ///
-/// Errors: `NoMemory`, of the link's too; `NoAnswer` where no message came; `Refused` as the node says; `Unexpected` at any other
-/// message, and where the digest that came is not that of the members.
+/// # Errors
+///
+/// - `NoMemory`: out of memory, here or in the link.
+/// - `NoAnswer`: no message came.
+/// - `Refused`: the node refused the join, for this reason.
+/// - `Unexpected`: any other message came, or its digest is not that of the members.
 pub fn look<R: Wait, L: Link>(
     rt: &R,
     alloc: Global,
     link: &mut L,
     host: Address,
     changes: Changes,
-) -> Result<(News, MemberTable), AskFault>
+) -> Result<(News, MemberTable), AskError>
     ensures seen { IfOk result (λ seen. IsSeen L.may_answer host changes seen.0) }
     ensures members { IfOk result (λ seen. seen.1.members ≡ told_members seen.0) }
     ensures fault { IfErr result (λ e. IsNotSeen L.may_answer host changes e) }
 {
     let news = join_with(rt, alloc, link, host, changes)?;
     let table = folded(alloc, news.changes.as_slice())?;
-    let digest = table.digest().map_err(|_| AskFault::NoMemory)?;
+    let digest = table.digest().map_err(|_| AskError::NoMemory)?;
     if digest.bytes() != news.checksum.bytes() {
-        return Err(AskFault::Unexpected);
+        return Err(AskError::Unexpected);
     }
     Ok((news, table))
 }
 
-/// `look` without changes.
+/// Does as `look`, without changes.
+///
+/// # Errors
+///
+/// - The errors of `look`.
 pub fn look_only<R: Wait, L: Link>(
     rt: &R,
     alloc: Global,
     link: &mut L,
     host: Address,
-) -> Result<(News, MemberTable), AskFault>
+) -> Result<(News, MemberTable), AskError>
     ensures seen { IfOk result (λ seen. IsSeen L.may_answer host [] seen.0) }
     ensures members { IfOk result (λ seen. seen.1.members ≡ told_members seen.0) }
     ensures fault { IfErr result (λ e. IsNotSeen L.may_answer host [] e) }
@@ -84,17 +92,17 @@ pub fn look_only<R: Wait, L: Link>(
 }
 
 /// The line of a change, without its newline.
-fn line_of(alloc: Global, change: &Sourced) -> Result<Vec<u8>, AskFault>
+fn line_of(alloc: Global, change: &Sourced) -> Result<Vec<u8>, AskError>
     ensures text { IfOk result (λ b. b.items ≡ compact_text (change_data change.now)) }
-    ensures refusal { IsOkUnless result AskFault.NoMemory }
+    ensures refusal { IsOkUnless result AskError.NoMemory }
 {
-    encode_change(alloc, change).map_err(|_| AskFault::NoMemory)
+    encode_change(alloc, change).map_err(|_| AskError::NoMemory)
 }
 
 /// The lines of changes; the last newline is left to the writing.
-fn change_lines(alloc: Global, first: &Sourced, others: &[Sourced]) -> Result<Vec<u8>, AskFault>
+fn change_lines(alloc: Global, first: &Sourced, others: &[Sourced]) -> Result<Vec<u8>, AskError>
     ensures text { IfOk result (λ v. v.items ++ 10 ∷ [] ≡ flat_map change_line (first.now ∷ others.now)) }
-    ensures refusal { IsOkUnless result AskFault.NoMemory }
+    ensures refusal { IsOkUnless result AskError.NoMemory }
 {
     let mut lines = line_of(alloc, first)?;
     'others: for other in others {
@@ -105,12 +113,12 @@ fn change_lines(alloc: Global, first: &Sourced, others: &[Sourced]) -> Result<Ve
     Ok(lines)
 }
 
-/// Writes changes, a line each, and nothing where there is none.
+/// Writes changes, a line each; no change, no output.
 fn write_changes<W: Write>(
     alloc: Global,
     changes: &[Sourced],
     writer: &mut W,
-) -> Result<(), AskFault>
+) -> Result<(), AskError>
     ensures ok { OnOk result (Appends (W.contents writer.old) (W.contents writer.new) (flat_map change_line changes.now)) }
     ensures left { IfErr result (λ e. LeavesText (flat_map change_line changes.now) e
         (W.contents writer.old) (W.contents writer.new)) }
@@ -127,21 +135,26 @@ fn write_members<W: Write>(
     alloc: Global,
     table: &MemberTable,
     writer: &mut W,
-) -> Result<(), AskFault>
+) -> Result<(), AskError>
     ensures ok { OnOk result (Appends (W.contents writer.old) (W.contents writer.new) (fold_text table.now.members)) }
     ensures left { IfErr result (λ e. LeavesText (fold_text table.now.members) e
         (W.contents writer.old) (W.contents writer.new)) }
 {
-    let text = fold_text(alloc, table).map_err(|_| AskFault::NoMemory)?;
+    let text = fold_text(alloc, table).map_err(|_| AskError::NoMemory)?;
     write_text(writer, text.as_str().as_bytes())
 }
 
-/// Asks the node for its membership, and writes its digest text and digest, a line each, as `fold` does; or with `lines` its
-/// change lines. The node takes nothing from it. At a fault other than of writing nothing is written.
+/// Asks the node for its membership, and writes its digest text and digest, a line each, as `fold` does; or with
+/// `lines` its change lines. The node's members don't change by it. After any error but `CannotWrite` there was no
+/// output.
 ///
-/// Errors: `NoMemory`, of the link's too; `NoAnswer` where no message came; `Refused` as the node says; `Unexpected` at any other
-/// message, and where the digest that came is not that of the members; `CannotWrite` where the writer fails, a front of the
-/// text having been written.
+/// # Errors
+///
+/// - `NoMemory`: out of memory, here or in the link.
+/// - `NoAnswer`: no message came.
+/// - `Refused`: the node refused the join, for this reason.
+/// - `Unexpected`: any other message came, or its digest is not that of the members.
+/// - `CannotWrite`: the writer failed. A prefix of the text is written.
 pub fn members_over<R: Wait, L: Link, W: Write>(
     rt: &R,
     alloc: Global,
@@ -149,7 +162,7 @@ pub fn members_over<R: Wait, L: Link, W: Write>(
     host: Address,
     lines: bool,
     writer: &mut W,
-) -> Result<(), AskFault>
+) -> Result<(), AskError>
     ensures written { OnOk result (WritesSeen L.may_answer host [] (membership_text lines)
         (W.contents writer.old) (W.contents writer.new)) }
     ensures fault { IfErr result (λ e. IsUnwritten L.may_answer host [] (membership_text lines) e
@@ -163,14 +176,18 @@ pub fn members_over<R: Wait, L: Link, W: Write>(
     }
 }
 
-/// `members_over` over sockets, with the standard limits.
+/// Does as `members_over`, over sockets, with the standard limits.
+///
+/// # Errors
+///
+/// - The errors of `members_over`.
 pub fn members_run<R: Net + Clock + Wait, W: Write>(
     rt: &R,
     alloc: Global,
     host: Address,
     lines: bool,
     writer: &mut W,
-) -> Result<(), AskFault>
+) -> Result<(), AskError>
     ensures written { OnOk result (WritesSeen any_answer host [] (membership_text lines)
         (W.contents writer.old) (W.contents writer.new)) }
     ensures fault { IfErr result (λ e. IsUnwritten any_answer host [] (membership_text lines) e

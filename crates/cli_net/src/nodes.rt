@@ -5,29 +5,30 @@ ghost use Rattle.locked_node.specs.Passes.{Fits, opening_of};
 ghost use Rattle.cluster_core.specs.Clusters.{AreAll, AreFresh};
 ghost use Rattle.cli_net.specs.Service.{IsBorn, IsJoinedTo, join_fault};
 
-use crate::faults::ServeFault;
+use crate::faults::ServeError;
 use change_core::{Address, Moment};
 use cli_core::ServeWords;
 use cluster_core::{ClusterError, Link, join, share};
 use hash_ring::PointHash;
 use locked_node::{LockedNode, NodePass};
 use node_core::{Config, NodeError, NodeState};
-use server::Stopwatch;
 use std::alloc::Global;
 use std::sync::Wait;
 
-/// The node that the words ask for.
+/// Makes the node of the arguments.
 fn node_of<H: PointHash>(
     alloc: Global,
     hash: H,
     words: &ServeWords,
-) -> Result<NodeState<H>, ServeFault>
+) -> Result<NodeState<H>, ServeError>
     ensures born { IfOk result (IsBorn H.hash_of hash words.now) }
-    ensures refusal { IsOkUnless result ServeFault.NoMemory }
+    ensures refusal { IsOkUnless result ServeError.NoMemory }
 {
     let mut config = Config::standard();
     config.replicas = words.replicas;
     config.weight = words.weight;
+    config.per_message = words.per_message;
+    config.piggyback = words.piggyback;
     let seed = words.incarnation.number();
     let made = NodeState::new(
         alloc,
@@ -36,49 +37,56 @@ fn node_of<H: PointHash>(
         words.address,
         words.incarnation,
         seed,
-        Stopwatch::beginning(),
+        Moment::beginning(),
     );
     match made {
         Ok(node) => Ok(node),
-        Err(NodeError::Memory) => Err(ServeFault::NoMemory),
+        Err(NodeError::Memory) => Err(ServeError::NoMemory),
         Err(_) => unreachable!(),
     }
 }
 
-/// The node that the words ask for, shared: the pass of its rounds, and those of its workers before it.
+/// Makes the node of the arguments, shared: with the pass of its rounds, and those of its workers before it.
+///
+/// # Errors
+///
+/// - `NoMemory`: out of memory.
 pub fn shared_node<H: PointHash>(
     alloc: Global,
     hash: H,
     words: &ServeWords,
-) -> Result<(LockedNode<H>, NodePass<H>, Vec<NodePass<H>>), ServeFault>
+) -> Result<(LockedNode<H>, NodePass<H>, Vec<NodePass<H>>), ServeError>
     ensures born { IfOk result (λ r. IsBorn H.hash_of hash words.now (opening_of r.0)) }
     ensures fits { IfOk result (λ r. Fits r.0 r.1 × All (Fits r.0) r.2.items) }
     ensures count { IfOk result (λ r. length r.2.items ≡ words.now.workers) }
     ensures all { IfOk result (λ r. AreAll r.0 (r.2.items ++ r.1 ∷ [])) }
     ensures fresh { IfOk result (λ r. AreFresh r.0 (r.2.items ++ r.1 ∷ [])) }
-    ensures refusal { IsOkUnless result ServeFault.NoMemory }
+    ensures refusal { IsOkUnless result ServeError.NoMemory }
 {
     let node = node_of(alloc, hash, words)?;
     match share(alloc, node, words.workers) {
         Ok(shared) => Ok(shared),
-        Err(_) => Err(ServeFault::NoMemory),
+        Err(_) => Err(ServeError::NoMemory),
     }
 }
 
-/// How a server calls why it did not join.
-fn fault_of(error: ClusterError) -> ServeFault
+/// Returns a server's error for an error of its join.
+fn fault_of(error: ClusterError) -> ServeError
     ensures is { Some result ≡ join_fault (Err error) }
-    ensures named { (result ≡ ServeFault.NoneJoined) ⊎ (result ≡ ServeFault.NoMemory) }
+    ensures named { (result ≡ ServeError.NoneJoined) ⊎ (result ≡ ServeError.NoMemory) }
 {
     match error {
-        ClusterError::Memory => ServeFault::NoMemory,
-        _ => ServeFault::NoneJoined,
+        ClusterError::Memory => ServeError::NoMemory,
+        _ => ServeError::NoneJoined,
     }
 }
 
 /// Joins the hosts in their order at a moment, if there are any.
 ///
-/// Errors: `NoMemory` where a growth was refused, the link's included; `NoneJoined` where none of them let the node in.
+/// # Errors
+///
+/// - `NoMemory`: out of memory, here or in the link.
+/// - `NoneJoined`: none of them admitted the node.
 pub fn join_hosts<R: Wait, H: PointHash, L: Link>(
     rt: &R,
     alloc: Global,
@@ -87,14 +95,14 @@ pub fn join_hosts<R: Wait, H: PointHash, L: Link>(
     link: &mut L,
     hosts: &[Address],
     now: Moment,
-) -> Result<(), ServeFault>
+) -> Result<(), ServeError>
     requires fits { Fits node.now pass.old }
     requires few { length hosts.now < 2 ^ 32 }
     ensures alone { hosts.now ≡ [] → IsOk result × (pass.new ≡ pass.old) }
     ensures joined { hosts.now ≢ [] → MatchResult result
         (λ _. IsJoinedTo L.may_answer node.now hosts.now now None pass.old pass.new)
         (λ e. IsJoinedTo L.may_answer node.now hosts.now now (Some e) pass.old pass.new) }
-    ensures named { IfErr result (λ e. (e ≡ ServeFault.NoneJoined) ⊎ (e ≡ ServeFault.NoMemory)) }
+    ensures named { IfErr result (λ e. (e ≡ ServeError.NoneJoined) ⊎ (e ≡ ServeError.NoMemory)) }
     ensures fits { Fits node.now pass.new }
 {
     if hosts.is_empty() {

@@ -10,7 +10,7 @@ ghost use Rattle.cli_net.specs.Asking.{LeavesReply, WritesReply};
 ghost use Rattle.cli_net.specs.Owning.{IsAnswered, IsNoOwner, IsOwner, IsUnanswered, IsUnnamed};
 
 use crate::asking::reply_of;
-use crate::faults::AskFault;
+use crate::faults::AskError;
 use crate::looks::look_only;
 use crate::questions::write_text;
 use change_core::{Address, Change};
@@ -24,28 +24,28 @@ use std::net::Net;
 use std::sync::Wait;
 use std::time::Clock;
 
-/// The owner of a key among members. `Refused` with `nobody` where none of them serves, as a node would say.
+/// Returns the owner of a key among members. `Refused` with `nobody` if none of them serves, as a node would answer.
 fn owner_by<H: PointHash>(
     alloc: Global,
     hash: H,
     replicas: u32,
     members: &[Change],
     key: &str,
-) -> Result<Address, AskFault>
+) -> Result<Address, AskError>
     requires replicas { IsReplicas replicas }
     requires members { IsMemberList members.now }
     ensures owner { IfOk result (λ a. owner (H.hash_of hash) replicas (servers_of members.now) key.now ≡ Some a) }
     ensures fault { IfErr result (IsUnnamed (owner (H.hash_of hash) replicas (servers_of members.now) key.now)) }
 {
-    let ring = ring_of(alloc, hash, replicas, members).map_err(|_| AskFault::NoMemory)?;
+    let ring = ring_of(alloc, hash, replicas, members).map_err(|_| AskError::NoMemory)?;
     match ring.owner(key.as_bytes()) {
         Some(owner) => Ok(owner),
-        None => Err(AskFault::Refused(Reason::Nobody)),
+        None => Err(AskError::Refused(Reason::Nobody)),
     }
 }
 
-/// `owner_by` under the hash of the words.
-fn owner_in(alloc: Global, words: &AskAnyWords<'_>, members: &[Change]) -> Result<Address, AskFault>
+/// Does as `owner_by`, under the hash of the arguments.
+fn owner_in(alloc: Global, words: &AskAnyWords<'_>, members: &[Change]) -> Result<Address, AskError>
     requires { IsMemberList members.now }
     ensures owner { IfOk result (λ a. owner (hash_by words.now.sum) words.now.replicas (servers_of members.now) words.now.key.now ≡ Some a) }
     ensures fault { IfErr result (IsUnnamed (owner (hash_by words.now.sum) words.now.replicas (servers_of members.now) words.now.key.now)) }
@@ -63,22 +63,22 @@ fn find_owner<R: Wait, L: Link>(
     alloc: Global,
     link: &mut L,
     words: &AskAnyWords<'_>,
-) -> Result<Address, AskFault>
+) -> Result<Address, AskError>
     ensures owner { IfOk result (IsOwner L.may_answer words.now.host (hash_by words.now.sum) words.now.replicas words.now.key.now) }
     ensures fault { IfErr result (IsNoOwner L.may_answer words.now.host (hash_by words.now.sum) words.now.replicas words.now.key.now) }
 {
     let (_news, table) = look_only(rt, alloc, link, words.host)?;
-    let members = table.list().map_err(|_| AskFault::NoMemory)?;
+    let members = table.list().map_err(|_| AskError::NoMemory)?;
     owner_in(alloc, words, members.as_slice())
 }
 
-/// What the owner of the key replies, by the membership that the host holds.
+/// Returns the reply of the owner of the key, by the membership that the host holds.
 fn owner_reply<R: Wait, L: Link>(
     rt: &R,
     alloc: Global,
     link: &mut L,
     words: &AskAnyWords<'_>,
-) -> Result<Text, AskFault>
+) -> Result<Text, AskError>
     ensures answered { IfOk result (IsAnswered L.may_answer words.now.host (hash_by words.now.sum) words.now.replicas
         words.now.key.now words.now.body.now) }
     ensures fault { IfErr result (IsUnanswered L.may_answer words.now.host (hash_by words.now.sum) words.now.replicas
@@ -88,36 +88,39 @@ fn owner_reply<R: Wait, L: Link>(
     reply_of(rt, alloc, link, owner, words.key, words.body)
 }
 
-/// `owner_reply`, once more where the node that was asked says that it is not the owner.
+/// Does as `owner_reply`, and again if the node that was asked answers that it is not the owner.
 fn reply_of_any<R: Wait, L: Link>(
     rt: &R,
     alloc: Global,
     link: &mut L,
     words: &AskAnyWords<'_>,
-) -> Result<Text, AskFault>
+) -> Result<Text, AskError>
     ensures answered { IfOk result (IsAnswered L.may_answer words.now.host (hash_by words.now.sum) words.now.replicas
         words.now.key.now words.now.body.now) }
     ensures fault { IfErr result (IsUnanswered L.may_answer words.now.host (hash_by words.now.sum) words.now.replicas
         words.now.key.now words.now.body.now) }
 {
     match owner_reply(rt, alloc, link, words) {
-        Err(AskFault::NotOwner) => owner_reply(rt, alloc, link, words),
+        Err(AskError::NotOwner) => owner_reply(rt, alloc, link, words),
         replied => replied,
     }
 }
 
-/// Asks the host for its membership, and sends the request to the owner of the key among these members. Where that node says
-/// that it is not the owner the same is done once more. Writes the reply's text and a newline; where no reply came, nothing.
+/// Asks the host for its membership, and sends the request to the owner of the key among these members. If that node
+/// answers that it is not the owner the same is done again. Writes the reply's text and a newline; without a reply
+/// there is no output.
 ///
-/// Errors: those of `members_over` for the membership and those of `ask_over` for the request; `Refused` with `nobody` also where
-/// no member serves.
+/// # Errors
+///
+/// - The errors of `members_over`, for the membership.
+/// - The errors of `ask_over`, for the request; `Refused` with `nobody` also if no member serves.
 pub fn ask_any_over<R: Wait, L: Link, W: Write>(
     rt: &R,
     alloc: Global,
     link: &mut L,
     words: &AskAnyWords<'_>,
     writer: &mut W,
-) -> Result<(), AskFault>
+) -> Result<(), AskError>
     ensures answered { OnOk result (WritesReply
         (IsAnswered L.may_answer words.now.host (hash_by words.now.sum) words.now.replicas words.now.key.now words.now.body.now)
         (W.contents writer.old) (W.contents writer.new)) }
@@ -130,13 +133,17 @@ pub fn ask_any_over<R: Wait, L: Link, W: Write>(
     write_text(writer, text.as_str().as_bytes())
 }
 
-/// `ask_any_over` over sockets, with the standard limits.
+/// Does as `ask_any_over`, over sockets, with the standard limits.
+///
+/// # Errors
+///
+/// - The errors of `ask_any_over`.
 pub fn ask_any_run<R: Net + Clock + Wait, W: Write>(
     rt: &R,
     alloc: Global,
     words: &AskAnyWords<'_>,
     writer: &mut W,
-) -> Result<(), AskFault>
+) -> Result<(), AskError>
     ensures answered { OnOk result (WritesReply
         (IsAnswered any_answer words.now.host (hash_by words.now.sum) words.now.replicas words.now.key.now words.now.body.now)
         (W.contents writer.old) (W.contents writer.new)) }

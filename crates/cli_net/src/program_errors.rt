@@ -1,33 +1,36 @@
-//! Why the program ends before its end.
+//! The errors of the program.
 ghost use Rattle.std.specs.Prelude.{◌≡◌};
 ghost use Rattle.cli_net.specs.declared.program_errors.Fault.TheVariants as fault;
 
-use crate::commands::ClusterFault;
-use cli_core::SubcommandFault;
-use cli_words::WordsFault;
+use crate::commands::ClusterCommandError;
+use agent::AgentError;
+use cli_core::SubcommandError;
+use cli_words::WordsError;
 use std::fmt;
 
-/// Why the program ended before its end. Its `Display` is what standard error gets.
+/// The errors of the program. Its `Display` is the text for standard error.
 #[derive(Debug, Drop)]
 pub enum Fault {
-    /// The words came to nothing.
-    Words(WordsFault),
+    /// An error of the arguments.
+    Words(WordsError),
     /// The subcommand of lines ended early.
-    Subcommand(SubcommandFault),
+    Subcommand(SubcommandError),
     /// The command that speaks to nodes ended early.
-    Cluster(ClusterFault),
+    Cluster(ClusterCommandError),
+    /// The agent ended early.
+    Agent(AgentError),
 }
 
 impl Fault {
     ghost use Rattle.cli_net.specs.Status.{status_of};
 
-    /// The exit status: 2 where the words are refused, else 1.
+    /// Returns the exit status: 2 if the arguments are refused, else 1.
     pub fn status(&self) -> u8
         ensures { result ≡ status_of self.now }
     {
         match self {
             Fault::Words(fault) => fault.status(),
-            Fault::Subcommand(_) | Fault::Cluster(_) => 1,
+            Fault::Subcommand(_) | Fault::Cluster(_) | Fault::Agent(_) => 1,
         }
     }
 }
@@ -38,30 +41,39 @@ impl fmt::Display for Fault {
             Fault::Words(fault) => write!(f, "{fault}"),
             Fault::Subcommand(fault) => writeln!(f, "ringpop: {fault}"),
             Fault::Cluster(fault) => writeln!(f, "ringpop: {fault}"),
+            Fault::Agent(error) => writeln!(f, "ringpop: {error}"),
         }
     }
 }
 
-impl From<WordsFault> for Fault {
+impl From<WordsError> for Fault {
     ghost from_gives = { λ e f. f ≡ fault.Words e };
 
-    fn from(fault: WordsFault) -> Fault {
+    fn from(fault: WordsError) -> Fault {
         Fault::Words(fault)
     }
 }
 
-impl From<SubcommandFault> for Fault {
+impl From<SubcommandError> for Fault {
     ghost from_gives = { λ e f. f ≡ fault.Subcommand e };
 
-    fn from(fault: SubcommandFault) -> Fault {
+    fn from(fault: SubcommandError) -> Fault {
         Fault::Subcommand(fault)
     }
 }
 
-impl From<ClusterFault> for Fault {
+impl From<ClusterCommandError> for Fault {
     ghost from_gives = { λ e f. f ≡ fault.Cluster e };
 
-    fn from(fault: ClusterFault) -> Fault {
+    fn from(fault: ClusterCommandError) -> Fault {
         Fault::Cluster(fault)
+    }
+}
+
+impl From<AgentError> for Fault {
+    ghost from_gives = { λ e f. f ≡ fault.Agent e };
+
+    fn from(error: AgentError) -> Fault {
+        Fault::Agent(error)
     }
 }

@@ -1,11 +1,11 @@
-//! One question to a running node, by nobody: from 0.0.0.0:1 at incarnation 0.
+//! One question to a running node, by no member: from 0.0.0.0:1 at incarnation 0.
 ghost use Rattle.std.specs.Prelude.{◌≡◌, ◌∷◌, ◌++◌, [], IfOk, IfErr, OnOk, IsOkUnless};
 ghost use Rattle.std.specs.Io.KnownBytes.{Appends};
 ghost use Rattle.wire_json.specs.Input.{AppendsFront};
 ghost use Rattle.cli_net.specs.Asking.{Asked, by_nobody};
 ghost use Rattle.cli_net.specs.Membership.{IsNotTold, IsTold};
 
-use crate::faults::AskFault;
+use crate::faults::AskError;
 use change_core::{Address, Digest, Incarnation};
 use cluster_core::{Link, LinkError};
 use message_core::{Changes, Content, Message, News};
@@ -28,36 +28,43 @@ fn by_nobody(content: Content) -> Message
     }
 }
 
-/// What is answered at an address.
+/// Asks at an address, and returns the content of the answer.
 ///
-/// Errors: `NoMemory` where the link found none, else `NoAnswer` where no message came.
+/// # Errors
+///
+/// - `NoMemory`: out of memory in the link.
+/// - `NoAnswer`: no message came.
 pub fn ask_for<R: Wait, L: Link>(
     rt: &R,
     alloc: Global,
     link: &mut L,
     to: Address,
     content: Content,
-) -> Result<Content, AskFault>
+) -> Result<Content, AskError>
     ensures { Asked L.may_answer to content result }
 {
     match link.call(rt, alloc, to, &by_nobody(content)) {
         Ok(answer) => Ok(answer.content),
-        Err(LinkError::Memory) => Err(AskFault::NoMemory),
-        Err(_) => Err(AskFault::NoAnswer),
+        Err(LinkError::Memory) => Err(AskError::NoMemory),
+        Err(_) => Err(AskError::NoAnswer),
     }
 }
 
-/// Joins with these changes without being a member. The membership that is answered.
+/// Joins with these changes without being a member, and returns the membership of the answer.
 ///
-/// Errors: `NoMemory` where the link found none; `NoAnswer` where no message came; `Refused` as the node says, and `Unexpected` at
-/// any other message.
+/// # Errors
+///
+/// - `NoMemory`: out of memory in the link.
+/// - `NoAnswer`: no message came.
+/// - `Refused`: the node refused the join, for this reason.
+/// - `Unexpected`: any other message came.
 pub fn join_with<R: Wait, L: Link>(
     rt: &R,
     alloc: Global,
     link: &mut L,
     to: Address,
     changes: Changes,
-) -> Result<News, AskFault>
+) -> Result<News, AskError>
     ensures told { IfOk result (λ news. IsTold L.may_answer to changes news) }
     ensures fault { IfErr result (λ e. IsNotTold L.may_answer to changes e) }
 {
@@ -67,16 +74,20 @@ pub fn join_with<R: Wait, L: Link>(
     };
     match ask_for(rt, alloc, link, to, Content::Join(told))? {
         Content::Joined(news) => Ok(news),
-        Content::Refused(reason) => Err(AskFault::Refused(reason)),
-        _ => Err(AskFault::Unexpected),
+        Content::Refused(reason) => Err(AskError::Refused(reason)),
+        _ => Err(AskError::Unexpected),
     }
 }
 
 /// Writes a line and its newline, and flushes.
-pub fn write_text<W: Write>(writer: &mut W, line: &[u8]) -> Result<(), AskFault>
+///
+/// # Errors
+///
+/// - `CannotWrite`: the writer failed. A prefix of them is written.
+pub fn write_text<W: Write>(writer: &mut W, line: &[u8]) -> Result<(), AskError>
     ensures ok { OnOk result (Appends (W.contents writer.old) (W.contents writer.new) (line.now ++ 10 ∷ [])) }
     ensures front { AppendsFront (W.contents writer.old) (W.contents writer.new) (line.now ++ 10 ∷ []) }
-    ensures refusal { IsOkUnless result AskFault.CannotWrite }
+    ensures refusal { IsOkUnless result AskError.CannotWrite }
 {
-    write_line(writer, line).map_err(|_| AskFault::CannotWrite)
+    write_line(writer, line).map_err(|_| AskError::CannotWrite)
 }

@@ -1,18 +1,23 @@
-//! What the words ask for, run over any reader and writer.
+//! The command of the arguments, run over any reader and writer.
 ghost use Rattle.std.specs.Prelude.{IfErr, OnOk};
 ghost use Rattle.cli_net.specs.Runs.{WordsFail, WordsFinish, WordsRead};
 
+use crate::agents::agent_run;
 use crate::commands::cluster_command_run;
 use crate::program_errors::Fault;
+use agent::System;
 use cli_core::subcommand_run;
 use cli_words::Words;
-use server::Runtime;
 use std::alloc::Global;
 use std::io::{Read, Write};
-use std::net::{Net, TcpListener, TcpStream};
 
-/// Runs what the words ask for over sockets, the reader and the writer, as `subcommand_run` or `cluster_command_run` does.
-pub fn words_run<R: Net<Listener = TcpListener, Stream = TcpStream> + Runtime, I: Read, W: Write>(
+/// Runs the command of the arguments over sockets, the reader and the writer, as `subcommand_run` or
+/// `cluster_command_run` does.
+///
+/// # Errors
+///
+/// - The error of that function.
+pub fn words_run<R: System, I: Read, W: Write>(
     rt: &R,
     alloc: Global,
     words: &Words<'_>,
@@ -28,6 +33,7 @@ pub fn words_run<R: Net<Listener = TcpListener, Stream = TcpStream> + Runtime, I
     match words {
         Words::Lines(subcommand) => subcommand_run(alloc, subcommand, reader, writer)?,
         Words::Cluster(command) => cluster_command_run(rt, alloc, command, reader, writer)?,
+        Words::Agent(words) => agent_run(rt, alloc, words, writer)?,
     }
     Ok(())
 }

@@ -7,43 +7,44 @@ ghost use Rattle.cluster_core.specs.Channels.{any_answer};
 ghost use Rattle.std.specs.List.{All};
 ghost use Rattle.locked_node.specs.Passes.{Fits};
 ghost use Rattle.peer_core.specs.Acts.{Makes};
+ghost use Rattle.server.specs.Starting.{IsHealedAs};
 ghost use Rattle.server.specs.Threads.{ServeAlone};
-ghost use Rattle.server.specs.Working.{IsOneRound, Repeats};
+ghost use Rattle.server.specs.Working.{AreRounds};
 ghost use Rattle.cli_net.specs.Echoes.{MayEcho};
 ghost use Rattle.cli_net.specs.Service.{EntersBy, HasEntered, HasServed, IsServed, IsThreadFault, LeavesService, LeavesServing, ServesAsStandard, ServesBy, TellsEntry, service_text, serving_line};
 
 use crate::echoes::Echo;
-use crate::faults::ServeFault;
+use crate::faults::ServeError;
 use crate::nodes::{join_hosts, shared_node};
 use change_core::Address;
 use cli_core::ServeWords;
 use cluster_core::{TcpLink, socket_address};
 use hash_ring::{PointHash, Sha256Hash, SumHash};
 use locked_node::NodePass;
-use server::{Ended, Running, Runtime, Server, ServerError, Stopwatch, Timeouts};
+use server::{Ended, HealingPlan, Running, Runtime, Server, ServerError, Stopwatch, Timeouts};
 use std::alloc::Global;
 use std::io::Write;
 use std::net::{Net, TcpListener, TcpStream};
 use wire_json::write_line;
 
 /// Listens at an address.
-fn listen<R: Net>(rt: &R, address: Address) -> Result<R::Listener, ServeFault>
-    ensures { IsOkUnless result ServeFault.CannotListen }
+fn listen<R: Net>(rt: &R, address: Address) -> Result<R::Listener, ServeError>
+    ensures { IsOkUnless result ServeError.CannotListen }
 {
-    TcpListener::bind(rt, socket_address(address)).map_err(|_| ServeFault::CannotListen)
+    TcpListener::bind(rt, socket_address(address)).map_err(|_| ServeError::CannotListen)
 }
 
 /// Writes a line and flushes.
-fn say<W: Write>(writer: &mut W, text: &str) -> Result<(), ServeFault>
+fn say<W: Write>(writer: &mut W, text: &str) -> Result<(), ServeError>
     ensures said { OnOk result (Appends (W.contents writer.old) (W.contents writer.new) (text.now ++ 10 ∷ [])) }
     ensures front { AppendsFront (W.contents writer.old) (W.contents writer.new) (text.now ++ 10 ∷ []) }
-    ensures fault { IsOkUnless result ServeFault.CannotWrite }
+    ensures fault { IsOkUnless result ServeError.CannotWrite }
 {
-    write_line(writer, text.as_bytes()).map_err(|_| ServeFault::CannotWrite)
+    write_line(writer, text.as_bytes()).map_err(|_| ServeError::CannotWrite)
 }
 
-/// Says that a server listens.
-fn say_serving<W: Write>(alloc: Global, address: Address, writer: &mut W) -> Result<(), ServeFault>
+/// Writes that a server listens.
+fn say_serving<W: Write>(alloc: Global, address: Address, writer: &mut W) -> Result<(), ServeError>
     ensures said { OnOk result (Appends (W.contents writer.old) (W.contents writer.new) (serving_line address)) }
     ensures left { IfErr result (λ e. LeavesServing address e (W.contents writer.old) (W.contents writer.new)) }
 {
@@ -51,9 +52,20 @@ fn say_serving<W: Write>(alloc: Global, address: Address, writer: &mut W) -> Res
     say(writer, text.as_str())
 }
 
-/// Serves until the last connection, by threads with these passes.
+/// How the server heals, with the hosts of its words, if they ask for it.
 ///
-/// Errors: `NoThread`; `NoMemory`.
+/// # Errors
+///
+/// - `NoMemory`: an allocation failed.
+fn plan_of(alloc: Global, words: &ServeWords) -> Result<Option<HealingPlan>, ServeError>
+    ensures heals { IfOk result (IsHealedAs words.now.heal words.now.address words.now.hosts.items) }
+    ensures refusal { IsOkUnless result ServeError.NoMemory }
+{
+    let hosts = Vec::from_slice(alloc, words.hosts.as_slice())?;
+    Ok(HealingPlan::of(words.heal, words.address, hosts))
+}
+
+/// Serves until the last connection, by threads with these passes. The errors are `NoThread` and `NoMemory`.
 fn serve_all<
     R: Net<Listener = TcpListener, Stream = TcpStream> + Runtime,
     H: PointHash + Send + Sync + 'static,
@@ -64,23 +76,23 @@ fn serve_all<
     timer: NodePass<H>,
     workers: Vec<NodePass<H>>,
     period: u64,
-) -> Result<Ended<H, Echo>, ServeFault>
+) -> Result<Ended<H, Echo>, ServeError>
     requires timer { Fits server.node timer }
     requires workers { All (Fits server.node) workers.items }
     ensures server { IfOk result (λ r. arc_value r.server ≡ server) }
-    ensures rounds { IfOk result (λ r. Makes server.node (Repeats IsOneRound) timer r.rounds) }
+    ensures rounds { IfOk result (λ r. Makes server.node (AreRounds server.healing) timer r.rounds) }
     ensures resting { IfOk result (λ r. period ≡ 0 → r.rounds ≡ timer) }
     ensures connections { IfOk result (λ r. ServeAlone H.hash_of MayEcho server.node workers.items r.workers.items) }
     ensures fault { IfErr result IsThreadFault }
 {
     match Running::start(rt, alloc, server, timer, workers, period) {
         Ok(running) => Ok(running.wait(rt)),
-        Err(ServerError::NoThread) => Err(ServeFault::NoThread),
-        Err(ServerError::Memory) => Err(ServeFault::NoMemory),
+        Err(ServerError::NoThread) => Err(ServeError::NoThread),
+        Err(ServerError::Memory) => Err(ServeError::NoMemory),
     }
 }
 
-/// `serve_within` under a hash. What is left of the server: with the passes of its rounds and of its workers.
+/// Does as `serve_within`, under a hash. Returns the server, with the passes of its rounds and of its workers.
 fn serve_out<
     R: Net<Listener = TcpListener, Stream = TcpStream> + Runtime,
     H: PointHash + Send + Sync + 'static,
@@ -92,13 +104,14 @@ fn serve_out<
     timeouts: Timeouts,
     words: &ServeWords,
     writer: &mut W,
-) -> Result<Ended<H, Echo>, ServeFault>
+) -> Result<Ended<H, Echo>, ServeError>
     ensures served { OnOk result (Appends (W.contents writer.old) (W.contents writer.new) (service_text words.now.address)) }
     ensures left { IfErr result (λ e. LeavesService words.now.address e (W.contents writer.old) (W.contents writer.new)) }
-    ensures named { result ≡ Err ServeFault.NoneJoined → words.now.hosts.items ≢ [] }
+    ensures named { result ≡ Err ServeError.NoneJoined → words.now.hosts.items ≢ [] }
     ensures entered { TellsEntry (HasEntered H.hash_of any_answer hash words.now) result }
     ensures ended { IfOk result (λ r. HasServed H.hash_of any_answer hash timeouts words.now (arc_value r.server) r.rounds r.workers.items) }
 {
+    let healing = plan_of(alloc, words)?;
     let stopwatch = Stopwatch::start(rt);
     let (node, mut timer, passes) = shared_node(alloc, hash, words)?;
     let hosts = words.hosts.as_slice();
@@ -109,7 +122,15 @@ fn serve_out<
     let echo = Echo {
         address: words.address,
     };
-    let server = Server::new(node, echo, stopwatch, timeouts, listener, words.requests);
+    let server = Server::new(
+        node,
+        echo,
+        stopwatch,
+        timeouts,
+        healing,
+        listener,
+        words.requests,
+    );
     say_serving(alloc, words.address, writer)?;
     let ended = serve_all(rt, alloc, server, timer, passes, words.period)?;
     say(writer, "done")?;
@@ -128,10 +149,10 @@ fn serve_by<
     timeouts: Timeouts,
     words: &ServeWords,
     writer: &mut W,
-) -> Result<(), ServeFault>
+) -> Result<(), ServeError>
     ensures served { OnOk result (Appends (W.contents writer.old) (W.contents writer.new) (service_text words.now.address)) }
     ensures left { IfErr result (λ e. LeavesService words.now.address e (W.contents writer.old) (W.contents writer.new)) }
-    ensures named { result ≡ Err ServeFault.NoneJoined → words.now.hosts.items ≢ [] }
+    ensures named { result ≡ Err ServeError.NoneJoined → words.now.hosts.items ≢ [] }
     ensures entered { TellsEntry (HasEntered H.hash_of any_answer hash words.now) result }
     ensures serves { OnOk result (IsServed H.hash_of hash timeouts words.now) }
 {
@@ -141,24 +162,30 @@ fn serve_by<
     }
 }
 
-/// Joins the hosts, if any, listens, writes `serving` and the address, serves as many connections as the words say, and
-/// writes `done`. Each connection carries one line in and one line out; a request is answered with the node's address, a space
-/// and the body. Between two rounds lie the words' milliseconds. After the last connection a round that is under way is waited
-/// for, 8.5 seconds at most with the standard timeouts.
+/// Joins the hosts, if any, listens, writes `serving` and the address, serves the given number of connections, and
+/// writes `done`. Each connection carries one line in and one line out; the answer to a request is the node's address,
+/// a space and the body. Between two rounds are the given milliseconds. After the last connection a round that is under
+/// way is waited for, 8.5 seconds at most with the standard timeouts.
 ///
-/// Errors: `NoMemory` where a growth was refused, whichever step it was; else, in this order, `NoneJoined` where hosts were named
-/// and none let the node in; `CannotListen`; `CannotWrite`, before any thread runs or after all have ended; `NoThread`, where none
-/// has served and those that were started have ended.
+/// # Errors
+///
+/// The first step that fails ends it, in the order above.
+///
+/// - `NoMemory`: out of memory, in any step.
+/// - `NoneJoined`: hosts were named and none admitted the node.
+/// - `CannotListen`: the address can't be listened at.
+/// - `CannotWrite`: the writer failed, before any thread runs or after all have ended.
+/// - `NoThread`: a thread could not be made. None has served, and those that were started have ended.
 pub fn serve_within<R: Net<Listener = TcpListener, Stream = TcpStream> + Runtime, W: Write>(
     rt: &R,
     alloc: Global,
     timeouts: Timeouts,
     words: &ServeWords,
     writer: &mut W,
-) -> Result<(), ServeFault>
+) -> Result<(), ServeError>
     ensures served { OnOk result (Appends (W.contents writer.old) (W.contents writer.new) (service_text words.now.address)) }
     ensures left { IfErr result (λ e. LeavesService words.now.address e (W.contents writer.old) (W.contents writer.new)) }
-    ensures named { result ≡ Err ServeFault.NoneJoined → words.now.hosts.items ≢ [] }
+    ensures named { result ≡ Err ServeError.NoneJoined → words.now.hosts.items ≢ [] }
     ensures entered { TellsEntry (EntersBy words.now.sum words.now) result }
     ensures serves { OnOk result (ServesBy words.now.sum words.now timeouts) }
 {
@@ -169,16 +196,20 @@ pub fn serve_within<R: Net<Listener = TcpListener, Stream = TcpStream> + Runtime
     }
 }
 
-/// `serve_within` the standard timeouts.
+/// Does as `serve_within`, with the standard timeouts.
+///
+/// # Errors
+///
+/// - The errors of `serve_within`.
 pub fn serve_run<R: Net<Listener = TcpListener, Stream = TcpStream> + Runtime, W: Write>(
     rt: &R,
     alloc: Global,
     words: &ServeWords,
     writer: &mut W,
-) -> Result<(), ServeFault>
+) -> Result<(), ServeError>
     ensures served { OnOk result (Appends (W.contents writer.old) (W.contents writer.new) (service_text words.now.address)) }
     ensures left { IfErr result (λ e. LeavesService words.now.address e (W.contents writer.old) (W.contents writer.new)) }
-    ensures named { result ≡ Err ServeFault.NoneJoined → words.now.hosts.items ≢ [] }
+    ensures named { result ≡ Err ServeError.NoneJoined → words.now.hosts.items ≢ [] }
     ensures entered { TellsEntry (EntersBy words.now.sum words.now) result }
     ensures serves { OnOk result (ServesAsStandard words.now) }
 {

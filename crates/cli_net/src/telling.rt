@@ -5,13 +5,13 @@ ghost use Rattle.change_core.specs.Numeral.{number_text};
 ghost use Rattle.cluster_core.specs.Channels.{any_answer};
 ghost use Rattle.cli_net.specs.Membership.{IsUnwritten, WritesSeen};
 ghost use Rattle.cli_net.specs.Telling.{Gives, HearsChange, IsNoNews, IsUntold, TakesTurn, Tells, count_line};
-ghost use Rattle.cli_net.specs.declared.faults.AskFault.{AskFault};
+ghost use Rattle.cli_net.specs.declared.faults.AskError.{AskError};
 
-use crate::faults::{AskFault, TellFault};
+use crate::faults::{AskError, TellError};
 use crate::looks::look;
 use crate::questions::write_text;
-use change_core::{Address, MOST_MEMBERS, Sourced};
-use cli_core::LineFault;
+use change_core::{Address, MAX_MEMBERS, Sourced};
+use cli_core::LineError;
 use cluster_core::{Link, TcpLink};
 use message_core::Changes;
 use std::alloc::Global;
@@ -21,11 +21,11 @@ use std::sync::Wait;
 use std::time::Clock;
 use wire_json::{decode_change, read_line};
 
-/// How many changes a message has at most: as many as a cluster has members.
-const MOST_CHANGES: usize = MOST_MEMBERS;
+/// The greatest number of changes of a message, which is that of a cluster's members.
+const MAX_CHANGES: usize = MAX_MEMBERS;
 
 /// Reads one change line; none at the end of the input.
-fn read_change<R: Read>(alloc: Global, reader: &mut R) -> Result<Option<Sourced>, LineFault>
+fn read_change<R: Read>(alloc: Global, reader: &mut R) -> Result<Option<Sourced>, LineError>
     ensures heard { IfSome (R.remaining reader.old) (λ xs. HearsChange xs result (R.remaining reader.new)) }
 {
     let Some(line) = read_line(alloc, reader)? else {
@@ -40,11 +40,11 @@ fn hear<R: Read>(
     alloc: Global,
     reader: &mut R,
     changes: &mut Vec<Sourced>,
-) -> Result<bool, TellFault>
+) -> Result<bool, TellError>
     requires { length changes.old.items ≤ most_members }
     ensures heard { IfSome (R.remaining reader.old)
         (λ xs. TakesTurn xs changes.old.items result (R.remaining reader.new) changes.new.items) }
-    ensures unasked { (e : AskFault) → result ≡ Err (TellFault.Asked e) → ⊥ }
+    ensures unasked { (e : AskError) → result ≡ Err (TellError.Asked e) → ⊥ }
     ensures few { IfOk result (λ _. length changes.new.items ≤ most_members) }
     ensures grows { IfOk result (λ more. more ≡ true → length changes.new.items ≡ length changes.old.items + 1) }
 {
@@ -52,19 +52,19 @@ fn hear<R: Read>(
     let change = match read_change(alloc, reader) {
         Ok(Some(change)) => change,
         Ok(None) => return Ok(false),
-        Err(fault) => return Err(TellFault::AtLine(number, fault)),
+        Err(fault) => return Err(TellError::AtLine(number, fault)),
     };
-    if changes.len() == MOST_CHANGES {
-        return Err(TellFault::TooManyChanges);
+    if changes.len() == MAX_CHANGES {
+        return Err(TellError::TooManyChanges);
     }
     match changes.push(change) {
         Ok(()) => Ok(true),
-        Err(_) => Err(TellFault::AtLine(number, LineFault::OutOfMemory)),
+        Err(_) => Err(TellError::AtLine(number, LineError::OutOfMemory)),
     }
 }
 
-/// Reads change lines to the end, at most 4,096, or the first fault of a line.
-fn read_changes<R: Read>(alloc: Global, reader: &mut R) -> Result<Changes, TellFault>
+/// Reads change lines to the end, at most 4,096, or up to the first line with an error.
+fn read_changes<R: Read>(alloc: Global, reader: &mut R) -> Result<Changes, TellError>
     ensures given { IfOk result (λ changes. Gives (R.remaining reader.old) changes) }
     ensures fault { IfErr result (IsNoNews (R.remaining reader.old)) }
 {
@@ -77,14 +77,14 @@ fn read_changes<R: Read>(alloc: Global, reader: &mut R) -> Result<Changes, TellF
 }
 
 /// The decimal digits of a number.
-fn count_text(alloc: Global, count: usize) -> Result<String, AskFault>
+fn count_text(alloc: Global, count: usize) -> Result<String, AskError>
     ensures text { IfOk result (λ s. string_bytes s ≡ number_text count) }
-    ensures refusal { IsOkUnless result AskFault.NoMemory }
+    ensures refusal { IsOkUnless result AskError.NoMemory }
 {
     Ok(format!(in alloc; "{count}")?)
 }
 
-/// Tells the node these changes, and writes how many members it then holds.
+/// Passes these changes to the node, and writes how many members it then holds.
 fn tell_changes<R: Wait, L: Link, W: Write>(
     rt: &R,
     alloc: Global,
@@ -92,7 +92,7 @@ fn tell_changes<R: Wait, L: Link, W: Write>(
     host: Address,
     changes: Changes,
     writer: &mut W,
-) -> Result<(), AskFault>
+) -> Result<(), AskError>
     ensures told { OnOk result (WritesSeen L.may_answer host changes count_line
         (W.contents writer.old) (W.contents writer.new)) }
     ensures fault { IfErr result (λ e. IsUnwritten L.may_answer host changes count_line e
@@ -103,11 +103,14 @@ fn tell_changes<R: Wait, L: Link, W: Write>(
     write_text(writer, text.as_bytes())
 }
 
-/// Reads change lines to the end, at most 4,096, tells them to the node, and writes how many members it then holds, in decimal,
-/// and a newline. No line at all is a look. At a fault of a line the node is asked nothing.
+/// Reads change lines to the end, at most 4,096, passes them to the node, and writes how many members it then holds, in
+/// decimal, and a newline. Without a line the node is asked all the same.
 ///
-/// Errors: `AtLine` and `TooManyChanges` for the first line that is no change or one too many, with nothing written; `Asked` with a
-/// fault of `members_over`, after which the node may have taken some of the changes.
+/// # Errors
+///
+/// - `AtLine`: a line has an error; the first one is named. The node is not asked, and there is no output.
+/// - `TooManyChanges`: there are more than 4,096 changes. The node is not asked, and there is no output.
+/// - `Asked`: an error of `members_over`. The node may have processed some of the changes.
 pub fn tell_over<R: Wait, L: Link, I: Read, W: Write>(
     rt: &R,
     alloc: Global,
@@ -115,7 +118,7 @@ pub fn tell_over<R: Wait, L: Link, I: Read, W: Write>(
     host: Address,
     reader: &mut I,
     writer: &mut W,
-) -> Result<(), TellFault>
+) -> Result<(), TellError>
     ensures told { OnOk result (Tells L.may_answer host (I.remaining reader.old) (W.contents writer.old) (W.contents writer.new)) }
     ensures fault { IfErr result (λ e. IsUntold L.may_answer host (I.remaining reader.old) e
         (W.contents writer.old) (W.contents writer.new)) }
@@ -124,14 +127,18 @@ pub fn tell_over<R: Wait, L: Link, I: Read, W: Write>(
     Ok(tell_changes(rt, alloc, link, host, changes, writer)?)
 }
 
-/// `tell_over` over sockets, with the standard limits.
+/// Does as `tell_over`, over sockets, with the standard limits.
+///
+/// # Errors
+///
+/// - The errors of `tell_over`.
 pub fn tell_run<R: Net + Clock + Wait, I: Read, W: Write>(
     rt: &R,
     alloc: Global,
     host: Address,
     reader: &mut I,
     writer: &mut W,
-) -> Result<(), TellFault>
+) -> Result<(), TellError>
     ensures told { OnOk result (Tells any_answer host (I.remaining reader.old) (W.contents writer.old) (W.contents writer.new)) }
     ensures fault { IfErr result (λ e. IsUntold any_answer host (I.remaining reader.old) e
         (W.contents writer.old) (W.contents writer.new)) }

@@ -14,8 +14,8 @@ use Rattle.clap.specs.declared.parser.matches.Found.{Found}
 use Rattle.cli_words.specs.Faults.{IsRefusalOf}
 use Rattle.cli_words.specs.Whole.{IsNoAddress, IsNoAddressAt}
 use Rattle.cli_words.specs.Words.{IsNumberAt}
-use Rattle.cli_words.specs.declared.faults.WordsFault.{WordsFault}
-use Rattle.cli_words.specs.declared.faults.WordsFault.TheVariants.{Usage, BadAddress, NoMemory}
+use Rattle.cli_words.specs.declared.faults.WordsError.{WordsError}
+use Rattle.cli_words.specs.declared.faults.WordsError.TheVariants.{Usage, BadAddress, NoMemory}
 use Rattle.cli_words.proofs.Rows.{one_is}
 
 -- how a text is read as a `u64`
@@ -53,7 +53,7 @@ bad_among texts k d lt no_address =
     (k, text, omega (arith, length-map texts (λ (s : Bor Text). s.now)), get_or-map (λ s. s.now) texts k d text lt, no_address)
 
 -- an error that is handed on
-pub handed_on : {T : Type 0} (r : Result T WordsFault) (f : WordsFault) (P : WordsFault → Type 0) → IsErrAnd r (λ e. e ≡ f) → P f → IfErr r P
+pub handed_on : {T : Type 0} (r : Result T WordsError) (f : WordsError) (P : WordsError → Type 0) → IsErrAnd r (λ e. e ≡ f) → P f → IfErr r P
 handed_on (Ok x) f P is p = tt
 handed_on (Err e) f P is p = subst P (sym is) p
 
@@ -63,23 +63,23 @@ not_there None e is = cc
 not_there (Some x) e is = cc
 
 -- a refusal is one of more words, and of more addresses that are none
-pub refusal_of : (whole more bad worse : Type 0) → (more → whole) → (bad → worse) → (f : WordsFault) → IsRefusalOf whole bad f → IsRefusalOf more worse f
+pub refusal_of : (whole more bad worse : Type 0) → (more → whole) → (bad → worse) → (f : WordsError) → IsRefusalOf whole bad f → IsRefusalOf more worse f
 refusal_of whole more bad worse as_whole as_bad (Usage e) is = λ x. is (as_whole x)
 refusal_of whole more bad worse as_whole as_bad BadAddress is = as_bad is
 refusal_of whole more bad worse as_whole as_bad NoMemory is = tt
 
-pub refused_of : {T : Type 0} (whole more bad worse : Type 0) → (more → whole) → (bad → worse) → (r : Result T WordsFault) → IfErr r (IsRefusalOf whole bad)
+pub refused_of : {T : Type 0} (whole more bad worse : Type 0) → (more → whole) → (bad → worse) → (r : Result T WordsError) → IfErr r (IsRefusalOf whole bad)
     → IfErr r (IsRefusalOf more worse)
 refused_of whole more bad worse as_whole as_bad (Ok x) is = tt
 refused_of whole more bad worse as_whole as_bad (Err f) is = refusal_of whole more bad worse as_whole as_bad f is
 
 -- where a word is absent, any refusal of its absence is one
-pub absent_of : (whole bad : Type 0) → (whole → ⊥) → (f : WordsFault) → IsRefusalOf ⊥ ⊥ f → IsRefusalOf whole bad f
+pub absent_of : (whole bad : Type 0) → (whole → ⊥) → (f : WordsError) → IsRefusalOf ⊥ ⊥ f → IsRefusalOf whole bad f
 absent_of whole bad lacks = refusal_of ⊥ whole ⊥ bad lacks (λ x. absurd x)
 
 -- a word that is the text of no address is refused as one
-pub bad_address : (rows : List Row) (name text : Text) (whole : Type 0) → first_of name rows ≡ Some text → (f : WordsFault) → (f ≡ BadAddress) × IsNoAddress text
+pub bad_address : (rows : List Row) (name text : Text) (whole : Type 0) → first_of name rows ≡ Some text → (f : WordsError) → (f ≡ BadAddress) × IsNoAddress text
     → IsRefusalOf whole (IsNoAddressAt rows name) f
 bad_address rows name text whole first f is =
     let none : IsNoAddressAt rows name = subst (λ (o : Option Text). IsSomeAnd o IsNoAddress) (sym first) is.1 in
-    subst (λ (g : WordsFault). IsRefusalOf whole (IsNoAddressAt rows name) g) (sym is.0) none
+    subst (λ (g : WordsError). IsRefusalOf whole (IsNoAddressAt rows name) g) (sym is.0) none

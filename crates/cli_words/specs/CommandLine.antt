@@ -1,4 +1,4 @@
--- The command line: each subcommand by its options and its words, in their order.
+-- The command line: each subcommand by its options and its arguments, in their order.
 use Rattle.std.specs.Prelude.{ℕ, true, false, List, [], ◌∷◌, Some, codes}
 use Rattle.clap.specs.Lexer.{usize_max}
 use Rattle.clap.specs.Simple.{new_shape}
@@ -9,15 +9,15 @@ use Rattle.change_core.specs.Numbers.{greatest_number, greatest_weight, most_mem
 use Rattle.hash_ring.specs.Points.{max_replicas}
 use Rattle.cli_core.specs.Words.{most_requests}
 
--- a word that has to be given: a text, which may be empty
+-- an argument that has to be given: a text, which may be empty
 abbrev pub word : Text → Rule
 word name = record (new_rule name) { required = true; value_names = 1 }
 
--- a word that has to be given: a whole number in a range
+-- an argument that has to be given: a whole number in a range
 abbrev pub number_word : Text → ℕ → ℕ → Rule
 number_word name least most = record (word name) { parser = Some (Unsigned least most) }
 
--- an option with a whole number in a range, and the number where it is not given
+-- an option with a whole number in a range, and the number if it is not given
 abbrev pub option : Text → Text → ℕ → ℕ → Rule
 option name default least most = record (new_rule name) {
   long = Some name;
@@ -30,7 +30,7 @@ option name default least most = record (new_rule name) {
 abbrev pub flag : Text → Rule
 flag name = record (new_rule name) { long = Some name; action = Some SetTrue }
 
--- any number of words
+-- any number of arguments
 abbrev pub words : Text → Rule
 words name = record (new_rule name) {
   range = Some (record { start_inclusive = 0; end_inclusive = usize_max });
@@ -62,6 +62,14 @@ period = option (codes "period") (codes "0") 0 greatest_number
 abbrev pub weight : Rule
 weight = option (codes "weight") (codes "1") 1 greatest_weight
 
+-- `--per-message`: how many changes a message carries at most, from 1 to `most_members`; 64 by default
+abbrev pub per_message : Rule
+per_message = option (codes "per-message") (codes "64") 1 most_members
+
+-- `--piggyback`: how often a change is passed on for each decimal digit of the number of serving members, from 1 to 1,000; 15 by default
+abbrev pub piggyback : Rule
+piggyback = option (codes "piggyback") (codes "15") 1 1000
+
 -- the incarnation of the node, up to 2^53 - 1
 abbrev pub incarnation : Rule
 incarnation = number_word (codes "incarnation") 0 greatest_number
@@ -74,7 +82,7 @@ requests = number_word (codes "requests") 1 most_requests
 abbrev pub hosts : Rule
 hosts = words (codes "host")
 
--- a subcommand of this name, with these options and words
+-- a subcommand of this name, with these options and arguments
 abbrev pub subcommand : Text → List Rule → Shape
 subcommand name rules = record (new_shape name) { rules = rules }
 
@@ -98,7 +106,7 @@ sim_words = subcommand (codes "sim") (replicas ∷ sum ∷ [])
 -- `serve`: the node's address, its incarnation, how many connections it serves, and the hosts to join
 abbrev pub serve_words : Shape
 serve_words = subcommand (codes "serve")
-    (workers ∷ period ∷ replicas ∷ sum ∷ weight ∷ word (codes "address") ∷ incarnation ∷ requests ∷ hosts ∷ [])
+    (workers ∷ period ∷ replicas ∷ sum ∷ weight ∷ per_message ∷ piggyback ∷ flag (codes "heal") ∷ word (codes "address") ∷ incarnation ∷ requests ∷ hosts ∷ [])
 
 -- `ask`: the address of a node, the key and the body; `--any` leaves the choice of the owner to the program, by the options of the ring
 abbrev pub ask_words : Shape
@@ -114,13 +122,47 @@ members_words = subcommand (codes "members") (flag (codes "lines") ∷ word (cod
 abbrev pub tell_words : Shape
 tell_words = subcommand (codes "tell") (word (codes "host") ∷ [])
 
+-- an option with an address, as a text
+abbrev pub address_option : Text → Rule
+address_option name = record (new_rule name) { long = Some name; value_names = 1 }
+
+-- `--log`: what the log tells, by the name of a level; `info` by default
+abbrev pub log : Rule
+log = record (new_rule (codes "log")) { long = Some (codes "log"); value_names = 1; defaults = codes "info" ∷ [] }
+
+-- `--hands`: how many requests of other nodes the application is given at a time, from 1 to 256; 32 by default
+abbrev pub hands : Rule
+hands = option (codes "hands") (codes "32") 1 256
+
+-- `--period` of an agent: the milliseconds between two rounds of gossip, from 1 to 60,000; 200 by default
+abbrev pub agent_period : Rule
+agent_period = option (codes "period") (codes "200") 1 60000
+
+-- `--per-message` of an agent: how many changes a message carries, from 1 to `most_members`; 256 by default
+abbrev pub agent_per_message : Rule
+agent_per_message = option (codes "per-message") (codes "256") 1 most_members
+
+-- `--incarnation`: the incarnation of the node, up to 2^53 - 1; none by default
+abbrev pub incarnation_option : Rule
+incarnation_option = record (new_rule (codes "incarnation")) {
+  long = Some (codes "incarnation");
+  value_names = 1;
+  parser = Some (Unsigned 0 greatest_number);
+}
+
+-- `agent`: where it listens, and answers HTTP, and the application's address; its numbers, and the log; its own address and the hosts to join
+abbrev pub agent_words : Shape
+agent_words = subcommand (codes "agent")
+    (address_option (codes "bind") ∷ address_option (codes "http") ∷ flag (codes "http-any") ∷ address_option (codes "app")
+    ∷ hands ∷ agent_period ∷ agent_per_message ∷ replicas ∷ weight ∷ incarnation_option ∷ log ∷ word (codes "address") ∷ hosts ∷ [])
+
 -- a command with no subcommand
 abbrev pub leaf : Shape → App
 leaf shape = record { top = shape; subs = [] }
 
--- the program, which has a version and no word of its own, and its subcommands
+-- the program, which has a version, no argument but its subcommands', and its subcommands
 abbrev pub ringpop_app : App
 ringpop_app = record {
   top = record (subcommand (codes "ringpop") []) { is_leaf = false; has_version = true };
-  subs = fold_words ∷ hash_words ∷ owner_words ∷ sim_words ∷ serve_words ∷ ask_words ∷ members_words ∷ tell_words ∷ [];
+  subs = fold_words ∷ hash_words ∷ owner_words ∷ sim_words ∷ serve_words ∷ agent_words ∷ ask_words ∷ members_words ∷ tell_words ∷ [];
 }

@@ -1,21 +1,22 @@
--- Which words each subcommand has to have, and why words are refused.
-use Rattle.std.specs.Prelude.{◌≡◌, ◌≢◌, ◌⊎◌, ◌<◌, ◌≤◌, ◌^◌, ℕ, true, List, Option, IfSome, IsSome, IsSomeAnd, codes, length}
+-- The arguments that each subcommand has to have, and the errors of arguments.
+use Rattle.std.specs.Prelude.{◌≡◌, ◌≢◌, ◌⊎◌, ◌<◌, ◌≤◌, ◌^◌, ℕ, true, List, Option, Some, IfSome, IsSome, IsSomeAnd, codes, length}
 use Rattle.std.specs.List.{Any}
 use Rattle.clap.specs.Words.{Row, Text, all_of, first_of}
 use Rattle.change_core.specs.Address.{IsAddress, address_text}
 use Rattle.change_core.specs.Numbers.{IsWeight, greatest_number, most_members}
 use Rattle.hash_ring.specs.Points.{IsReplicas}
 use Rattle.node_core.specs.Workers.{IsCrew}
-use Rattle.cli_core.specs.Words.{IsRequests}
+use Rattle.cli_core.specs.Words.{IsPerMessage, IsPiggyback, IsRequests}
 use Rattle.cli_words.specs.Faults.{IsRefusalOf}
-use Rattle.cli_words.specs.Words.{IsFlagAt, IsNumberAt}
-use Rattle.cli_words.specs.declared.faults.WordsFault.{WordsFault}
+use Rattle.cli_words.specs.Words.{IsFlagAt, IsNumberAt, level_name}
+use Rattle.cli_words.specs.declared.agent_words.LogLevel.{LogLevel}
+use Rattle.cli_words.specs.declared.faults.WordsError.{WordsError}
 
--- the word of this name is there, and it is one of these numbers
+-- the argument of this name is there, and it is one of these numbers
 abbrev pub HasNumber : List Row → Text → (ℕ → Type 0) → Type 0
 HasNumber rows name IsIn = (n : ℕ) × IsNumberAt rows name n × IsIn n
 
--- each word of `owner` is there, and each number in its range
+-- each argument of `owner` is there, and each number in its range
 pub record HasOwned (rows : List Row) : Type 0 where
   pub count : HasNumber rows (codes "n") (λ n. n ≤ most_members)
   pub replicas : HasNumber rows (codes "replicas") IsReplicas
@@ -29,6 +30,8 @@ pub record HasNumbers (rows : List Row) : Type 0 where
   pub period : HasNumber rows (codes "period") (λ n. n ≤ greatest_number)
   pub replicas : HasNumber rows (codes "replicas") IsReplicas
   pub weight : HasNumber rows (codes "weight") IsWeight
+  pub per_message : HasNumber rows (codes "per-message") IsPerMessage
+  pub piggyback : HasNumber rows (codes "piggyback") IsPiggyback
 
 -- and its address is there, and its hosts are fewer than 2^32
 pub record HasServed (rows : List Row) : Type 0 where
@@ -36,13 +39,31 @@ pub record HasServed (rows : List Row) : Type 0 where
   pub few : IfSome (all_of (codes "host") rows) (λ hosts. length hosts < 2 ^ 32)
   pub numbers : HasNumbers rows
 
--- each word of `ask` is there
+-- the argument for the level of the log is there, and it is the name of a level
+abbrev pub HasLevel : List Row → Type 0
+HasLevel rows = (level : LogLevel) × (first_of (codes "log") rows ≡ Some (level_name level))
+
+-- each number of `agent` but its incarnation is there and in its range, and the level of its log is there
+pub record HasAgentNumbers (rows : List Row) : Type 0 where
+  pub hands : HasNumber rows (codes "hands") (λ n. (1 ≤ n) × (n ≤ 256))
+  pub period : HasNumber rows (codes "period") (λ n. (1 ≤ n) × (n ≤ 60000))
+  pub per_message : HasNumber rows (codes "per-message") (λ n. (1 ≤ n) × (n ≤ most_members))
+  pub replicas : HasNumber rows (codes "replicas") IsReplicas
+  pub weight : HasNumber rows (codes "weight") IsWeight
+  pub level : HasLevel rows
+
+-- and its address is there
+pub record HasAgent (rows : List Row) : Type 0 where
+  pub address : IsSome (first_of (codes "address") rows)
+  pub numbers : HasAgentNumbers rows
+
+-- each argument of `ask` is there
 pub record HasAsked (rows : List Row) : Type 0 where
   pub address : IsSome (first_of (codes "address") rows)
   pub key : IsSome (first_of (codes "key") rows)
   pub body : IsSome (first_of (codes "body") rows)
 
--- and, where the owner is asked, the points
+-- and, if the owner is asked, the number of points
 abbrev pub HasAnyAsked : List Row → Type 0
 HasAnyAsked rows = HasAsked rows × HasNumber rows (codes "replicas") IsReplicas
 
@@ -54,36 +75,41 @@ IsOfLines name = (name ≡ codes "fold") ⊎ ((name ≡ codes "hash") ⊎ ((name
 abbrev pub IsOfNodes : Text → Type 0
 IsOfNodes name = (name ≡ codes "serve") ⊎ ((name ≡ codes "ask") ⊎ ((name ≡ codes "members") ⊎ (name ≡ codes "tell")))
 
--- there is a subcommand of this name, each of its words is there and in its range, and its hosts are fewer than 2^32
+-- there is a subcommand of this name, each of its arguments is there and in its range, and its hosts are fewer than 2^32
 pub record IsWhole (name : Text) (rows : List Row) : Type 0 where
-  pub known : IsOfLines name ⊎ IsOfNodes name
+  pub known : IsOfLines name ⊎ (IsOfNodes name ⊎ (name ≡ codes "agent"))
   pub hash : name ≡ codes "hash" → IsSome (first_of (codes "text") rows)
   pub owner : name ≡ codes "owner" → HasOwned rows
   pub sim : name ≡ codes "sim" → HasNumber rows (codes "replicas") IsReplicas
   pub serve : name ≡ codes "serve" → HasServed rows
+  pub agent : name ≡ codes "agent" → HasAgent rows
   pub ask : name ≡ codes "ask" → HasAsked rows
   pub any : name ≡ codes "ask" → IsFlagAt rows (codes "any") true → HasNumber rows (codes "replicas") IsReplicas
   pub members : name ≡ codes "members" → IsSome (first_of (codes "host") rows)
   pub tell : name ≡ codes "tell" → IsSome (first_of (codes "host") rows)
 
--- the text of no address
+-- the text is not that of an address
 abbrev pub IsNoAddress : Text → Type 0
 IsNoAddress text = (a : ℕ) → IsAddress a → text ≢ address_text a
 
--- the word of this name is there, and is one; or one of the words of this name is
+-- the argument of this name is there, and is not an address
 abbrev pub IsNoAddressAt : List Row → Text → Type 0
 IsNoAddressAt rows name = IsSomeAnd (first_of name rows) IsNoAddress
 
--- one of the words of this name is not an address
+-- one of the arguments of this name is not an address
 abbrev pub IsNoAddressAmong : List Row → Text → Type 0
 IsNoAddressAmong rows name = IsSomeAnd (all_of name rows) (Any IsNoAddress)
 
--- a word that is to be an address is none
+-- an option of `agent` that has to be an address is not one
+abbrev pub HasBadOption : List Row → Type 0
+HasBadOption rows = IsNoAddressAt rows (codes "bind") ⊎ (IsNoAddressAt rows (codes "http") ⊎ IsNoAddressAt rows (codes "app"))
+
+-- an argument that has to be an address is not one
 abbrev pub HasBadAddress : List Row → Type 0
 HasBadAddress rows =
-    IsNoAddressAt rows (codes "address") ⊎ (IsNoAddressAt rows (codes "host") ⊎ IsNoAddressAmong rows (codes "host"))
+    IsNoAddressAt rows (codes "address") ⊎ (IsNoAddressAt rows (codes "host") ⊎ (IsNoAddressAmong rows (codes "host") ⊎ HasBadOption rows))
 
--- why the words are refused, where they name this subcommand with these words behind it
-abbrev pub IsRefusalBy : Option (Text × List Row) → WordsFault → Type 0
+-- the error of the arguments, if they name this subcommand with these arguments after it
+abbrev pub IsRefusalBy : Option (Text × List Row) → WordsError → Type 0
 IsRefusalBy named =
     IsRefusalOf (IfSome named (λ p. IsWhole p.0 p.1)) (IsSomeAnd named (λ p. HasBadAddress p.1))

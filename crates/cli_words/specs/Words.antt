@@ -1,10 +1,11 @@
--- Which word of the command line each part of a command is. A row is what `clap` found for a name: its values and how they came.
-use Rattle.std.specs.Prelude.{◌≡◌, ◌⊎◌, ℕ, Bool, true, false, List, [], Option, Some, None, Ok, map, codes}
+-- The argument of the command line for each part of a command. A `Row` is what `clap` found for a name: its values and how they came.
+use Rattle.std.specs.Prelude.{◌≡◌, ◌⊎◌, ◌≤◌, ℕ, Bool, true, false, List, [], Option, Some, None, Ok, map, codes}
 use Rattle.std.specs.Str.Parse.{ParsesUnsigned}
 use Rattle.std.specs.declared.num.ParseIntError.{ParseIntError}
 use Rattle.clap.specs.Words.{Row, Text, all_of, first_of, found_of, one_of, rows_of}
 use Rattle.clap.specs.declared.parser.matches.ArgMatches.{ArgMatches}
 use Rattle.change_core.specs.Address.{address_text}
+use Rattle.change_core.specs.Numbers.{greatest_number}
 use Rattle.cli_core.specs.declared.words.OwnerWords.{OwnerWords}
 use Rattle.cli_core.specs.declared.words.SimWords.{SimWords}
 use Rattle.cli_core.specs.declared.subcommands.Subcommand.{Subcommand}
@@ -15,34 +16,37 @@ use Rattle.cli_core.specs.declared.words.AskAnyWords.{AskAnyWords}
 use Rattle.cli_core.specs.declared.words.MembersWords.{MembersWords}
 use Rattle.cli_core.specs.declared.words.ServeWords.{ServeWords}
 use Rattle.cli_words.specs.declared.words.Words.{Words}
-use Rattle.cli_words.specs.declared.words.Words.TheVariants.{Lines, Cluster}
+use Rattle.cli_words.specs.declared.words.Words.TheVariants.{Lines, Cluster, Agent}
+use Rattle.cli_words.specs.declared.agent_words.AgentWords.{AgentWords}
+use Rattle.cli_words.specs.declared.agent_words.LogLevel.{LogLevel}
+use Rattle.cli_words.specs.declared.agent_words.LogLevel.TheVariants.{Off, Error, Warn, Info, Debug}
 
--- what a parse holds of the words: a row for each name that it found
+-- the arguments that a parse holds: a `Row` for each name that it found
 abbrev pub rows_in : ArgMatches → List Row
 rows_in matches = rows_of (found_of matches)
 
--- the word of this name is there, and it is this number, as a `u64` is read
+-- the argument of this name is there, and it is this number, as a `u64` is read
 pub record IsNumberAt (rows : List Row) (name : Text) (n : ℕ) : Type 0 where
   pub text : Text
   pub given : one_of name rows ≡ Some text
   pub reads : ParsesUnsigned {E = ParseIntError} 64 10 text (Ok n)
 
--- whether the flag of this name is set; nothing is said of a text that is neither true nor false
+-- whether the flag of this name is set; a text that is neither true nor false is not covered
 pub record IsFlagAt (rows : List Row) (name : Text) (is_set : Bool) : Type 0 where
   pub absent : one_of name rows ≡ None → is_set ≡ false
   pub set : one_of name rows ≡ Some (codes "true") → is_set ≡ true
   pub unset : one_of name rows ≡ Some (codes "false") → is_set ≡ false
 
--- the word of this name is the text of this address
+-- the argument of this name is the text of this address
 abbrev pub IsAddressAt : List Row → Text → ℕ → Type 0
 IsAddressAt rows name a = first_of name rows ≡ Some (address_text a)
 
--- the words of this name are these addresses, in their order; none is there where there is no such word
+-- the arguments of this name are these addresses, in their order; without such an argument there is none
 abbrev pub AreAddressesAt : List Row → Text → List ℕ → Type 0
 AreAddressesAt rows name addresses =
     (all_of name rows ≡ Some (map address_text addresses)) ⊎ ((all_of name rows ≡ None) × (addresses ≡ []))
 
--- how many owners, of which key, by which points and hash: each is the word that bears its name
+-- the number of owners, the key, the points and the hash: each is the argument of its name
 pub record IsOwnedAt (rows : List Row) (words : OwnerWords) : Type 0 where
   pub count : IsNumberAt rows (codes "n") words.count
   pub replicas : IsNumberAt rows (codes "replicas") words.replicas
@@ -54,7 +58,7 @@ pub record IsScriptAt (rows : List Row) (words : SimWords) : Type 0 where
   pub replicas : IsNumberAt rows (codes "replicas") words.replicas
   pub sum : IsFlagAt rows (codes "sum") words.sum
 
--- the options and the numbers of a server are those of the words that bear their names
+-- the options and the numbers of a server are those of the arguments of their names
 pub record AreNumbersAt (rows : List Row) (words : ServeWords) : Type 0 where
   pub incarnation : IsNumberAt rows (codes "incarnation") words.incarnation
   pub requests : IsNumberAt rows (codes "requests") words.requests
@@ -62,6 +66,9 @@ pub record AreNumbersAt (rows : List Row) (words : ServeWords) : Type 0 where
   pub period : IsNumberAt rows (codes "period") words.period
   pub replicas : IsNumberAt rows (codes "replicas") words.replicas
   pub weight : IsNumberAt rows (codes "weight") words.weight
+  pub per_message : IsNumberAt rows (codes "per-message") words.per_message
+  pub piggyback : IsNumberAt rows (codes "piggyback") words.piggyback
+  pub heal : IsFlagAt rows (codes "heal") words.heal
   pub sum : IsFlagAt rows (codes "sum") words.sum
 
 -- its address and its hosts are, too
@@ -70,7 +77,7 @@ pub record IsServedAt (rows : List Row) (words : ServeWords) : Type 0 where
   pub hosts : AreAddressesAt rows (codes "host") words.hosts.items
   pub numbers : AreNumbersAt rows words
 
--- the node that is asked, the key and the request are the words that bear their names
+-- the node that is asked, the key and the request are the arguments of their names
 pub record IsAskedAt (rows : List Row) (a : ℕ) (k b : Text) : Type 0 where
   pub address : IsAddressAt rows (codes "address") a
   pub key : first_of (codes "key") rows ≡ Some k
@@ -82,19 +89,57 @@ pub record IsAnyAskedAt (rows : List Row) (words : AskAnyWords) : Type 0 where
   pub replicas : IsNumberAt rows (codes "replicas") words.replicas
   pub sum : IsFlagAt rows (codes "sum") words.sum
 
--- the node whose members are written, and whether as lines, are the words that bear their names
+-- the node whose members are written, and whether as lines, are the arguments of their names
 pub record AreMembersAt (rows : List Row) (words : MembersWords) : Type 0 where
   pub host : IsAddressAt rows (codes "host") words.host
   pub lines : IsFlagAt rows (codes "lines") words.lines
 
--- what a subcommand of this name does with lines, by the words behind it
+-- the option of this name is the text of this address, or is absent if there is none
+abbrev pub IsOptionAt : List Row → Text → Option ℕ → Type 0
+IsOptionAt rows name None = first_of name rows ≡ None
+IsOptionAt rows name (Some a) = IsAddressAt rows name a
+
+-- the name of a level of the log
+abbrev pub level_name : LogLevel → Text
+level_name Off = codes "off"
+level_name Error = codes "error"
+level_name Warn = codes "warn"
+level_name Info = codes "info"
+level_name Debug = codes "debug"
+
+-- the argument of this name is this number; without a number, it is absent or not a number in the range
+abbrev pub IsNumberIfAt : List Row → Text → (ℕ → Type 0) → Option ℕ → Type 0
+IsNumberIfAt rows name IsIn None = ((n : ℕ) × IsNumberAt rows name n × IsIn n) → ⊥
+IsNumberIfAt rows name IsIn (Some n) = IsNumberAt rows name n
+
+-- the numbers and flags of an agent, and the level of its log, are those of the arguments of their names
+pub record AreAgentNumbersAt (rows : List Row) (words : AgentWords) : Type 0 where
+  pub hands : IsNumberAt rows (codes "hands") words.hands
+  pub period : IsNumberAt rows (codes "period") words.period
+  pub per_message : IsNumberAt rows (codes "per-message") words.per_message
+  pub replicas : IsNumberAt rows (codes "replicas") words.replicas
+  pub weight : IsNumberAt rows (codes "weight") words.weight
+  pub incarnation : IsNumberIfAt rows (codes "incarnation") (λ n. n ≤ greatest_number) words.incarnation
+  pub http_any : IsFlagAt rows (codes "http-any") words.http_any
+  pub level : first_of (codes "log") rows ≡ Some (level_name words.level)
+
+-- and its addresses are, too
+pub record IsAgentAt (rows : List Row) (words : AgentWords) : Type 0 where
+  pub address : IsAddressAt rows (codes "address") words.address
+  pub bind : IsOptionAt rows (codes "bind") words.bind
+  pub http : IsOptionAt rows (codes "http") words.http
+  pub app : IsOptionAt rows (codes "app") words.app
+  pub hosts : AreAddressesAt rows (codes "host") words.hosts.items
+  pub numbers : AreAgentNumbersAt rows words
+
+-- the command of a subcommand of this name over lines, by the arguments after it
 abbrev pub AreLinesOf : Text → List Row → Subcommand → Type 0
 AreLinesOf name rows Fold = name ≡ codes "fold"
 AreLinesOf name rows (Hash text) = (name ≡ codes "hash") × (first_of (codes "text") rows ≡ Some text.now)
 AreLinesOf name rows (Owner words) = (name ≡ codes "owner") × IsOwnedAt rows words
 AreLinesOf name rows (Sim words) = (name ≡ codes "sim") × IsScriptAt rows words
 
--- what a subcommand of this name does with nodes, by the words behind it
+-- the command of a subcommand of this name with nodes, by the arguments after it
 abbrev pub IsCommandOf : Text → List Row → ClusterCommand → Type 0
 IsCommandOf name rows (Serve words) = (name ≡ codes "serve") × IsServedAt rows words
 IsCommandOf name rows (Ask words) =
@@ -103,12 +148,13 @@ IsCommandOf name rows (AskAny words) = (name ≡ codes "ask") × (IsFlagAt rows 
 IsCommandOf name rows (Members words) = (name ≡ codes "members") × AreMembersAt rows words
 IsCommandOf name rows (Tell host) = (name ≡ codes "tell") × IsAddressAt rows (codes "host") host
 
--- what a subcommand of this name does, by the words behind it
+-- the command of a subcommand of this name, by the arguments after it
 abbrev pub AreWordsOf : Text → List Row → Words → Type 0
 AreWordsOf name rows (Lines subcommand) = AreLinesOf name rows subcommand
 AreWordsOf name rows (Cluster command) = IsCommandOf name rows command
+AreWordsOf name rows (Agent words) = (name ≡ codes "agent") × IsAgentAt rows words
 
--- what the words ask for, by the subcommand that they name and the words behind it; with none they ask for `fold`
+-- the command of the arguments, by the subcommand that they name and the arguments after it; with none it is `fold`
 abbrev pub AreAskedBy : Option (Text × List Row) → Words → Type 0
 AreAskedBy None words = words ≡ Lines Fold
 AreAskedBy (Some named) words = AreWordsOf named.0 named.1 words

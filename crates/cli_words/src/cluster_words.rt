@@ -1,10 +1,11 @@
-//! The words of the commands that speak to nodes.
+//! The arguments of the commands that speak to nodes.
 ghost use Rattle.std.specs.Prelude.{◌≡◌, ◌<◌, ◌≤◌, ◌^◌, length, map, codes, IfErr, IfOk, IfSome, IsSome, MatchOption};
 ghost use Rattle.std.specs.List.{Any};
 ghost use Rattle.clap.specs.Words.{first_of};
 ghost use Rattle.change_core.specs.Address.{address_text};
 ghost use Rattle.change_core.specs.Numbers.{IsWeight, greatest_number};
 ghost use Rattle.node_core.specs.Workers.{IsCrew};
+ghost use Rattle.cli_core.specs.Words.{IsPerMessage, IsPiggyback};
 ghost use Rattle.cli_words.specs.Faults.{IsRefusalOf};
 ghost use Rattle.cli_words.specs.Whole.{HasAnyAsked, HasAsked, HasBadAddress, HasNumber, HasNumbers, HasServed, IsNoAddress, IsNoAddressAmong};
 ghost use Rattle.cli_words.specs.Whole.{IsNoAddressAt, IsOfNodes, IsWhole};
@@ -12,26 +13,38 @@ ghost use Rattle.cli_words.specs.Words.{AreAddressesAt, AreMembersAt, AreNumbers
 ghost use Rattle.cli_words.specs.Words.{IsServedAt, rows_in};
 
 use crate::commands::{
-    ADDRESS, ANY, BODY, HOST, INCARNATION, KEY, LINES, PERIOD, REQUESTS, SUM, WEIGHT, WORKERS,
+    ADDRESS, ANY, BODY, HEAL, HOST, INCARNATION, KEY, LINES, PER_MESSAGE, PERIOD, PIGGYBACK,
+    REQUESTS, SUM, WEIGHT, WORKERS,
 };
-use crate::faults::WordsFault;
+use crate::faults::WordsError;
 use crate::words::{absent, flag, number, replicas};
-use change_core::{Address, GREATEST_NUMBER, GREATEST_WEIGHT, Incarnation, Weight};
+use change_core::{Address, Incarnation, MAX_MEMBERS, MAX_NUMBER, MAX_WEIGHT, Weight};
 use clap::ArgMatches;
-use cli_core::{AskAnyWords, AskWords, ClusterCommand, MOST_REQUESTS, MembersWords, ServeWords};
-use node_core::MOST_WORKERS;
+use cli_core::{AskAnyWords, AskWords, ClusterCommand, MAX_REQUESTS, MembersWords, ServeWords};
+use gossip_core::MAX_FACTOR;
+use node_core::MAX_WORKERS;
 use std::alloc::Global;
 
-/// An address by its one text. Any other text is `BadAddress`.
-fn address_of(text: &str) -> Result<Address, WordsFault>
+/// Returns the address of a text; each address has exactly one.
+///
+/// # Errors
+///
+/// - `BadAddress`: the text is not that of an address.
+pub fn address_of(text: &str) -> Result<Address, WordsError>
     ensures ok { IfOk result (λ a. text.now ≡ address_text a) }
-    ensures fault { IfErr result (λ f. (f ≡ WordsFault.BadAddress) × IsNoAddress text.now) }
+    ensures fault { IfErr result (λ f. (f ≡ WordsError.BadAddress) × IsNoAddress text.now) }
 {
-    Address::parse(text).map_err(|_| WordsFault::BadAddress)
+    Address::parse(text).map_err(|_| WordsError::BadAddress)
 }
 
-/// The address that a word is.
-fn address_at(alloc: Global, matches: &ArgMatches<'_>, id: &str) -> Result<Address, WordsFault>
+/// Returns the address of the argument of this name.
+///
+/// # Errors
+///
+/// - `Usage`: there is no argument of this name; in the form of `clap`'s errors.
+/// - `BadAddress`: the argument is not an address.
+/// - `NoMemory`: out of memory for the text of `Usage`.
+pub fn address_at(alloc: Global, matches: &ArgMatches<'_>, id: &str) -> Result<Address, WordsError>
     ensures ok { IfOk result (IsAddressAt (rows_in matches.now) id.now) }
     ensures fault { IfErr result (IsRefusalOf (IsSome (first_of id.now (rows_in matches.now))) (IsNoAddressAt (rows_in matches.now) id.now)) }
 {
@@ -41,8 +54,8 @@ fn address_at(alloc: Global, matches: &ArgMatches<'_>, id: &str) -> Result<Addre
     }
 }
 
-/// The addresses that these texts are, in their order. The first text that is none is `BadAddress`.
-fn addresses_of(alloc: Global, texts: &[&str]) -> Result<Vec<Address>, WordsFault>
+/// Reads these texts as addresses, in their order. The first text that is not an address is `BadAddress`.
+fn addresses_of(alloc: Global, texts: &[&str]) -> Result<Vec<Address>, WordsError>
     ensures ok { IfOk result (λ hosts. map (λ s. s.now) texts.now ≡ map address_text hosts.items) }
     ensures fault { IfErr result (IsRefusalOf (Unit {0}) (Any IsNoAddress (map (λ s. s.now) texts.now))) }
 {
@@ -54,8 +67,13 @@ fn addresses_of(alloc: Global, texts: &[&str]) -> Result<Vec<Address>, WordsFaul
     Ok(addresses)
 }
 
-/// The hosts that a node asks to let it join.
-fn hosts_at(alloc: Global, matches: &ArgMatches<'_>) -> Result<Vec<Address>, WordsFault>
+/// Returns the hosts that a node asks to admit it, in their order.
+///
+/// # Errors
+///
+/// - `BadAddress`: a host is not an address.
+/// - `NoMemory`: out of memory for the list; never if no host is given.
+pub fn hosts_at(alloc: Global, matches: &ArgMatches<'_>) -> Result<Vec<Address>, WordsError>
     ensures ok { IfOk result (λ hosts. AreAddressesAt (rows_in matches.now) (codes "host") hosts.items) }
     ensures fault { IfErr result (IsRefusalOf (Unit {0}) (IsNoAddressAmong (rows_in matches.now) (codes "host"))) }
 {
@@ -65,35 +83,55 @@ fn hosts_at(alloc: Global, matches: &ArgMatches<'_>) -> Result<Vec<Address>, Wor
     }
 }
 
-/// A node's first incarnation, exactly where it is there and in its range.
-fn incarnation(matches: &ArgMatches<'_>) -> Option<Incarnation>
+/// Returns a node's first incarnation, if and only if it is there and in its range.
+pub fn incarnation(matches: &ArgMatches<'_>) -> Option<Incarnation>
     ensures given { IfSome result (IsNumberAt (rows_in matches.now) (codes "incarnation")) }
     ensures taken { HasNumber (rows_in matches.now) (codes "incarnation") (λ n. n ≤ greatest_number) → IsSome result }
 {
-    let incarnation = number(matches, INCARNATION, 0, GREATEST_NUMBER)?;
+    let incarnation = number(matches, INCARNATION, 0, MAX_NUMBER)?;
     Incarnation::new(incarnation)
 }
 
-/// How many connections are served at a time, exactly where that is there and in its range.
+/// Returns the number of connections that are served at a time, if and only if that is there and in its range.
 fn workers(matches: &ArgMatches<'_>) -> Option<u32>
     ensures range { IfSome result IsCrew }
     ensures given { IfSome result (IsNumberAt (rows_in matches.now) (codes "workers")) }
     ensures taken { HasNumber (rows_in matches.now) (codes "workers") IsCrew → IsSome result }
 {
-    let workers = number(matches, WORKERS, 1, u64::from(MOST_WORKERS))?;
+    let workers = number(matches, WORKERS, 1, u64::from(MAX_WORKERS))?;
     Some(workers as u32)
 }
 
-/// A node's weight, exactly where it is there and in its range.
-fn weight(matches: &ArgMatches<'_>) -> Option<Weight>
+/// Returns a node's weight, if and only if it is there and in its range.
+pub fn weight(matches: &ArgMatches<'_>) -> Option<Weight>
     ensures given { IfSome result (IsNumberAt (rows_in matches.now) (codes "weight")) }
     ensures taken { HasNumber (rows_in matches.now) (codes "weight") IsWeight → IsSome result }
 {
-    let weight = number(matches, WEIGHT, 1, u64::from(GREATEST_WEIGHT))?;
+    let weight = number(matches, WEIGHT, 1, u64::from(MAX_WEIGHT))?;
     Weight::new(weight as u8)
 }
 
-/// The words of `serve` with this address and no host, exactly where each number is in its range.
+/// Returns the most changes of a message, if and only if the option is there and in its range.
+fn per_message(matches: &ArgMatches<'_>) -> Option<usize>
+    ensures range { IfSome result IsPerMessage }
+    ensures given { IfSome result (IsNumberAt (rows_in matches.now) (codes "per-message")) }
+    ensures taken { HasNumber (rows_in matches.now) (codes "per-message") IsPerMessage → IsSome result }
+{
+    let per_message = number(matches, PER_MESSAGE, 1, MAX_MEMBERS as u64)?;
+    Some(per_message as usize)
+}
+
+/// Returns how often a change is passed on, if and only if the option is there and in its range.
+fn piggyback(matches: &ArgMatches<'_>) -> Option<u32>
+    ensures range { IfSome result IsPiggyback }
+    ensures given { IfSome result (IsNumberAt (rows_in matches.now) (codes "piggyback")) }
+    ensures taken { HasNumber (rows_in matches.now) (codes "piggyback") IsPiggyback → IsSome result }
+{
+    let piggyback = number(matches, PIGGYBACK, 1, u64::from(MAX_FACTOR))?;
+    Some(piggyback as u32)
+}
+
+/// Returns the arguments of `serve` with this address and no host, if and only if each number is in its range.
 fn words_without_hosts(
     alloc: Global,
     matches: &ArgMatches<'_>,
@@ -104,11 +142,13 @@ fn words_without_hosts(
     ensures taken { HasNumbers (rows_in matches.now) → IsSome result }
 {
     let incarnation = incarnation(matches)?;
-    let requests = number(matches, REQUESTS, 1, MOST_REQUESTS)?;
+    let requests = number(matches, REQUESTS, 1, MAX_REQUESTS)?;
     let workers = workers(matches)?;
-    let period = number(matches, PERIOD, 0, GREATEST_NUMBER)?;
+    let period = number(matches, PERIOD, 0, MAX_NUMBER)?;
     let replicas = replicas(matches)?;
     let weight = weight(matches)?;
+    let per_message = per_message(matches)?;
+    let piggyback = piggyback(matches)?;
     Some(ServeWords {
         address,
         incarnation,
@@ -117,12 +157,16 @@ fn words_without_hosts(
         period,
         replicas,
         weight,
+        per_message,
+        piggyback,
+        heal: flag(matches, HEAL),
         sum: flag(matches, SUM),
         hosts: Vec::new(alloc),
     })
 }
 
-/// The words of `serve` with this address and these hosts, exactly where each number is in its range, and so is the number of hosts.
+/// Returns the arguments of `serve` with this address and these hosts, if and only if each number is in its range, and
+/// so is the number of hosts.
 fn serve_words_at(
     alloc: Global,
     matches: &ArgMatches<'_>,
@@ -142,8 +186,8 @@ fn serve_words_at(
     Some(words)
 }
 
-/// The words of `serve`.
-fn serve_words(alloc: Global, matches: &ArgMatches<'_>) -> Result<ServeWords, WordsFault>
+/// Returns the arguments of `serve`.
+fn serve_words(alloc: Global, matches: &ArgMatches<'_>) -> Result<ServeWords, WordsError>
     ensures served { IfOk result (IsServedAt (rows_in matches.now)) }
     ensures fault { IfErr result (IsRefusalOf (HasServed (rows_in matches.now)) (HasBadAddress (rows_in matches.now))) }
 {
@@ -155,8 +199,8 @@ fn serve_words(alloc: Global, matches: &ArgMatches<'_>) -> Result<ServeWords, Wo
     }
 }
 
-/// The words of `ask`.
-fn ask_words<'a>(alloc: Global, matches: &ArgMatches<'a>) -> Result<AskWords<'a>, WordsFault>
+/// Returns the arguments of `ask`.
+fn ask_words<'a>(alloc: Global, matches: &ArgMatches<'a>) -> Result<AskWords<'a>, WordsError>
     ensures asked { IfOk result (λ words. IsAskedAt (rows_in matches.now) words.address words.key.now words.body.now) }
     ensures fault { IfErr result (IsRefusalOf (HasAsked (rows_in matches.now)) (HasBadAddress (rows_in matches.now))) }
 {
@@ -167,8 +211,8 @@ fn ask_words<'a>(alloc: Global, matches: &ArgMatches<'a>) -> Result<AskWords<'a>
     Ok(AskWords { address, key, body })
 }
 
-/// The words of `ask --any`.
-fn ask_any_words<'a>(alloc: Global, matches: &ArgMatches<'a>) -> Result<AskAnyWords<'a>, WordsFault>
+/// Returns the arguments of `ask --any`.
+fn ask_any_words<'a>(alloc: Global, matches: &ArgMatches<'a>) -> Result<AskAnyWords<'a>, WordsError>
     ensures asked { IfOk result (IsAnyAskedAt (rows_in matches.now)) }
     ensures fault { IfErr result (IsRefusalOf (HasAnyAsked (rows_in matches.now)) (HasBadAddress (rows_in matches.now))) }
 {
@@ -185,8 +229,8 @@ fn ask_any_words<'a>(alloc: Global, matches: &ArgMatches<'a>) -> Result<AskAnyWo
     })
 }
 
-/// The words of `members`.
-fn members_words(alloc: Global, matches: &ArgMatches<'_>) -> Result<MembersWords, WordsFault>
+/// Returns the arguments of `members`.
+fn members_words(alloc: Global, matches: &ArgMatches<'_>) -> Result<MembersWords, WordsError>
     ensures members { IfOk result (AreMembersAt (rows_in matches.now)) }
     ensures fault { IfErr result (IsRefusalOf (IsSome (first_of (codes "host") (rows_in matches.now))) (HasBadAddress (rows_in matches.now))) }
 {
@@ -197,14 +241,19 @@ fn members_words(alloc: Global, matches: &ArgMatches<'_>) -> Result<MembersWords
     })
 }
 
-/// What the subcommand of this name is to do with nodes, and `None` exactly where no subcommand of the name speaks to nodes. It refuses
-/// words as `clap` does only where one is absent or not in its range, or there are 2^32 hosts, and by `BadAddress` only where one that is
-/// to be an address is none.
+/// Returns the command of the subcommand of this name, and `None` if and only if no subcommand of the name speaks to
+/// nodes.
+///
+/// # Errors
+///
+/// - `Usage`: an argument is absent or not in its range, or there are 2^32 hosts; in the form of `clap`'s errors.
+/// - `BadAddress`: an argument that has to be an address is not one.
+/// - `NoMemory`: out of memory.
 pub fn cluster_command_of<'a>(
     alloc: Global,
     name: &str,
     matches: &ArgMatches<'a>,
-) -> Result<Option<ClusterCommand<'a>>, WordsFault>
+) -> Result<Option<ClusterCommand<'a>>, WordsError>
     ensures command { IfOk result (λ found. MatchOption found (¬ IsOfNodes name.now) (IsCommandOf name.now (rows_in matches.now))) }
     ensures other { ¬ IsOfNodes name.now → result ≡ Ok None }
     ensures fault { IfErr result (IsRefusalOf (IsWhole name.now (rows_in matches.now)) (HasBadAddress (rows_in matches.now))) }

@@ -5,60 +5,89 @@ ghost use Rattle.clap.specs.declared.builder.command.Command.{Command as BuiltCo
 ghost use Rattle.cli_words.specs.CommandLine as line;
 ghost use Rattle.cli_words.specs.CommandLine.{leaf, ringpop_app};
 
-use change_core::{GREATEST_NUMBER, GREATEST_WEIGHT, MOST_MEMBERS};
+use crate::agent_words::{MAX_HANDS, MAX_PERIOD};
+use change_core::{MAX_MEMBERS, MAX_NUMBER, MAX_WEIGHT};
 use clap::builder::{ValueParser, ValueRange};
 use clap::{Arg, ArgAction, Command};
-use cli_core::MOST_REQUESTS;
+use cli_core::MAX_REQUESTS;
+use gossip_core::MAX_FACTOR;
 use hash_ring::MAX_REPLICAS;
-use node_core::MOST_WORKERS;
+use node_core::MAX_WORKERS;
 use std::alloc::{AllocError, Global};
 
-/// How many owners are named.
+/// The argument for the number of owners to name.
 pub const COUNT: &str = "n";
 
-/// How many points a server has for each unit of its weight.
+/// The argument for the number of a server's points for each unit of its weight.
 pub const REPLICAS: &str = "replicas";
 
-/// Whether the hash is the sum of the bytes.
+/// The argument for the sum of the bytes as the hash.
 pub const SUM: &str = "sum";
 
 /// The key whose owners are named.
 pub const KEY: &str = "key";
 
-/// A node: where it is reached.
+/// The argument for the address of a node.
 pub const ADDRESS: &str = "address";
 
-/// A running node that is asked about the cluster, or to let a node join.
+/// The argument for a running node that is asked about the cluster, or to admit a node.
 pub const HOST: &str = "host";
 
 /// A node's first incarnation.
 pub const INCARNATION: &str = "incarnation";
 
-/// How many connections are served.
+/// The argument for the number of connections to serve.
 pub const REQUESTS: &str = "requests";
 
-/// How many connections are served at a time.
+/// The argument for the number of connections that are served at a time.
 pub const WORKERS: &str = "workers";
 
-/// How many milliseconds lie between two rounds of gossip.
+/// The argument for the milliseconds between two rounds of gossip.
 pub const PERIOD: &str = "period";
+
+/// The argument for how often a change is passed on for each decimal digit of the number of serving members.
+pub const PIGGYBACK: &str = "piggyback";
+
+/// The argument for finding members again that parted.
+pub const HEAL: &str = "heal";
 
 /// A node's weight.
 pub const WEIGHT: &str = "weight";
 
-/// What a request says.
+/// The argument for the body of a request.
 pub const BODY: &str = "body";
 
-/// Whether the owner of the key is asked, whichever node that is.
+/// The argument for asking the owner of the key, whichever node that is.
 pub const ANY: &str = "any";
 
-/// Whether members are printed as change lines.
+/// The argument for printing members as change lines.
 pub const LINES: &str = "lines";
 
 /// The text that is hashed.
 pub const TEXT: &str = "text";
 
-/// What stands below the help of the program.
+/// The argument for the address at which a node listens, if that is not the one by which others name it.
+pub const BIND: &str = "bind";
+
+/// The argument for the address at which HTTP is answered.
+pub const HTTP: &str = "http";
+
+/// The argument for allowing an address for HTTP outside 127.0.0.0/8.
+pub const HTTP_ANY: &str = "http-any";
+
+/// The argument for the address of the application.
+pub const APP: &str = "app";
+
+/// The argument for the most requests of other nodes that the application is given at a time.
+pub const HANDS: &str = "hands";
+
+/// The argument for the most changes that a message carries.
+pub const PER_MESSAGE: &str = "per-message";
+
+/// The argument for the level of the log.
+pub const LOG: &str = "log";
+
+/// The text below the help of the program.
 const BELOW: &str =
     r#"A change line is one JSON object, in which a node (the source) says what it holds of a member:
   {"address":"10.0.0.2:7946","incarnationNumber":5,"source":"10.0.0.1:7946","sourceIncarnationNumber":3,"status":"alive"}
@@ -72,12 +101,15 @@ Examples:
   ringpop serve 10.0.0.1:7946 1 1000             the first node of a cluster, which ends after 1,000 connections
   ringpop serve --period 200 10.0.0.2:7946 1 1000 10.0.0.1:7946
                                                  a second one, which joins the first and gossips each 200 milliseconds
+  ringpop agent --http 127.0.0.1:7980 --app 127.0.0.1:8080 10.0.0.1:7946 10.0.0.2:7946
+                                                 a node next to a service, which joins the second and has the service answer
 
 Exit status: 0 if all went well; 1 if a line is at fault, if no node answers as it was asked, if a node is let in by no host,
-cannot listen or has no thread, or if reading, writing or memory failed; 2 if the arguments are invalid, an address among them,
+cannot listen or has no thread, if an agent's node takes no calls more or its HTTP would be answered beyond the machine, or if
+reading, writing or memory failed; 2 if the arguments are invalid, an address among them,
 or ask for help or the version, which go to standard error."#;
 
-/// What stands below the help of `sim`.
+/// The text below the help of `sim`.
 const BELOW_SIM: &str =
     r#"Commands of a script, with one space between words (X and Y are addresses, I is an incarnation, W a weight):
   node X I [W]                     make a node
@@ -109,7 +141,7 @@ fn option<'a>(
         .default_value(default)
 }
 
-/// A word that has to be given: a text, which may be empty.
+/// An argument that has to be given: a text, which may be empty.
 fn word<'a>(alloc: Global, name: &'a str, value: &'a str, help: &'a str) -> Arg<'a>
     ensures { rule_of result ≡ line.word name.entry.now }
 {
@@ -119,7 +151,7 @@ fn word<'a>(alloc: Global, name: &'a str, value: &'a str, help: &'a str) -> Arg<
         .help(help)
 }
 
-/// A new subcommand with these options and words, in their order.
+/// A new subcommand with these options and arguments, in their order.
 fn leaf_command<'a>(
     alloc: Global,
     name: &'a str,
@@ -150,7 +182,7 @@ fn hash_command<'a>(alloc: Global) -> Result<Command<'a>, AllocError>
         .arg(text)
 }
 
-/// How many points a server has for each unit of its weight.
+/// The number of a server's points for each unit of its weight.
 fn replicas_option<'a>(alloc: Global) -> Arg<'a>
     ensures { rule_of result ≡ line.replicas }
 {
@@ -159,7 +191,7 @@ fn replicas_option<'a>(alloc: Global) -> Arg<'a>
     )
 }
 
-/// Whether the hash is the sum of the bytes.
+/// The flag for the sum of the bytes as the hash.
 fn sum_flag<'a>(alloc: Global) -> Arg<'a>
     ensures { rule_of result ≡ line.sum }
 {
@@ -172,7 +204,7 @@ fn sum_flag<'a>(alloc: Global) -> Arg<'a>
 fn owner_command<'a>(alloc: Global) -> Result<Command<'a>, AllocError>
     ensures { IfOk result (λ c. app_of c ≡ leaf line.owner_words) }
 {
-    let count = option(alloc, COUNT, "N", "1", 0, MOST_MEMBERS as u64).help(
+    let count = option(alloc, COUNT, "N", "1", 0, MAX_MEMBERS as u64).help(
         "How many owners to print, the first first: 0 to 4096",
     );
     let key = word(alloc, KEY, "KEY", "The key: any text, which may be empty");
@@ -195,20 +227,20 @@ fn sim_command<'a>(alloc: Global) -> Result<Command<'a>, AllocError>
         .args(words)
 }
 
-/// How many connections are served at a time.
+/// The number of connections that are served at a time.
 fn workers_option<'a>(alloc: Global) -> Arg<'a>
     ensures { rule_of result ≡ line.workers }
 {
-    option(alloc, WORKERS, "W", "2", 1, u64::from(MOST_WORKERS)).help(
+    option(alloc, WORKERS, "W", "2", 1, u64::from(MAX_WORKERS)).help(
         "How many connections are served at a time: 1 to 16",
     )
 }
 
-/// How many milliseconds lie between two rounds of gossip.
+/// The milliseconds between two rounds of gossip.
 fn period_option<'a>(alloc: Global) -> Arg<'a>
     ensures { rule_of result ≡ line.period }
 {
-    option(alloc, PERIOD, "MS", "0", 0, GREATEST_NUMBER).help(
+    option(alloc, PERIOD, "MS", "0", 0, MAX_NUMBER).help(
         "Milliseconds between two rounds of gossip: 0, which makes none, to 9007199254740991",
     )
 }
@@ -217,12 +249,42 @@ fn period_option<'a>(alloc: Global) -> Arg<'a>
 fn weight_option<'a>(alloc: Global) -> Arg<'a>
     ensures { rule_of result ≡ line.weight }
 {
-    option(alloc, WEIGHT, "W", "1", 1, u64::from(GREATEST_WEIGHT)).help(
+    option(alloc, WEIGHT, "W", "1", 1, u64::from(MAX_WEIGHT)).help(
         "The node's weight, its share of the keys: 1 to 8",
     )
 }
 
-/// A word that has to be given: a whole number in a range.
+/// The option for the most changes that a message of `serve` carries.
+fn per_message_option<'a>(alloc: Global) -> Arg<'a>
+    ensures { rule_of result ≡ line.per_message }
+{
+    option(alloc, PER_MESSAGE, "N", "64", 1, MAX_MEMBERS as u64).help(
+        "How many changes a message carries at most: 1 to 4096; more let many nodes that start together agree sooner",
+    )
+}
+
+/// The option for how often a change is passed on, for each decimal digit of the number of serving members.
+fn piggyback_option<'a>(alloc: Global) -> Arg<'a>
+    ensures { rule_of result ≡ line.piggyback }
+{
+    option(alloc, PIGGYBACK, "N", "15", 1, u64::from(MAX_FACTOR)).help(
+        "How often a change is passed on, for each decimal digit of the number of serving members: 1 to 1000",
+    )
+}
+
+/// The flag for finding members again that parted.
+fn heal_flag<'a>(alloc: Global) -> Arg<'a>
+    ensures { rule_of result ≡ line.flag (codes "heal") }
+{
+    Arg::new(alloc, HEAL)
+        .long(HEAL)
+        .action(ArgAction::SetTrue)
+        .help(
+            "Find members again that parted: after each tenth round ping one at random, also a faulty one, and send a join to a host that does not serve",
+        )
+}
+
+/// An argument that has to be given: a whole number in a range.
 fn number_word<'a>(
     alloc: Global,
     name: &'a str,
@@ -242,18 +304,18 @@ fn incarnation_word<'a>(alloc: Global) -> Arg<'a>
 {
     let help =
         "The node's first incarnation, and its seed: 0 to 9007199254740991; greater than any that it had before";
-    number_word(alloc, INCARNATION, "INCARNATION", help, 0, GREATEST_NUMBER)
+    number_word(alloc, INCARNATION, "INCARNATION", help, 0, MAX_NUMBER)
 }
 
-/// How many connections are served.
+/// The number of connections to serve.
 fn requests_word<'a>(alloc: Global) -> Arg<'a>
     ensures { rule_of result ≡ line.requests }
 {
     let help = "How many connections are served, those of gossip too: 1 to 1000000";
-    number_word(alloc, REQUESTS, "REQUESTS", help, 1, MOST_REQUESTS)
+    number_word(alloc, REQUESTS, "REQUESTS", help, 1, MAX_REQUESTS)
 }
 
-/// The nodes that are asked to let the node join.
+/// The nodes that are asked to admit the node.
 fn hosts_word<'a>(alloc: Global) -> Arg<'a>
     ensures { rule_of result ≡ line.hosts }
 {
@@ -279,6 +341,9 @@ fn serve_command<'a>(alloc: Global) -> Result<Command<'a>, AllocError>
         replicas_option(alloc),
         sum_flag(alloc),
         weight_option(alloc),
+        per_message_option(alloc),
+        piggyback_option(alloc),
+        heal_flag(alloc),
         address,
         incarnation_word(alloc),
         requests_word(alloc),
@@ -292,7 +357,7 @@ fn serve_command<'a>(alloc: Global) -> Result<Command<'a>, AllocError>
     )
 }
 
-/// Whether the owner of the key is asked, whichever node that is.
+/// The flag for asking the owner of the key, whichever node that is.
 fn any_flag<'a>(alloc: Global) -> Arg<'a>
     ensures { rule_of result ≡ line.flag (codes "any") }
 {
@@ -302,7 +367,7 @@ fn any_flag<'a>(alloc: Global) -> Arg<'a>
         .help("Take ADDRESS for any node of the cluster, and ask the owner of the key")
 }
 
-/// `ask`, whose options for the owner are these.
+/// The subcommand `ask` with these options for asking the owner.
 fn ask_command_with<'a>(
     alloc: Global,
     replicas: Arg<'a>,
@@ -380,7 +445,149 @@ fn tell_command<'a>(alloc: Global) -> Result<Command<'a>, AllocError>
         .arg(host_word(alloc))
 }
 
-/// The command with one subcommand more, where there was memory for both.
+/// An option with an address.
+fn address_option<'a>(alloc: Global, name: &'a str, help: &'a str) -> Arg<'a>
+    ensures { rule_of result ≡ line.address_option name.entry.now }
+{
+    Arg::new(alloc, name)
+        .long(name)
+        .value_name("ADDRESS")
+        .help(help)
+}
+
+/// The option for the address at which a node listens, if that is not its own.
+fn bind_option<'a>(alloc: Global) -> Arg<'a>
+    ensures { rule_of result ≡ line.address_option (codes "bind") }
+{
+    address_option(
+        alloc,
+        BIND,
+        "Where the node listens, if not at ADDRESS, as in a container",
+    )
+}
+
+/// The option for the address at which HTTP is answered.
+fn http_option<'a>(alloc: Global) -> Arg<'a>
+    ensures { rule_of result ≡ line.address_option (codes "http") }
+{
+    address_option(
+        alloc,
+        HTTP,
+        "Where HTTP is answered, in 127.0.0.0/8; nowhere if not given",
+    )
+}
+
+/// The option for the address of the application.
+fn app_option<'a>(alloc: Global) -> Arg<'a>
+    ensures { rule_of result ≡ line.address_option (codes "app") }
+{
+    address_option(
+        alloc,
+        APP,
+        "Where the application takes POST /keys/KEY; if not given, requests are echoed",
+    )
+}
+
+/// The flag for allowing an address for HTTP outside 127.0.0.0/8.
+fn http_any_flag<'a>(alloc: Global) -> Arg<'a>
+    ensures { rule_of result ≡ line.flag (codes "http-any") }
+{
+    Arg::new(alloc, HTTP_ANY)
+        .long(HTTP_ANY)
+        .action(ArgAction::SetTrue)
+        .help("Let --http be an address beyond 127.0.0.0/8: whoever reaches it may stop the node")
+}
+
+/// The option for the most requests of other nodes that the application is given at a time.
+fn hands_option<'a>(alloc: Global) -> Arg<'a>
+    ensures { rule_of result ≡ line.hands }
+{
+    option(alloc, HANDS, "N", "32", 1, MAX_HANDS).help(
+        "How many requests of other nodes the application is given at a time: 1 to 256",
+    )
+}
+
+/// The option for the milliseconds between two rounds of an agent.
+fn agent_period_option<'a>(alloc: Global) -> Arg<'a>
+    ensures { rule_of result ≡ line.agent_period }
+{
+    option(alloc, PERIOD, "MS", "200", 1, MAX_PERIOD).help(
+        "Milliseconds between two rounds of gossip: 1 to 60000",
+    )
+}
+
+/// The option for the most changes that a message of an agent carries.
+fn agent_per_message_option<'a>(alloc: Global) -> Arg<'a>
+    ensures { rule_of result ≡ line.agent_per_message }
+{
+    option(alloc, PER_MESSAGE, "N", "256", 1, MAX_MEMBERS as u64).help(
+        "How many changes a message carries at most: 1 to 4096",
+    )
+}
+
+/// The option for a node's first incarnation.
+fn incarnation_option<'a>(alloc: Global) -> Arg<'a>
+    ensures { rule_of result ≡ line.incarnation_option }
+{
+    Arg::new(alloc, INCARNATION)
+        .long(INCARNATION)
+        .value_name("I")
+        .value_parser(ValueParser::unsigned(0, MAX_NUMBER))
+        .help(
+            "The node's first incarnation: 0 to 9007199254740991; the milliseconds since 1970 if not given",
+        )
+}
+
+/// The option for the level of the log.
+fn log_option<'a>(alloc: Global) -> Arg<'a>
+    ensures { rule_of result ≡ line.log }
+{
+    Arg::new(alloc, LOG)
+        .long(LOG)
+        .value_name("LEVEL")
+        .default_value("info")
+        .help("What standard error is told: off, error, warn, info or debug")
+}
+
+/// The address by which other nodes name an agent's node.
+fn agent_address<'a>(alloc: Global) -> Arg<'a>
+    ensures { rule_of result ≡ line.word (codes "address") }
+{
+    word(
+        alloc,
+        ADDRESS,
+        "ADDRESS",
+        "What the others call the node: an IPv4 address and a port",
+    )
+}
+
+fn agent_command<'a>(alloc: Global) -> Result<Command<'a>, AllocError>
+    ensures { IfOk result (λ c. app_of c ≡ leaf line.agent_words) }
+{
+    let words = vec![in alloc;
+        bind_option(alloc),
+        http_option(alloc),
+        http_any_flag(alloc),
+        app_option(alloc),
+        hands_option(alloc),
+        agent_period_option(alloc),
+        agent_per_message_option(alloc),
+        replicas_option(alloc),
+        weight_option(alloc),
+        incarnation_option(alloc),
+        log_option(alloc),
+        agent_address(alloc),
+        hosts_word(alloc),
+    ]?;
+    leaf_command(
+        alloc,
+        "agent",
+        "Runs a node next to an application until POST /stop: it gossips, answers HTTP, and has the application answer the requests of the keys that the node owns",
+        words,
+    )
+}
+
+/// The command with another subcommand. Out of memory for either is the error.
 fn with_subcommand<'a>(
     command: Result<Command<'a>, AllocError>,
     subcommand: Result<Command<'a>, AllocError>,
@@ -390,13 +597,17 @@ fn with_subcommand<'a>(
     command?.subcommand(subcommand?)
 }
 
-/// The subcommands and their words, as the table of the command line has them.
+/// Returns the subcommands and their arguments, as the table of the command line has them.
+///
+/// # Errors
+///
+/// - `AllocError`: out of memory.
 pub fn ringpop_command<'a>(alloc: Global) -> Result<Command<'a>, AllocError>
     ensures { IfOk result (λ c. app_of c ≡ ringpop_app) }
 {
     let command = Command::new(alloc, "ringpop")
         .bin_name("ringpop")?
-        .version("0.1.0")
+        .version("1.0.0-dev")
         .about(
             "The members of a cluster and the owners of its keys, from change lines on standard input or from its running nodes; and a node that serves. With no command it is fold.",
         )
@@ -406,6 +617,7 @@ pub fn ringpop_command<'a>(alloc: Global) -> Result<Command<'a>, AllocError>
     let command = with_subcommand(command, owner_command(alloc));
     let command = with_subcommand(command, sim_command(alloc));
     let command = with_subcommand(command, serve_command(alloc));
+    let command = with_subcommand(command, agent_command(alloc));
     let command = with_subcommand(command, ask_command(alloc));
     let command = with_subcommand(command, members_command(alloc));
     with_subcommand(command, tell_command(alloc))

@@ -1,71 +1,71 @@
-//! Why the words are refused.
+//! The errors of the arguments.
 ghost use Rattle.std.specs.Prelude.{◌≡◌};
-ghost use Rattle.cli_words.specs.declared.faults.WordsFault.TheVariants.{NoMemory};
+ghost use Rattle.cli_words.specs.declared.faults.WordsError.TheVariants.{NoMemory};
 
 use clap::error::ErrorKind;
 use std::alloc::{AllocError, AllocFailed};
 use std::fmt;
 
-/// Why the words of the command line come to nothing. Its `Display` is what standard error gets.
+/// An error of the arguments of the command line. Its `Display` is the text for standard error.
 #[derive(Debug, Drop)]
-pub enum WordsFault {
-    /// The words are refused, or ask for help: `clap`'s own text.
+pub enum WordsError {
+    /// The arguments are refused, or ask for help: `clap`'s own text.
     Usage(clap::Error),
-    /// A word that is to be an address is none.
+    /// An argument that has to be an address is not one.
     BadAddress,
-    /// A growth was refused before the subcommand began.
+    /// Out of memory before the subcommand started.
     NoMemory,
 }
 
-impl WordsFault {
+impl WordsError {
     ghost use Rattle.cli_words.specs.Faults.{status_of};
 
-    /// The exit status: 2 where the words are refused, else 1.
+    /// Returns the exit status: 2 if the arguments are refused, else 1.
     pub fn status(&self) -> u8
         ensures { result ≡ status_of self.now }
     {
         match self {
-            WordsFault::Usage(_) | WordsFault::BadAddress => 2,
-            WordsFault::NoMemory => 1,
+            WordsError::Usage(_) | WordsError::BadAddress => 2,
+            WordsError::NoMemory => 1,
         }
     }
 }
 
-impl fmt::Display for WordsFault {
+impl fmt::Display for WordsError {
     fn fmt<W: fmt::Write>(&self, f: &mut fmt::Formatter<W>) -> fmt::Result {
         match self {
-            WordsFault::Usage(error) => write!(f, "{error}"),
-            WordsFault::BadAddress => writeln!(f, "ringpop: bad address"),
-            WordsFault::NoMemory => writeln!(f, "ringpop: out of memory"),
+            WordsError::Usage(error) => write!(f, "{error}"),
+            WordsError::BadAddress => writeln!(f, "ringpop: bad address"),
+            WordsError::NoMemory => writeln!(f, "ringpop: out of memory"),
         }
     }
 }
 
-impl From<AllocError> for WordsFault {
+impl From<AllocError> for WordsError {
     ghost from_gives = { λ _ f. f ≡ NoMemory };
 
-    fn from(_refused: AllocError) -> WordsFault {
-        WordsFault::NoMemory
+    fn from(_refused: AllocError) -> WordsError {
+        WordsError::NoMemory
     }
 }
 
-impl<T: Drop> From<AllocFailed<T>> for WordsFault {
+impl<T: Drop> From<AllocFailed<T>> for WordsError {
     ghost from_gives = { λ _ f. f ≡ NoMemory };
 
-    fn from(_refused: AllocFailed<T>) -> WordsFault {
-        WordsFault::NoMemory
+    fn from(_refused: AllocFailed<T>) -> WordsError {
+        WordsError::NoMemory
     }
 }
 
-impl From<clap::Error> for WordsFault {
+impl From<clap::Error> for WordsError {
     ghost use Rattle.cli_words.specs.Faults.{fault_of_words};
 
     ghost from_gives = { λ e f. f ≡ fault_of_words e };
 
-    fn from(error: clap::Error) -> WordsFault {
+    fn from(error: clap::Error) -> WordsError {
         match error.kind() {
-            ErrorKind::OutOfMemory => WordsFault::NoMemory,
-            _ => WordsFault::Usage(error),
+            ErrorKind::OutOfMemory => WordsError::NoMemory,
+            _ => WordsError::Usage(error),
         }
     }
 }

@@ -1,4 +1,4 @@
-//! The words of the command line.
+//! The arguments of the command line.
 ghost use Rattle.std.specs.Prelude.{◌≡◌, ◌≤◌, ℕ, length, map, codes, IfErr, IfOk, IfSome, IsSome, IsSomeAnd, true};
 ghost use Rattle.clap.specs.Values.{kind_of};
 ghost use Rattle.clap.specs.Words.{subcommand_of, subcommand_rows_of, takes};
@@ -8,10 +8,12 @@ ghost use Rattle.cli_words.specs.Faults.{IsRefusalOf, IsUsageFault};
 ghost use Rattle.cli_words.specs.Whole.{HasBadAddress, HasNumber, HasOwned, IsOfLines, IsRefusalBy, IsWhole};
 ghost use Rattle.cli_words.specs.Words.{AreAskedBy, AreLinesOf, AreWordsOf, IsFlagAt, IsNumberAt, IsOwnedAt, IsScriptAt, rows_in};
 
+use crate::agent_reading::agent_words;
+use crate::agent_words::AgentWords;
 use crate::cluster_words::cluster_command_of;
 use crate::commands::{COUNT, KEY, REPLICAS, SUM, TEXT, ringpop_command};
-use crate::faults::WordsFault;
-use change_core::MOST_MEMBERS;
+use crate::faults::WordsError;
+use change_core::MAX_MEMBERS;
 use clap::ArgMatches;
 use clap::error::ErrorKind;
 use cli_core::{ClusterCommand, OwnerWords, SimWords, Subcommand};
@@ -19,16 +21,18 @@ use hash_ring::MAX_REPLICAS;
 use std::alloc::{AllocError, Global};
 use std::convert::AsStr;
 
-/// What the words ask for.
+/// The command of the arguments.
 #[derive(Debug, PartialEq, Drop)]
 pub enum Words<'a> {
-    /// Lines in, and lines out.
+    /// A command that reads and writes lines.
     Lines(Subcommand<'a>),
-    /// A word with running nodes.
+    /// A command that speaks to running nodes.
     Cluster(ClusterCommand<'a>),
+    /// A node next to an application.
+    Agent(AgentWords),
 }
 
-/// The number that the word of this name is, exactly where it is there, is a number and lies in this range.
+/// Returns the number of the argument of this name, if and only if it is there, is a number and lies in this range.
 pub fn number(matches: &ArgMatches<'_>, id: &str, least: u64, most: u64) -> Option<u64>
     ensures range { IfSome result (λ n. (least ≤ n) × (n ≤ most)) }
     ensures given { IfSome result (IsNumberAt (rows_in matches.now) id.now) }
@@ -38,14 +42,14 @@ pub fn number(matches: &ArgMatches<'_>, id: &str, least: u64, most: u64) -> Opti
     (least <= given && given <= most).then_some(given)
 }
 
-/// Whether a flag is set.
+/// Returns whether a flag is set.
 pub fn flag(matches: &ArgMatches<'_>, id: &str) -> bool
     ensures { IsFlagAt (rows_in matches.now) id.now result }
 {
     matches.get_flag(id)
 }
 
-/// How many points a server has for each unit of its weight, exactly where that is there and in its range.
+/// Returns the number of a server's points for each unit of its weight, if and only if that is there and in its range.
 pub fn replicas(matches: &ArgMatches<'_>) -> Option<u32>
     ensures range { IfSome result IsReplicas }
     ensures given { IfSome result (IsNumberAt (rows_in matches.now) (codes "replicas")) }
@@ -55,12 +59,12 @@ pub fn replicas(matches: &ArgMatches<'_>) -> Option<u32>
     Some(replicas as u32)
 }
 
-/// The words of `owner`, exactly where the key is there and each number in its range.
+/// Returns the arguments of `owner`, if and only if the key is there and each number in its range.
 fn owner_words<'a>(matches: &ArgMatches<'a>) -> Option<OwnerWords<'a>>
     ensures owned { IfSome result (IsOwnedAt (rows_in matches.now)) }
     ensures taken { HasOwned (rows_in matches.now) → IsSome result }
 {
-    let count = number(matches, COUNT, 0, MOST_MEMBERS as u64)?;
+    let count = number(matches, COUNT, 0, MAX_MEMBERS as u64)?;
     let replicas = replicas(matches)?;
     let key = matches.get_str(KEY)?;
     Some(OwnerWords {
@@ -71,7 +75,7 @@ fn owner_words<'a>(matches: &ArgMatches<'a>) -> Option<OwnerWords<'a>>
     })
 }
 
-/// The words of `sim`, exactly where the number is there and in its range.
+/// Returns the arguments of `sim`, if and only if the number is there and in its range.
 fn sim_words(matches: &ArgMatches<'_>) -> Option<SimWords>
     ensures script { IfSome result (IsScriptAt (rows_in matches.now)) }
     ensures taken { HasNumber (rows_in matches.now) (codes "replicas") IsReplicas → IsSome result }
@@ -83,7 +87,8 @@ fn sim_words(matches: &ArgMatches<'_>) -> Option<SimWords>
     })
 }
 
-/// The lines that the subcommand of this name is to read and write, if each word is there and in its range, and it is one of lines.
+/// Returns the command of the subcommand of this name, if it is one that reads and writes lines, and each of its
+/// arguments is there and in its range.
 fn lines_of<'a>(name: &str, matches: &ArgMatches<'a>) -> Option<Subcommand<'a>>
     ensures lines { IfSome result (AreLinesOf name.now (rows_in matches.now)) }
     ensures taken { IsOfLines name.now → IsWhole name.now (rows_in matches.now) → IsSome result }
@@ -106,16 +111,21 @@ fn lines_of<'a>(name: &str, matches: &ArgMatches<'a>) -> Option<Subcommand<'a>>
     }
 }
 
-/// What the subcommand of this name is to do. It refuses words as `clap` does only where there is no such subcommand, or one of its
-/// words is absent or not in its range, or there are 2^32 hosts, and by `BadAddress` only where a word that is to be an address is none.
+/// Returns the command of the subcommand of this name. The error is `Usage` only if there is no such subcommand, or one
+/// of its arguments is absent or not in its range, or there are 2^32 hosts, and `BadAddress` only if an argument that
+/// has to be an address is not one.
 fn words_at<'a>(
     alloc: Global,
     name: &str,
     matches: &ArgMatches<'a>,
-) -> Result<Words<'a>, WordsFault>
+) -> Result<Words<'a>, WordsError>
     ensures words { IfOk result (AreWordsOf name.now (rows_in matches.now)) }
     ensures fault { IfErr result (IsRefusalOf (IsWhole name.now (rows_in matches.now)) (HasBadAddress (rows_in matches.now))) }
 {
+    if name == "agent" {
+        let words = agent_words(alloc, matches)?;
+        return Ok(Words::Agent(words));
+    }
     if let Some(command) = cluster_command_of(alloc, name, matches)? {
         return Ok(Words::Cluster(command));
     }
@@ -125,8 +135,9 @@ fn words_at<'a>(
     }
 }
 
-/// What the words that `clap` took ask for, by the subcommand that they name; `words_at` says when they are refused.
-fn words_of<'a>(alloc: Global, matches: &ArgMatches<'a>) -> Result<Words<'a>, WordsFault>
+/// Returns the command of the arguments that `clap` accepted, by the subcommand that they name; `words_at` has its
+/// errors.
+fn words_of<'a>(alloc: Global, matches: &ArgMatches<'a>) -> Result<Words<'a>, WordsError>
     ensures alone { subcommand_rows_of matches.now ≡ None → result ≡ Ok (Words.Lines Subcommand.Fold) }
     ensures asked { IfOk result (AreAskedBy (subcommand_rows_of matches.now)) }
     ensures fault { IfErr result (IsRefusalBy (subcommand_rows_of matches.now)) }
@@ -137,15 +148,20 @@ fn words_of<'a>(alloc: Global, matches: &ArgMatches<'a>) -> Result<Words<'a>, Wo
     }
 }
 
-/// Reads the words, of which the first is the program's name. With no other they ask for `fold`; else for what the subcommand does that
-/// `clap`'s definitions find in them by the table of the command line, `ringpop_app`, with the words behind it. What `clap` refuses, a
-/// call for help among it, is a `WordsFault::Usage`; then the first address that is none is `WordsFault::BadAddress`. Each number in the
-/// words is in its range.
-pub fn read_words<'a, S: AsStr>(alloc: Global, words: &'a [S]) -> Result<Words<'a>, WordsFault>
+/// Reads the arguments; the first is the program's name. Without any other the command is `fold`; else it is that of
+/// the subcommand that `clap` finds by the table of the command line, `ringpop_app`, with the arguments after it. Each
+/// number of the result is in its range.
+///
+/// # Errors
+///
+/// - `Usage`: `clap` refuses the arguments, or they ask for help. This comes first.
+/// - `BadAddress`: an argument that has to be an address is not one.
+/// - `NoMemory`: out of memory.
+pub fn read_words<'a, S: AsStr>(alloc: Global, words: &'a [S]) -> Result<Words<'a>, WordsError>
     ensures alone { length words.now ≤ 1 → result ≡ Ok (Words.Lines Subcommand.Fold) }
     ensures asked { 2 ≤ length words.now → IfOk result (AreAskedBy (subcommand_of ringpop_app (map S.text words.now))) }
     ensures taken { takes ringpop_app (map S.text words.now) ≡ true → IfErr result (IsRefusalBy (subcommand_of ringpop_app (map S.text words.now))) }
-    ensures address { result ≡ Err WordsFault.BadAddress → IsSomeAnd (subcommand_of ringpop_app (map S.text words.now)) (λ p. HasBadAddress p.1) }
+    ensures address { result ≡ Err WordsError.BadAddress → IsSomeAnd (subcommand_of ringpop_app (map S.text words.now)) (λ p. HasBadAddress p.1) }
 {
     if words.len() < 2 {
         return Ok(Words::Lines(Subcommand::Fold));
@@ -154,20 +170,21 @@ pub fn read_words<'a, S: AsStr>(alloc: Global, words: &'a [S]) -> Result<Words<'
     words_of(alloc, &matches)
 }
 
-/// The refusal of words in which one is absent or not in its range. `clap` has tested them, so that none is refused so.
-pub fn absent(alloc: Global) -> WordsFault
+/// Makes the refusal of arguments among which one is absent or not in its range. `clap` has tested them, so that it is
+/// never used.
+pub fn absent(alloc: Global) -> WordsError
     ensures { IsUsageFault result }
 {
     refusal(alloc, "a word is absent or not in its range")
 }
 
-/// A refusal of the words in the form of `clap`'s, or a want of memory.
-fn refusal(alloc: Global, text: &str) -> WordsFault
+/// Makes a refusal of the arguments in the form of `clap`'s, or out of memory.
+fn refusal(alloc: Global, text: &str) -> WordsError
     ensures { IsUsageFault result }
 {
     match invalid(alloc, text) {
-        Ok(error) => WordsFault::from(error),
-        Err(refused) => WordsFault::from(refused),
+        Ok(error) => WordsError::from(error),
+        Err(refused) => WordsError::from(refused),
     }
 }
 
@@ -178,8 +195,8 @@ fn invalid(alloc: Global, text: &str) -> Result<clap::Error, AllocError>
     command.error(ErrorKind::InvalidValue, text)
 }
 
-/// The refusal of words that are not UTF-8, in the form of `clap`'s.
-pub fn words_not_text(alloc: Global) -> WordsFault
+/// Makes the refusal of arguments that are not UTF-8, in the form of `clap`'s.
+pub fn words_not_text(alloc: Global) -> WordsError
     ensures { IsUsageFault result }
 {
     refusal(alloc, "the words are not UTF-8")

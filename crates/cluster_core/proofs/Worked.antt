@@ -1,9 +1,8 @@
 -- What a worker does to its node, message by message.
-use Rattle.std.proofs.Common.{ℕ, List, Result, Ok, Err, subst, sym, inl, inr}
+use Rattle.std.proofs.Common.{◌≡◌, ℕ, List, Result, Ok, Err, subst, sym, inl, inr}
 use Rattle.message_core.specs.declared.messages.Content.{Content}
 use Rattle.message_core.specs.declared.messages.Content.TheVariants as content
 use Rattle.message_core.specs.declared.messages.Message.{Message}
-use Rattle.node_core.specs.declared.errors.NodeError.{NodeError}
 use Rattle.node_core.specs.Viewing.{Viewed}
 use Rattle.forward_core.specs.declared.errors.ForwardError.{ForwardError}
 use Rattle.forward_core.specs.declared.errors.ForwardError.TheVariants as refusal
@@ -15,6 +14,7 @@ use Rattle.peer_core.specs.declared.errors.ClusterError.{ClusterError}
 use Rattle.peer_core.specs.Acts.{Act, OfActs, Makes}
 use Rattle.peer_core.proofs.Acts.{makes_as, makes_none, makes_then}
 use Rattle.peer_core.specs.Handling.{MayHandle}
+use Rattle.peer_core.specs.Members.{Caller}
 use Rattle.peer_core.specs.Serving.{Forwards, IsDecided, IsRouted, Serves}
 use Rattle.cluster_core.specs.Channels.{any_answer}
 use Rattle.cluster_core.specs.Working.{HasWorked, IsMessageServed, Repeats, ServesOnce, any_text}
@@ -23,14 +23,18 @@ module _ {H : Type 0} (locked : LockedNode H) where
   pub none_yet : (One : OfActs H) (p : NodePass H) → Makes locked (Repeats One) p p
   none_yet One p = makes_as (Repeats One) (λ acts n. subst (λ (xs : List (Act H)). Repeats One xs) (sym n) Repeats.none) (makes_none locked p)
 
-  pub one_more : (One : OfActs H) (p q s : NodePass H) → Makes locked (Repeats One) p q → Makes locked One q s → Makes locked (Repeats One) p s
+  one_more : (One : OfActs H) (p q s : NodePass H) → Makes locked (Repeats One) p q → Makes locked One q s → Makes locked (Repeats One) p s
   one_more One p q s before next =
       makes_as (Repeats One) (λ acts t. subst (λ (xs : List (Act H)). Repeats One xs) (sym t.2) (Repeats.more t.3 t.4)) (makes_then before next)
 
-  -- a message is served, whatever that comes to
-  pub a_message : (hash_of : H → List ℕ → ℕ) (Handled : MayHandle) (message : Message) (p q : NodePass H)
-      → ServesOnce hash_of Handled message locked p q → Makes locked (IsMessageServed hash_of Handled) p q
-  a_message hash_of Handled message p q d = makes_as (IsMessageServed hash_of Handled) (λ acts h. (message, d.0, h)) d.1.makes
+  -- a member of the node served one message more
+  pub served_more : (hash_of : H → List ℕ → ℕ) (Handled : MayHandle) (message : Message) (p : NodePass H) (old new : Caller H) → old.node ≡ locked
+      → Makes locked (Repeats (IsMessageServed hash_of Handled)) p old.pass.now → ServesOnce hash_of Handled message old new
+      → Makes locked (Repeats (IsMessageServed hash_of Handled)) p new.pass.now
+  served_more hash_of Handled message p old new same before d =
+      one_more (IsMessageServed hash_of Handled) p old.pass.now new.pass.now before
+      (subst (λ (x : LockedNode H). Makes x (IsMessageServed hash_of Handled) old.pass.now new.pass.now) same
+      (makes_as (IsMessageServed hash_of Handled) (λ acts h. (message, d.0, h)) d.1.does.makes))
 
 -- acts of which each time more is said
 pub repeats_as : {H : Type 0} (One More : OfActs H) → ((acts : List (Act H)) → One acts → More acts) → (acts : List (Act H)) → Repeats One acts → Repeats More acts
@@ -49,16 +53,16 @@ module _ {H : Type 0} (hash_of : H → List ℕ → ℕ) (Handled : MayHandle) w
   routed_by_any keys body (Err refusal.InFlight) told h = absurd h
   routed_by_any keys body (Err refusal.NotInFlight) told h = absurd h
 
-  decided_by_any : (keys : List (List ℕ)) (body : List ℕ) (view : Result (Viewed H) NodeError) (told : Content)
+  decided_by_any : (keys : List (List ℕ)) (body : List ℕ) (view : Viewed H) (told : Content)
       → IsDecided hash_of Handled keys body view told → IsDecided hash_of any_text keys body view told
-  decided_by_any keys body (Ok view) told h = (h.0, h.1, routed_by_any keys body h.0 told h.2)
-  decided_by_any keys body (Err e) told h = h
+  decided_by_any keys body view told h = (h.0, h.1, routed_by_any keys body h.0 told h.2)
 
   forwards_by_any : (keys : List (List ℕ)) (body : List ℕ) (r : Result Message ClusterError) (acts : List (Act H))
       → Forwards hash_of Handled keys body r acts → Forwards hash_of any_text keys body r acts
   forwards_by_any keys body r acts (inl stopped) = inl stopped
-  forwards_by_any keys body r acts (inr (view, (first, next, all, looks, (told, decided, says)))) =
-      inr (view, (first, next, all, looks, (told, decided_by_any keys body view told decided, says)))
+  forwards_by_any keys body r acts (inr (Ok view, (first, next, all, looks, (told, decided, gives)))) =
+      inr (Ok view, (first, next, all, looks, (told, decided_by_any keys body view told decided, gives)))
+  forwards_by_any keys body r acts (inr (Err n, (first, next, all, looks, refuses))) = inr (Err n, (first, next, all, looks, refuses))
 
   -- what is served by one handler is served as by any
   serves_by_any : (message : Message) (now : ℕ) (told : Content) (r : Result Message ClusterError) (acts : List (Act H))

@@ -1,4 +1,4 @@
--- How long the calls of a link may take.
+-- The time limits of a link's calls.
 use Rattle.std.specs.Prelude.{◌≡◌, ◌*◌, ◌^◌}
 use Rattle.std.specs.Duration.{as_nanos}
 use Rattle.std.specs.declared.time.Duration.{Duration}
@@ -6,7 +6,7 @@ use Rattle.message_core.specs.declared.messages.Content.{Content}
 use Rattle.message_core.specs.declared.messages.Content.TheVariants as content
 use Rattle.cluster_core.specs.declared.tcp_links.Limits.{Limits}
 
--- 500 milliseconds for a ping, 1,250 for a helper, which pings meanwhile, 5,000 for all else
+-- 500 milliseconds for a ping, 1,250 for a helper, which pings in between, 5,000 for all else
 abbrev pub IsStandard : Limits → Type 0
 IsStandard limits =
     (as_nanos limits.ping ≡ 500 * 10 ^ 6) × (as_nanos limits.helper ≡ 1250 * 10 ^ 6) × (as_nanos limits.other ≡ 5000 * 10 ^ 6)

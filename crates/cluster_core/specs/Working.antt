@@ -1,16 +1,16 @@
--- What the workers of a node do to it.
+-- The effect of the workers of a node on it.
 use Rattle.std.specs.Prelude.{ℕ, List, [], ◌++◌, Result}
 use Rattle.message_core.specs.declared.messages.Message.{Message}
 use Rattle.locked_node.specs.declared.node.LockedNode.{LockedNode}
 use Rattle.locked_node.specs.Passes.{NodePass}
 use Rattle.peer_core.specs.declared.errors.ClusterError.{ClusterError}
 use Rattle.peer_core.specs.Acts.{Act, OfActs, Makes}
-use Rattle.peer_core.specs.Parts.{Does}
+use Rattle.peer_core.specs.Members.{Caller, Done}
 use Rattle.peer_core.specs.Handling.{MayHandle}
 use Rattle.peer_core.specs.Serving.{Serves}
 use Rattle.cluster_core.specs.Channels.{any_answer}
 
--- of a handler that only its workers know nothing is known
+-- the result of a handler that only its workers know may be any
 abbrev pub any_text : MayHandle
 any_text keys body answer = Unit {0}
 
@@ -20,16 +20,16 @@ module _ {H : Type 0} where
     none : Repeats One []
     more : {acts next : List (Act H)} → Repeats One acts → One next → Repeats One (acts ++ next)
 
-  -- a message was served once, at the moment 0, over a link of which nothing is known, whatever that came to
+  -- a message was served once, at the moment 0, over a link whose answers may be any, whatever the result
   abbrev pub IsMessageServed : (H → List ℕ → ℕ) → MayHandle → OfActs H
   IsMessageServed hash_of Handled acts =
       (message : Message) × (r : Result Message ClusterError) × Serves hash_of any_answer Handled message 0 message.content r acts
 
-  -- by this pass the message was served once, at the moment 0, over a link of which nothing is known: to its answer, or to where the lock refuses the pass
-  abbrev pub ServesOnce : (H → List ℕ → ℕ) → MayHandle → Message → LockedNode H → NodePass H → NodePass H → Type 0
-  ServesOnce hash_of Handled message locked old new =
-      (r : Result Message ClusterError) × Does locked (Serves hash_of any_answer Handled message 0 message.content) r old new
+  -- by this member the message was served once, at the moment 0, over a link of which nothing is known: to its answer, or to where the lock refuses the pass
+  abbrev pub ServesOnce : (H → List ℕ → ℕ) → MayHandle → Message → Caller H → Caller H → Type 0
+  ServesOnce hash_of Handled message old new =
+      (r : Result Message ClusterError) × Done (Serves hash_of any_answer Handled message 0 message.content) r old new
 
-  -- by this pass messages were served so, by a handler of which nothing is known, and no other call was made
+  -- by this pass messages were served so, by a handler whose results may be any, and no other call was made
   abbrev pub HasWorked : (H → List ℕ → ℕ) → LockedNode H → NodePass H → NodePass H → Type 0
   HasWorked hash_of locked old new = Makes locked (Repeats (IsMessageServed hash_of any_text)) old new

@@ -1,4 +1,4 @@
-//! Nodes of one process, each served by workers of its own, that talk over channels.
+//! Nodes of one process, each served by separate workers, that talk over channels.
 ghost use Rattle.std.specs.Prelude.{◌≡◌, ◌≢◌, ◌⊎◌, ◌<◌, ◌≤◌, ◌+◌, ◌++◌, ◌∷◌, [], map, slice_index_or, IsTrue, IsFalse, IfOk, IfErr, IfNone, IfSome, IsOkUnless, Err, All, length};
 ghost use Rattle.std.specs.List.{AllZip};
 ghost use Rattle.std.specs.Arc.{arc_value};
@@ -9,18 +9,19 @@ ghost use Rattle.cluster_core.specs.Clusters.{address_in, AreAll, AreApart, AreF
 ghost use Rattle.cluster_core.specs.Working.{HasWorked, IsMessageServed, Repeats, ServesOnce};
 ghost use Rattle.peer_core.specs.Acts.{Makes};
 ghost use Rattle.peer_core.specs.Errors.{IsRoundRefusal};
-ghost use Rattle.peer_core.specs.Parts.{Does, let_in};
+ghost use Rattle.peer_core.specs.Members.{Done};
+ghost use Rattle.peer_core.specs.Parts.{let_in};
 ghost use Rattle.peer_core.specs.Serving.{Serves};
 
-use crate::channel_links::{ChannelLink, Job, Post, ask_one, post_of, put};
-use crate::seats::{Returned, Seat};
+use crate::channel_links::{ChannelLink, Job, Mailbox, ask_one, mailbox_of, put};
+use crate::seats::{ServedNode, WorkerPromise};
 use change_core::{Address, Moment};
 use crossbeam_channel::{Receiver, Sender, unbounded};
 use hash_ring::PointHash;
 use locked_node::{LockedNode, NodePass};
 use message_core::Message;
-use node_core::{MOST_WORKERS, NodeState};
-use peer_core::{ClusterError, Handler, LinkError, Round, gossip_round, serve_one};
+use node_core::{MAX_WORKERS, NodeState};
+use peer_core::{ClusterError, Handler, LinkError, Member, Round, gossip_round};
 use std::alloc::{AllocError, AllocFailed, Global};
 use std::fmt;
 use std::marker::Model;
@@ -30,19 +31,19 @@ use std::thread::{self, PromisedHandle, Threads};
 use thiserror::Error;
 use turn_lock::LockError;
 
-/// Why a cluster was not started.
+/// The errors of a cluster's start.
 #[derive(Drop, Error)]
 pub enum StartError<H: PointHash> {
-    /// The number of workers is not from 1 to 16. The nodes are handed back.
+    /// The number of workers is not from 1 to 16. The nodes are returned.
     #[error("bad count of workers")]
     BadCount(Vec<NodeState<H>>),
-    /// Two of the nodes have one address. The nodes are handed back.
+    /// Two of the nodes have one address. The nodes are returned.
     #[error("two nodes have one address")]
     SameAddress(Vec<NodeState<H>>),
-    /// A thread could not be made. The nodes are given up.
+    /// A thread could not be made. The nodes are dropped.
     #[error("no thread could be made")]
     NoThread,
-    /// A growth was refused. The nodes are given up.
+    /// Out of memory. The nodes are dropped.
     #[error("out of memory")]
     Memory,
 }
@@ -58,13 +59,13 @@ impl<H: PointHash> fmt::Debug for StartError<H> {
     }
 }
 
-/// Why a cluster gave no nodes back.
+/// The errors of a cluster's end.
 #[derive(Clone, Copy, Debug, PartialEq, Eq, Error)]
 pub enum StopError {
-    /// A node is still held by somebody else.
+    /// Another owner still holds a node.
     #[error("a node is still held")]
     StillHeld,
-    /// A growth was refused.
+    /// Out of memory.
     #[error("out of memory")]
     Memory,
 }
@@ -72,8 +73,8 @@ pub enum StopError {
 /// Nodes that are served.
 #[derive(Drop)]
 pub struct Cluster<H: PointHash> {
-    posts: Arc<Vec<Post>, Global>,
-    seats: Vec<Seat<H>>,
+    posts: Arc<Vec<Mailbox>, Global>,
+    seats: Vec<ServedNode<H>>,
 }
 
 impl<H: PointHash> Model for Cluster<H> {
@@ -87,78 +88,53 @@ impl<H: PointHash> Model for Cluster<H> {
     ghost invariant = { λ c. ArePostsOf (arc_value c.posts).items c.seats.items };
 }
 
-/// The moment that a worker hands in, which a node reads as its last one.
-fn beginning() -> Moment
-    ensures { result ≡ 0 }
-{
-    let Some(moment) = Moment::new(0) else {
-        unreachable!()
-    };
-    moment
-}
-
 /// Answers a message, at the moment that a node reads as its last one.
 fn answer_one<R: Wait, H: PointHash, A: Handler>(
     rt: &R,
-    alloc: Global,
-    node: &LockedNode<H>,
-    pass: &mut NodePass<H>,
-    link: &mut ChannelLink,
+    member: &mut Member<'_, H, ChannelLink>,
     handler: &A,
     message: &Message,
 ) -> Result<Message, LockError>
-    requires { Fits node.now pass.old }
-    ensures served { Does node.now (Serves H.hash_of any_answer A.may_handle message.now 0 message.now.content) (let_in result) pass.old pass.new }
-    ensures fits { Fits node.now pass.new }
+    ensures { Done (Serves H.hash_of any_answer A.may_handle message.now 0 message.now.content) (let_in result) member.old member.new }
 {
-    serve_one(rt, alloc, node, pass, link, handler, beginning(), message)
+    member.serve(rt, handler, Moment::beginning(), message)
 }
 
-/// Answers a message, and sends the answer where somebody waits for it.
+/// Answers a message, and sends the answer if a caller waits for it.
 fn answer_to<R: Wait, H: PointHash, A: Handler>(
     rt: &R,
-    alloc: Global,
-    node: &LockedNode<H>,
-    pass: &mut NodePass<H>,
-    link: &mut ChannelLink,
+    member: &mut Member<'_, H, ChannelLink>,
     handler: &A,
     message: &Message,
     to: &Sender<Message>,
 )
-    requires { Fits node.now pass.old }
-    ensures served { ServesOnce H.hash_of A.may_handle message.now node.now pass.old pass.new }
-    ensures fits { Fits node.now pass.new }
+    ensures { ServesOnce H.hash_of A.may_handle message.now member.old member.new }
 {
-    if let Ok(answer) = answer_one(rt, alloc, node, pass, link, handler, message) {
+    if let Ok(answer) = answer_one(rt, member, handler, message) {
         let _sent = put(rt, to, answer);
     }
 }
 
-/// Answers the next message that comes. Where there is none to come, or the worker is to end, it is `false`.
+/// Answers the next message. Returns `false` if none can come any more, or the worker has to end.
 fn serve_next<R: Wait, H: PointHash, A: Handler>(
     rt: &R,
-    alloc: Global,
-    node: &LockedNode<H>,
-    pass: &mut NodePass<H>,
-    link: &mut ChannelLink,
+    member: &mut Member<'_, H, ChannelLink>,
     handler: &A,
     jobs: &Receiver<Job>,
 ) -> bool
-    requires { Fits node.now pass.old }
-    ensures served { IsTrue result → (m : _) × ServesOnce H.hash_of A.may_handle m node.now pass.old pass.new }
-    ensures ended { IsFalse result → pass.new ≡ pass.old }
-    ensures fits { Fits node.now pass.new }
+    ensures served { IsTrue result → (m : _) × ServesOnce H.hash_of A.may_handle m member.old member.new }
+    ensures ended { IsFalse result → member.new ≡ member.old }
 {
     match &jobs.recv(rt) {
         Ok(Job::Serve(message, to)) => {
-            answer_to(rt, alloc, node, pass, link, handler, message, to);
+            answer_to(rt, member, handler, message, to);
             true
         }
         Ok(Job::Stop) | Err(_) => false,
     }
 }
 
-/// Answers what comes until there is nothing more to come, and gives the pass back.
+/// Answers messages until none can come any more, and gives the pass back.
 fn work<R: Wait + Copy, H: PointHash, A: Handler + Drop>(
     rt: R,
     alloc: Global,
@@ -173,19 +149,21 @@ fn work<R: Wait + Copy, H: PointHash, A: Handler + Drop>(
     ensures worked { HasWorked H.hash_of (arc_value node) pass result }
     ensures fits { Fits (arc_value node) result }
 {
+    let mut member = Member::new(&*node, &mut pass, &mut link, alloc);
     'jobs: for _ in rt.forever() {
-        if !serve_next(&rt, alloc, &*node, &mut pass, &mut link, &*handler, &jobs) {
+        if !serve_next(&rt, &mut member, &*handler, &jobs) {
             break;
         }
     }
+    let _pass = member.into_pass();
     pass
 }
 
-/// A post for each node, and where the jobs of each come out.
+/// Makes a post for each node, and the channels from which the jobs of each come.
 fn posts_for<H: PointHash>(
     alloc: Global,
     nodes: &[NodeState<H>],
-) -> Result<(Vec<Post>, Vec<Receiver<Job>>), AllocError>
+) -> Result<(Vec<Mailbox>, Vec<Receiver<Job>>), AllocError>
     ensures posts { IfOk result (λ r. map (λ p. p.address) r.0.items ≡ map address_in nodes.now) }
     ensures outlets { IfOk result (λ r. length r.1.items ≡ length nodes.now) }
 {
@@ -194,13 +172,13 @@ fn posts_for<H: PointHash>(
     for node in nodes {
         let (jobs, outlet) = unbounded(alloc)?;
         let address = node.own().address;
-        posts.push(Post { address, jobs })?;
+        posts.push(Mailbox { address, jobs })?;
         outlets.push(outlet)?;
     }
     Ok((posts, outlets))
 }
 
-/// Whether one of the nodes has this address.
+/// Returns whether one of the nodes has this address.
 fn is_taken<H: PointHash>(nodes: &[NodeState<H>], address: Address) -> bool
     ensures taken { IsTrue result → ¬ NoneHas nodes.now address }
     ensures free { IsFalse result → NoneHas nodes.now address }
@@ -208,8 +186,8 @@ fn is_taken<H: PointHash>(nodes: &[NodeState<H>], address: Address) -> bool
     nodes.iter().any(|node| node.own().address == address)
 }
 
-/// Whether two of the nodes have one address.
-fn has_twins<H: PointHash>(nodes: &[NodeState<H>]) -> bool
+/// Returns whether two of the nodes have one address.
+fn has_duplicate_address<H: PointHash>(nodes: &[NodeState<H>]) -> bool
     ensures twins { IsTrue result → ¬ AreApart nodes.now }
     ensures apart { IsFalse result → AreApart nodes.now }
 {
@@ -223,8 +201,8 @@ fn has_twins<H: PointHash>(nodes: &[NodeState<H>]) -> bool
     false
 }
 
-/// At which place the seat of an address is.
-fn place_of<H: PointHash>(seats: &[Seat<H>], address: Address) -> Option<usize>
+/// Returns the place of the seat of an address.
+fn place_of<H: PointHash>(seats: &[ServedNode<H>], address: Address) -> Option<usize>
     ensures some { IfSome result (λ i. (i < length seats.now) × ¬ All (λ s. s.address ≢ address) seats.now) }
     ensures its { IfSome result (λ i. (d : _) → (slice_index_or seats.now i d).address ≡ address) }
     ensures none { IfNone result (All (λ s. s.address ≢ address) seats.now) }
@@ -232,11 +210,12 @@ fn place_of<H: PointHash>(seats: &[Seat<H>], address: Address) -> Option<usize>
     seats.iter().position(|seat| seat.address == address)
 }
 
-/// A node that is shared: the pass of its rounds, and before it, in the order of their numbers, a pass for each of so many workers,
-/// fewer than 1,024. Each may make 4,294,967,295 calls.
+/// Shares a node: returns it with the pass of its rounds, and, before that in the order of their numbers, a pass for
+/// each of `workers` workers, fewer than 1,024. Each may make 4,294,967,295 calls.
 ///
 /// # Errors
-/// An allocation failed: the node is given up.
+///
+/// - `AllocError`: out of memory. The node is dropped.
 pub fn share<H: PointHash>(
     alloc: Global,
     node: NodeState<H>,
@@ -258,8 +237,8 @@ pub fn share<H: PointHash>(
     Ok((locked, pass, passes))
 }
 
-/// Tells one worker that it is to end. Where there is no memory to tell it, it is tried again.
-fn dismiss_one<R: Wait>(rt: &R, post: &Post) {
+/// Gives one worker the job to end. If out of memory for that, it tries again.
+fn stop_worker<R: Wait>(rt: &R, post: &Mailbox) {
     for _ in rt.forever() {
         if !matches!(put(rt, &post.jobs, Job::Stop), Err(LinkError::Memory)) {
             break;
@@ -268,21 +247,21 @@ fn dismiss_one<R: Wait>(rt: &R, post: &Post) {
     }
 }
 
-/// Tells so many workers that they are to end.
-fn dismiss<R: Wait>(rt: &R, posts: &[Post], address: Address, workers: usize) {
-    let Some(post) = post_of(posts, address) else {
+/// Gives this number of workers the job to end.
+fn stop_workers<R: Wait>(rt: &R, posts: &[Mailbox], address: Address, workers: usize) {
+    let Some(post) = mailbox_of(posts, address) else {
         return;
     };
     for _ in 0..workers {
-        dismiss_one(rt, post);
+        stop_worker(rt, post);
     }
 }
 
-/// What a worker works with besides its pass: the node, a link to the posts, the handler, and where its jobs come out. `Memory` is the
-/// only refusal.
-fn tools_for<H: PointHash, A: Drop>(
+/// Returns the tools of a worker besides its pass: the node, a link to the posts, the handler, and the channel from
+/// which its jobs come. The only error is `Memory`.
+fn worker_parts<H: PointHash, A: Drop>(
     node: &Arc<LockedNode<H>, Global>,
-    posts: &Arc<Vec<Post>, Global>,
+    posts: &Arc<Vec<Mailbox>, Global>,
     handler: &Arc<A, Global>,
     outlet: &Receiver<Job>,
 ) -> Result<
@@ -304,7 +283,7 @@ fn tools_for<H: PointHash, A: Drop>(
     Ok((theirs, link, handler, jobs))
 }
 
-/// Starts the thread of a worker. `NoThread` is the only refusal.
+/// Starts the thread of a worker. The only error is `NoThread`.
 fn start_work<R, H, A>(
     rt: &R,
     alloc: Global,
@@ -313,7 +292,7 @@ fn start_work<R, H, A>(
     link: ChannelLink,
     handler: Arc<A, Global>,
     jobs: Receiver<Job>,
-) -> Result<PromisedHandle<NodePass<H>, Returned<H>>, StartError<H>>
+) -> Result<PromisedHandle<NodePass<H>, WorkerPromise<H>>, StartError<H>>
 where
     R: Threads + Wait + Copy + Send + 'static,
     H: PointHash + Send + Sync + 'static,
@@ -323,7 +302,7 @@ where
     ensures refused { IsOkUnless result StartError.NoThread }
 {
     let runtime = *rt;
-    let promise = Returned {
+    let promise = WorkerPromise {
         node: Snapshot::of(&*node),
         pass: Snapshot::of(&pass),
     };
@@ -337,15 +316,15 @@ where
 }
 
 /// Starts one worker.
-fn hire_one<R, H, A>(
+fn start_worker<R, H, A>(
     rt: &R,
     alloc: Global,
     node: &Arc<LockedNode<H>, Global>,
     pass: NodePass<H>,
-    posts: &Arc<Vec<Post>, Global>,
+    posts: &Arc<Vec<Mailbox>, Global>,
     handler: &Arc<A, Global>,
     outlet: &Receiver<Job>,
-) -> Result<PromisedHandle<NodePass<H>, Returned<H>>, StartError<H>>
+) -> Result<PromisedHandle<NodePass<H>, WorkerPromise<H>>, StartError<H>>
 where
     R: Threads + Wait + Copy + Send + 'static,
     H: PointHash + Send + Sync + 'static,
@@ -354,21 +333,21 @@ where
     ensures hired { IfOk result (λ w. (w.promise.node.value ≡ arc_value node.now) × (given_to w ≡ pass)) }
     ensures given_up { IfErr result IsGivenUp }
 {
-    let (node, link, handler, jobs) = tools_for(node, posts, handler, outlet)?;
+    let (node, link, handler, jobs) = worker_parts(node, posts, handler, outlet)?;
     start_work(rt, alloc, node, pass, link, handler, jobs)
 }
 
-/// Starts a worker for each pass. Where one can't be started the others are ended.
-fn hire<R, H, A>(
+/// Starts a worker for each pass. If one can't be started the others are ended.
+fn start_workers<R, H, A>(
     rt: &R,
     alloc: Global,
     address: Address,
     node: &Arc<LockedNode<H>, Global>,
     passes: Vec<NodePass<H>>,
-    posts: &Arc<Vec<Post>, Global>,
+    posts: &Arc<Vec<Mailbox>, Global>,
     handler: &Arc<A, Global>,
     outlet: &Receiver<Job>,
-) -> Result<Vec<PromisedHandle<NodePass<H>, Returned<H>>>, StartError<H>>
+) -> Result<Vec<PromisedHandle<NodePass<H>, WorkerPromise<H>>>, StartError<H>>
 where
     R: Threads + Wait + Copy + Send + 'static,
     H: PointHash + Send + Sync + 'static,
@@ -380,10 +359,10 @@ where
 {
     let mut workers = Vec::with_capacity(alloc, passes.len())?;
     for pass in passes {
-        match hire_one(rt, alloc, node, pass, posts, handler, outlet) {
+        match start_worker(rt, alloc, node, pass, posts, handler, outlet) {
             Ok(worker) => workers.push(worker)?,
             Err(refused) => {
-                dismiss(rt, posts, address, workers.len());
+                stop_workers(rt, posts, address, workers.len());
                 let _passes = thread::join_promised(rt, workers);
                 return Err(refused);
             }
@@ -398,10 +377,10 @@ fn seat_for<R, H, A>(
     alloc: Global,
     node: NodeState<H>,
     workers: u32,
-    posts: &Arc<Vec<Post>, Global>,
+    posts: &Arc<Vec<Mailbox>, Global>,
     handler: &Arc<A, Global>,
     outlet: &Receiver<Job>,
-) -> Result<Seat<H>, StartError<H>>
+) -> Result<ServedNode<H>, StartError<H>>
 where
     R: Threads + Wait + Copy + Send + 'static,
     H: PointHash + Send + Sync + 'static,
@@ -414,8 +393,8 @@ where
     let (locked, pass, passes) = share(alloc, node, workers)?;
     let node = Arc::new(alloc, locked)?;
     let link = ChannelLink::new(Arc::try_clone(posts)?);
-    let workers = hire(rt, alloc, address, &node, passes, posts, handler, outlet)?;
-    Ok(Seat {
+    let workers = start_workers(rt, alloc, address, &node, passes, posts, handler, outlet)?;
+    Ok(ServedNode {
         address,
         node,
         pass,
@@ -424,12 +403,12 @@ where
     })
 }
 
-impl<H: PointHash> Seat<H> {
-    /// Waits for the workers, who were told to end, and closes the node.
+impl<H: PointHash> ServedNode<H> {
+    /// Waits for the workers, whose job it is to end, and closes the node.
     fn close<R: Threads>(self, rt: &R) -> Result<NodeState<H>, StopError>
         ensures { IfOk result (IsOfSeat H.hash_of self) }
     {
-        let Seat {
+        let ServedNode {
             address: _,
             node,
             pass,
@@ -460,7 +439,7 @@ impl<H: PointHash> Seat<H> {
     }
 }
 
-/// Puts an item after the others. `Memory` is the only refusal.
+/// Adds an item after the others. The only error is `Memory`.
 fn append<T: Drop>(items: &mut Vec<T>, item: T) -> Result<(), StopError>
     ensures put { IfOk result (λ _. items.new.items ≡ items.old.items ++ item ∷ []) }
     ensures err { IsOkUnless result StopError.Memory }
@@ -471,10 +450,10 @@ fn append<T: Drop>(items: &mut Vec<T>, item: T) -> Result<(), StopError>
     Ok(())
 }
 
-/// Tells the workers of the seats that they are to end.
-fn dismiss_all<R: Wait, H: PointHash>(rt: &R, posts: &[Post], seats: &[Seat<H>]) {
+/// Gives the workers of the seats the job to end.
+fn stop_all_workers<R: Wait, H: PointHash>(rt: &R, posts: &[Mailbox], seats: &[ServedNode<H>]) {
     for seat in seats {
-        dismiss(rt, posts, seat.address, seat.workers.len());
+        stop_workers(rt, posts, seat.address, seat.workers.len());
     }
 }
 
@@ -482,13 +461,13 @@ fn dismiss_all<R: Wait, H: PointHash>(rt: &R, posts: &[Post], seats: &[Seat<H>])
 fn end_all<R: Threads + Wait, H: PointHash>(
     rt: &R,
     alloc: Global,
-    posts: &[Post],
-    seats: Vec<Seat<H>>,
+    posts: &[Mailbox],
+    seats: Vec<ServedNode<H>>,
 ) -> Result<Vec<NodeState<H>>, StopError>
     ensures closed { IfOk result (λ v. AllZip (IsOfSeat H.hash_of) seats.items v.items) }
     ensures empty { length seats.items ≡ 0 → result ≢ Err StopError.StillHeld }
 {
-    dismiss_all(rt, posts, &seats);
+    stop_all_workers(rt, posts, &seats);
     let Ok(mut nodes) = Vec::with_capacity(alloc, seats.len()) else {
         return Err(StopError::Memory);
     };
@@ -520,11 +499,14 @@ impl<H: PointHash, T: Drop> From<AllocFailed<T>> for StartError<H> {
 }
 
 impl<H: PointHash + Send + Sync + 'static> Cluster<H> {
-    /// Serves each of the nodes by so many workers, 1 to 16, each a thread of its own. An empty list of nodes is allowed.
+    /// Serves each of the nodes by `workers` workers, 1 to 16, each its own thread. An empty list of nodes is allowed.
     ///
-    /// Errors: `BadCount` where the number of workers is another, else `SameAddress` where two nodes have one address, both
-    /// with the very nodes; `NoThread` where a thread could not be made, and `Memory` where a growth was refused. At these
-    /// two the nodes are given up.
+    /// # Errors
+    ///
+    /// - `BadCount`: the number of workers is not from 1 to 16. This is checked first. The nodes are returned.
+    /// - `SameAddress`: two nodes have one address. The nodes are returned.
+    /// - `NoThread`: a thread could not be made. The nodes are dropped.
+    /// - `Memory`: out of memory. The nodes are dropped.
     pub fn start<R, A>(
         rt: &R,
         alloc: Global,
@@ -539,10 +521,10 @@ impl<H: PointHash + Send + Sync + 'static> Cluster<H> {
         ensures serves { IfOk result (IsStarted workers nodes.items) }
         ensures refused { IfErr result (IsNotStarted nodes.items workers) }
     {
-        if workers == 0 || workers > MOST_WORKERS {
+        if workers == 0 || workers > MAX_WORKERS {
             return Err(StartError::BadCount(nodes));
         }
-        if has_twins(&nodes) {
+        if has_duplicate_address(&nodes) {
             return Err(StartError::SameAddress(nodes));
         }
         Cluster::launch(rt, alloc, nodes, workers, handler)
@@ -582,7 +564,11 @@ impl<H: PointHash + Send + Sync + 'static> Cluster<H> {
 }
 
 impl<H: PointHash> Cluster<H> {
-    /// A link to these nodes that has not failed yet, which may go to another thread. `Memory` is the only refusal.
+    /// Makes a link to these nodes that has not failed yet, which may go to another thread.
+    ///
+    /// # Errors
+    ///
+    /// - `Memory`: out of memory.
     pub fn link(&self) -> Result<ChannelLink, LinkError>
         ensures made { IfOk result (λ l. (reached_by l ≡ self.now.posts) × (failures_of l ≡ 0)) }
         ensures only { IfErr result (λ e. e ≡ LinkError.Memory) }
@@ -595,8 +581,10 @@ impl<H: PointHash> Cluster<H> {
 
     /// Asks the node of an address, as a new link would.
     ///
-    /// Errors: `Closed` where no node has the address, or where the node's own pass was refused; `Memory` where a growth was
-    /// refused.
+    /// # Errors
+    ///
+    /// - `Closed`: no node has the address, or the node's own pass was refused.
+    /// - `Memory`: out of memory.
     pub fn ask<R: Wait>(
         &self,
         rt: &R,
@@ -611,9 +599,12 @@ impl<H: PointHash> Cluster<H> {
         ask_one(rt, alloc, &self.posts, to, message)
     }
 
-    /// One round of gossip of the node of an address, at a moment, over a link of its own.
+    /// Makes one round of gossip of the node of an address, at a moment, over its own link.
     ///
-    /// Errors: `NoNode` where no node has the address; else those of a round.
+    /// # Errors
+    ///
+    /// - `NoNode`: no node has the address. Nothing changes.
+    /// - Any other: the error of the round.
     pub fn round<R: Wait>(
         &mut self,
         rt: &R,
@@ -632,10 +623,13 @@ impl<H: PointHash> Cluster<H> {
         self.seats[at].round(rt, alloc, now)
     }
 
-    /// Ends the workers, each after the messages that it has, and gives the nodes back in the order given.
+    /// Ends the workers, each after the messages that it has, and gives the nodes back in the order given. After an
+    /// error the nodes are dropped.
     ///
-    /// Errors: `Memory` where a growth was refused, `StillHeld` where somebody else holds a node. At both the nodes are given
-    /// up. A cluster without nodes is refused for `Memory` alone.
+    /// # Errors
+    ///
+    /// - `Memory`: out of memory.
+    /// - `StillHeld`: another owner holds a node; never for a cluster without nodes.
     pub fn stop<R: Threads + Wait>(
         self,
         rt: &R,

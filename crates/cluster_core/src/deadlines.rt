@@ -20,9 +20,11 @@ pub struct Deadline<'a, C> {
 }
 
 impl<'a, C: Clock> Deadline<'a, C> {
-    /// The limit runs from now on, by this clock.
+    /// Starts the limit now, by this clock.
     ///
-    /// Errors: what the clock answers.
+    /// # Errors
+    ///
+    /// - The error of the clock.
     pub fn after(clock: &'a C, limit: Duration) -> io::Result<Self>
         ensures { IfOk result (λ d. limit_of d ≡ limit) }
     {
@@ -34,9 +36,12 @@ impl<'a, C: Clock> Deadline<'a, C> {
         })
     }
 
-    /// How long is left, which is some time.
+    /// Returns the time that is left, which is more than 0.
     ///
-    /// Errors: `TimedOut` where nothing is left, and what the clock answers.
+    /// # Errors
+    ///
+    /// - `TimedOut`: no time is left.
+    /// - The error of the clock.
     pub fn left(&self) -> io::Result<Duration>
         ensures { IfOk result (λ d. (0 < as_nanos d) × (as_nanos d ≤ as_nanos (limit_of self.now))) }
     {
@@ -79,7 +84,7 @@ impl<'a, S, C> Timed<'a, S, C> {
 }
 
 impl<'a, S: Read + OpenStream, C: Clock> Timed<'a, S, C> {
-    /// One read, which takes no longer than what is left.
+    /// Reads once, for no longer than the time that is left.
     fn read_once(&mut self, buf: &mut [u8]) -> io::Result<usize>
         ensures { ReadsAtMost result buf.new }
     {
@@ -90,7 +95,7 @@ impl<'a, S: Read + OpenStream, C: Clock> Timed<'a, S, C> {
 }
 
 impl<'a, S: Write + OpenStream, C: Clock> Timed<'a, S, C> {
-    /// One write, which takes no longer than what is left.
+    /// Writes once, for no longer than the time that is left.
     fn write_once(&mut self, buf: &[u8]) -> io::Result<usize>
         ensures { WritesAtMost result buf.now }
     {

@@ -11,10 +11,10 @@ mod tcp_links;
 pub use channel_links::ChannelLink;
 pub use clusters::{Cluster, StartError, StopError, share};
 pub use deadlines::{Deadline, Timed};
-pub use node_core::MOST_WORKERS;
+pub use node_core::MAX_WORKERS;
 pub use peer_core::{
-    CallError, Clock, ClusterError, Handler, HandlerFault, JoinError, LeaveError, Link, LinkError,
-    Member, RejoinError, RequestError, Round, RoundError, gossip_round, handle_or_forward, join,
-    refuse, serve_one,
+    CallError, Clock, ClusterError, Handler, HandlerFault, Healing, JoinError, LeaveError, Link,
+    LinkError, Member, RejoinError, RequestError, Round, RoundError, gossip_round,
+    handle_or_forward, heal, join, refuse, serve_one,
 };
 pub use tcp_links::{Limits, TcpLink, send_line, socket_address};

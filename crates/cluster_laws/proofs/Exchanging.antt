@@ -35,10 +35,6 @@ covers-not_exceeds held c h above =
     let is : c ≡ held = cc in
     Exceeds-irrefl held (subst (λ (d : Change). Exceeds d held) is above)
 
-covers-cond : (held c : Change) → Covers (Some held) (Some c) → (b : Bool) → greater (Some held) (cond b (Some c) None) ≡ Some held
-covers-cond held c h true = h
-covers-cond held c h false = refl
-
 -- a node's own status stays, whatever it is given
 
 status-one : (own : ℕ) (L : List Change) (held c : Change) → greatest L own ≡ Some held

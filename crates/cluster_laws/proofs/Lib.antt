@@ -11,9 +11,9 @@ mod Measure
 mod Moving
 mod Pinging
 mod Reconciling
-mod Rising
+pub mod Rising
 mod Rounds
 mod Spreading
 mod Telling
-mod Witnessing
+pub mod Witnessing
 mod Worlds

@@ -20,7 +20,7 @@ use Rattle.node_core.specs.Step.{NodeStep}
 use Rattle.node_core.specs.Taking.{TakesAll, took_all}
 use Rattle.node_core.proofs.Log.{took_all_members}
 use Rattle.cluster_laws.specs.Convergence.{Nodes}
-use Rattle.cluster_laws.specs.Rounds.{Ping, PingStep, Size}
+use Rattle.cluster_laws.specs.Rounds.{AnsweredPing, Ping, PingStep, Size}
 use Rattle.cluster_laws.proofs.Covering.{greatest-log_given}
 use Rattle.cluster_laws.proofs.Moving.{IsFit, IsFitNode, progress, Moves, moves-both, moves-at, moves-took_all, moves-told, told-silent}
 use Rattle.cluster_laws.proofs.Spreading.{Covers, covers-is}
@@ -52,89 +52,109 @@ module _ {H : Type 0} (size : Size) (status_of : ℕ → Option Status) where
         ap (λ (o : Option Change). greater o (greatest (map change_of given) x)) holds ∙ sym (greatest-append L (map change_of given) x)
         ∙ greatest-log_given old.own old.members (map change_of given) x ∙ sym holds
 
-  module _ (hash_of : H → List ℕ → ℕ) (before : Nodes H) (p : Ping) (after : Nodes H) (step : PingStep hash_of before p after)
-      (pinger_is : IsFitNode size status_of step.pinger) (pinged_is : IsFitNode size status_of step.pinged) where
-    held-fits : (node : Node H) → IsFitNode size status_of node → (s : Sourced) → IsHeld node s.change → IsFit size status_of s.change
-    held-fits node is s held = is.fit s.change.address s.change held
+  held-fits : (node : Node H) → IsFitNode size status_of node → (s : Sourced) → IsHeld node s.change → IsFit size status_of s.change
+  held-fits node is s held = is.fit s.change.address s.change held
 
+  module _ (hash_of : H → List ℕ → ℕ) (before : Nodes H) (p : Ping) (sent : AnsweredPing hash_of before p)
+      (pinger_is : IsFitNode size status_of sent.pinger) (pinged_is : IsFitNode size status_of sent.pinged) where
     -- the pinger makes its ping
-    waiting_is : step.waiting ≡ told step.pinger p.pinged
-    waiting_is = step.makes.1
+    waiting_is : sent.waiting ≡ told sent.pinger p.pinged
+    waiting_is = sent.makes.1
 
-    first : Moves size status_of step.pinger step.waiting
-    first = subst (λ (n : Node H). Moves size status_of step.pinger n) (sym waiting_is) (moves-told size status_of step.pinger p.pinged pinger_is)
+    pub pinger-makes : Moves size status_of sent.pinger sent.waiting
+    pinger-makes = subst (λ (n : Node H). Moves size status_of sent.pinger n) (sym waiting_is) (moves-told size status_of sent.pinger p.pinged pinger_is)
 
     -- the pinged takes it
-    took : NodeStep hash_of step.pinged (call.Receive (ping_by step.pinger p.pinged) step.pinged_moment) (answer.Receive (received.Answer step.pinged_took step.ack)) step.answered
-    took = subst (λ (m : Message). NodeStep hash_of step.pinged (call.Receive m step.pinged_moment) (answer.Receive (received.Answer step.pinged_took step.ack)) step.answered) step.makes.0 step.answers
+    pinged-step : NodeStep hash_of sent.pinged (call.Receive (ping_by sent.pinger p.pinged) sent.pinged_moment) (answer.Receive (received.Answer sent.pinged_took sent.ack)) sent.answered
+    pinged-step = subst (λ (m : Message). NodeStep hash_of sent.pinged (call.Receive m sent.pinged_moment) (answer.Receive (received.Answer sent.pinged_took sent.ack)) sent.answered) sent.makes.0 sent.answers
 
-    abbrev mid : Node H
-    mid = took.0
+    abbrev pinged-mid : Node H
+    pinged-mid = pinged-step.0
 
-    second : Moves size status_of step.pinged mid
-    second = takes-moves step.pinged mid (piggyback step.pinger p.pinged) step.pinged_moment pinged_is
-        (λ s h. held-fits step.pinger pinger_is s (piggyback-held step.pinger pinger_is.kept p.pinged s h)) step.pinged_took took.1
+    pinged-takes : Moves size status_of sent.pinged pinged-mid
+    pinged-takes = takes-moves sent.pinged pinged-mid (piggyback sent.pinger p.pinged) sent.pinged_moment pinged_is
+        (λ s h. held-fits sent.pinger pinger_is s (piggyback-held sent.pinger pinger_is.kept p.pinged s h)) sent.pinged_took pinged-step.1
 
     -- and makes its ack
-    answered_is : step.answered ≡ told mid step.pinger.own
-    answered_is = took.2.1
+    answered-is : sent.answered ≡ told pinged-mid sent.pinger.own
+    answered-is = pinged-step.2.1
 
-    third : Moves size status_of mid step.answered
-    third = subst (λ (n : Node H). Moves size status_of mid n) (sym answered_is) (moves-told size status_of mid step.pinger.own second.is)
+    pinged-makes : Moves size status_of pinged-mid sent.answered
+    pinged-makes = subst (λ (n : Node H). Moves size status_of pinged-mid n) (sym answered-is) (moves-told size status_of pinged-mid sent.pinger.own pinged-takes.is)
+
+    pub pinged-moves : Moves size status_of sent.pinged sent.answered
+    pinged-moves = moves-both size status_of sent.pinged pinged-mid sent.answered pinged-takes pinged-makes
+
+  module _ (hash_of : H → List ℕ → ℕ) (before : Nodes H) (p : Ping) (after : Nodes H) (step : PingStep hash_of before p after)
+      (pinger_is : IsFitNode size status_of step.sent.pinger) (pinged_is : IsFitNode size status_of step.sent.pinged) where
+    abbrev mid : Node H
+    mid = pinged-mid hash_of before p step.sent pinger_is pinged_is
+
+    abbrev took : NodeStep hash_of step.sent.pinged (call.Receive (ping_by step.sent.pinger p.pinged) step.sent.pinged_moment) (answer.Receive (received.Answer step.sent.pinged_took step.sent.ack)) step.sent.answered
+    took = pinged-step hash_of before p step.sent pinger_is pinged_is
+
+    first : Moves size status_of step.sent.pinger step.sent.waiting
+    first = pinger-makes hash_of before p step.sent pinger_is pinged_is
+
+    second : Moves size status_of step.sent.pinged mid
+    second = pinged-takes hash_of before p step.sent pinger_is pinged_is
+
+    third : Moves size status_of mid step.sent.answered
+    third = pinged-makes hash_of before p step.sent pinger_is pinged_is
+
+    answered_is : step.sent.answered ≡ told mid step.sent.pinger.own
+    answered_is = answered-is hash_of before p step.sent pinger_is pinged_is
 
     -- which the pinger takes
     abbrev checksum : Digest
-    checksum = digest_of step.pinger.members
+    checksum = digest_of step.sent.pinger.members
 
     abbrev acked : List Sourced
-    acked = ack_changes mid checksum (piggyback mid step.pinger.own)
+    acked = ack_changes mid checksum (piggyback mid step.sent.pinger.own)
 
-    ended : NodeStep hash_of step.waiting (call.Receive (ack_by mid step.pinger.own checksum) step.acked_moment) (answer.Receive (received.Done step.pinger_took)) step.done
-    ended = subst (λ (m : Message). NodeStep hash_of step.waiting (call.Receive m step.acked_moment) (answer.Receive (received.Done step.pinger_took)) step.done) took.2.0 step.takes
+    ended : NodeStep hash_of step.sent.waiting (call.Receive (ack_by mid step.sent.pinger.own checksum) step.acked_moment) (answer.Receive (received.Done step.pinger_took)) step.done
+    ended = subst (λ (m : Message). NodeStep hash_of step.sent.waiting (call.Receive m step.acked_moment) (answer.Receive (received.Done step.pinger_took)) step.done) took.2.0 step.takes
 
-    fourth : Moves size status_of step.waiting step.done
-    fourth = takes-moves step.waiting step.done acked step.acked_moment first.is
-        (λ s h. held-fits mid second.is s (ack-held mid second.is.kept checksum (piggyback mid step.pinger.own) (piggyback-held mid second.is.kept step.pinger.own) s h))
+    fourth : Moves size status_of step.sent.waiting step.done
+    fourth = takes-moves step.sent.waiting step.done acked step.acked_moment first.is
+        (λ s h. held-fits mid second.is s (ack-held mid second.is.kept checksum (piggyback mid step.sent.pinger.own) (piggyback-held mid second.is.kept step.sent.pinger.own) s h))
         step.pinger_took ended.2
 
-    pub pinger-moves : Moves size status_of step.pinger step.done
-    pinger-moves = moves-both size status_of step.pinger step.waiting step.done first fourth
-
-    pub pinged-moves : Moves size status_of step.pinged step.answered
-    pinged-moves = moves-both size status_of step.pinged mid step.answered second third
+    pub pinger-moves : Moves size status_of step.sent.pinger step.done
+    pinger-moves = moves-both size status_of step.sent.pinger step.sent.waiting step.done first fourth
 
     -- where neither is further
 
-    module _ (no_further : (x : ℕ) → In x size.named → progress size status_of step.answered x ≤ progress size status_of step.pinged x) where
-      silent : piggyback mid step.pinger.own ≡ []
-      silent = told-silent size status_of mid step.pinger.own second.is (λ x h.
-          let a : progress size status_of step.pinged x ≤ progress size status_of mid x = second.grows x in
-          let b : progress size status_of (told mid step.pinger.own) x ≤ progress size status_of step.pinged x
-          = subst (λ (n : Node H). progress size status_of n x ≤ progress size status_of step.pinged x) answered_is (no_further x h) in
+    module _ (no_further : (x : ℕ) → In x size.named → progress size status_of step.sent.answered x ≤ progress size status_of step.sent.pinged x) where
+      silent : piggyback mid step.sent.pinger.own ≡ []
+      silent = told-silent size status_of mid step.sent.pinger.own second.is (λ x h.
+          let a : progress size status_of step.sent.pinged x ≤ progress size status_of mid x = second.grows x in
+          let b : progress size status_of (told mid step.sent.pinger.own) x ≤ progress size status_of step.sent.pinged x
+          = subst (λ (n : Node H). progress size status_of n x ≤ progress size status_of step.sent.pinged x) answered_is (no_further x h) in
           omega (arith, a, b))
 
-      mid_same : mid.members ≡ step.pinged.members
+      mid_same : mid.members ≡ step.sent.pinged.members
       mid_same = (second.still (λ x h.
-          let a : progress size status_of mid x ≤ progress size status_of step.answered x = third.grows x in
-          let b : progress size status_of step.answered x ≤ progress size status_of step.pinged x = no_further x h in
+          let a : progress size status_of mid x ≤ progress size status_of step.sent.answered x = third.grows x in
+          let b : progress size status_of step.sent.answered x ≤ progress size status_of step.sent.pinged x = no_further x h in
           omega (arith, a, b))).0
 
-      pub pinger-covers : ((x : ℕ) → In x size.named → progress size status_of step.done x ≤ progress size status_of step.pinger x)
-          → (x : ℕ) → Covers (greatest step.pinger.members x) (greatest step.pinged.members x)
+      pub pinger-covers : ((x : ℕ) → In x size.named → progress size status_of step.done x ≤ progress size status_of step.sent.pinger x)
+          → (x : ℕ) → Covers (greatest step.sent.pinger.members x) (greatest step.sent.pinged.members x)
       pinger-covers stays x = by_digest (is_same_digest checksum (digest_of mid.members)) refl
         where
-          by_digest : (b : Bool) → is_same_digest checksum (digest_of mid.members) ≡ b → Covers (greatest step.pinger.members x) (greatest step.pinged.members x)
+          by_digest : (b : Bool) → is_same_digest checksum (digest_of mid.members) ≡ b → Covers (greatest step.sent.pinger.members x) (greatest step.sent.pinged.members x)
           by_digest true e =
-              let told_same : step.answered.members ≡ mid.members = ap (λ (n : Node H). n.members) answered_is in
-              let digests : checksum ≡ digest_of step.answered.members = same_digest checksum (digest_of mid.members) e ∙ ap digest_of (sym told_same) in
-              let same : step.pinger.members ≡ step.pinged.members = step.no_collision digests ∙ told_same ∙ mid_same in
-              covers-is (greatest step.pinger.members x) (greatest step.pinged.members x) (ap (λ (M : List Change). greatest M x) (sym same))
+              let told_same : step.sent.answered.members ≡ mid.members = ap (λ (n : Node H). n.members) answered_is in
+              let digests : checksum ≡ digest_of step.sent.answered.members = same_digest checksum (digest_of mid.members) e ∙ ap digest_of (sym told_same) in
+              let same : step.sent.pinger.members ≡ step.sent.pinged.members = step.no_collision digests ∙ told_same ∙ mid_same in
+              covers-is (greatest step.sent.pinger.members x) (greatest step.sent.pinged.members x) (ap (λ (M : List Change). greatest M x) (sym same))
           by_digest false e =
               let all : acked ≡ full_sync mid = ap (ack_changes mid checksum) silent ∙ ap (λ b. cond b [] (full_sync mid)) e in
-              let done_same : step.done.members ≡ step.pinger.members = (pinger-moves.still stays).0 in
-              let what : map change_of acked ≡ step.pinged.members = ap (λ (ss : List Sourced). map change_of ss) all ∙ changes_said mid mid.members ∙ mid_same in
-              subst (λ (M : List Change). Covers (greatest step.pinger.members x) (greatest M x)) what
+              let done_same : step.done.members ≡ step.sent.pinger.members = (pinger-moves.still stays).0 in
+              let what : map change_of acked ≡ step.sent.pinged.members = ap (λ (ss : List Sourced). map change_of ss) all ∙ changes_said mid mid.members ∙ mid_same in
+              subst (λ (M : List Change). Covers (greatest step.sent.pinger.members x) (greatest M x)) what
               (subst (λ (M : List Change). Covers (greatest M x) (greatest (map change_of acked) x)) done_same
-              (takes-covers step.waiting step.done acked step.acked_moment first.is
-              (λ s h. held-fits mid second.is s (ack-held mid second.is.kept checksum (piggyback mid step.pinger.own) (piggyback-held mid second.is.kept step.pinger.own) s h))
+              (takes-covers step.sent.waiting step.done acked step.acked_moment first.is
+              (λ s h. held-fits mid second.is s (ack-held mid second.is.kept checksum (piggyback mid step.sent.pinger.own) (piggyback-held mid second.is.kept step.sent.pinger.own) s h))
               step.pinger_took ended.2 x))

@@ -11,13 +11,13 @@ pub data Place : Type 0 where
   AtNode : ℕ → Place
   InMessage : ℕ → Place
 
--- the nodes, and the changes that each message tells: none before it is sent
+-- the nodes, and the changes that each message carries: none before it is sent
 pub record Network (H : Type 0) : Type 0 where
   pub nodes : Nodes H
   pub messages : ℕ → List Change
 
--- a node sends a message that tells all its members; a message is delivered to a node, which takes the whole of it or only a part. A message may be delivered to any node, at any
--- time and again, or never
+-- a node sends a message that carries all its members; a message is delivered to a node, which takes the whole of it or only a part. A
+-- message may be delivered to any node, at any time and again, or never
 pub data NetworkEvent : Type 0 where
   Sends : (sender message : ℕ) → NetworkEvent
   Delivers : (message receiver : ℕ) (whole : Bool) → NetworkEvent
@@ -27,7 +27,7 @@ abbrev pub hop_of : NetworkEvent → Hop Place
 hop_of (Sends sender message) = record { taker = InMessage message; giver = AtNode sender; whole = true }
 hop_of (Delivers message receiver whole) = record { taker = AtNode receiver; giver = InMessage message; whole = whole }
 
--- the messages with this one, which tells these changes
+-- the messages with this one, which carries these changes
 abbrev pub with_message : ℕ → List Change → (ℕ → List Change) → ℕ → List Change
 with_message message told messages n = cond (n == message) told (messages n)
 

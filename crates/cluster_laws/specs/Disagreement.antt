@@ -1,4 +1,4 @@
--- Two views, or two nodes, that look up one key: how they differ where they name different owners, and when they name one.
+-- Two views, or two nodes, that look up one key: how they differ if they name different owners, and when they name one.
 use Rattle.std.specs.Prelude.{◌≡◌, ◌≢◌, ◌⊎◌, ℕ, Bool, IsTrue, List, filter, Some}
 use Rattle.std.specs.Option.{option_cmp}
 use Rattle.std.specs.Ordering.{nat_cmp}
@@ -28,7 +28,7 @@ ViewsAgree {H} hash_of =
     → ((b : ℕ) → owner (hash_of other.hash) other.replicas other.servers key ≡ Some b → weight_of b one.servers ≡ weight_of b other.servers)
     → owner (hash_of one.hash) one.replicas one.servers key ≡ owner (hash_of other.hash) other.replicas other.servers key
 
--- any servers to which views give the same weights stand in one order in the owners of both
+-- any servers to which views give the same weights have one order among the owners of both
 abbrev pub ViewsShareOrder : {H : Type 0} → (H → List ℕ → ℕ) → Type 0
 ViewsShareOrder {H} hash_of =
     (one other : Viewed H) (key : List ℕ) (shared : ℕ → Bool) → one.hash ≡ other.hash → one.replicas ≡ other.replicas
@@ -36,7 +36,7 @@ ViewsShareOrder {H} hash_of =
     → filter shared (owners (hash_of one.hash) one.replicas one.servers key)
     ≡ filter shared (owners (hash_of other.hash) other.replicas other.servers key)
 
--- of the two different owners that nodes name, one serves with less weight, or not, by what is held of it where it is not named
+-- of the two different owners that nodes name, one serves with less weight, or not, by the entry of the node that does not name it
 abbrev pub NodesDisagree : {H : Type 0} → (H → List ℕ → ℕ) → Type 0
 NodesDisagree {H} hash_of =
     (one other : Node H) (key : List ℕ) (a b : ℕ) → one.hash ≡ other.hash → one.config.replicas ≡ other.config.replicas

@@ -10,7 +10,7 @@ use Rattle.node_core.specs.Step.{owners_by}
 use Rattle.node_core.specs.World.{WorldEvent, MayAllHappen, world_after, nothing}
 use Rattle.cluster_laws.specs.Running.{RunsOn}
 
--- a member that left, or that was given up for good
+-- a member that left, or that is a tombstone
 abbrev pub IsGone : Status → Type 0
 IsGone s = (s ≡ Leave) ⊎ (s ≡ Tombstone)
 

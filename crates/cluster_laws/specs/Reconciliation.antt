@@ -9,7 +9,7 @@ use Rattle.node_core.specs.Node.{Node, Seen}
 use Rattle.change_core.specs.Change.{change_of}
 use Rattle.node_core.specs.Taking.{TakeStep}
 
--- the taker takes all that the giver holds, as a full synchronisation tells it, from whatever sources, and takes it whole
+-- the taker takes all that the giver holds, as a full synchronisation sends it, from any sources, and takes it whole
 pub record TakesAllOf {H : Type 0} (taker giver new : Node H) : Type 0 where
   pub given : List Sourced
   pub moment : ℕ
@@ -17,7 +17,7 @@ pub record TakesAllOf {H : Type 0} (taker giver new : Node H) : Type 0 where
   pub all : map change_of given ≡ giver.members
   pub step : TakeStep taker given moment (Ok taken) new
 
--- a takes all that b holds, then b all that a holds, and a once more all that b holds: from a and b they come to be these
+-- a takes all that b holds, then b all that a holds, and a again all that b holds: from a and b they become these
 pub record Reconcile {H : Type 0} (a b a' b' : Node H) : Type 0 where
   pub between : Node H
   pub first : TakesAllOf a b between
@@ -30,7 +30,7 @@ pub record AreReconciled {H : Type 0} (a b a' b' : Node H) (they : Reconcile a b
   pub of_others : (x : ℕ) → x ≢ a.own → x ≢ b.own → greatest a'.members x ≡ greatest (a.members ++ b.members) x
   pub two_suffice : they.second.taken.refuted ≡ 0 → they.between.members ≡ b'.members
 
--- so it is of any two nodes, as they are between two calls, with addresses of their own
+-- so it is of any two nodes, as they are between two calls, with different addresses
 abbrev pub NodesReconcile : Type 0 → Type 0
 NodesReconcile H =
     (a b a' b' : Node H) (they : Reconcile a b a' b') → IsNode a → IsNode b → a.own ≢ b.own → AreReconciled a b a' b' they

@@ -1,4 +1,5 @@
--- Rounds of pings: in a round every node pings every other node, and no message is lost. That nodes converge in them is this project's own theorem.
+-- Rounds of pings: in a round every node pings every other node, and no message is lost; and stretches, in which some are. Pings and acks alone
+-- change nodes: a probe that begins or ends between them is no step here. That nodes converge so is this project's own theorem.
 use Rattle.std.specs.Prelude.{◌≡◌, ◌≢◌, ◌≤◌, ◌+◌, ◌*◌, ℕ, List, [], ◌∷◌, length, Some, Ok}
 use Rattle.change_core.specs.declared.changes.Change.{Change}
 use Rattle.change_core.specs.Ascending.{In}
@@ -20,28 +21,32 @@ pub record Ping : Type 0 where
   pub pinger : ℕ
   pub pinged : ℕ
 
--- a ping and its ack lead from these nodes to those: neither is lost, and all changes of both are taken
-pub record PingStep {H : Type 0} (hash_of : H → List ℕ → ℕ) (before : Nodes H) (p : Ping) (after : Nodes H) : Type 0 where
+-- a node pings another, which takes all of the ping and answers it; whether its ack arrives is left open
+pub record AnsweredPing {H : Type 0} (hash_of : H → List ℕ → ℕ) (before : Nodes H) (p : Ping) : Type 0 where
   pub pinger : Node H
   pub waiting : Node H
-  pub done : Node H
   pub pinged : Node H
   pub answered : Node H
   pub ping : Message
   pub ack : Message
   pub pinged_took : Taken
-  pub pinger_took : Taken
   pub pinged_moment : ℕ
-  pub acked_moment : ℕ
   pub apart : p.pinger ≢ p.pinged
   pub pinger_is : before p.pinger ≡ Some pinger
   pub pinged_is : before p.pinged ≡ Some pinged
   pub makes : NodeStep hash_of pinger (call.PingTo p.pinged) (answer.PingTo (Ok ping)) waiting
   pub answers : NodeStep hash_of pinged (call.Receive ping pinged_moment) (answer.Receive (received.Answer pinged_took ack)) answered
-  pub takes : NodeStep hash_of waiting (call.Receive ack acked_moment) (answer.Receive (received.Done pinger_took)) done
-  pub after_is : after ≡ placed_at p.pinger done (placed_at p.pinged answered (placed_at p.pinger waiting before))
+
+-- a ping and its ack lead from these nodes to those: neither is lost, and all changes of both are processed
+pub record PingStep {H : Type 0} (hash_of : H → List ℕ → ℕ) (before : Nodes H) (p : Ping) (after : Nodes H) : Type 0 where
+  pub sent : AnsweredPing hash_of before p
+  pub done : Node H
+  pub pinger_took : Taken
+  pub acked_moment : ℕ
+  pub takes : NodeStep hash_of sent.waiting (call.Receive sent.ack acked_moment) (answer.Receive (received.Done pinger_took)) done
+  pub after_is : after ≡ placed_at p.pinger done (placed_at p.pinged sent.answered (placed_at p.pinger sent.waiting before))
   -- no collision: their digests differ if their members do
-  pub no_collision : digest_of pinger.members ≡ digest_of answered.members → pinger.members ≡ answered.members
+  pub no_collision : digest_of sent.pinger.members ≡ digest_of sent.answered.members → sent.pinger.members ≡ sent.answered.members
 
 -- these pings, one after another, lead from these nodes to those
 abbrev pub PingRun : {H : Type 0} → (H → List ℕ → ℕ) → Nodes H → List Ping → Nodes H → Type 0
@@ -57,7 +62,8 @@ abbrev pub RoundRun : {H : Type 0} → (H → List ℕ → ℕ) → Nodes H → 
 RoundRun hash_of before [] after = after ≡ before
 RoundRun {H} hash_of before (r ∷ rs) after = (between : Nodes H) × IsRound before r × PingRun hash_of before r between × RoundRun hash_of between rs after
 
--- the size of a cluster: where its nodes are, which addresses they hold, and the greatest incarnation, weight and number of times that a change is passed on
+-- the size of a cluster: the addresses of its nodes, those that they hold, and the greatest incarnation, weight and number of times that a
+-- change is passed on
 pub record Size : Type 0 where
   pub places : List ℕ
   pub named : List ℕ
@@ -86,3 +92,54 @@ abbrev pub RoundsConverge : {H : Type 0} → (H → List ℕ → ℕ) → Type 0
 RoundsConverge {H} hash_of =
     (before after : Nodes H) (rounds : List (List Ping)) (size : Size) → AreNodes before → AreWithin before size → RoundRun hash_of before rounds after
     → enough_rounds size ≤ length rounds → HaveConverged before after
+
+-- what becomes of a ping: it is acknowledged, or its ack is lost, or it is lost itself
+pub data Fate : Type 0 where
+  Acknowledged : Fate
+  AckLost : Fate
+  PingLost : Fate
+
+-- a ping, and what becomes of it
+pub record SentPing : Type 0 where
+  pub ping : Ping
+  pub fate : Fate
+
+-- a ping whose ack is lost leads from these nodes to those
+pub record AckLostStep {H : Type 0} (hash_of : H → List ℕ → ℕ) (before : Nodes H) (p : Ping) (after : Nodes H) : Type 0 where
+  pub sent : AnsweredPing hash_of before p
+  pub after_is : after ≡ placed_at p.pinged sent.answered (placed_at p.pinger sent.waiting before)
+
+-- a ping that is lost leads from these nodes to those: the pinger has counted what it passed on. There need not be a node at the address that it pings
+pub record PingLostStep {H : Type 0} (hash_of : H → List ℕ → ℕ) (before : Nodes H) (p : Ping) (after : Nodes H) : Type 0 where
+  pub pinger : Node H
+  pub waiting : Node H
+  pub ping : Message
+  pub pinger_is : before p.pinger ≡ Some pinger
+  pub makes : NodeStep hash_of pinger (call.PingTo p.pinged) (answer.PingTo (Ok ping)) waiting
+  pub after_is : after ≡ placed_at p.pinger waiting before
+
+-- a ping of this fate leads from these nodes to those
+abbrev pub FateStep : {H : Type 0} → (H → List ℕ → ℕ) → Nodes H → Ping → Fate → Nodes H → Type 0
+FateStep hash_of before p Acknowledged after = PingStep hash_of before p after
+FateStep hash_of before p AckLost after = AckLostStep hash_of before p after
+FateStep hash_of before p PingLost after = PingLostStep hash_of before p after
+
+-- these pings with their fates, one after another, lead from these nodes to those
+abbrev pub LossyRun : {H : Type 0} → (H → List ℕ → ℕ) → Nodes H → List SentPing → Nodes H → Type 0
+LossyRun hash_of before [] after = after ≡ before
+LossyRun {H} hash_of before (s ∷ ss) after = (between : Nodes H) × FateStep hash_of before s.ping s.fate between × LossyRun hash_of between ss after
+
+-- in a stretch each node pings each other and is acknowledged, at least once, in any order; any other pings of it may be lost
+abbrev pub IsStretch : {H : Type 0} → Nodes H → List SentPing → Type 0
+IsStretch nodes ss = (a b : ℕ) → IsThere nodes a → IsThere nodes b → a ≢ b → In (record { ping = record { pinger = a; pinged = b }; fate = Acknowledged }) ss
+
+-- these stretches, one after another, lead from these nodes to those
+abbrev pub StretchRun : {H : Type 0} → (H → List ℕ → ℕ) → Nodes H → List (List SentPing) → Nodes H → Type 0
+StretchRun hash_of before [] after = after ≡ before
+StretchRun {H} hash_of before (s ∷ ss) after = (between : Nodes H) × IsStretch before s × LossyRun hash_of before s between × StretchRun hash_of between ss after
+
+-- nodes converge in as many stretches of pings as rounds without loss are enough, whatever is lost in between
+abbrev pub StretchesConverge : {H : Type 0} → (H → List ℕ → ℕ) → Type 0
+StretchesConverge {H} hash_of =
+    (before after : Nodes H) (stretches : List (List SentPing)) (size : Size) → AreNodes before → AreWithin before size → StretchRun hash_of before stretches after
+    → enough_rounds size ≤ length stretches → HaveConverged before after

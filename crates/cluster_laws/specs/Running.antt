@@ -1,4 +1,4 @@
--- Through which events of a world one and the same node runs on at its address.
+-- The events of a world through which one and the same node runs on at its address.
 use Rattle.std.specs.Prelude.{◌≡◌, ℕ, List}
 use Rattle.change_core.specs.Ascending.{In}
 use Rattle.node_core.specs.World.{WorldEvent, Starts, Restarts, Calls}

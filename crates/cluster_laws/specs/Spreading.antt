@@ -1,4 +1,4 @@
--- How changes spread from place to place: along a path of hops, in the order in which the hops are made.
+-- The spread of changes from place to place: along a path of hops, in the order in which the hops are made.
 use Rattle.std.specs.Prelude.{◌≡◌, ◌⊎◌, Bool, true, List, [], ◌∷◌}
 
 -- one place takes what another holds, the whole of it or only a part

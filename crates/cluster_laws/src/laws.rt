@@ -5,18 +5,18 @@ ghost use Rattle.cluster_laws.specs.Leaving.{LeaversStayOut};
 ghost use Rattle.cluster_laws.specs.Witnesses.{NoneWithoutWitness};
 ghost use Rattle.cluster_laws.specs.Disagreement.{ViewsDisagree, ViewsAgree, ViewsShareOrder, NodesDisagree, NodesAgreeOnOwner};
 ghost use Rattle.cluster_laws.specs.Reconciliation.{NodesReconcile, ReconciledAgree};
-ghost use Rattle.cluster_laws.specs.Rounds.{RoundsConverge};
+ghost use Rattle.cluster_laws.specs.Rounds.{RoundsConverge, StretchesConverge};
 ghost use Rattle.cluster_laws.specs.Worlds.{WorldsConverge};
 
 use hash_ring::PointHash;
 
-/// Two nodes tell each other all that they hold: one takes all of the other, the other then all of the one, and the one once more
-/// all of the other, each taken whole. Both then hold the same members: of every third address the greatest of what both held, and
-/// of themselves what each asserts. They name the same owners of every key and have the same ring and digest, if they have
-/// one hash and one number of replica points.
+/// Two nodes exchange all that they hold: one takes all of the other, the other then all of the one, and the one again
+/// all of the other, each taken whole. Both then hold the same members: of every third address the greatest of what
+/// both held, and of themselves what each asserts. They name the same owners of every key and have the same ring and
+/// digest, if they have one hash and one number of replica points.
 ///
-/// Three exchanges are needed only where the second made the other refute something: after it the one has not heard of that yet.
-/// `convergence` says the same of any number of nodes, but not when two exchanges are enough.
+/// Three exchanges are needed only if the second made the other refute something: after it the one does not know of
+/// that yet. `convergence` states the same of any number of nodes, but not when two exchanges are enough.
 pub fn reconciliation<H: PointHash>()
     ensures reconciled { NodesReconcile H }
     ensures agree { ReconciledAgree H.hash_of }
@@ -29,48 +29,53 @@ pub fn reconciliation<H: PointHash>()
 /// - of each node what it holds of itself: that it is alive, or that it has left, as at the start. No rumour against it is left.
 /// - of every other address the greatest change that any node held at the start.
 ///
-/// To gather, a node needs a path of whole exchanges from every node; to broadcast, one to every node, after that. Every node
-/// stands at its own address and is as a node is between two calls. No node starts, leaves, rejoins, suspects a member or lets an
-/// entry expire meanwhile: each of these is a new change, and nodes have to gather and broadcast again. Other calls do no harm,
-/// nor does an exchange that memory or a full member list stops half-way; it brings only a part.
+/// To gather, a node needs a path of whole exchanges from every node; to broadcast, one to every node, after that. An exchange is
+/// whole if the taker then holds nothing less than the giver. Every node is at its own address, and is as a node is between two
+/// calls. No node starts, leaves, rejoins, suspects a member or lets an entry expire in between: each of these is a new change, and
+/// nodes have to gather and broadcast again. Other calls do no harm, nor does an exchange that is stopped by memory or by a full
+/// member list: it takes only a part. That nodes meet, and how soon, is a premise.
 pub fn convergence<H: PointHash>()
     ensures converge { NodesConverge H }
     // Two sweeps are enough: in each, every node takes the whole of every other, in any order.
     ensures sweeps { SweepsConverge H }
     // Converged nodes agree on owners, ring and digest, if they have one hash and one number of replica points.
     ensures agree { ConvergedAgree H.hash_of }
-    // Every call of a node but those that make a new change is such a taking, of what it counts as taken.
+    // Every call of a node but those that make a new change merges the changes that it counts as taken, and no others.
     ensures calls { CallsTake H.hash_of }
     // Nodes converge too where messages are late, lost, repeated or in any order: a path then leads from node to message to node.
     ensures delivered { NetworksConverge H }
     // So they do in every run of a world whose calls make no new change.
     ensures worlds { WorldsConverge H.hash_of }
     // So they do in rounds of pings, in which every node pings every other and none is lost, if no two member lists have one digest:
-    // `enough_rounds` says in how many.
+    // `enough_rounds` says in how many. Between pings nothing changes a node, so no probe begins or ends there.
     ensures rounds { RoundsConverge H.hash_of }
+    // So they do where pings and acks are lost, in as many stretches in each of which every node pings every other and is acknowledged.
+    ensures lossy { StretchesConverge H.hash_of }
 {}
 
-/// A member that left stays out. In every world, a node that holds an address as left, or as a tombstone, goes on holding it so, at
-/// the same incarnation, until the address asserts a later incarnation: when it rejoins, refutes or restarts. Until then the address
-/// is none of that node's servers, and owns no key there. A node that restarts itself forgets what it held.
+/// A member that left stays out. In every world, a node that holds an address as left, or as a tombstone, continues to
+/// hold it so, at the same incarnation, until the address asserts a later incarnation: when it rejoins, refutes or
+/// restarts. Until then the address is not one of that node's servers, and owns no key there. A node that restarts
+/// itself forgets what it held.
 pub fn leaver_stays_out<H: PointHash>()
     ensures { LeaversStayOut H.hash_of }
 {}
 
-/// No suspicion without a witness. In every world, a suspect entry that a node holds or passes on, or that a message tells, goes
-/// back to a verdict of another node about its own probe of that address; right before, that node held the address as alive at the
-/// same incarnation. A faulty entry goes back to an `expire` of such a suspect entry by another node: at least `suspect_ms` after the
-/// moment of the call in which that node took the entry, with no restart between. A tombstone likewise goes back to a faulty
-/// entry, after `faulty_ms`. A node's moment is the latest that it was handed; both waits are those of its own configuration.
+/// No suspicion without a witness. In every world, a suspect entry that a node holds or passes on, or that a message
+/// carries, goes back to a verdict of another node about its own probe of that address; right before, that node held
+/// the address as alive at the same incarnation. A faulty entry goes back to an `expire` of such a suspect entry by
+/// another node: at least `suspect_ms` after the moment of the call in which that node took the entry, with no restart
+/// between. A tombstone likewise goes back to a faulty entry, after `faulty_ms`. A node's moment is the latest that it
+/// was given; both waits are those of that node's configuration.
 pub fn suspicion_has_a_witness<H: PointHash>()
     ensures { NoneWithoutWitness H.hash_of }
 {}
 
-/// Confined disagreement of two views, or two nodes, with one hash and one number of replica points. If they name different
-/// owners of a key, then one of these two owners has less weight in the view that does not name it: the node of that view
-/// holds no change about it, one that is neither alive nor suspect, or one of less weight. So if two nodes hold the owner that
-/// each of them names with the same weight, alive or suspect, they name one owner, whatever else they hold. Servers with the
-/// same weights in both views stand in one order in the owners of both.
+/// Confined disagreement of two views, or two nodes, with one hash and one number of replica points. If they name
+/// different owners of a key, then one of these two owners has less weight in the view that does not name it: the node
+/// of that view holds no change about it, one that is neither alive nor suspect, or one of less weight. So if two nodes
+/// hold the owner that each of them names with the same weight, alive or suspect, they name one owner, whatever else
+/// they hold. Servers with the same weights in both views have one order among the owners of both.
 pub fn confined_disagreement<H: PointHash>()
     ensures views { ViewsDisagree H.hash_of }
     ensures views_agree { ViewsAgree H.hash_of }

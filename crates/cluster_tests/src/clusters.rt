@@ -1,9 +1,10 @@
-//! Nodes of one process that serve one another, by threads. A helper answers false where a growth was refused; the test then goes
-//! on with another cluster, once.
+//! Nodes of one process that serve one another, by threads. A helper answers false if an allocation failed; the test
+//! then continues with another cluster, once.
 
 use crate::fakes::{Echo, Mood, worded};
 use crate::messages::{content, member, message, moment, news, number_of, request};
 use crate::nodes::state;
+use crate::shared::{again, check_refused};
 use change_core::{Address, Status};
 use cluster_core::{
     ChannelLink, Cluster, ClusterError, Handler, HandlerFault, Link, LinkError, Round, StartError,
@@ -11,6 +12,7 @@ use cluster_core::{
 use hash_ring::SumHash;
 use node_core::NodeState;
 use std::alloc::Global;
+use std::env::Env;
 use std::process::Abort;
 use std::sync::atomic::{AtomicU64, Ordering};
 use std::sync::{Arc, Wait};
@@ -20,9 +22,10 @@ use std::time::Duration;
 use wire_json::{Content, Keys, Message, Reason, Text};
 
 /// These nodes, in this order.
-fn states(rt: &impl Abort, alloc: Global, numbers: &[u8]) -> Vec<NodeState<SumHash>> {
+fn states(rt: &(impl Env + Abort), alloc: Global, numbers: &[u8]) -> Vec<NodeState<SumHash>> {
     let mut nodes = Vec::new(alloc);
     if nodes.reserve(numbers.len()).is_err() {
+        check_refused(rt);
         nodes.reserve(numbers.len()).ok().expect(rt, "room");
     }
     for number in numbers {
@@ -38,7 +41,7 @@ const WILLING: Echo = Echo {
 
 const ONE: (&str, &str) = ("zzzz1", "zzzz1");
 
-/// A cluster of these nodes; none where a growth was refused.
+/// A cluster of these nodes; None if an allocation failed.
 fn start<R, A>(
     rt: &R,
     alloc: Global,
@@ -47,7 +50,7 @@ fn start<R, A>(
     handler: A,
 ) -> Option<Cluster<SumHash>>
 where
-    R: Threads + Wait + Abort + Copy + Send + 'static,
+    R: Threads + Wait + Env + Abort + Copy + Send + 'static,
     A: Handler + Send + Sync + Drop + 'static,
 {
     let nodes = states(rt, alloc, numbers);
@@ -68,7 +71,7 @@ enum Heard {
     One,
     /// A Reply of the text `two`.
     Two,
-    /// That there was no memory for an answer.
+    /// Out of memory for an answer.
     Starved,
     /// Another answer.
     Other,
@@ -77,7 +80,7 @@ enum Heard {
 }
 
 impl Heard {
-    /// Whether there was no memory.
+    /// Whether it is out of memory.
     fn lacks_memory(&self) -> bool {
         matches!(self, Heard::Starved | Heard::Fault(LinkError::Memory))
     }
@@ -173,8 +176,8 @@ fn ask_once<R: Wait>(
     heard
 }
 
-/// What a cluster answers to a message, which is let go; where there was no memory, what it answers then.
-fn ask<R: Wait>(
+/// What a cluster answers to a message, which is let go; if out of memory, what it answers then.
+fn ask<R: Wait + Env + Abort>(
     rt: &R,
     alloc: Global,
     cluster: &Cluster<SumHash>,
@@ -183,6 +186,7 @@ fn ask<R: Wait>(
 ) -> Heard {
     let mut heard = ask_once(rt, alloc, cluster, to, &message);
     if heard.lacks_memory() {
+        check_refused(rt);
         heard = ask_once(rt, alloc, cluster, to, &message);
     }
     drop(message);
@@ -206,8 +210,8 @@ fn ask_by<R: Wait>(
     heard
 }
 
-/// Has the request `1` asked in a thread of its own; none where a growth was refused.
-fn ask_first<R: Threads + Wait + Abort + Copy + Send + 'static>(
+/// Has the request `1` asked in its own thread; None if an allocation failed.
+fn ask_first<R: Threads + Wait + Env + Abort + Copy + Send + 'static>(
     rt: &R,
     alloc: Global,
     cluster: &Cluster<SumHash>,
@@ -222,8 +226,9 @@ fn ask_first<R: Threads + Wait + Abort + Copy + Send + 'static>(
     .ok()
 }
 
-/// Checks that the request `2` is answered while the request `1` is held, and then that one; none where a growth was refused.
-fn check_both<R: Threads + Wait + Abort + Copy + Send + 'static>(
+/// Checks that the request `2` is answered while the request `1` is held, and then that one; None if an allocation
+/// failed.
+fn check_both<R: Threads + Wait + Env + Abort + Copy + Send + 'static>(
     rt: &R,
     clock: &HostRuntime,
     alloc: Global,
@@ -252,8 +257,8 @@ fn check_nodes(rt: &impl Abort, nodes: &[NodeState<SumHash>], numbers: &[u8]) {
     assert!(rt; nodes.next().is_none());
 }
 
-/// A cluster of one node and two workers with such a handler; none where a growth was refused.
-fn start_holding<R: Threads + Wait + Abort + Copy + Send + 'static>(
+/// A cluster of one node and two workers with such a handler; None if an allocation failed.
+fn start_holding<R: Threads + Wait + Env + Abort + Copy + Send + 'static>(
     rt: &R,
     clock: HostRuntime,
     alloc: Global,
@@ -268,8 +273,8 @@ fn start_holding<R: Threads + Wait + Abort + Copy + Send + 'static>(
     start(rt, alloc, &[1], 2, handler)
 }
 
-/// It answers a request while another is held; none where a growth was refused.
-fn holds_up_no_other<R: Threads + Wait + Abort + Copy + Send + 'static>(
+/// It answers a request while another is held; None if an allocation failed.
+fn holds_up_no_other<R: Threads + Wait + Env + Abort + Copy + Send + 'static>(
     rt: &R,
     clock: HostRuntime,
     alloc: Global,
@@ -287,11 +292,11 @@ fn holds_up_no_other<R: Threads + Wait + Abort + Copy + Send + 'static>(
     done
 }
 
+/// A cluster of one node with two workers, and a handler that holds request 1 until it has handled request 2: both are answered.
 #[test]
 fn a_slow_request_holds_up_no_other(rt: HostRuntime) {
     let alloc: Global = rt.alloc();
-    let done = holds_up_no_other(&rt, rt, alloc);
-    assert!(&rt; done.is_some() || holds_up_no_other(&rt, rt, alloc).is_some());
+    assert!(&rt; again!(&rt, holds_up_no_other(&rt, rt, alloc).is_some()));
 }
 
 /// Why a cluster is not started.
@@ -301,7 +306,7 @@ enum Cause {
     SameAddress,
 }
 
-/// The nodes that came back, and why; none where the cluster was started, or its nodes were given up.
+/// The nodes that came back, and why; none where the cluster was started, or its nodes were dropped.
 fn nodes_back<R: Threads + Wait>(
     rt: &R,
     alloc: Global,
@@ -318,8 +323,8 @@ fn nodes_back<R: Threads + Wait>(
     }
 }
 
-/// Checks that so many workers do not serve these nodes, for this cause, and the nodes come back.
-fn check_not_started<R: Threads + Wait + Abort + Copy + Send + 'static>(
+/// Checks that this many workers do not serve these nodes, for this cause, and the nodes come back.
+fn check_not_started<R: Threads + Wait + Env + Abort + Copy + Send + 'static>(
     rt: &R,
     alloc: Global,
     numbers: &[u8],
@@ -334,6 +339,7 @@ fn check_not_started<R: Threads + Wait + Abort + Copy + Send + 'static>(
     drop(nodes);
 }
 
+/// 0 and 17 workers: bad count; B, A, B: same address; the nodes come back in their order.
 #[test]
 fn no_cluster_of_too_many_or_equal_nodes(rt: HostRuntime) {
     let alloc: Global = rt.alloc();
@@ -342,18 +348,24 @@ fn no_cluster_of_too_many_or_equal_nodes(rt: HostRuntime) {
     check_not_started(&rt, alloc, &[2, 1, 2], 16, Cause::SameAddress);
 }
 
-/// A ping that tells of 10.0.0.`number`:1, which it holds so.
-fn ping(rt: &impl Abort, alloc: Global, number: u8, status: Status) -> Message {
+/// A ping with this entry of 10.0.0.`number`:1.
+fn ping(rt: &(impl Env + Abort), alloc: Global, number: u8, status: Status) -> Message {
     let told = content(rt, alloc, &[news(rt, number, 7, status)]);
     message(rt, number, Content::Ping(told))
 }
 
-/// What comes back over a link from 10.0.0.`number`:1 for a ping that tells of 10.0.0.9:1; where there was no memory, once more.
-fn pinged<R: Wait + Abort>(rt: &R, alloc: Global, link: &mut ChannelLink, number: u8) -> Heard {
+/// The answer over a link from 10.0.0.`number`:1 for a ping with an entry of 10.0.0.9:1; again if out of memory.
+fn pinged<R: Wait + Env + Abort>(
+    rt: &R,
+    alloc: Global,
+    link: &mut ChannelLink,
+    number: u8,
+) -> Heard {
     let ping = ping(rt, alloc, 9, Status::Alive);
     let to = member(rt, number);
     let mut heard = call_once(rt, alloc, link, to, &ping);
     if heard.lacks_memory() {
+        check_refused(rt);
         heard = call_once(rt, alloc, link, to, &ping);
     }
     drop(ping);
@@ -363,15 +375,15 @@ fn pinged<R: Wait + Abort>(rt: &R, alloc: Global, link: &mut ChannelLink, number
 const CLOSED: Heard = Heard::Fault(LinkError::Closed);
 
 /// Checks whom a link reaches.
-fn check_link<R: Wait + Abort>(rt: &R, alloc: Global, link: &mut ChannelLink) {
+fn check_link<R: Wait + Env + Abort>(rt: &R, alloc: Global, link: &mut ChannelLink) {
     assert!(rt; pinged(rt, alloc, link, 1) == Heard::Ack(1));
     assert!(rt; pinged(rt, alloc, link, 2) == Heard::Ack(2));
     assert!(rt; pinged(rt, alloc, link, 3) == CLOSED);
     assert!(rt; link.failures() == 1);
 }
 
-/// What a node answers to a ping that tells of 10.0.0.2:1.
-fn told<R: Wait + Abort>(
+/// A node's answer to a ping with an entry of 10.0.0.2:1.
+fn told<R: Wait + Env + Abort>(
     rt: &R,
     alloc: Global,
     cluster: &Cluster<SumHash>,
@@ -393,7 +405,7 @@ fn round<R: Wait + Abort>(
     cluster.round(rt, alloc, member(rt, number), moment(rt, now))
 }
 
-/// Whether a round was hindered by a refused growth, here or at another node.
+/// Whether a round was hindered by a failed allocation, here or at another node.
 fn is_hindered(round: Result<Round, ClusterError>) -> bool {
     matches!(
         round,
@@ -401,7 +413,7 @@ fn is_hindered(round: Result<Round, ClusterError>) -> bool {
     )
 }
 
-/// Checks two rounds of a node, which holds another one and nobody at 10.0.0.9:1 as serving.
+/// Checks two rounds of a node, which holds another one, and the unused address 10.0.0.9:1, as serving.
 fn check_rounds<R: Wait + Abort>(
     rt: &R,
     alloc: Global,
@@ -421,8 +433,8 @@ fn check_rounds<R: Wait + Abort>(
     true
 }
 
-/// Two nodes ping each other, and at a third address there is nobody.
-fn reach<R: Wait + Abort>(
+/// Two nodes ping each other, and at a third address there is no node.
+fn reach<R: Wait + Env + Abort>(
     rt: &R,
     alloc: Global,
     cluster: &mut Cluster<SumHash>,
@@ -435,8 +447,8 @@ fn reach<R: Wait + Abort>(
     check_rounds(rt, alloc, cluster, 1, 2) && check_rounds(rt, alloc, cluster, 2, 1)
 }
 
-/// Whether a worker of 10.0.0.1:1 says that 10.0.0.`number`:1 was reached, or that it was not, as is wanted.
-fn tells_of<R: Wait + Abort>(
+/// Whether a worker of 10.0.0.1:1 reports that 10.0.0.`number`:1 was reached, or that it was not, as expected.
+fn tells_of<R: Wait + Env + Abort>(
     rt: &R,
     alloc: Global,
     cluster: &Cluster<SumHash>,
@@ -449,9 +461,9 @@ fn tells_of<R: Wait + Abort>(
     heard == Heard::Word(u32::from(number), reached)
 }
 
-/// Tells 10.0.0.1:1 by a worker that 10.0.0.2:1, where nobody is, is suspect, and makes its rounds before and at the end of the
-/// suspicion.
-fn suspect_to_the_end<R: Wait + Abort>(
+/// Gives 10.0.0.1:1 by a worker that 10.0.0.2:1, an unused address, is suspect, and makes its rounds before and at the
+/// end of the suspicion.
+fn suspect_to_the_end<R: Wait + Env + Abort>(
     rt: &R,
     alloc: Global,
     cluster: &mut Cluster<SumHash>,
@@ -477,8 +489,8 @@ enum Act {
     AskBySpentLink,
 }
 
-/// Does it, by a link of its own; false where a growth was refused.
-fn perform<R: Wait + Abort>(
+/// Does it, by its own link; false if an allocation failed.
+fn perform<R: Wait + Env + Abort>(
     rt: &R,
     alloc: Global,
     cluster: &mut Cluster<SumHash>,
@@ -500,8 +512,8 @@ fn perform<R: Wait + Abort>(
     }
 }
 
-/// A link that has failed so often, once this is done; none where a growth was refused.
-fn link_after<R: Wait + Abort>(
+/// A link that has failed this often, once this is done; None if an allocation failed.
+fn link_after<R: Wait + Env + Abort>(
     rt: &R,
     alloc: Global,
     cluster: &mut Cluster<SumHash>,
@@ -515,8 +527,8 @@ fn link_after<R: Wait + Abort>(
     None
 }
 
-/// Checks that a link to a cluster that has stopped reaches nobody.
-fn check_cut_off<R: Wait + Abort>(rt: &R, alloc: Global, link: &mut ChannelLink) {
+/// Checks that a link to a cluster that has stopped reaches no node.
+fn check_cut_off<R: Wait + Env + Abort>(rt: &R, alloc: Global, link: &mut ChannelLink) {
     let failures = link.failures();
     let heard = pinged(rt, alloc, link, 1);
     if failures == u64::MAX {
@@ -526,8 +538,8 @@ fn check_cut_off<R: Wait + Abort>(rt: &R, alloc: Global, link: &mut ChannelLink)
     }
 }
 
-/// The nodes of a cluster, what is done with it by a link that has failed so often, and in which status its first node, if it has one,
-/// then holds a member.
+/// The nodes of a cluster, what is done with it by a link that has failed this often, and in which status its first
+/// node, if it has one, then holds a member.
 struct Scene {
     nodes: &'static [u8],
     act: Act,
@@ -550,8 +562,8 @@ fn check_held(rt: &impl Abort, nodes: &[NodeState<SumHash>], held: &Option<(u8, 
     }
 }
 
-/// Plays a scene, and stops the cluster; none where a growth was refused.
-fn play<R: Threads + Wait + Abort + Copy + Send + 'static>(
+/// Plays a scene, and stops the cluster; None if an allocation failed.
+fn play<R: Threads + Wait + Env + Abort + Copy + Send + 'static>(
     rt: &R,
     alloc: Global,
     scene: &Scene,
@@ -567,8 +579,12 @@ fn play<R: Threads + Wait + Abort + Copy + Send + 'static>(
     Some(())
 }
 
-fn check<R: Threads + Wait + Abort + Copy + Send + 'static>(rt: &R, alloc: Global, scene: &Scene) {
-    assert!(rt; play(rt, alloc, scene).is_some() || play(rt, alloc, scene).is_some());
+fn check<R: Threads + Wait + Env + Abort + Copy + Send + 'static>(
+    rt: &R,
+    alloc: Global,
+    scene: &Scene,
+) {
+    assert!(rt; again!(rt, play(rt, alloc, scene).is_some()));
 }
 
 static REACH: Scene = Scene {
@@ -578,6 +594,9 @@ static REACH: Scene = Scene {
     held: Some((1, Some(Status::Alive))),
 };
 
+/// A cluster of B and A: both ack a ping, each by an ack of its own, at 7, where the ping is at 1; at C it is closed. A, which has heard
+/// of B and of a node that is not there, reaches the one and suspects the other, and then so does B of A. Stopped, it gives B and A back,
+/// and a ping is closed.
 #[test]
 fn nodes_of_a_cluster_reach_each_other(rt: HostRuntime) {
     check(&rt, rt.alloc(), &REACH);
@@ -590,6 +609,8 @@ static ASK_WORKER: Scene = Scene {
     held: Some((1, Some(Status::Alive))),
 };
 
+/// A cluster of B and A, of which a worker of A is asked about B, and about C, where no node is: reached, and not reached. B then holds A
+/// as alive.
 #[test]
 fn a_worker_asks_the_other_nodes(rt: HostRuntime) {
     check(&rt, rt.alloc(), &ASK_WORKER);
@@ -602,6 +623,8 @@ static ASK_BY_SPENT_LINK: Scene = Scene {
     held: Some((9, None)),
 };
 
+/// A link whose failures are 2^64 - 1: spent, and its failures stay; over channels the node has heard nothing, and where a socket listens
+/// the first to connect is another.
 #[test]
 fn a_spent_link_asks_nobody(rt: HostRuntime) {
     check(&rt, rt.alloc(), &ASK_BY_SPENT_LINK);
@@ -614,6 +637,7 @@ static EMPTY: Scene = Scene {
     held: None,
 };
 
+/// A cluster of no nodes starts and stops.
 #[test]
 fn a_cluster_may_be_empty(rt: HostRuntime) {
     check(&rt, rt.alloc(), &EMPTY);
@@ -626,6 +650,8 @@ static SUSPECT: Scene = Scene {
     held: Some((2, Some(Status::Faulty))),
 };
 
+/// A cluster of A, told by a worker that B, where no node is, is suspect: a round at 4,999 suspects B still, a round at 5,000 is idle,
+/// and B is faulty.
 #[test]
 fn a_suspect_is_faulty_in_time(rt: HostRuntime) {
     check(&rt, rt.alloc(), &SUSPECT);

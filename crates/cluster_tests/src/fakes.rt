@@ -1,5 +1,5 @@
-//! A link and a handler that do as a test wants.
-use change_core::{Address, Digest};
+//! A link and a handler that do as a test needs.
+use change_core::{Address, Change, Digest, Incarnation, Sourced, Status, Weight};
 use cluster_core::{Handler, HandlerFault, Link, LinkError};
 use std::alloc::Global;
 use std::sync::Wait;
@@ -13,10 +13,16 @@ pub(crate) enum Mood {
     Willing,
     /// By something else, or that it failed.
     Failing,
-    /// With a fault that counts.
+    /// With an error that counts.
     Broken,
-    /// With want of memory.
+    /// Out of memory.
     Starved,
+    /// As it should, but a helper has not reached the target.
+    Missing,
+    /// As it should, but by another node.
+    Strange,
+    /// As it should, with a change about 10.0.0.9:1.
+    Telling,
 }
 
 /// A link whose peers all answer in one mood, or the first call in one and the later ones in another: by what is wanted, without
@@ -25,6 +31,8 @@ pub(crate) enum Mood {
 pub(crate) struct Fake {
     first: Mood,
     later: Mood,
+    /// Whom the first call was for.
+    pub(crate) asked: Option<Address>,
     pub(crate) calls: u64,
     failures: u64,
 }
@@ -34,22 +42,44 @@ impl Fake {
         Fake {
             first,
             later,
+            asked: None,
             calls: 0,
             failures: 0,
         }
     }
 }
 
-/// The answer that the message wants, without changes, if there is memory for it.
-fn fit_answer(alloc: Global, from: Address, asked: &Message) -> Option<Message> {
-    let changes = Changes::from_slice(alloc, &[]).ok()?;
+/// That 10.0.0.9:1 is alive at 1; None if there is no such member.
+fn told() -> Option<Sourced> {
+    let address = Address::new(0x0a00_0009, 1)?;
+    let incarnation = Incarnation::new(1)?;
+    let change = Change {
+        address,
+        incarnation,
+        status: Status::Alive,
+        weight: Weight::new(1)?,
+    };
+    Some(Sourced {
+        change,
+        source: address,
+        source_incarnation: incarnation,
+    })
+}
+
+/// The answer that the message needs, in a mood in which there is one, if there is memory for it.
+fn fit_answer(mood: Mood, alloc: Global, from: Address, asked: &Message) -> Option<Message> {
+    let changes = match mood {
+        Mood::Telling => Changes::from_slice(alloc, &[told()?]).ok()?,
+        _ => Changes::from_slice(alloc, &[]).ok()?,
+    };
+    let is_reached = mood != Mood::Missing;
     let news = News {
         checksum: Digest::new([0; 32]),
         changes,
     };
     let content = match &asked.content {
         Content::Join(_) => Content::Joined(news),
-        Content::PingReq(_, target) => Content::PingReqAck(news, *target, true),
+        Content::PingReq(_, target) => Content::PingReqAck(news, *target, is_reached),
         Content::Forward(_, body) => Content::Reply(Text::new(alloc, body.as_str()).ok()?),
         _ => Content::Ack(news),
     };
@@ -60,10 +90,11 @@ fn fit_answer(alloc: Global, from: Address, asked: &Message) -> Option<Message> 
     })
 }
 
-/// The answer of a peer in this mood; none where there is no memory for it, or it never answers.
+/// The answer of a peer in this mood; None if out of memory for it, or it never answers.
 fn answer_in(mood: Mood, alloc: Global, from: Address, asked: &Message) -> Option<Message> {
     match mood {
-        Mood::Willing => fit_answer(alloc, from, asked),
+        Mood::Willing | Mood::Missing | Mood::Telling => fit_answer(mood, alloc, from, asked),
+        Mood::Strange => fit_answer(mood, alloc, asked.source, asked),
         Mood::Failing => Some(Message {
             source: from,
             source_incarnation: asked.source_incarnation,
@@ -93,6 +124,7 @@ impl Link for Fake {
             return Err(LinkError::Spent);
         }
         let mood = if self.calls == 0 {
+            self.asked = Some(to);
             self.first
         } else {
             self.later
@@ -117,7 +149,7 @@ pub(crate) fn worded(alloc: Global, words: &str) -> Result<Text, HandlerFault> {
     }
 }
 
-/// A handler that answers by the body of the request, where it is willing.
+/// A handler that returns the body of the request, if it is willing.
 #[derive(Drop)]
 pub(crate) struct Echo {
     pub(crate) mood: Mood,
@@ -135,8 +167,8 @@ impl Handler for Echo {
     ) -> Result<Text, HandlerFault> {
         match self.mood {
             Mood::Willing => worded(alloc, body.as_str()),
-            Mood::Failing | Mood::Broken => Err(HandlerFault::Failed),
             Mood::Starved => Err(HandlerFault::Memory),
+            _ => Err(HandlerFault::Failed),
         }
     }
 }

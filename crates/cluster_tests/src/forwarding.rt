@@ -1,10 +1,11 @@
-//! Requests that are handled here, answered by their owner, or given up, by a clock that moves only where it is waited for.
+//! Requests that are handled here, answered by their owner, or abandoned, by a clock that moves only while a call waits
+//! for it.
 ghost use Rattle.std.specs.Prelude.{◌≡◌};
 ghost use Rattle.locked_node.specs.Passes.{Fits};
 
 use crate::fakes::{Counting, Mood};
 use crate::messages::{keys, number_of, text};
-use crate::shared::{ALONE, AMONG_ONE, Caller, Shared, Start, let_go, met};
+use crate::shared::{ALONE, AMONG_ONE, Caller, Shared, Start, check_refused, let_go, met};
 use change_core::{Address, Moment};
 use cluster_core::{Clock, ClusterError, Link, LinkError, handle_or_forward};
 use std::alloc::Global;
@@ -14,7 +15,7 @@ use std::sync::Wait;
 use std::sync::atomic::{AtomicU64, Ordering};
 use wire_json::{Content, Message, Text};
 
-/// A clock that stands still save where it is waited for.
+/// A clock that moves only while a call waits for it.
 #[derive(Drop)]
 struct Still {
     now: AtomicU64,
@@ -35,8 +36,8 @@ impl Clock for Still {
     }
 }
 
-/// A link from 10.0.0.1:1 to 10.0.0.2:1, which answers by a Reply `x` once so many sendings have gone wrong in this mood, each after
-/// so many milliseconds, and that notes the moment of each.
+/// A link from 10.0.0.1:1 to 10.0.0.2:1, which returns a Reply `x` once this many sendings have gone wrong in this
+/// mood, each after this many milliseconds, and that notes the moment of each.
 #[derive(Drop)]
 struct Noted<'a> {
     clock: &'a Still,
@@ -46,17 +47,17 @@ struct Noted<'a> {
     failures: u64,
 }
 
-/// What a peer answers in this mood; none where there is no memory for it, or it never answers.
+/// What a peer answers in this mood; None if out of memory for it, or it never answers.
 fn content_in(mood: Mood, alloc: Global) -> Option<Content> {
     match mood {
         Mood::Willing => Some(Content::Reply(Text::new(alloc, "x").ok()?)),
         Mood::Failing => Some(Content::NotOwner),
-        Mood::Broken | Mood::Starved => None,
+        _ => None,
     }
 }
 
 impl<'a> Noted<'a> {
-    /// Notes a sending, one between others at no moment that there is, and tells in which mood it is answered.
+    /// Notes a sending, one between others at no moment that there is, and returns the mood of its answer.
     fn note(&mut self, is_meant: bool) -> Mood
         ensures { self.new.failures ≡ self.old.failures }
     {
@@ -110,12 +111,12 @@ impl<'a> Link for Noted<'a> {
     }
 }
 
-/// What is asked of a node that begins so.
+/// A request of a node that starts so.
 #[derive(Clone, Copy)]
 pub(crate) struct Asked {
     pub(crate) start: Start,
     keys: (&'static str, &'static str),
-    /// How the link answers so many sendings.
+    /// How the link answers this many sendings.
     link: Mood,
     wrong: usize,
     /// How many milliseconds each answer takes.
@@ -148,7 +149,7 @@ fn wrong(link: Mood) -> Asked {
     }
 }
 
-/// What a request came to, how often it was sent, at which moments, and how often the handler was asked.
+/// The result of a request, how often it was sent, at which moments, and how often the handler was asked.
 #[derive(Clone, Copy, PartialEq, Eq)]
 pub(crate) struct Came {
     pub(crate) answer: Result<&'static str, ClusterError>,
@@ -191,8 +192,8 @@ fn words_in(answer: &Result<Text, ClusterError>) -> Result<&'static str, Cluster
     }
 }
 
-/// What a request with the body `body` comes to.
-pub(crate) fn try_request<R: Wait + Abort>(
+/// The result of a request with the body `body`.
+pub(crate) fn try_request<R: Wait + Env + Abort>(
     rt: &R,
     alloc: Global,
     shared: &Shared,
@@ -228,7 +229,7 @@ pub(crate) fn try_request<R: Wait + Abort>(
     }
 }
 
-/// What it comes to at a new node.
+/// Its result at a new node.
 fn first_request<R: Wait + Env + Abort>(rt: &R, alloc: Global, asked: &Asked) -> Came {
     let (shared, mut pass) = met(rt, alloc, &asked.start);
     let came = try_request(rt, alloc, &shared, &mut pass, asked);
@@ -236,10 +237,11 @@ fn first_request<R: Wait + Env + Abort>(rt: &R, alloc: Global, asked: &Asked) ->
     came
 }
 
-/// Checks what it comes to; where it was refused memory, what it does at another node.
+/// Checks its result; if it ran out of memory, what it does at another node.
 fn check<R: Wait + Env + Abort>(rt: &R, alloc: Global, asked: &Asked, wanted: &Came) {
     let mut came = first_request(rt, alloc, asked);
     if came != *wanted && came.answer == Err(ClusterError::Memory) {
+        check_refused(rt);
         came = first_request(rt, alloc, asked);
     }
     assert!(rt; came == *wanted);
@@ -252,12 +254,15 @@ const GIVEN_UP: Came = Came {
     handled: 0,
 };
 
+/// A request for `zzzz1` at A with B, over a link that fails or answers otherwise: sent from A to B at 0, 3,000, 9,000 and 21,000, then
+/// retries spent.
 #[test]
 fn a_request_is_sent_four_times_and_given_up(rt: HostRuntime) {
     check(&rt, rt.alloc(), &wrong(Mood::Broken), &GIVEN_UP);
     check(&rt, rt.alloc(), &wrong(Mood::Failing), &GIVEN_UP);
 }
 
+/// The same where each failure takes 100: sent at 0, 3,100, 9,200 and 21,300.
 #[test]
 fn a_failure_is_noted_when_it_is_known(rt: HostRuntime) {
     let mut asked = wrong(Mood::Broken);
@@ -267,7 +272,7 @@ fn a_failure_is_noted_when_it_is_known(rt: HostRuntime) {
     check(&rt, rt.alloc(), &asked, &wanted);
 }
 
-/// How many sendings go wrong, and what the request comes to.
+/// How many sendings go wrong, and the result of the request.
 static REPLIES: [(usize, Came); 4] = [
     (0, REPLIED),
     (
@@ -296,6 +301,7 @@ static REPLIES: [(usize, Came); 4] = [
     ),
 ];
 
+/// After none to three failures B replies `x`: `x`, after one to four sends. The handler is never asked.
 #[test]
 fn the_owner_answers_a_request(rt: HostRuntime) {
     let mut asked = wrong(Mood::Broken);
@@ -305,13 +311,14 @@ fn the_owner_answers_a_request(rt: HostRuntime) {
     }
 }
 
-/// How the handler answers, and what the request comes to.
+/// How the handler answers, and the result of the request.
 static HANDLERS: [(Mood, Result<&'static str, ClusterError>); 3] = [
     (Mood::Willing, Ok("body")),
     (Mood::Failing, Err(ClusterError::HandlerFault)),
     (Mood::Starved, Err(ClusterError::Memory)),
 ];
 
+/// A request that A owns: the handler's text, handler fault, or memory; the handler is asked once, and nothing is sent.
 #[test]
 fn a_request_is_handled_here(rt: HostRuntime) {
     for &(handler, answer) in &HANDLERS {
@@ -320,6 +327,7 @@ fn a_request_is_handled_here(rt: HostRuntime) {
     }
 }
 
+/// Keys `zzzz0` and `zzzz1`: diverged. At A that has left: `nobody`. Nothing is sent, and no handler asked.
 #[test]
 fn keys_of_two_owners_are_not_sent(rt: HostRuntime) {
     let mut asked = THERE;
@@ -327,6 +335,7 @@ fn keys_of_two_owners_are_not_sent(rt: HostRuntime) {
     check(&rt, rt.alloc(), &asked, &untried(ClusterError::Diverged));
 }
 
+/// Keys `zzzz0` and `zzzz1`: diverged. At A that has left: `nobody`. Nothing is sent, and no handler asked.
 #[test]
 fn a_request_that_nobody_owns_is_not_sent(rt: HostRuntime) {
     let mut asked = HERE;
@@ -334,6 +343,7 @@ fn a_request_that_nobody_owns_is_not_sent(rt: HostRuntime) {
     check(&rt, rt.alloc(), &asked, &untried(ClusterError::Nobody));
 }
 
+/// A link without memory: memory, after one send.
 #[test]
 fn no_memory_of_a_link_ends_a_request(rt: HostRuntime) {
     let mut wanted = untried(ClusterError::Memory);

@@ -6,16 +6,14 @@ use std::net::OpenStream;
 use std::process::Abort;
 use std::time::{Clock, Duration, Instant};
 
-/// A stream of which so many calls are interrupted before it gives and takes all that it is asked for.
+/// A stream whose first calls, this many, are interrupted before it gives and takes all that it is asked for.
 #[derive(Drop)]
 struct Interrupted {
     left: u64,
 }
 
 impl Interrupted {
-    /// Counts one call.
-    ///
-    /// Errors: `Interrupted` where it is one of them.
+    /// Counts one call. `Interrupted` if it is one of them.
     fn count(&mut self) -> io::Result<()> {
         if self.left == 0 {
             return Ok(());
@@ -61,7 +59,7 @@ enum Call {
     Flush,
 }
 
-/// What a call of four bytes comes to; by a flush, of none.
+/// The result of a call of four bytes; by a flush, of none.
 fn answer<S: Read + Write>(stream: &mut S, call: Call) -> Result<usize, ErrorKind> {
     let answer = match call {
         Call::Read => stream.read(&mut [0u8; 4]),
@@ -74,7 +72,7 @@ fn answer<S: Read + Write>(stream: &mut S, call: Call) -> Result<usize, ErrorKin
     }
 }
 
-/// What a call comes to on a stream with this limit, of which so many calls are interrupted.
+/// The result of a call on a stream with this limit, whose first calls, this many, are interrupted.
 fn answer_within<R: Clock + Abort>(
     rt: &R,
     limit: Duration,
@@ -85,9 +83,11 @@ fn answer_within<R: Clock + Abort>(
     answer(&mut Timed::new(Interrupted { left }, deadline), call)
 }
 
-/// Each call, and what it comes to in the end.
+/// Each call, and its result in the end.
 static CALLS: [(Call, usize); 3] = [(Call::Read, 4), (Call::Write, 4), (Call::Flush, 0)];
 
+/// A stream of which the first 0, 1, 2 and 1,000 calls are interrupted, with a limit of an hour: a read and a write of four bytes, and a
+/// flush. One of which all are, with a limit of 20 milliseconds: timed out each time, and not before it.
 #[test]
 fn what_is_interrupted_is_tried_again(rt: HostRuntime) {
     let hour = Duration::from_secs(3_600);
@@ -98,6 +98,8 @@ fn what_is_interrupted_is_tried_again(rt: HostRuntime) {
     }
 }
 
+/// A stream of which the first 0, 1, 2 and 1,000 calls are interrupted, with a limit of an hour: a read and a write of four bytes, and a
+/// flush. One of which all are, with a limit of 20 milliseconds: timed out each time, and not before it.
 #[test]
 fn what_is_always_interrupted_ends_at_its_deadline(rt: HostRuntime) {
     let limit = Duration::from_millis(20);

@@ -1,5 +1,5 @@
-//! What a thread of a service does by a member of its node: joins, requests with rounds between them, leaving and coming back. If
-//! an allocation failed, a test goes on with another node, once.
+//! What a thread of a service does by a member of its node: joins, requests with rounds between them, leaving and
+//! coming back. If an allocation failed, a test continues with another node, once.
 use crate::fakes::{Counting, Fake, Mood};
 use crate::messages::{keys, member as address, moment, text};
 use crate::shared::{ALONE, AMONG_ONE, Start, check_refused, let_go, met};
@@ -31,9 +31,9 @@ impl Clock for Zero {
     fn wait_until<R: Wait>(&self, _rt: &R, _moment: u64) {}
 }
 
-/// A loop as a service has it, over any link, handler and clock: a request for each rider, and a round after each. The number of
-/// requests that were answered by their body.
-fn serve_riders<R: Wait + Abort, L: Link, A: Handler, C: Clock>(
+/// A loop as a service has it, over any link, handler and clock: a request for each rider, and a round after each.
+/// Returns the number of requests whose answer was their body.
+fn serve_riders<R: Wait + Env + Abort, L: Link, A: Handler, C: Clock>(
     rt: &R,
     alloc: Global,
     member: &mut Member<'_, SumHash, L>,
@@ -53,7 +53,7 @@ fn serve_riders<R: Wait + Abort, L: Link, A: Handler, C: Clock>(
     Ok(answered)
 }
 
-/// How many requests were answered, how often the link was asked, and how often the handler.
+/// How many requests had an answer, how often the link was asked, and how often the handler.
 type Served = (Result<u32, ClusterError>, u64, u64);
 
 /// The node owns the first rider, and its peer the second one.
@@ -75,12 +75,13 @@ fn a_service_answers_requests_between_rounds(rt: HostRuntime) {
     let mut served = serve_two(&rt, rt.alloc());
     let (answered, _, _) = served;
     if answered == Err(ClusterError::Memory) {
+        check_refused(&rt);
         served = serve_two(&rt, rt.alloc());
     }
     assert!(&rt; served == wanted);
 }
 
-/// Leaves and comes back so often, and tells the incarnation that the node is at then.
+/// Leaves and comes back this often, and returns the node's incarnation then.
 fn come_and_go<R: Wait, L: Link>(
     rt: &R,
     member: &mut Member<'_, SumHash, L>,
@@ -114,6 +115,7 @@ fn come_and_go_alone<R: Wait + Env + Abort>(
 fn a_member_that_is_back_has_the_next_incarnation(rt: HostRuntime) {
     let mut incarnation = come_and_go_alone(&rt, rt.alloc(), 3);
     if incarnation == Err(ClusterError::Memory) {
+        check_refused(&rt);
         incarnation = come_and_go_alone(&rt, rt.alloc(), 3);
     }
     assert!(&rt; incarnation == Ok(10));
@@ -128,7 +130,7 @@ type Refused = (
     (Option<LeaveError>, Option<RejoinError>),
 );
 
-/// How a node begins, in which mood its peers and its handler are, and what its calls are refused by after a first one.
+/// How a node starts, in which mood its peers and its handler are, and what its calls are refused by after a first one.
 type Row = (Start, Mood, Refused);
 
 static REFUSALS: [Row; 3] = [
@@ -171,7 +173,7 @@ static REFUSALS: [Row; 3] = [
 ];
 
 /// What the calls of a member are refused by, once it made one.
-fn refused_by<R: Wait + Abort, L: Link>(
+fn refused_by<R: Wait + Env + Abort, L: Link>(
     rt: &R,
     alloc: Global,
     member: &mut Member<'_, SumHash, L>,

@@ -1,9 +1,11 @@
-//! Nodes as they begin. Where a growth is refused it is tried once more.
+//! New nodes. If an allocation fails the call is made again.
 use crate::messages::{member, moment};
+use crate::shared::check_refused;
 use change_core::{Incarnation, Moment};
 use hash_ring::SumHash;
 use node_core::{Config, NodeState, Received};
 use std::alloc::Global;
+use std::env::Env;
 use std::process::Abort;
 use wire_json::Message;
 
@@ -15,9 +17,9 @@ pub(crate) fn config(max: usize) -> Config {
     config
 }
 
-/// The node 10.0.0.`number`:1 of this configuration that begins at this incarnation and moment.
+/// The node 10.0.0.`number`:1 of this configuration that starts at this incarnation and moment.
 pub(crate) fn born(
-    rt: &impl Abort,
+    rt: &(impl Env + Abort),
     alloc: Global,
     number: u8,
     config: &Config,
@@ -29,12 +31,18 @@ pub(crate) fn born(
     if let Ok(node) = NodeState::new(alloc, *config, SumHash, own, first, seed, now) {
         return node;
     }
+    check_refused(rt);
     let again = NodeState::new(alloc, *config, SumHash, own, first, seed, now);
     again.ok().expect(rt, "a node")
 }
 
 /// The node 10.0.0.`number`:1 at 7 with this many members at most.
-pub(crate) fn state(rt: &impl Abort, alloc: Global, number: u8, max: usize) -> NodeState<SumHash> {
+pub(crate) fn state(
+    rt: &(impl Env + Abort),
+    alloc: Global,
+    number: u8,
+    max: usize,
+) -> NodeState<SumHash> {
     let first = Incarnation::new(7).expect(rt, "an incarnation");
     born(rt, alloc, number, &config(max), first, 1, moment(rt, 0))
 }

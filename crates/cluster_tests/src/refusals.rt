@@ -1,5 +1,5 @@
-//! Calls of which a growth is refused: want of memory is answered where one was and nowhere else, a link or a handler is asked no
-//! more often than else, and the next call goes well.
+//! Calls with one failing allocation: out of memory is returned if one failed and only then, a link or a handler is
+//! asked no more often than else, and the next call succeeds.
 ghost use Rattle.locked_node.specs.Passes.{Fits};
 
 use crate::fakes::Mood;
@@ -36,11 +36,11 @@ fn digest_of<R: Wait + Env + Abort>(rt: &R, shared: &Shared, pass: &mut Caller) 
     again.ok().expect(rt, "a digest")
 }
 
-/// How a node begins, in which mood the others are, and how a round is to end.
+/// How a node starts, in which mood the others are, and how a round is to end.
 type Row = (Start, Mood, Ended);
 
-/// Checks how a round ends. Where it is refused memory it has altered nothing, and the next one, which first brings its probe to an end,
-/// ends so.
+/// Checks how a round ends. If it runs out of memory it has altered nothing, and the next one, which first brings its
+/// probe to an end, ends so.
 fn check_round<R: Wait + Env + Abort>(
     rt: &R,
     alloc: Global,
@@ -50,16 +50,16 @@ fn check_round<R: Wait + Env + Abort>(
 )
     requires { Fits shared.now pass.old }
 {
-    let (start, mood, wanted) = row;
+    let (_, mood, wanted) = row;
     let (wanted_end, wanted_calls, _) = wanted;
     let moods = (*mood, *mood);
     let before = digest_of(rt, shared, pass);
-    let first = round_in(rt, alloc, shared, pass, start.others, moods);
+    let first = round_in(rt, alloc, shared, pass, moods);
     let (end, calls, _) = first;
     if end == Err(ClusterError::Memory) {
         check_refused(rt);
         assert!(rt; calls <= *wanted_calls && digest_of(rt, shared, pass) == before);
-        let (next_end, _, _) = round_in(rt, alloc, shared, pass, start.others, moods);
+        let (next_end, _, _) = round_in(rt, alloc, shared, pass, moods);
         assert!(rt; next_end == *wanted_end);
         return;
     }
@@ -84,7 +84,8 @@ fn a_round_that_is_refused_memory_alters_nothing(rt: HostRuntime) {
     }
 }
 
-/// Checks that a join asks both hosts; where it is refused memory that it has altered nothing, and that the next one does.
+/// Checks that a join asks both hosts; if it runs out of memory that it has altered nothing, and that the next one
+/// does.
 fn check_join<R: Wait + Env + Abort>(rt: &R, alloc: Global, shared: &Shared, pass: &mut Caller)
     requires { Fits shared.now pass.old }
 {
@@ -107,8 +108,8 @@ fn a_join_that_is_refused_memory_alters_nothing(rt: HostRuntime) {
     let_go(shared, pass);
 }
 
-/// Checks what a request comes to, and that it alters nothing. Where it is refused memory it was sent or handled no more than else, and
-/// the next one comes to that.
+/// Checks the result of a request, and that it alters nothing. If it runs out of memory it was sent or handled no more
+/// than else, and the next one has that result.
 fn check_request<R: Wait + Env + Abort>(
     rt: &R,
     alloc: Global,

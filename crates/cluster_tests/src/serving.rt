@@ -1,9 +1,11 @@
-//! What is answered to each kind of message.
+//! The answer to each kind of message.
 ghost use Rattle.locked_node.specs.Passes.{Fits};
 
 use crate::fakes::{Counting, Fake, Mood};
 use crate::messages::{content, keys, member, message, moment, news, number_of, text};
-use crate::shared::{ALONE, AMONG_ONE, Caller, Shared, Start, check_refused, let_go, met, status};
+use crate::shared::{
+    ALONE, AMONG_ONE, Caller, Shared, Start, again, check_refused, let_go, met, status,
+};
 use change_core::Status;
 use cluster_core::serve_one;
 use std::alloc::Global;
@@ -42,18 +44,18 @@ enum Given {
 
 const ONE_KEY: Given = Given::Request("zzzz1", "zzzz1");
 
-fn told(rt: &impl Abort, alloc: Global, change: Told) -> News {
+fn told(rt: &(impl Env + Abort), alloc: Global, change: Told) -> News {
     let (number, incarnation, status) = change;
     content(rt, alloc, &[news(rt, number, incarnation, status)])
 }
 
 /// That 10.0.0.2:1 is alive at 1.
-fn alive(rt: &impl Abort, alloc: Global) -> News {
+fn alive(rt: &(impl Env + Abort), alloc: Global) -> News {
     told(rt, alloc, (2, 1, Status::Alive))
 }
 
 /// The content of each.
-fn content_of(rt: &impl Abort, alloc: Global, given: &Given) -> Content {
+fn content_of(rt: &(impl Env + Abort), alloc: Global, given: &Given) -> Content {
     match *given {
         Given::Join(news) => Content::Join(told(rt, alloc, news)),
         Given::Ping(news) => Content::Ping(told(rt, alloc, news)),
@@ -73,12 +75,12 @@ fn content_of(rt: &impl Abort, alloc: Global, given: &Given) -> Content {
     }
 }
 
-/// What is answered.
+/// The answer.
 #[derive(Clone, Copy, PartialEq, Eq)]
 enum Said {
     /// A Joined of both members, and nothing else.
     Joined,
-    /// An Ack with what the node says of itself, and nothing else.
+    /// An Ack with the node's own entry, and nothing else.
     Ack,
     /// Whether the target of this number was reached.
     Word(u32, bool),
@@ -91,10 +93,10 @@ enum Said {
     Spent,
 }
 
-/// What is answered, and how often the link and the handler were asked.
+/// The answer, and how often the link and the handler were asked.
 type Answer = (Said, u64, u64);
 
-/// Whether this is what 10.0.0.1:1 says of itself at 7, and then of 10.0.0.2:1 at 5 where it is to tell of both.
+/// Whether this is the entry of 10.0.0.1:1 at 7, and then of 10.0.0.2:1 at 5 if it has to be of both.
 fn tells(rt: &impl Abort, said: &News, of_both: bool) -> bool {
     let own = news(rt, 1, 7, Status::Alive);
     let mut other = own;
@@ -130,7 +132,7 @@ fn said_by(rt: &impl Abort, answer: &Result<Message, LockError>) -> Said {
     }
 }
 
-/// What is answered to a message.
+/// The answer to a message.
 fn serve<R: Wait + Abort>(
     rt: &R,
     alloc: Global,
@@ -155,11 +157,12 @@ fn serve<R: Wait + Abort>(
 /// A member, and as what it is held.
 type Held = (u8, Option<Status>);
 
-/// A node that begins so, what it is sent, how its link and its handler answer, what it answers, and as what it then holds a member.
+/// A node that starts so, what it is sent, how its link and its handler answer, what it answers, and as what it then
+/// holds a member.
 type Row = (Start, Given, Moods, Answer, Held);
 
-/// Checks what is answered to a message. Where it is refused memory the link and the handler were asked no more than else, and it is
-/// answered so when it comes again.
+/// Checks the answer to a message. If it runs out of memory the link and the handler were asked no more than else, and
+/// it has this answer when it comes again.
 fn check_row<R: Wait + Env + Abort>(
     rt: &R,
     alloc: Global,
@@ -210,6 +213,8 @@ const JOIN: Row = (
     SECOND,
 );
 
+/// A join of B with (B,5,alive) at A: a joined with (A,7,alive) and (B,5,alive), both with source A at 7. Neither the link nor the
+/// handler is called, here and in each item up to the rounds that does not name one of them.
 #[test]
 fn a_join_is_answered_by_all_members(rt: HostRuntime) {
     check(&rt, rt.alloc(), &[JOIN]);
@@ -223,6 +228,7 @@ const PING: Row = (
     SECOND,
 );
 
+/// A ping of B with (B,5,alive) at A: an ack with (A,7,alive).
 #[test]
 fn a_ping_is_answered_by_an_ack(rt: HostRuntime) {
     check(&rt, rt.alloc(), &[PING]);
@@ -256,6 +262,8 @@ static STOPS: [Row; 6] = [
     (FULL, Given::PingReq(LAST, 3), WILLING, IS_EXHAUSTED, ITSELF),
 ];
 
+/// A node with one member at most, and a join, a ping and a ping-req with (B,1,alive): refused full. With (A,LIM,faulty): refused
+/// exhausted.
 #[test]
 fn a_taking_that_stops_is_refused_by_its_cause(rt: HostRuntime) {
     check(&rt, rt.alloc(), &STOPS);
@@ -272,14 +280,33 @@ const FAILING_LINK: Moods = (Mood::Failing, Mood::Willing);
 
 const BROKEN_LINK: Moods = (Mood::Broken, Mood::Willing);
 
+const STRANGE_LINK: Moods = (Mood::Strange, Mood::Willing);
+
+const TELLING_LINK: Moods = (Mood::Telling, Mood::Willing);
+
 const STARVED_LINK: Moods = (Mood::Starved, Mood::Willing);
 
 const REACHED: Answer = (Said::Word(3, true), 1, 0);
 
 const MISSED: Answer = (Said::Word(3, false), 1, 0);
 
-static TARGETS: [Row; 5] = [
+static TARGETS: [Row; 8] = [
     (ALONE, ABOUT, WILLING, REACHED, THIRD),
+    (
+        ALONE,
+        Given::PingReq((2, 5, Status::Alive), 3),
+        WILLING,
+        REACHED,
+        SECOND,
+    ),
+    (ALONE, ABOUT, STRANGE_LINK, MISSED, THIRD),
+    (
+        FULL,
+        Given::PingReq((1, 7, Status::Alive), 3),
+        TELLING_LINK,
+        REACHED,
+        NO_SECOND,
+    ),
     (ALONE, ABOUT, FAILING_LINK, MISSED, THIRD),
     (ALONE, ABOUT, BROKEN_LINK, MISSED, THIRD),
     (
@@ -298,6 +325,9 @@ static TARGETS: [Row; 5] = [
     ),
 ];
 
+/// A ping-req about C: reached true where C acks, also if its ack tells a full node of one more; false where it answers otherwise, another
+/// acks or the link fails; refused memory where the link finds none. About A itself: reached, and no node is asked; else the link once, and the handler never. It tells of C, which is held as alive
+/// then.
 #[test]
 fn a_ping_req_tells_whether_its_target_was_reached(rt: HostRuntime) {
     check(&rt, rt.alloc(), &TARGETS);
@@ -323,6 +353,8 @@ static HANDLED: [Row; 3] = [
     ),
 ];
 
+/// A request that A owns: the handler's reply; refused failed and refused memory where the handler says so. It is asked once each time,
+/// and the link never.
 #[test]
 fn a_request_is_handled_by_the_owner_of_its_keys(rt: HostRuntime) {
     check(&rt, rt.alloc(), &HANDLED);
@@ -339,6 +371,7 @@ static ELSEWHERE: [Row; 2] = [
     ),
 ];
 
+/// A request for `zzzz1` at A with B: not owner. For `zzzz0` and `zzzz1`: refused diverged.
 #[test]
 fn a_request_for_others_is_not_handled(rt: HostRuntime) {
     check(&rt, rt.alloc(), &ELSEWHERE);
@@ -357,6 +390,7 @@ const TO_NOBODY: Row = (
     NO_SECOND,
 );
 
+/// A request at A that has left, alone: refused as `nobody`.
 #[test]
 fn a_request_to_nobody_is_refused(rt: HostRuntime) {
     check(&rt, rt.alloc(), &[TO_NOBODY]);
@@ -373,53 +407,26 @@ static ANSWERS: [Row; 6] = [
     (ALONE, Given::Refused, WILLING, UNEXPECTED, NO_SECOND),
 ];
 
+/// Joined, ack, ping-req-ack, reply, not owner and refused: refused unexpected, and nothing is taken.
 #[test]
 fn answers_are_unexpected(rt: HostRuntime) {
     check(&rt, rt.alloc(), &ANSWERS);
 }
 
-/// How many turns a pass has, and what is answered to a request: a turn to look up who owns its keys, and one for the answer.
-static TURNS: [(u32, Answer); 2] = [(1, (Said::Spent, 0, 1)), (2, REPLY)];
-
-/// What is answered to a request by a pass of so many turns.
-fn answer_within<R: Wait + Env + Abort>(rt: &R, alloc: Global, turns: u32) -> Answer {
-    let (shared, mut pass) = met(rt, alloc, &Start { turns, ..ALONE });
+/// The answers to a request that comes twice, by a pass with one turn.
+fn answers_of_one_turn<R: Wait + Env + Abort>(rt: &R, alloc: Global) -> (Answer, Answer) {
+    let (shared, mut pass) = met(rt, alloc, &Start { turns: 1, ..ALONE });
     let given = message(rt, 2, content_of(rt, alloc, &ONE_KEY));
-    let answer = serve(rt, alloc, &shared, &mut pass, WILLING, &given);
+    let first = serve(rt, alloc, &shared, &mut pass, WILLING, &given);
+    let second = serve(rt, alloc, &shared, &mut pass, WILLING, &given);
     drop(given);
     let_go(shared, pass);
-    answer
+    (first, second)
 }
 
-/// Where memory is refused before the last turn is spent, what another pass answers is looked at.
+/// A request that A owns, twice by a pass with one turn: answered, and then pass spent, with neither the handler nor the link asked.
 #[test]
 fn a_spent_pass_is_refused(rt: HostRuntime) {
-    let alloc = rt.alloc();
-    for (turns, wanted) in &TURNS {
-        let mut answer = answer_within(&rt, alloc, *turns);
-        if answer != *wanted {
-            check_refused(&rt);
-            answer = answer_within(&rt, alloc, *turns);
-        }
-        assert!(&rt; answer == *wanted);
-    }
-}
-
-/// A message of each kind that is answered.
-static MESSAGES: [Row; 4] = [
-    JOIN,
-    PING,
-    (
-        ALONE,
-        Given::PingReq((2, 5, Status::Alive), 3),
-        WILLING,
-        REACHED,
-        SECOND,
-    ),
-    (ALONE, ONE_KEY, WILLING, REPLY, NO_SECOND),
-];
-
-#[test]
-fn a_message_that_is_refused_memory_is_answered_when_it_comes_again(rt: HostRuntime) {
-    check(&rt, rt.alloc(), &MESSAGES);
+    let (alloc, wanted) = (rt.alloc(), (REPLY, (Said::Spent, 0, 0)));
+    assert!(&rt; again!(&rt, answers_of_one_turn(&rt, alloc) == wanted));
 }

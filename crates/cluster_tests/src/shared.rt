@@ -1,4 +1,4 @@
-//! Nodes that are shared. Where a growth is refused it is tried once more.
+//! Nodes that are shared. If an allocation fails the call is made again.
 ghost use Rattle.std.specs.Prelude.{IfSome};
 ghost use Rattle.std.specs.List.{All};
 ghost use Rattle.locked_node.specs.Passes.{Fits, IsNew};
@@ -18,10 +18,10 @@ pub(crate) type Shared = LockedNode<SumHash>;
 
 pub(crate) type Caller = NodePass<SumHash>;
 
-/// How the node 10.0.0.1:1 at 7 begins.
+/// The start of the node 10.0.0.1:1 at 7.
 #[derive(Clone, Copy)]
 pub(crate) struct Start {
-    /// How many members it holds at most.
+    /// The greatest number of members.
     pub(crate) max: usize,
     /// How many calls each of its passes may make.
     pub(crate) turns: u32,
@@ -31,7 +31,7 @@ pub(crate) struct Start {
     pub(crate) has_left: bool,
 }
 
-/// With nobody else, and room for all that the tests do.
+/// With no other member, and room for all that the tests do.
 pub(crate) const ALONE: Start = Start {
     max: 4096,
     turns: 99,
@@ -50,7 +50,19 @@ pub(crate) fn check_refused(rt: &(impl Env + Abort)) {
     assert!(rt; rt.var("FAIL_ALLOC", &mut number).is_ok());
 }
 
-/// A node that is shared by so many passes, each for so many calls.
+/// Whether an attempt is completed: the first, or another if an allocation failed.
+macro_rules! again {
+    ($rt:expr, $attempt:expr) => {
+        $attempt || {
+            crate::shared::check_refused($rt);
+            $attempt
+        }
+    };
+}
+
+pub(crate) use again;
+
+/// A node that is shared by this many passes, each for this many calls.
 pub(crate) fn try_share(
     alloc: Global,
     node: NodeState<SumHash>,
@@ -68,22 +80,24 @@ pub(crate) fn try_share(
     }
 }
 
-/// Hears of 10.0.0.`number`:1 as alive at 1.
-fn hear(rt: &impl Abort, node: &mut NodeState<SumHash>, number: u8) {
+/// Learns of 10.0.0.`number`:1 as alive at 1.
+fn hear(rt: &(impl Env + Abort), node: &mut NodeState<SumHash>, number: u8) {
     let given = [news(rt, number, 1, Status::Alive)];
     let now = moment(rt, 0);
     if node.take(&given, now).is_err() {
+        check_refused(rt);
         assert!(rt; node.take(&given, now).is_ok());
     }
 }
 
 /// The node before it is shared.
-fn begun(rt: &impl Abort, alloc: Global, start: &Start) -> NodeState<SumHash> {
+fn begun(rt: &(impl Env + Abort), alloc: Global, start: &Start) -> NodeState<SumHash> {
     let mut node = state(rt, alloc, 1, start.max);
     for number in 0..start.others {
         hear(rt, &mut node, number.wrapping_add(2));
     }
     if start.has_left && node.leave().is_err() {
+        check_refused(rt);
         assert!(rt; node.leave().is_ok());
     }
     node

@@ -1,8 +1,10 @@
 //! A link over sockets, and a peer of the test's own.
 use crate::messages::{content, member, message, news, number_of, request};
+use crate::shared::check_refused;
 use change_core::{Address, Status};
 use cluster_core::{Limits, Link, LinkError, TcpLink, send_line, socket_address};
 use std::alloc::Global;
+use std::env::Env;
 use std::io::{BufReader, Read, Write};
 use std::net::{Net, TcpListener, TcpStream};
 use std::process::Abort;
@@ -12,7 +14,7 @@ use std::time::{Clock, Duration};
 use std::{io, thread};
 use wire_json::{Content, Field, Message, WireError, encode, read_line};
 
-fn ping(rt: &impl Abort, alloc: Global) -> Message {
+fn ping(rt: &(impl Env + Abort), alloc: Global) -> Message {
     let told = content(rt, alloc, &[news(rt, 9, 1, Status::Alive)]);
     message(rt, 9, Content::Ping(told))
 }
@@ -48,7 +50,7 @@ fn short_pings() -> Limits {
     }
 }
 
-/// The next line; none where a growth was refused, or nothing came.
+/// The next line; None if an allocation failed, or nothing came.
 fn heard<S: Read + Drop>(alloc: Global, stream: S) -> Option<Vec<u8>> {
     let mut reader = BufReader::new(alloc, stream).ok()?;
     let line = read_line(alloc, &mut reader).ok();
@@ -56,7 +58,7 @@ fn heard<S: Read + Drop>(alloc: Global, stream: S) -> Option<Vec<u8>> {
     line?
 }
 
-/// Drips, and writes these bytes.
+/// Writes slowly, and writes these bytes.
 fn write_slowly<R: Clock, W: Write>(rt: &R, stream: &mut W, drip: Drip, bytes: &[u8]) {
     for _ in 0..drip.bytes {
         thread::sleep(rt, drip.rest);
@@ -67,7 +69,7 @@ fn write_slowly<R: Clock, W: Write>(rt: &R, stream: &mut W, drip: Drip, bytes: &
     let _written = stream.write_all(bytes);
 }
 
-/// Reads a line of a connection, drips, and writes these bytes. It gives the line back.
+/// Reads a line of a connection, writes slowly, and writes these bytes. It gives the line back.
 fn answer_on<R: Clock>(
     rt: &R,
     alloc: Global,
@@ -152,7 +154,8 @@ type Answered = (Said, u64);
 
 const NO_MEMORY: Said = Said::Fault(LinkError::Memory);
 
-/// A peer in a thread of its own that answers one connection by these bytes; none where a growth or the thread was refused.
+/// A peer in its own thread that answers one connection by these bytes; None if an allocation failed or the thread was
+/// not made.
 fn start_peer<R: Threads + Clock + Copy + Send + 'static>(
     rt: &R,
     alloc: Global,
@@ -183,7 +186,7 @@ fn answer_of<N: Net + Clock, R: Wait>(
     (said, link.failures())
 }
 
-/// Whether a peer has read this message; none where a growth was refused.
+/// Whether a peer has read this message; None if an allocation failed.
 fn has_read(alloc: Global, line: Option<Vec<u8>>, message: &Message) -> Option<bool> {
     let (line, wanted) = line.zip(encode(alloc, message).ok())?;
     let is_read = line.as_slice() == wanted.as_slice();
@@ -192,8 +195,8 @@ fn has_read(alloc: Global, line: Option<Vec<u8>>, message: &Message) -> Option<b
     Some(is_read)
 }
 
-/// What a link with these limits answers to a message, which a peer reads, where the peer then drips and writes these bytes; none where
-/// a growth was refused.
+/// What a link with these limits answers to a message, which a peer reads, where the peer then writes slowly and writes
+/// these bytes; None if an allocation failed.
 fn try_call<
     R: Net<Listener = TcpListener, Stream = TcpStream>
         + Threads
@@ -201,6 +204,7 @@ fn try_call<
         + Clock
         + Copy
         + Send
+        + Env
         + Abort
         + 'static,
 >(
@@ -227,7 +231,7 @@ fn try_call<
     Some((said, failures))
 }
 
-/// Checks what a link answers, the message let go; where a growth was refused, with another peer.
+/// Checks what a link answers, the message let go; if an allocation failed, with another peer.
 fn check<
     R: Net<Listener = TcpListener, Stream = TcpStream>
         + Threads
@@ -235,6 +239,7 @@ fn check<
         + Clock
         + Copy
         + Send
+        + Env
         + Abort
         + 'static,
 >(
@@ -248,6 +253,7 @@ fn check<
 ) {
     let mut answered = try_call(rt, alloc, limits, &message, drip, bytes);
     if answered.is_none() {
+        check_refused(rt);
         answered = try_call(rt, alloc, limits, &message, drip, bytes);
     }
     drop(message);
@@ -255,14 +261,18 @@ fn check<
 }
 
 /// An Ack of 10.0.0.3:1, as a line.
-fn ack_line(rt: &impl Abort, alloc: Global) -> Vec<u8> {
+fn ack_line(rt: &(impl Env + Abort), alloc: Global) -> Vec<u8> {
     let ack = message(rt, 3, Content::Ack(content(rt, alloc, &[])));
     let mut line = match encode(alloc, &ack) {
         Ok(line) => line,
-        Err(_) => encode(alloc, &ack).ok().expect(rt, "a line"),
+        Err(_) => {
+            check_refused(rt);
+            encode(alloc, &ack).ok().expect(rt, "a line")
+        }
     };
     drop(ack);
     if line.push(b'\n').is_err() {
+        check_refused(rt);
         line.push(b'\n').ok().expect(rt, "room");
     }
     line
@@ -272,11 +282,14 @@ const HEARD: Answered = (Said::Ack, 0);
 
 const LEFT: Answered = (Said::Fault(LinkError::Io), 1);
 
-/// A line that is no answer.
+/// A line that is not an answer.
 fn faulty(error: WireError) -> Answered {
     (Said::Fault(LinkError::Wire(error)), 0)
 }
 
+/// Over sockets: a ping is answered by an ack, and the peer gives back what it has read, which is the ping's line. A peer that closes at
+/// once: closed, one failure. One that answers `[]`, `{` or `{}`: not an object, not JSON, kind is missing; no failure. Nothing listens,
+/// as is assumed of port 1 of 127.0.0.1: the link failed, one failure each time.
 #[test]
 fn a_line_goes_out_and_a_line_comes_back(rt: HostRuntime) {
     let alloc: Global = rt.alloc();
@@ -285,6 +298,9 @@ fn a_line_goes_out_and_a_line_comes_back(rt: HostRuntime) {
     check(&rt, alloc, patient(), ping, AT_ONCE, line.as_slice(), HEARD);
 }
 
+/// Over sockets: a ping is answered by an ack, and the peer gives back what it has read, which is the ping's line. A peer that closes at
+/// once: closed, one failure. One that answers `[]`, `{` or `{}`: not an object, not JSON, kind is missing; no failure. Nothing listens,
+/// as is assumed of port 1 of 127.0.0.1: the link failed, one failure each time.
 #[test]
 fn what_is_no_answer_is_a_fault(rt: HostRuntime) {
     let rows = [
@@ -308,6 +324,7 @@ fn what_is_no_answer_is_a_fault(rt: HostRuntime) {
     }
 }
 
+/// An answer that is cut behind any of its bytes: not JSON, no failure; without its newline alone it is heard.
 #[test]
 fn an_answer_may_be_cut_anywhere(rt: HostRuntime) {
     let alloc: Global = rt.alloc();
@@ -337,6 +354,8 @@ fn slowly() -> Drip {
     }
 }
 
+/// A peer that writes thirty bytes of white space over three seconds and then its answer: left at a limit of two seconds, the link
+/// failed, one failure; heard where the question is a ping-req, whose limit is longer.
 #[test]
 fn a_peer_that_drips_is_left_at_the_limit(rt: HostRuntime) {
     let alloc: Global = rt.alloc();
@@ -353,6 +372,8 @@ fn a_peer_that_drips_is_left_at_the_limit(rt: HostRuntime) {
     );
 }
 
+/// A peer that writes thirty bytes of white space over three seconds and then its answer: left at a limit of two seconds, the link
+/// failed, one failure; heard where the question is a ping-req, whose limit is longer.
 #[test]
 fn a_helper_has_longer_than_a_pinged_node(rt: HostRuntime) {
     let alloc: Global = rt.alloc();
@@ -370,15 +391,18 @@ fn a_helper_has_longer_than_a_pinged_node(rt: HostRuntime) {
     );
 }
 
-/// So many letters.
-fn letters(rt: &impl Abort, alloc: Global, count: usize) -> Vec<u8> {
+/// This many letters.
+fn letters(rt: &(impl Env + Abort), alloc: Global, count: usize) -> Vec<u8> {
     let mut letters = Vec::new(alloc);
     if letters.resize(count, b'a').is_err() {
+        check_refused(rt);
         assert!(rt; letters.resize(count, b'a').is_ok());
     }
     letters
 }
 
+/// A peer that answers 1,048,577 letters: line too long, no failure. A forward with a body of as many, for a port where nothing listens:
+/// line too long, no failure.
 #[test]
 fn an_answer_may_be_too_long(rt: HostRuntime) {
     let alloc: Global = rt.alloc();
@@ -396,13 +420,13 @@ fn an_answer_may_be_too_long(rt: HostRuntime) {
     );
 }
 
-/// The first port of this machine, where nobody listens.
+/// The first port of this machine, an unused one.
 fn nobody(rt: &impl Abort) -> Address {
     Address::new(0x7f00_0001, 1).expect(rt, "an address")
 }
 
-/// What a link answers to a message, and how often it then has failed; where there was no memory, when it is asked again.
-fn answer_again<N: Net + Clock, R: Wait>(
+/// What a link answers to a message, and how often it then has failed; if out of memory, when it is asked again.
+fn answer_again<N: Net + Clock, R: Wait + Env + Abort>(
     rt: &R,
     alloc: Global,
     link: &mut TcpLink<N>,
@@ -411,13 +435,14 @@ fn answer_again<N: Net + Clock, R: Wait>(
 ) -> Answered {
     let (said, failures) = answer_of(rt, alloc, link, to, message);
     if said == NO_MEMORY {
+        check_refused(rt);
         return answer_of(rt, alloc, link, to, message);
     }
     (said, failures)
 }
 
-/// Checks what a link that has failed so often answers to a message, which is let go.
-fn check_link<R: Net<Listener = TcpListener, Stream = TcpStream> + Wait + Clock + Abort>(
+/// Checks what a link that has failed this often answers to a message, which is let go.
+fn check_link<R: Net<Listener = TcpListener, Stream = TcpStream> + Wait + Clock + Env + Abort>(
     rt: &R,
     alloc: Global,
     failures: u64,
@@ -432,6 +457,9 @@ fn check_link<R: Net<Listener = TcpListener, Stream = TcpStream> + Wait + Clock 
     assert!(rt; answered == wanted);
 }
 
+/// Over sockets: a ping is answered by an ack, and the peer gives back what it has read, which is the ping's line. A peer that closes at
+/// once: closed, one failure. One that answers `[]`, `{` or `{}`: not an object, not JSON, kind is missing; no failure. Nothing listens,
+/// as is assumed of port 1 of 127.0.0.1: the link failed, one failure each time.
 #[test]
 fn nobody_listens(rt: HostRuntime) {
     let alloc: Global = rt.alloc();
@@ -442,7 +470,7 @@ fn nobody_listens(rt: HostRuntime) {
 }
 
 /// Whether the first that connects where a spent link was to send is one that knocks.
-fn sends_nothing<R: Net<Listener = TcpListener, Stream = TcpStream> + Wait + Clock + Abort>(
+fn sends_nothing<R: Net<Listener = TcpListener, Stream = TcpStream> + Wait + Clock + Env + Abort>(
     rt: &R,
     alloc: Global,
 ) -> Option<bool> {
@@ -460,16 +488,23 @@ fn sends_nothing<R: Net<Listener = TcpListener, Stream = TcpStream> + Wait + Clo
     Some(is_first)
 }
 
+/// A link whose failures are 2^64 - 1: spent, and its failures stay; over channels the node has heard nothing, and where a socket listens
+/// the first to connect is another.
 #[test]
 fn a_spent_link_sends_nothing(rt: HostRuntime) {
     let alloc: Global = rt.alloc();
     let is_first = match sends_nothing(&rt, alloc) {
         Some(is_first) => Some(is_first),
-        None => sends_nothing(&rt, alloc),
+        None => {
+            check_refused(&rt);
+            sends_nothing(&rt, alloc)
+        }
     };
     assert!(&rt; is_first == Some(true));
 }
 
+/// A peer that answers 1,048,577 letters: line too long, no failure. A forward with a body of as many, for a port where nothing listens:
+/// line too long, no failure.
 #[test]
 fn a_message_too_long_is_not_sent(rt: HostRuntime) {
     let alloc: Global = rt.alloc();
@@ -504,12 +539,13 @@ const EMPTY: Tally = Tally {
     bytes: 0,
 };
 
-/// What is made of a line of so many letters.
-fn made_of(rt: &impl Abort, alloc: Global, length: usize) -> Tally {
+/// What is made of a line of this many letters.
+fn made_of(rt: &(impl Env + Abort), alloc: Global, length: usize) -> Tally {
     let line = letters(rt, alloc, length);
     if let Ok(tally) = send_line(alloc, EMPTY, line.as_slice()) {
         return tally;
     }
+    check_refused(rt);
     let again = send_line(alloc, EMPTY, line.as_slice());
     again.ok().expect(rt, "all is written")
 }
@@ -523,6 +559,7 @@ static LENGTHS: [(usize, usize); 5] = [
     (100_000, 100_001),
 ];
 
+/// Lines of 0, 1, 8,191, 8,192 and 100,000 letters: each goes out in one write with its newline.
 #[test]
 fn a_line_and_its_newline_are_one_write(rt: HostRuntime) {
     for &(length, bytes) in &LENGTHS {

@@ -1,4 +1,4 @@
-//! What is said of the errors of links and clusters.
+//! The texts of the errors of links and clusters.
 
 use cluster_core::{
     CallError, ClusterError, JoinError, LeaveError, LinkError, RejoinError, RequestError,
@@ -10,7 +10,7 @@ use std::alloc::Global;
 use std::fmt;
 use std::process::Abort;
 
-/// Errors of a cluster, and what is said of them.
+/// Errors of a cluster, and the error text.
 const CLUSTER_ERRORS: [(ClusterError, &str); 20] = [
     (ClusterError::NoNode, "no node has the address"),
     (ClusterError::NoneJoined, "no host joined"),
@@ -37,7 +37,7 @@ const CLUSTER_ERRORS: [(ClusterError, &str); 20] = [
     (ClusterError::Memory, "out of memory"),
 ];
 
-/// Errors of a link, and what is said of them.
+/// Errors of a link, and the error text.
 const LINK_ERRORS: [(LinkError, &str); 5] = [
     (LinkError::Io, "the link failed"),
     (LinkError::Closed, "the link is closed"),
@@ -113,7 +113,7 @@ fn check_texts<E: fmt::Display>(rt: &impl Abort, alloc: Global, errors: &[(E, Cl
     }
 }
 
-/// Whether this is said of an error. After a refused growth it is said again.
+/// Whether this is the text of an error. After a failed allocation it is made again.
 fn is_said<E: fmt::Display>(alloc: Global, error: &E, text: &str) -> bool {
     for _ in 0..2 {
         if let Ok(said) = format!(in alloc; "{error}") {
@@ -123,6 +123,7 @@ fn is_said<E: fmt::Display>(alloc: Global, error: &E, text: &str) -> bool {
     false
 }
 
+/// Each of the twenty refusals of a cluster and the five faults of a link has its text.
 #[test]
 fn each_error_has_its_text(rt: HostRuntime) {
     for (error, text) in &CLUSTER_ERRORS {

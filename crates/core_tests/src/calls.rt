@@ -1,15 +1,16 @@
-//! The calls of a node and what it answers to them, as plain data, so that they stand in tables.
+//! The calls of a node and what it answers to them, as plain data, so that they are put into tables.
 use crate::shared::{Ip, Row, address, batch, incarnation, moment, news, put, vec_of};
-// What `locked_node` names besides is taken from there, since its user names that crate alone.
+// Names from `locked_node`, since its user names that crate alone.
 use locked_node::{
     Address, Change, Changes, Content, Digest, Entry, Kind, Message, News, NodeError, NodeLost,
     NodeOutcome, Received, Running, Said, Sourced, Status, StopCause, Weight,
 };
 use node_core::{Event, KeyBytes, Reply};
 use std::alloc::Global;
+use std::env::Env;
 use std::process::Abort;
 
-/// A call of a node, at moment 0 where none is told.
+/// A call of a node, at moment 0 if none is given.
 #[derive(Clone, Copy)]
 pub(crate) enum Call {
     /// Takes a change that its own member says, at a moment.
@@ -53,16 +54,17 @@ pub(crate) enum Call {
 /// A change as a message carries it, and who said it at which incarnation.
 pub(crate) type Carried = (Row, Ip, u64);
 
-/// What a call is answered. A member that is none of `10.0.0.n:1` is told as 0.
+/// The reply to a call. A member that is not one of `10.0.0.n:1` is 0.
 #[derive(Clone, Copy, PartialEq, Eq)]
 pub(crate) enum Told<'a> {
-    /// How many changes were applied, and how many of these refuted; where a refuted one was answered, no more is told.
+    /// How many changes were applied, and how many of these refuted; a change that refutes one is not listed.
     Taken(usize, usize),
     /// After how many changes it stopped, and why.
     Stopped(usize, StopCause),
-    /// How many changes were applied, and a message of this member and kind, with so many changes, of which these are the first.
+    /// How many changes were applied, and a message of this member and kind, with this many changes; these are the
+    /// first.
     Message(usize, Ip, Kind, usize, [Option<Carried>; 3]),
-    /// How many changes were applied, before the answer found no memory.
+    /// How many changes were applied, before it was out of memory for the answer.
     NoAnswer(usize),
     Refused(NodeError),
     /// A change with weight 1.
@@ -75,7 +77,7 @@ pub(crate) enum Told<'a> {
     Probe(u64, Ip),
     /// The number and target of the probe that runs, and the helper that it waits for.
     Running(u64, Ip, Option<Ip>),
-    /// What is held of a member, with weight 1. Of another weight it is told as a change of none of these members.
+    /// The entry of a member, with weight 1. Of another weight it counts as a change of none of these members.
     Held(u64, Status),
     Owner(Ip),
     /// How many members are named, and the first three.
@@ -91,10 +93,10 @@ pub(crate) enum Told<'a> {
     Digest([u8; 32]),
 }
 
-/// What an example is called, its calls, and what each is answered.
+/// The name of an example, its calls, and the reply to each.
 pub(crate) type Calls = (&'static str, &'static [(Call, Told<'static>)]);
 
-fn key(rt: &impl Abort, alloc: Global, text: &str) -> KeyBytes {
+fn key(rt: &(impl Env + Abort), alloc: Global, text: &str) -> KeyBytes {
     let mut bytes = vec_of(rt, alloc, text.len());
     for byte in text.as_bytes() {
         put(rt, &mut bytes, *byte);
@@ -102,15 +104,15 @@ fn key(rt: &impl Abort, alloc: Global, text: &str) -> KeyBytes {
     KeyBytes::from_vec(bytes)
 }
 
-/// The taking of one change.
-fn taking(rt: &impl Abort, alloc: Global, given: &Sourced, now: u64) -> Event {
+/// The call that processes one change.
+fn taking(rt: &(impl Env + Abort), alloc: Global, given: &Sourced, now: u64) -> Event {
     let now = moment(rt, now);
     let mut list = vec_of(rt, alloc, 1);
     put(rt, &mut list, *given);
     Event::Take(Changes::from_vec(list).ok().expect(rt, "changes"), now)
 }
 
-/// The change as another says it at an incarnation.
+/// The change with another node as its source, at an incarnation.
 fn said_by(rt: &impl Abort, source: Ip, at: u64, row: Row) -> Sourced {
     let mut given = news(rt, row);
     given.source = address(rt, source);
@@ -126,7 +128,7 @@ fn weighty(rt: &impl Abort, row: Row, weight: u8) -> Sourced {
 }
 
 /// The Join of a member.
-fn join(rt: &impl Abort, alloc: Global, row: Row) -> Message {
+fn join(rt: &(impl Env + Abort), alloc: Global, row: Row) -> Message {
     let (source, at, _) = row;
     let source = address(rt, source);
     let source_incarnation = incarnation(rt, at);
@@ -140,7 +142,7 @@ fn join(rt: &impl Abort, alloc: Global, row: Row) -> Message {
 }
 
 /// A Ping without changes.
-fn ping(rt: &impl Abort, alloc: Global, source: Ip, at: u64, checksum: &str) -> Message {
+fn ping(rt: &(impl Env + Abort), alloc: Global, source: Ip, at: u64, checksum: &str) -> Message {
     let source = address(rt, source);
     let source_incarnation = incarnation(rt, at);
     let checksum = Digest::parse(checksum).expect(rt, "a digest");
@@ -170,7 +172,7 @@ fn ping_req_ack(rt: &impl Abort, requester: Ip, target: Ip) -> Event {
 }
 
 /// The event of a call.
-pub(crate) fn event(rt: &impl Abort, alloc: Global, call: Call) -> Event {
+pub(crate) fn event(rt: &(impl Env + Abort), alloc: Global, call: Call) -> Event {
     let start = moment(rt, 0);
     match call {
         Call::Take(row, now) => taking(rt, alloc, &news(rt, row), now),
@@ -404,7 +406,8 @@ pub(crate) fn tells(reply: Reply, wanted: Told<'_>) -> bool {
     is_so
 }
 
-/// What a call is to be answered when it is made once more, where it found no memory: what it applied by then it does not apply again.
+/// What a call is to be answered when it is made again, if it was out of memory: what it applied by then it does not
+/// apply again.
 pub(crate) fn wanted_again<'a>(told: Told<'_>, wanted: Told<'a>) -> Option<Told<'a>> {
     match told {
         Told::Refused(NodeError::Memory) | Told::Stopped(_, StopCause::Memory) => Some(wanted),

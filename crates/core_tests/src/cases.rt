@@ -1,4 +1,4 @@
-//! Worked examples: how a node begins, and what it answers to calls, one after another.
+//! Worked examples: how a node starts, and what it answers to calls, one after another.
 use crate::calls::{Call, Calls, Carried, Told};
 use crate::shared::{A, B, C, D, E, F, Ip, LIMIT, NOBODY};
 use change_core::Status;
@@ -6,7 +6,8 @@ use detector_core::Said;
 use node_core::{NodeError, StopCause};
 use wire_json::Kind;
 
-/// A node at moment 0: its incarnation, its weight, with two points for each unit of that, and how many members it holds at most.
+/// A node at moment 0: its incarnation, its weight, with two points for each unit of that, and the greatest number of
+/// members.
 #[derive(Clone, Copy)]
 pub(crate) struct Start {
     pub(crate) own: Ip,
@@ -33,7 +34,7 @@ const B_AT_1: Start = Start {
     max: 4096,
 };
 
-/// Stays alive, whatever it is told of itself.
+/// Stays alive, whatever it is given about itself.
 pub(crate) const REFUTES: Case = (
     A_AT_7,
     (
@@ -68,7 +69,7 @@ pub(crate) const LEAVES: Case = (
     ),
 );
 
-/// Takes the first of three changes; the second leaves no incarnation to refute it by. It goes on.
+/// Takes the first of three changes; the second leaves no incarnation to refute it by. It continues.
 pub(crate) const EXHAUSTED: Case = (
     A_AT_7,
     (
@@ -89,7 +90,7 @@ pub(crate) const EXHAUSTED: Case = (
     ),
 );
 
-/// Is full with the first of three changes, and goes on about the members that it has.
+/// Is full with the first of three changes, and continues about the members that it has.
 pub(crate) const FULL: Case = (
     Start {
         own: A,
@@ -178,7 +179,50 @@ pub(crate) const RUNS_OUT: Case = (
     ),
 );
 
-/// A suspicion that was answered does not run out, and no other at the greatest moment.
+/// A suspicion waits from the moment at which it was first taken, whatever is heard of it again.
+pub(crate) const WAITS: Case = (
+    A_AT_7,
+    (
+        "waits",
+        &[
+            (
+                Call::Take((B, 1, Status::Suspect), 1_000),
+                Told::Taken(1, 0),
+            ),
+            (
+                Call::Take((B, 1, Status::Suspect), 3_000),
+                Told::Taken(0, 0),
+            ),
+            (Call::Expire(5_999), Told::Nothing),
+            (Call::Expire(6_000), Told::Change((B, 1, Status::Faulty))),
+        ],
+    ),
+);
+
+/// A member that left stays out at its incarnation, whatever is heard of it there, and owns no key until it is back at a later one.
+pub(crate) const STAYS_OUT: Case = (
+    A_AT_7,
+    (
+        "stays out",
+        &[
+            (Call::Take((B, 1, Status::Alive), 0), Told::Taken(1, 0)),
+            (Call::Owner("zzzz1"), Told::Owner(B)),
+            (Call::Take((B, 1, Status::Leave), 0), Told::Taken(1, 0)),
+            (Call::Owner("zzzz1"), Told::Owner(A)),
+            (Call::Take((B, 1, Status::Alive), 0), Told::Taken(0, 0)),
+            (Call::Take((B, 1, Status::Suspect), 0), Told::Taken(0, 0)),
+            (Call::Take((B, 1, Status::Faulty), 0), Told::Taken(0, 0)),
+            (Call::Member(B), Told::Held(1, Status::Leave)),
+            (Call::Take((B, 1, Status::Tombstone), 0), Told::Taken(1, 0)),
+            (Call::Take((B, 1, Status::Leave), 0), Told::Taken(0, 0)),
+            (Call::Owner("zzzz1"), Told::Owner(A)),
+            (Call::Take((B, 2, Status::Alive), 0), Told::Taken(1, 0)),
+            (Call::Owner("zzzz1"), Told::Owner(B)),
+        ],
+    ),
+);
+
+/// A suspicion that was refuted does not run out, and no other at the greatest moment.
 pub(crate) const DOES_NOT_RUN_OUT: Case = (
     A_AT_7,
     (
@@ -221,7 +265,7 @@ pub(crate) const PROBES_ANOTHER: Case = (
     ),
 );
 
-/// Probes two other members, which come by the seed, of which the other one is asked about each that is lost.
+/// Probes two other members, in an order by the seed; the other one is asked about each that is lost.
 pub(crate) const ASKS_ONE: Case = (
     A_AT_7,
     (
@@ -270,7 +314,8 @@ pub(crate) const ASKS_ONE: Case = (
     ),
 );
 
-/// Probes four other members, which come by the seed, of which three are asked about each that is lost, once; nobody else has a word.
+/// Probes four other members, in an order by the seed; about each that is lost three are asked, once, and no other
+/// member.
 pub(crate) const ASKS_THREE: Case = (
     A_AT_7,
     (
@@ -329,12 +374,12 @@ pub(crate) const ASKS_THREE: Case = (
 /// No changes.
 const NO_NEWS: [Option<Carried>; 3] = [None, None, None];
 
-/// What A says of its birth.
+/// The first entry of A, with A as its source.
 const BIRTH: [Option<Carried>; 3] = [Some(((A, 7, Status::Alive), A, 7)), None, None];
 
 const PINGS: (Call, Told<'static>) = (Call::MakePing(B), Told::Message(0, A, Kind::Ping, 1, BIRTH));
 
-/// Sends its birth sixteen times, and then no more.
+/// Sends its first entry sixteen times, and then no more.
 pub(crate) const SENDS: Case = (
     A_AT_7,
     (
@@ -370,7 +415,7 @@ pub(crate) const SENDS: Case = (
     ),
 );
 
-/// The birth of B, as B says it.
+/// The first entry of B, with B as its source.
 const BORN: Option<Carried> = Some(((B, 1, Status::Alive), B, 1));
 
 const ACKS: (Call, Told<'static>) = (
@@ -378,10 +423,51 @@ const ACKS: (Call, Told<'static>) = (
     Told::Message(0, B, Kind::Ack, 1, [BORN, None, None]),
 );
 
+const ACKS_ALL: (Call, Told<'static>) = (
+    Call::Ping(A, 7, NOBODY),
+    Told::Message(
+        0,
+        B,
+        Kind::Ack,
+        2,
+        [BORN, Some(((C, 1, Status::Alive), B, 1)), None],
+    ),
+);
+
 /// The SHA-256 of `10.0.0.2:1alive1;10.0.0.3:1alive1`.
 const BOTH: &str = "d1a8af2bb895f65a9ccca4d7e53168c4bb18cd81e9fc26727d51cb26d484051a";
 
-/// Answers fifteen pings by its birth, and then by nothing where the sender knows its digest, and else by all members.
+/// Answers fifteen pings by its first entry, and the sixteenth, whose sender still has another digest, by all members.
+pub(crate) const TELLS_ALL: Case = (
+    B_AT_1,
+    (
+        "tells all",
+        &[
+            (
+                Call::TakeFrom(A, 7, (C, 1, Status::Alive)),
+                Told::Taken(1, 0),
+            ),
+            ACKS,
+            ACKS,
+            ACKS,
+            ACKS,
+            ACKS,
+            ACKS,
+            ACKS,
+            ACKS,
+            ACKS,
+            ACKS,
+            ACKS,
+            ACKS,
+            ACKS,
+            ACKS,
+            ACKS,
+            ACKS_ALL,
+        ],
+    ),
+);
+
+/// Answers fifteen pings by its first entry, then by no change if the sender has its digest, and else by all members.
 pub(crate) const SYNCHRONISES: Case = (
     B_AT_1,
     (
@@ -410,24 +496,15 @@ pub(crate) const SYNCHRONISES: Case = (
                 Call::Ping(A, 7, BOTH),
                 Told::Message(0, B, Kind::Ack, 0, NO_NEWS),
             ),
-            (
-                Call::Ping(A, 7, NOBODY),
-                Told::Message(
-                    0,
-                    B,
-                    Kind::Ack,
-                    2,
-                    [BORN, Some(((C, 1, Status::Alive), B, 1)), None],
-                ),
-            ),
+            ACKS_ALL,
         ],
     ),
 );
 
-/// The birth of A, as B says it.
+/// The first entry of A, with B as its source.
 const JOINED: Option<Carried> = Some(((A, 7, Status::Alive), B, 1));
 
-/// Takes in whoever joins, once, and answers by all members.
+/// Admits a node that joins, once, and answers with all members.
 pub(crate) const LETS_JOIN: Case = (
     B_AT_1,
     (
@@ -481,7 +558,7 @@ pub(crate) const LOOKS_UP: Case = (
 );
 
 /// All of these, save what a node looks up.
-pub(crate) const CASES: [Case; 14] = [
+pub(crate) const CASES: [Case; 15] = [
     REFUTES,
     LEAVES,
     EXHAUSTED,
@@ -494,11 +571,12 @@ pub(crate) const CASES: [Case; 14] = [
     ASKS_ONE,
     ASKS_THREE,
     SENDS,
+    TELLS_ALL,
     SYNCHRONISES,
     LETS_JOIN,
 ];
 
-/// A node that hears of another.
+/// A node that learns of another.
 pub(crate) const HEARS_OF_B: Calls = (
     "hears of b",
     &[
@@ -507,7 +585,7 @@ pub(crate) const HEARS_OF_B: Calls = (
     ],
 );
 
-/// A node that hears of two others.
+/// A node that learns of two others.
 pub(crate) const MEETS_TWO: Calls = (
     "meets two",
     &[
@@ -531,7 +609,7 @@ pub(crate) const LOSES_ONE: Calls = (
     ],
 );
 
-/// What a node holds that has heard the twenty changes and that A and 10.0.0.6:1 are alive at 7.
+/// The members of a node that was given the twenty changes and that A and 10.0.0.6:1 are alive at 7.
 pub(crate) const HEARD_TWENTY: Calls = (
     "heard twenty",
     &[

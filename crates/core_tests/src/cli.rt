@@ -2,6 +2,8 @@
 mod changes;
 pub(crate) mod fakes;
 mod folds;
+mod reads;
+mod refusals;
 mod runs;
 mod scripts;
 mod subcommands;

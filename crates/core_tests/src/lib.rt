@@ -1,5 +1,5 @@
-//! The tests of `node_core`, `cluster_laws`, `forward_core`, `locked_node` and `cli_core`. They stand in one crate, since a check of it
-//! reads the libraries below once.
+//! The tests of `node_core`, `cluster_laws`, `forward_core`, `locked_node`, `system_laws`, `cli_core` and `cli_words`. They are in one
+//! crate, since a check of it reads the libraries below once.
 #![tactic(auto)]
 
 #[cfg(test)]

@@ -1,3 +1,5 @@
-//! The tests of `locked_node`.
+//! The tests of `locked_node`, and of the theorems of `system_laws`.
 mod nodes;
+mod probing;
 mod tests;
+mod worlds;

@@ -3,6 +3,7 @@ mod agreement;
 mod converging;
 mod hash_tests;
 mod limit_tests;
+mod losing;
 pub(crate) mod played;
 mod reconciling;
 pub(crate) mod tests;

@@ -1,11 +1,14 @@
-//! What the tests of several crates speak of: members, changes and nodes. Where a growth is refused it is asked for again.
+//! What the tests of several crates speak of: members, changes and nodes. If an allocation fails the call is made
+//! again.
 ghost use Rattle.std.specs.Prelude.{◌≡◌, ◌%◌, ◌^◌, sum};
 ghost use Rattle.change_core.specs.Address.{address_of};
 
-use change_core::{Address, Change, Incarnation, Moment, Sourced, Status, Weight};
+use change_core::{Address, Change, Digest, Incarnation, Moment, Sourced, Status, Weight};
+use detector_core::Running;
 use hash_ring::{PointHash, SumHash};
 use node_core::{Config, NodeError, NodeState, StopCause, Stopped, Taken, View};
 use std::alloc::Global;
+use std::env::Env;
 use std::process::Abort;
 use std::sync::atomic::{AtomicU64, Ordering};
 use wire_json::Changes;
@@ -69,7 +72,7 @@ pub(crate) fn news(rt: &impl Abort, row: Row) -> Sourced {
 }
 
 /// These changes, each said by its own member.
-pub(crate) fn batch(rt: &impl Abort, alloc: Global, rows: &[Row]) -> Changes {
+pub(crate) fn batch(rt: &(impl Env + Abort), alloc: Global, rows: &[Row]) -> Changes {
     let mut list = vec_of(rt, alloc, rows.len());
     for row in rows {
         put(rt, &mut list, news(rt, *row));
@@ -77,15 +80,16 @@ pub(crate) fn batch(rt: &impl Abort, alloc: Global, rows: &[Row]) -> Changes {
     Changes::from_vec(list).ok().expect(rt, "changes")
 }
 
-/// A list with room for so many.
-pub(crate) fn vec_of<T: Drop>(rt: &impl Abort, alloc: Global, count: usize) -> Vec<T> {
+/// A list with room for this many.
+pub(crate) fn vec_of<T: Drop>(rt: &(impl Env + Abort), alloc: Global, count: usize) -> Vec<T> {
     if let Ok(list) = Vec::with_capacity(alloc, count) {
         return list;
     }
+    check_refused(rt);
     Vec::with_capacity(alloc, count).ok().expect(rt, "room")
 }
 
-/// Puts one more into a list that has room for it.
+/// Puts another into a list that has room for it.
 pub(crate) fn put<T: Drop>(rt: &impl Abort, list: &mut Vec<T>, one: T) {
     list.push(one).ok().expect(rt, "room");
 }
@@ -98,11 +102,21 @@ pub(crate) fn config(max_members: usize) -> Config {
     config
 }
 
-/// What a call of a node answers, made once more where a growth was refused.
+/// Checks that an allocation is to fail, as the environment says if `scripts/fail-alloc` runs a test: else a call was out of memory
+/// though there was enough. It takes no memory.
+pub(crate) fn check_refused(rt: &(impl Env + Abort)) {
+    let mut number = [0u8; 32];
+    assert!(rt; rt.var("FAIL_ALLOC", &mut number).is_ok());
+}
+
+/// What a call of a node answers. It is made again if an allocation failed, which happens only if `scripts/fail-alloc` runs the test.
 macro_rules! again {
-    ($call:expr) => {
+    ($rt:expr, $call:expr) => {
         match $call {
-            Err(NodeError::Memory) => $call,
+            Err(NodeError::Memory) => {
+                crate::shared::check_refused($rt);
+                $call
+            }
             answer => answer,
         }
     };
@@ -112,7 +126,7 @@ pub(crate) use again;
 
 /// A node of this configuration at moment 0.
 pub(crate) fn configured<H: PointHash>(
-    rt: &impl Abort,
+    rt: &(impl Env + Abort),
     alloc: Global,
     config: &Config,
     hash: H,
@@ -124,24 +138,40 @@ pub(crate) fn configured<H: PointHash>(
     let own = address(rt, own);
     let born = incarnation(rt, number);
     let start = moment(rt, 0);
-    let made = again!(NodeState::new(alloc, *config, hash, own, born, 1, start));
+    let made = again!(
+        rt,
+        NodeState::new(alloc, *config, hash, own, born, 1, start)
+    );
     made.ok().expect(rt, "a node")
 }
 
 /// A node with 4,096 members at most.
-pub(crate) fn node(rt: &impl Abort, alloc: Global, own: Ip, number: u64) -> NodeState<SumHash> {
+pub(crate) fn node(
+    rt: &(impl Env + Abort),
+    alloc: Global,
+    own: Ip,
+    number: u64,
+) -> NodeState<SumHash> {
     configured(rt, alloc, &config(4096), SumHash, own, number)
 }
 
-/// Takes one change. Where a growth is refused the node is as before, and the next try goes on.
+/// What a node holds: the digest of all its members, itself among them, and its probe.
+pub(crate) type Held = (Digest, Option<Running>);
+
+/// What a node holds.
+pub(crate) fn held<H: PointHash>(rt: &(impl Env + Abort), node: &NodeState<H>) -> Held {
+    let digest = again!(rt, node.digest()).ok().expect(rt, "a digest");
+    (digest, node.running())
+}
+
+/// Takes one change. If an allocation fails the node is unchanged, and the next try continues.
 fn take<H: PointHash>(
-    rt: &impl Abort,
+    rt: &(impl Env + Abort),
     node: &mut NodeState<H>,
     given: &Sourced,
     now: Moment,
 ) -> Result<Taken, Stopped> {
-    let subject = given.change.address;
-    let before = (node.own(), node.len(), node.member(subject));
+    let before = held(rt, node);
     match node.take(&[*given], now) {
         Err(
             Stopped {
@@ -149,7 +179,8 @@ fn take<H: PointHash>(
                 cause: StopCause::Memory,
             },
         ) => {
-            assert!(rt; (node.own(), node.len(), node.member(subject)) == before);
+            check_refused(rt);
+            assert!(rt; held(rt, node) == before);
             node.take(&[*given], now)
         }
         answer => answer,
@@ -157,13 +188,18 @@ fn take<H: PointHash>(
 }
 
 /// Takes one change at a moment, which is not refused.
-pub(crate) fn hear<H: PointHash>(rt: &impl Abort, node: &mut NodeState<H>, row: Row, now: u64) {
+pub(crate) fn hear<H: PointHash>(
+    rt: &(impl Env + Abort),
+    node: &mut NodeState<H>,
+    row: Row,
+    now: u64,
+) {
     let answer = take(rt, node, &news(rt, row), moment(rt, now));
     assert!(rt; answer.is_ok());
 }
 
-pub(crate) fn view<H: PointHash>(rt: &impl Abort, node: &mut NodeState<H>) -> View<H> {
-    again!(node.view()).ok().expect(rt, "a view")
+pub(crate) fn view<H: PointHash>(rt: &(impl Env + Abort), node: &mut NodeState<H>) -> View<H> {
+    again!(rt, node.view()).ok().expect(rt, "a view")
 }
 
 /// A sum of bytes that counts how often it is asked for.

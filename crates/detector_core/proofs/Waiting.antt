@@ -5,7 +5,7 @@ use Rattle.std.specs.List.{list_any, reduce}
 use Rattle.std.specs.Option.{option_and_then, option_map}
 use Rattle.std.proofs.lemmas.Bool.{and_parts, eq-eqb, eqb-true}
 use Rattle.rand_pcg.specs.Lcg.{Lcg}
-use Rattle.detector_core.specs.declared.asked.Asked.{Asked}
+use Rattle.detector_core.specs.declared.asked.AskedHelper.{AskedHelper}
 use Rattle.detector_core.specs.declared.asked.Outcome.{Outcome}
 use Rattle.detector_core.specs.declared.asked.Outcome.TheVariants as outcome
 use Rattle.detector_core.specs.declared.asked.Said.{Said}
@@ -18,12 +18,12 @@ use Rattle.detector_core.specs.Picks.{IsPick, WasLost, running_of}
 use Rattle.detector_core.specs.Probing.{IsProbing, ProbeState, OpenedProbe, unasked_target, would_say, after_saying, left_running}
 
 -- one that has not answered is waited for
-first_some : (asked : List Asked) → list_any (λ q. is_none q.said) asked ≡ true → first_waiting asked ≢ None
+first_some : (asked : List AskedHelper) → list_any (λ q. is_none q.said) asked ≡ true → first_waiting asked ≢ None
 first_some [] e h = cc
 first_some (q ∷ qs) e h = by_said (is_none q.said) (first_some qs) e h
   where
-    by_said : (b : Bool) → (list_any (λ (x : Asked). is_none x.said) qs ≡ true → first_waiting qs ≢ None) → (b || list_any (λ (x : Asked). is_none x.said) qs) ≡ true
-        → reduce min (map (λ (x : Asked). x.helper) (cond b (q ∷ filter (λ (x : Asked). is_none x.said) qs) (filter (λ (x : Asked). is_none x.said) qs))) ≡ None → ⊥
+    by_said : (b : Bool) → (list_any (λ (x : AskedHelper). is_none x.said) qs ≡ true → first_waiting qs ≢ None) → (b || list_any (λ (x : AskedHelper). is_none x.said) qs) ≡ true
+        → reduce min (map (λ (x : AskedHelper). x.helper) (cond b (q ∷ filter (λ (x : AskedHelper). is_none x.said) qs) (filter (λ (x : AskedHelper). is_none x.said) qs))) ≡ None → ⊥
     by_said true rest k j = cc
     by_said false rest k j = rest k j
 
@@ -38,7 +38,7 @@ probed-pick pingable s pick new is = record {
 
 module _ (s : ProbeState) (probed : IsProbing s) where
   -- one that has just asked helpers
-  pub probed-asked : (target : ℕ) (helpers : List ℕ) (generator : Lcg) (asked : List Asked) → asked ≡ unanswered helpers
+  pub probed-asked : (target : ℕ) (helpers : List ℕ) (generator : Lcg) (asked : List AskedHelper) → asked ≡ unanswered helpers
       → IsProbing (record s { generator = generator; running = Some (record { target = target; asked = asked }) })
   probed-asked target helpers generator asked are = record {
     numbered = probed.numbered;
@@ -46,7 +46,7 @@ module _ (s : ProbeState) (probed : IsProbing s) where
     waited = λ p e h. let same : asked ≡ p.asked = cc in by_asked helpers p.asked (sym are ∙ same) h;
   }
     where
-      by_asked : (hs : List ℕ) (now : List Asked) → unanswered hs ≡ now → first_waiting now ≡ None → now ≡ []
+      by_asked : (hs : List ℕ) (now : List AskedHelper) → unanswered hs ≡ now → first_waiting now ≡ None → now ≡ []
       by_asked [] now e h = sym e
       by_asked (x ∷ xs) now e h = absurd (first_some (unanswered (x ∷ xs)) refl (ap first_waiting e ∙ h))
 
@@ -90,12 +90,12 @@ module _ (s : ProbeState) (probed : IsProbing s) where
   probed-ended = record { numbered = probed.numbered; different = probed.different; waited = λ p e. cc }
 
   -- one that has noted a word and waits for more
-  pub probed-noted : (number helper : ℕ) (said : Said) (a : OpenedProbe) (asked : List Asked) → s.running ≡ Some a → would_say s number helper said ≡ Ok outcome.Waiting
+  pub probed-noted : (number helper : ℕ) (said : Said) (a : OpenedProbe) (asked : List AskedHelper) → s.running ≡ Some a → would_say s number helper said ≡ Ok outcome.Waiting
       → asked ≡ map (noted helper said) a.asked → IsProbing (record s { running = Some (record { target = a.target; asked = asked }) })
   probed-noted number helper said a asked runs word are =
       let more = ap (λ (o : Option OpenedProbe). option_and_then (left_running outcome.Waiting helper said) o) runs in
       let same : option_and_then (left_running outcome.Waiting helper said) s.running ≡ Some (record { target = a.target; asked = asked })
-      = more ∙ ap (λ (qs : List Asked). Some (record { target = a.target; asked = qs })) (sym are) in
+      = more ∙ ap (λ (qs : List AskedHelper). Some (record { target = a.target; asked = qs })) (sym are) in
       subst (λ (o : Option OpenedProbe). IsProbing (record s { running = o })) same (probed-waiting number helper said word)
 
   -- the probe that runs has asked nobody exactly where it waits for nobody
@@ -106,11 +106,11 @@ module _ (s : ProbeState) (probed : IsProbing s) where
       is_met true target e = refl
       is_met false target e = cc
 
-      none : (asked : List Asked) → length asked ≡ 0 → asked ≡ []
+      none : (asked : List AskedHelper) → length asked ≡ 0 → asked ≡ []
       none [] e = refl
       none (q ∷ qs) e = absurd (omega (arith, e))
 
-      none_asked : (n : ℕ) (asked : List Asked) (target : ℕ) → cond (eqb n s.last && eqb (length asked) 0) (Some target) None ≡ Some target → asked ≡ []
+      none_asked : (n : ℕ) (asked : List AskedHelper) (target : ℕ) → cond (eqb n s.last && eqb (length asked) 0) (Some target) None ≡ Some target → asked ≡ []
       none_asked n asked target e =
           none asked (eqb-true (length asked) 0 (and_parts (eqb n s.last) (eqb (length asked) 0) (is_met (eqb n s.last && eqb (length asked) 0) target e)).1)
 

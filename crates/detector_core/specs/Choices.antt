@@ -1,4 +1,4 @@
--- Where random choices come from: the generator Pcg32 (O'Neill, PCG), begun from a seed.
+-- The source of random choices: the generator Pcg32 (O'Neill, PCG), started from a seed.
 use Rattle.std.specs.Prelude.{ℕ, List, take}
 use Rattle.rand_core.specs.Stream.{Stream}
 use Rattle.rand_core.specs.Steps.{stream_of, steps_u32}
@@ -11,7 +11,7 @@ use Rattle.rand.specs.Shuffle.{shuffled}
 abbrev pub choices_of : Lcg → Stream
 choices_of generator = stream_of (steps_u32 pcg32) generator
 
--- the generator that is begun from a seed
+-- the generator that is started from a seed
 abbrev pub seeded : ℕ → Lcg
 seeded seed = pcg32_of_seed (pcg32_seed 16 seed)
 

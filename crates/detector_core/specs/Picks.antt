@@ -1,4 +1,4 @@
--- What a pick and a loss do to a prober, and what follows for a run of picks.
+-- The effect of a pick and of a loss on a prober, and what follows for a run of picks.
 use Rattle.std.specs.Prelude.{◌≡◌, ℕ, ◌+◌, ◌-◌, ◌*◌, List, [], ◌∷◌, Option, ◌<◌, ◌≤◌, Some, None, Contains, length, map}
 use Rattle.std.specs.Option.{option_map}
 use Rattle.change_core.specs.Numbers.{greatest_number}
@@ -38,7 +38,7 @@ pub record WasAsked (pingable : List ℕ) (target : ℕ) (old : ProbeState) (hel
   pub chosen : IsSample (others pingable target) (helper_count old pingable target) helpers
   pub left : new ≡ record old { generator = new.generator; running = Some (record { target = target; asked = unanswered helpers }) }
 
--- where nobody can be asked the probe ends, and else helpers are asked
+-- without a helper to ask the probe ends, and else helpers are asked
 abbrev pub WasLost : List ℕ → ℕ → ProbeState → Lost → ProbeState → Type 0
 WasLost pingable target old NoHelper new = (helper_count old pingable target ≡ 0) × (new ≡ record old { running = None })
 WasLost pingable target old (Ask helpers) new = WasAsked pingable target old helpers new
@@ -58,7 +58,7 @@ pub record Picked : Type 0 where
 abbrev pub targets_of : List Picked → List ℕ
 targets_of picks = map (λ p. p.probe.target) picks
 
--- picks one after another from the same members: what is left of the order after one is the rest before the next
+-- picks one after another from the same members: the rest of the order after one is the rest before the next
 abbrev pub ArePicks : List ℕ → List ℕ → List Picked → Type 0
 ArePicks pingable rest [] = Unit {0}
 ArePicks pingable rest (p ∷ picks) = (p.before.rest ≡ rest) × IsPick pingable p.before p.probe p.after × ArePicks pingable p.after.rest picks
@@ -95,7 +95,7 @@ LossesAreOne =
     → Agree s t → WasLost pingable target s l s' → IsDrawnLoss pingable target s l s' → WasLost pingable target t m t' → IsDrawnLoss pingable target t m t'
     → (l ≡ m) × Agree s' t'
 
--- two probers that agree answer a helper's word alike, and agree once either has noted it
+-- two probers that agree return the same for a helper's report, and agree once both have recorded it
 abbrev pub WordsAreOne : Type 0
 WordsAreOne =
     (number helper : ℕ) (said : Said) (s t : ProbeState)

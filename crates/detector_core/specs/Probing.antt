@@ -4,7 +4,7 @@ use Rattle.std.specs.Option.{option_and_then, option_map_or}
 use Rattle.rand_core.specs.Stream.{Stream}
 use Rattle.rand_pcg.specs.Lcg.{Lcg}
 use Rattle.change_core.specs.Numbers.{greatest_number}
-use Rattle.detector_core.specs.declared.asked.Asked.{Asked}
+use Rattle.detector_core.specs.declared.asked.AskedHelper.{AskedHelper}
 use Rattle.detector_core.specs.declared.asked.Said.{Said}
 use Rattle.detector_core.specs.declared.asked.Outcome.{Outcome}
 use Rattle.detector_core.specs.declared.asked.Outcome.TheVariants as outcomes
@@ -17,10 +17,10 @@ use Rattle.detector_core.specs.Order.{AllDifferent}
 -- the target of the running probe, and the helpers asked with what each said
 pub record OpenedProbe : Type 0 where
   pub target : ℕ
-  pub asked : List Asked
+  pub asked : List AskedHelper
 
--- what contracts see of a `Prober`: the last number used, which is the running probe's, how many helpers are asked, the rest
--- of the order, the generator of random choices, and the running probe
+-- the model of a `Prober`: the last number used, which is the running probe's, how many helpers are asked, the rest of the order, the
+-- generator of random choices, and the running probe
 pub record ProbeState : Type 0 where
   pub last : ℕ
   pub helpers : ℕ
@@ -28,8 +28,8 @@ pub record ProbeState : Type 0 where
   pub generator : Lcg
   pub running : Option OpenedProbe
 
--- what holds of a prober between any two calls: its last number is within the greatest, nobody stands twice in the rest of the order, and a
--- probe that waits for nobody has asked nobody, so that one whose helpers have all answered has ended
+-- the invariant of a prober: its last number is at most the greatest, no member appears twice in the rest of the order, and a probe that
+-- waits for no helper has asked none, so that one whose helpers have all answered has ended
 pub record IsProbing (probing : ProbeState) : Type 0 where
   pub numbered : probing.last ≤ greatest_number
   pub different : AllDifferent probing.rest
@@ -43,7 +43,7 @@ choices s = choices_of s.generator
 abbrev pub running_target : ProbeState → ℕ → Option ℕ
 running_target s number = option_and_then (λ a. if number == s.last then Some a.target else None) s.running
 
--- what becomes of a helper's word: stale unless the probe runs, not asked unless the helper is waited for
+-- the result of a helper's report: stale unless the probe runs, not asked unless the helper is waited for
 abbrev pub would_say : ProbeState → ℕ → ℕ → Said → Result Outcome DetectorError
 would_say s number helper said =
     option_map_or
@@ -58,7 +58,7 @@ left_running outcomes.Reached helper said a = None
 left_running outcomes.Suspect helper said a = None
 left_running outcomes.Inconclusive helper said a = None
 
--- the prober after a helper's word and its outcome
+-- the prober after a helper's report and its outcome
 abbrev pub after_saying : ProbeState → ℕ → Said → Outcome → ProbeState
 after_saying s helper said o = record s { running = option_and_then (left_running o helper said) s.running }
 

@@ -4,7 +4,7 @@ use Rattle.std.specs.Option.{option_map}
 use Rattle.detector_core.specs.declared.timers.Timer.{Timer}
 use Rattle.detector_core.specs.declared.timers.Due.{Due}
 
--- what contracts see of `Timers`: the timers, and for how many more there is room
+-- the model of `Timers`: the timers, and for how many more there is room
 pub record TimerList : Type 0 where
   pub timers : List Timer
   pub room : ℕ
@@ -25,7 +25,7 @@ with_timer ts t = filter (λ u. nat_lt u.address t.address) ts ++ t ∷ filter (
 abbrev pub without_timer : List Timer → ℕ → List Timer
 without_timer ts a = filter (λ t. not (t.address == a)) ts
 
--- what is due of a timer that has run out
+-- the change that is due of a timer that has run out
 abbrev pub due_of : Timer → Due
 due_of t = record { address = t.address; incarnation = t.incarnation; next = t.next }
 
@@ -41,7 +41,7 @@ pub record IsLeastDue (ts : List Timer) (now : ℕ) (d : Due) : Type 0 where
   pub past : timer.deadline ≤ now
   pub least : All (λ t. t.deadline ≤ now → d.address ≤ t.address) ts
 
--- what is due is of the least address among those at or past their deadline, and nothing is due exactly where none is
+-- the due timer is of the least address among those at or past their deadline, and none is due if and only if there is none of these
 pub record GivesLeastDue (ts : List Timer) (now : ℕ) : Type 0 where
   pub some : IfSome (due_at ts now) (IsLeastDue ts now)
   pub none : (due_at ts now ≡ None) ↔ All (λ t. now < t.deadline) ts

@@ -3,7 +3,7 @@ ghost use Rattle.std.specs.List.{list_any};
 
 use change_core::Address;
 
-/// What a helper said of a target: it reached it, it did not, or the helper itself failed to answer.
+/// A helper's report on a target: it reached it, it did not, or the helper itself failed to answer.
 #[derive(Clone, Copy, Debug, PartialEq, Eq)]
 pub enum Said {
     Reached,
@@ -21,7 +21,7 @@ impl Said {
     }
 }
 
-/// What became of a probe. All but `Waiting` end it.
+/// The outcome of a probe. All but `Waiting` end it.
 #[derive(Clone, Copy, Debug, PartialEq, Eq)]
 pub enum Outcome {
     Waiting,
@@ -30,22 +30,22 @@ pub enum Outcome {
     Inconclusive,
 }
 
-/// A helper that was asked, and what it said.
+/// A helper that was asked, and its report.
 #[derive(Clone, Copy, Debug)]
-pub struct Asked {
+pub struct AskedHelper {
     pub helper: Address,
     pub said: Option<Said>,
 }
 
-impl Asked {
+impl AskedHelper {
     ghost use Rattle.detector_core.specs.Helpers.{noted, missed};
 
     /// The same, with what this helper said.
-    fn noted(&self, helper: Address, said: Said) -> Asked
+    fn noted(&self, helper: Address, said: Said) -> AskedHelper
         ensures { result ≡ noted helper said self.now }
     {
         if self.helper == helper {
-            Asked {
+            AskedHelper {
                 helper,
                 said: Some(said),
             }
@@ -54,7 +54,7 @@ impl Asked {
         }
     }
 
-    /// Whether it said that it did not reach the target.
+    /// Returns whether the helper reported that it did not reach the target.
     fn missed(&self) -> bool
         ensures { result ≡ missed self.now }
     {
@@ -64,15 +64,15 @@ impl Asked {
 
 ghost use Rattle.detector_core.specs.Helpers.{noted, missed, waits, outcome_after, first_waiting};
 
-/// Whether this helper was asked and has not answered.
-pub(crate) fn waits(asked: &[Asked], helper: Address) -> bool
+/// Returns whether this helper was asked and has not answered.
+pub(crate) fn waits(asked: &[AskedHelper], helper: Address) -> bool
     ensures { result ≡ waits asked.now helper }
 {
     asked.iter().any(|q| q.helper == helper && q.said.is_none())
 }
 
-/// What becomes of the probe once this helper has said this.
-pub(crate) fn outcome_after(asked: &[Asked], helper: Address, said: Said) -> Outcome
+/// Returns the outcome of the probe after this report of this helper.
+pub(crate) fn outcome_after(asked: &[AskedHelper], helper: Address, said: Said) -> Outcome
     ensures { result ≡ outcome_after asked.now helper said }
 {
     if said.is_reached() {
@@ -86,8 +86,8 @@ pub(crate) fn outcome_after(asked: &[Asked], helper: Address, said: Said) -> Out
     }
 }
 
-/// Whether a helper has not answered once this one has said this.
-fn waits_for_another(asked: &[Asked], helper: Address, said: Said) -> bool
+/// Returns whether a helper has not answered after this report.
+fn waits_for_another(asked: &[AskedHelper], helper: Address, said: Said) -> bool
     ensures { result ≡ list_any (λ q. is_none q.said) (map (noted helper said) asked.now) }
 {
     asked
@@ -96,8 +96,8 @@ fn waits_for_another(asked: &[Asked], helper: Address, said: Said) -> bool
         .any(|q| q.said.is_none())
 }
 
-/// Whether a helper did not reach the target, once this one has said this.
-fn one_missed(asked: &[Asked], helper: Address, said: Said) -> bool
+/// Returns whether a helper did not reach the target, after this report.
+fn one_missed(asked: &[AskedHelper], helper: Address, said: Said) -> bool
     ensures { result ≡ list_any missed (map (noted helper said) asked.now) }
 {
     asked
@@ -107,7 +107,7 @@ fn one_missed(asked: &[Asked], helper: Address, said: Said) -> bool
 }
 
 /// Notes what a helper said.
-pub(crate) fn note(asked: &mut [Asked], helper: Address, said: Said)
+pub(crate) fn note(asked: &mut [AskedHelper], helper: Address, said: Said)
     ensures { asked.new ≡ map (noted helper said) asked.old }
 {
     for q in asked.iter_mut() {
@@ -116,7 +116,7 @@ pub(crate) fn note(asked: &mut [Asked], helper: Address, said: Said)
 }
 
 /// The helper of least address that has not answered.
-pub(crate) fn first_waiting(asked: &[Asked]) -> Option<Address>
+pub(crate) fn first_waiting(asked: &[AskedHelper]) -> Option<Address>
     ensures { result ≡ first_waiting asked.now }
 {
     asked

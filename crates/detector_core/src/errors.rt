@@ -4,7 +4,7 @@ ghost use Rattle.detector_core.specs.declared.errors.DetectorError.TheVariants.{
 use std::alloc::AllocError;
 use thiserror::Error;
 
-/// Why a call of this crate was refused. Where several hold, the first of them that a call can answer is named.
+/// The errors of this crate's calls. If several apply, the first of them that a call can return is returned.
 #[derive(Clone, Copy, Debug, PartialEq, Eq, Error)]
 pub enum DetectorError {
     #[error("a probe is running")]

@@ -4,13 +4,13 @@ ghost use Rattle.std.specs.List.Sorted.{IsStrictlyIncreasing};
 ghost use Rattle.detector_core.specs.Choices.{choices_of, sample};
 ghost use Rattle.detector_core.specs.Helpers.{others, IsSample, unanswered};
 
-use crate::asked::Asked;
+use crate::asked::AskedHelper;
 use crate::order;
 use change_core::Address;
 use rand_pcg::Pcg32;
 use std::alloc::{AllocError, Global};
 
-/// Whether there is anyone to ask: `count` helpers at most, pingable and not the target.
+/// Returns whether there is a helper to ask: at most `count`, pingable and not the target.
 pub(crate) fn can_ask(pingable: &[Address], target: Address, count: usize) -> bool
     ensures some { IsTrue result → 0 < min count (length (others pingable.now target)) }
     ensures none { IsTrue (not result) → min count (length (others pingable.now target)) ≡ 0 }
@@ -54,13 +54,13 @@ fn others(alloc: Global, pingable: &[Address], target: Address) -> Result<Vec<Ad
     Ok(others)
 }
 
-/// The helpers, none of whom has answered.
-pub(crate) fn unanswered(alloc: Global, helpers: &[Address]) -> Result<Vec<Asked>, AllocError>
+/// Returns the helpers as asked, without an answer yet.
+pub(crate) fn unanswered(alloc: Global, helpers: &[Address]) -> Result<Vec<AskedHelper>, AllocError>
     ensures { IfOk result (λ v. v.items ≡ unanswered helpers.now) }
 {
     let mut asked = Vec::with_capacity(alloc, helpers.len())?;
     for helper in helpers {
-        asked.push(Asked {
+        asked.push(AskedHelper {
             helper: *helper,
             said: None,
         })?;

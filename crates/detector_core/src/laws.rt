@@ -1,4 +1,4 @@
-//! Laws of the definitions: what callers may cite of a run of picks, of verdicts and of timers.
+//! Theorems that callers may cite, about a run of picks, about verdicts and about timers.
 ghost use Rattle.std.specs.Prelude.{◌≡◌, ℕ, List};
 ghost use Rattle.detector_core.specs.Helpers.{DecidesByWords};
 ghost use Rattle.detector_core.specs.Picks.{AcksAreOne, BoundIsLow, HoldsEach, LossesAreOne, PicksAreOne, WordsAreOne};
@@ -12,21 +12,21 @@ pub fn each_member_is_picked()
     ensures each { HoldsEach }
 {}
 
-/// A word `Reached` ends the probe. After any other word it waits exactly while another helper is silent; else it is suspect
-/// exactly if this or another helper said `NotReached`, and else inconclusive.
+/// A report `Reached` ends the probe. After any other report it waits as long as another helper has not reported; else
+/// it is suspect if and only if this or another helper reported `NotReached`, and else inconclusive.
 pub fn helpers_decide()
     ensures { DecidesByWords }
 {}
 
-/// What is due is of the least address among the timers at or past their deadline, and nothing is due exactly where
-/// there is none.
+/// The due timer is that of the least address among the timers at or past their deadline, and none is due if and only
+/// if there is none of these.
 pub fn least_address_is_due()
     ensures { (ts : List Timer) (now : ℕ) → IsAscending ts → GivesLeastDue ts now }
 {}
 
-/// Two probers that agree answer a pick and a loss alike where no memory is refused, and a helper's word and an ack alike
-/// always, and agree afterwards. Two new ones agree where their seeds, numbers of helpers and last numbers are equal, as
-/// `Prober::new` says.
+/// Two probers that agree give the same result at a pick and at a loss if no allocation fails, and at a helper's report
+/// and at an ack always, and agree afterwards. Two new ones agree if their seeds, numbers of helpers and last numbers
+/// are equal, by the contract of `Prober::new`.
 pub fn a_run_follows_from_its_inputs()
     ensures picks { PicksAreOne }
     ensures losses { LossesAreOne }

@@ -10,7 +10,7 @@ use std::alloc::{AllocError, Global};
 use std::marker::Model;
 
 /// The current random order of members (SWIM, section 4.3: round-robin probe target selection). Contracts see the rest:
-/// what stands after the last pick. A member that was passed over has had its turn.
+/// the members after the last pick. A member that was skipped has had its turn.
 #[derive(Drop)]
 pub(crate) struct Order {
     members: Vec<Address>,
@@ -28,7 +28,7 @@ impl Model for Order {
 }
 
 impl Order {
-    /// An order with nobody in it.
+    /// Makes an empty order.
     pub(crate) fn new(alloc: Global) -> Self
         ensures { result ≡ [] }
     {
@@ -54,7 +54,7 @@ impl Order {
         Ok(Order { members, next: 0 })
     }
 
-    /// Picks the next of the rest that may be pinged, passing over the others. Where there is none, the rest stays.
+    /// Picks the next pingable member of the rest, and skips those before it. If there is none, the rest stays.
     pub(crate) fn take_next(&mut self, pingable: &[Address]) -> Option<Address>
         requires { IsStrictlyIncreasing pingable.now }
         ensures some { IfSome result (λ target. IsNextIn pingable.now self.old target self.new) }
@@ -77,7 +77,7 @@ pub(crate) fn shuffle(members: &mut Vec<Address>, rng: &mut Pcg32)
     members.as_mut_slice().shuffle(rng);
 }
 
-/// Picks the next member, with a new order where the rest has none that may be pinged.
+/// Picks the next member, with a new order if the rest has no pingable one.
 pub(crate) fn pick(
     alloc: Global,
     order: &mut Order,
@@ -105,7 +105,7 @@ pub(crate) fn pick(
     }
 }
 
-/// The place of the first member that may be pinged.
+/// Returns the place of the first pingable member.
 fn first_among(members: &[Address], pingable: &[Address]) -> Option<usize>
     requires { IsStrictlyIncreasing pingable.now }
     ensures { result ≡ position (is_in pingable.now) members.now }
@@ -113,7 +113,7 @@ fn first_among(members: &[Address], pingable: &[Address]) -> Option<usize>
     members.iter().position(|a| is_in(pingable, *a))
 }
 
-/// Whether a member is in a list that rises.
+/// Returns whether a member is in a list that rises.
 pub(crate) fn is_in(members: &[Address], address: Address) -> bool
     requires { IsStrictlyIncreasing members.now }
     ensures { result ≡ is_in members.now address }

@@ -7,17 +7,17 @@ ghost use Rattle.detector_core.specs.Picks.{IsDrawnLoss, IsDrawnPick, IsPick, Wa
 ghost use Rattle.detector_core.specs.Probing.{IsProbing, running_target, unasked_target, helper_count, would_say, after_saying};
 
 use crate::addresses::Addresses;
-use crate::asked::{self, Asked, Outcome, Said};
+use crate::asked::{self, AskedHelper, Outcome, Said};
 use crate::errors::DetectorError;
 use crate::helpers;
 use crate::order::{self, Order};
-use change_core::{Address, GREATEST_NUMBER};
+use change_core::{Address, MAX_NUMBER};
 use rand_core::SeedableRng;
 use rand_pcg::Pcg32;
 use std::alloc::Global;
 use std::marker::Model;
 
-/// A probe, and whom it is to reach. Numbers rise by one, to 2^53 - 1.
+/// A probe: its number and its target. Numbers rise by one, to 2^53 - 1.
 #[derive(Clone, Copy, Debug, PartialEq, Eq)]
 pub struct Probe {
     pub number: u64,
@@ -32,7 +32,7 @@ pub struct Running {
     pub waiting: Option<Address>,
 }
 
-/// Whom to ask about a target that was lost: helpers (SWIM, section 3.1: ping-req), or nobody, which ends the probe.
+/// The helpers to ask about a target that was lost (SWIM, section 3.1: ping-req), or none, which ends the probe.
 #[derive(Debug, Drop)]
 pub enum Lost {
     Ask(Addresses),
@@ -43,12 +43,12 @@ pub enum Lost {
 #[derive(Drop)]
 struct OpenProbe {
     target: Address,
-    asked: Vec<Asked>,
+    asked: Vec<AskedHelper>,
 }
 
-/// What picks targets and follows one probe at a time (SWIM, sections 3.1 and 4.3). Contracts see the last number used,
-/// which is the running probe's, how many helpers are asked, the rest of the current order, the generator of random choices,
-/// and the running probe.
+/// A prober: it picks targets and follows one probe at a time (SWIM, sections 3.1 and 4.3). Contracts see the last
+/// number used, which is the running probe's, how many helpers are asked, the rest of the current order, the generator
+/// of random choices, and the running probe.
 #[derive(Drop)]
 pub struct Prober {
     rng: Pcg32,
@@ -100,7 +100,12 @@ impl Prober {
         }
     }
 
-    /// Whether a probe may begin, were there anybody to ping. `Busy`: a probe runs. `Spent`: the last number is 2^53 - 1.
+    /// Checks that a probe could start, if there is a member to ping.
+    ///
+    /// # Errors
+    ///
+    /// - `Busy`: a probe runs. This is checked first.
+    /// - `Spent`: the last number is 2^53 - 1.
     pub fn may_begin(&self) -> Result<(), DetectorError>
         ensures free { IsOk result ↔ ((self.now.running ≡ None) × (self.now.last < greatest_number)) }
         ensures busy { IsErrOf result DetectorError.Busy ↔ IsSome self.now.running }
@@ -111,17 +116,22 @@ impl Prober {
         if self.running.is_some() {
             return Err(DetectorError::Busy);
         }
-        if self.last == GREATEST_NUMBER {
+        if self.last == MAX_NUMBER {
             return Err(DetectorError::Spent);
         }
         Ok(())
     }
 
-    /// Begins a probe of the next member in turn. Members that may not be pinged are passed over, and when the order is
-    /// used up a new random one is made of those that may be pinged now (SWIM, section 4.3); one that comes meanwhile waits
-    /// for it. The answer is None, which changes nothing, exactly where nobody may be pinged and no refusal applies.
-    /// `Busy`: a probe runs. `Spent`: the last number is 2^53 - 1. `Memory`: a new order found no room. A refusal changes
-    /// nothing.
+    /// Starts a probe of the next member in turn. Members that are not pingable are skipped, and when the order is used
+    /// up a new random one is made of those that are pingable now (SWIM, section 4.3); a member that joins in between
+    /// waits for the next order. Returns None, and changes nothing, if and only if no member is pingable and neither
+    /// `Busy` nor `Spent` applies. After an error nothing has changed.
+    ///
+    /// # Errors
+    ///
+    /// - `Busy`: a probe runs. This is checked first.
+    /// - `Spent`: the last number is 2^53 - 1.
+    /// - `Memory`: out of memory for a new order.
     pub fn next_target(&mut self, pingable: &[Address]) -> Result<Option<Probe>, DetectorError>
         requires { IsStrictlyIncreasing pingable.now }
         ensures busy { IsErrOf result DetectorError.Busy ↔ IsSome self.old.running }
@@ -163,7 +173,11 @@ impl Prober {
         }
     }
 
-    /// Ends a probe whose target was reached, also after helpers were asked. `StaleProbe`: it is not the running probe.
+    /// Ends a probe whose target was reached, also after helpers were asked. After an error nothing has changed.
+    ///
+    /// # Errors
+    ///
+    /// - `StaleProbe`: it is not the running probe.
     pub fn acked(&mut self, number: u64) -> Result<(), DetectorError>
         ensures ok { OnOk result (self.new ≡ record self.old { running = None }) }
         ensures stale { IsErr result ↔ (running_target self.old number ≡ None) }
@@ -177,8 +191,11 @@ impl Prober {
         Ok(())
     }
 
-    /// Ends a probe whose target was lost, with nobody to ask about it. `StaleProbe`: it is not the running probe, or helpers
-    /// were asked already.
+    /// Ends a probe whose target was lost, without asking helpers. After an error nothing has changed.
+    ///
+    /// # Errors
+    ///
+    /// - `StaleProbe`: it is not the running probe, or helpers were asked already.
     pub fn give_up(&mut self, number: u64) -> Result<(), DetectorError>
         ensures ok { OnOk result (self.new ≡ record self.old { running = None }) }
         ensures stale { IsErr result ↔ (unasked_target self.old number ≡ None) }
@@ -192,10 +209,14 @@ impl Prober {
         Ok(())
     }
 
-    /// Gives a probe up, and answers whom to ask about its target: different members, pingable and not the target, as many
-    /// as this prober asks or all there are (SWIM, section 3.1). Where that is nobody the probe ends, and no memory is
-    /// taken. `StaleProbe`: it is not the running probe, or helpers were asked already. `Memory`: there was no room for
-    /// the helpers. A refusal changes nothing.
+    /// Ends the direct ping of a probe as lost, and returns the helpers to ask about its target: different members,
+    /// pingable and not the target, as many as this prober asks or all there are (SWIM, section 3.1). If there is none,
+    /// the probe ends, and no memory is needed. After an error nothing has changed.
+    ///
+    /// # Errors
+    ///
+    /// - `StaleProbe`: it is not the running probe, or helpers were asked already.
+    /// - `Memory`: out of memory for the helpers.
     pub fn lost(&mut self, number: u64, pingable: &[Address]) -> Result<Lost, DetectorError>
         requires { IsStrictlyIncreasing pingable.now }
         ensures stale { IsErrOf result DetectorError.StaleProbe
@@ -217,7 +238,7 @@ impl Prober {
             self.running = None;
             return Ok(Lost::NoHelper);
         }
-        // Choices are drawn from a copy, so that a refusal leaves the generator as it was.
+        // Choices are drawn from a copy, so that an error leaves the generator unchanged.
         let mut rng = self.rng.clone().unwrap();
         let chosen = helpers::choose(self.alloc, &mut rng, pingable, target, self.helpers)?;
         let asked = helpers::unanswered(self.alloc, &chosen)?;
@@ -236,8 +257,8 @@ impl Prober {
         }
     }
 
-    /// The probe that runs, with the helper of least address that was asked and has not answered. It can be lost exactly where no
-    /// helper is waited for: one whose helpers have all answered has ended.
+    /// Returns the probe that runs, with the helper of least address that was asked and has not answered. `lost`
+    /// accepts it if and only if it waits for no helper: a probe whose helpers have all answered has ended.
     pub fn running(&self) -> Option<Running>
         ensures value { result ≡ running_of self.now }
         ensures unasked { IfSome result (λ r. (r.waiting ≡ None) ↔ (unasked_target self.now r.number ≡ Some r.target)) }
@@ -252,7 +273,12 @@ impl Prober {
         })
     }
 
-    /// What `helper_said` would answer, refusals too. Nothing changes.
+    /// Returns what `helper_said` would return, and changes nothing.
+    ///
+    /// # Errors
+    ///
+    /// - `StaleProbe`: it is not the running probe.
+    /// - `NotAsked`: this helper was not asked, or has answered.
     pub fn would_say(
         &self,
         number: u64,
@@ -273,10 +299,15 @@ impl Prober {
         }
     }
 
-    /// Notes what a helper said of the target, and answers what became of the probe: reached at once; when all have
-    /// answered without that, suspect (SWIM, section 4.2) if one said that it did not reach it, inconclusive if all failed.
-    /// Every outcome but `Waiting` ends the probe. `StaleProbe`: it is not the running probe. `NotAsked`: this helper was not
-    /// asked, or has answered.
+    /// Records a helper's report on the target, and returns the outcome of the probe. It is reached as soon as one
+    /// helper reached the target. Once all have answered without that, it is suspect (SWIM, section 4.2) if one of them
+    /// did not reach it, and inconclusive if all failed. Every outcome but `Waiting` ends the probe. After an error
+    /// nothing has changed.
+    ///
+    /// # Errors
+    ///
+    /// - `StaleProbe`: it is not the running probe.
+    /// - `NotAsked`: this helper was not asked, or has answered.
     pub fn helper_said(
         &mut self,
         number: u64,

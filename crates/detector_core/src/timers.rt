@@ -7,8 +7,8 @@ use change_core::{Address, Incarnation, Moment, Status};
 use std::alloc::Global;
 use std::marker::Model;
 
-/// When an entry changes its status next, and to what. The deadline is in milliseconds, and one past the greatest
-/// moment is never reached.
+/// The time at which an entry changes its status next, and the new status. The deadline is in milliseconds, and one
+/// past the greatest moment is never reached.
 #[derive(Clone, Copy, Debug)]
 pub struct Timer {
     pub address: Address,
@@ -57,8 +57,11 @@ impl Timers {
         }
     }
 
-    /// Makes room for one more timer. Where there is room it succeeds; it answers `Memory` where none could be made, and
-    /// nothing has changed.
+    /// Makes room for another timer. It succeeds if there is room already. After an error nothing has changed.
+    ///
+    /// # Errors
+    ///
+    /// - `Memory`: out of memory.
     pub fn reserve_one(&mut self) -> Result<(), DetectorError>
         ensures timers { self.new.timers ≡ self.old.timers }
         ensures room { OnOk result (0 < self.new.room) }
@@ -71,7 +74,7 @@ impl Timers {
         Ok(())
     }
 
-    /// Starts the timer of an address, in place of the one that runs. It takes no memory: room was made, or the address
+    /// Starts the timer of an address, replacing the one that runs. It takes no memory: there is room, or the address
     /// has a timer.
     pub fn set(&mut self, address: Address, incarnation: Incarnation, next: Status, deadline: u64)
         requires { (0 < self.old.room) ⊎ HasTimer self.old.timers address }
@@ -94,7 +97,7 @@ impl Timers {
         }
     }
 
-    /// Ends the timer of an address, and answers whether it had one. Its room is free for another.
+    /// Ends the timer of an address, and returns whether it had one. Its room is free for another.
     pub fn clear(&mut self, address: Address) -> bool
         ensures timers { self.new.timers ≡ without_timer self.old.timers address }
         ensures found { IsTrue result ↔ HasTimer self.old.timers address }
@@ -138,7 +141,7 @@ fn place_of(timers: &[Timer], address: Address) -> usize
     timers.partition_point(|t| t.address < address)
 }
 
-/// Whether the timer at this place is of this address.
+/// Returns whether the timer at this place is of this address.
 fn stands_at(timers: &[Timer], place: usize, address: Address) -> bool
     ensures yes { IsTrue result → IsTimerAt timers.now place address }
     ensures no { IsTrue (not result) → place < length timers.now → (d : Timer)

@@ -80,12 +80,6 @@ reply-same (stage.Resting until) now own v w e = ap (reply (stage.Resting until)
 reply-same stage.InFlight now own v w e = refl
 reply-same stage.Spent now own v w e = refl
 
-open-due : (st : Stage) (now : ℕ) → IsDue st now → IsOpen st
-open-due stage.New now due = tt
-open-due (stage.Resting until) now due = tt
-open-due stage.InFlight now due = absurd due
-open-due stage.Spent now due = absurd due
-
 once_due-here : (own : Address) → once_due own own ≡ Here
 once_due-here own = let same : (own == own) ≡ true = search rules in ap (λ b. cond b Here (Send own)) same
 

@@ -1,4 +1,4 @@
--- An attempt: a request that is sent anew on a fixed schedule, each time to whoever owns its keys by then. Both the number of sends
+-- An attempt: a request that is sent again on a fixed schedule, each time to the owner of its keys at that time. Both the number of sends
 -- and the pauses are this project's.
 use Rattle.std.specs.Prelude.{◌≡◌, ◌≢◌, ℕ, ◌+◌, ◌-◌, ◌<◌, ◌≤◌, List, [], ◌∷◌, slice_index, Some, Result, Ok, Err}
 use Rattle.change_core.specs.declared.addresses.Address.{Address}
@@ -11,18 +11,18 @@ use Rattle.forward_core.specs.declared.errors.ForwardError.{ForwardError}
 use Rattle.forward_core.specs.declared.errors.ForwardError.TheVariants as error
 use Rattle.forward_core.specs.Routes.{AllOwnedBy, HaveDiverged}
 
--- what contracts see of an `Attempt`: its keys, how often it was sent, and how it stands
+-- the model of an `Attempt`: its keys, how often it was sent, and its stage
 pub record AttemptState : Type 0 where
   pub keys : List (List ℕ)
   pub sends : ℕ
   pub stage : Stage
 
--- what contracts see of a `Lent`, an attempt whose keys are lent out
+-- the model of a `Lent`, an attempt whose keys are lent
 pub record LentState : Type 0 where
   pub sends : ℕ
   pub stage : Stage
 
--- the attempt for these keys that stands so
+-- the attempt for these keys in this state
 abbrev pub with_keys : List (List ℕ) → LentState → AttemptState
 with_keys keys lent = record { keys = keys; sends = lent.sends; stage = lent.stage }
 
@@ -30,19 +30,19 @@ with_keys keys lent = record { keys = keys; sends = lent.sends; stage = lent.sta
 abbrev pub started : List (List ℕ) → AttemptState
 started keys = record { keys = keys; sends = 0; stage = stage.New }
 
--- how often one is sent at most
+-- the greatest number of sends of one
 abbrev pub most_sends : ℕ
 most_sends = 4
 
--- for how many milliseconds one rests after its first, second and third failure
+-- its pauses in milliseconds after its first, second and third failure
 abbrev pub pauses : List ℕ
 pauses = 3000 ∷ 6000 ∷ 12000 ∷ []
 
--- and after the last of so many failures
+-- and after the last of this number of failures
 abbrev pub pause_after : ℕ → ℕ
 pause_after failures = slice_index pauses (failures - 1)
 
--- how it stands goes with how often it was sent
+-- the stage agrees with how often it was sent
 abbrev pub IsAttempt : ℕ → Stage → Type 0
 IsAttempt sends stage.New = sends ≡ 0
 IsAttempt sends stage.InFlight = (0 < sends) × (sends ≤ most_sends)
@@ -67,7 +67,7 @@ IsDue stage.Spent now = ⊥
 abbrev pub sent : AttemptState → AttemptState
 sent a = record a { sends = a.sends + 1; stage = stage.InFlight }
 
--- what is to be done with an attempt now, by a view, and the attempt after that
+-- the next step of an attempt now, by a view, and the attempt after that
 abbrev pub ReadyStep : {H : Type 0} → (H → List ℕ → ℕ) → Viewed H → ℕ → AttemptState → Result Step ForwardError → AttemptState → Type 0
 ReadyStep hash_of view now old (Err error.RetriesSpent) new = (old.stage ≡ stage.Spent) × (new ≡ old)
 ReadyStep hash_of view now old (Err error.InFlight) new = (old.stage ≡ stage.InFlight) × (new ≡ old)
@@ -80,7 +80,7 @@ ReadyStep hash_of view now old (Ok (Send a)) new =
     IsDue old.stage now × AllOwnedBy hash_of view old.keys (Some a) × (a ≢ view.own) × (new ≡ sent old)
 ReadyStep hash_of view now old (Err other) new = ⊥
 
--- what becomes of an attempt whose send failed at this moment
+-- the attempt after its send failed at this moment
 abbrev pub FailedStep : ℕ → AttemptState → Result (Unit {0}) ForwardError → AttemptState → Type 0
 FailedStep now old (Ok done) new =
     (old.stage ≡ stage.InFlight) × (old.sends < most_sends) × (new ≡ record old { stage = stage.Resting (now + pause_after old.sends) })

@@ -1,4 +1,4 @@
--- What is answered is decided: from the same no two answers differ, nor the attempts after them.
+-- Results are determined: from the same no two results differ, nor the attempts after them.
 use Rattle.std.specs.Prelude.{◌≡◌, ℕ, ◌<◌, List, length, Result}
 use Rattle.node_core.specs.Viewing.{Viewed}
 use Rattle.forward_core.specs.declared.attempts.Step.{Step}

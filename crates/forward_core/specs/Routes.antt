@@ -1,5 +1,5 @@
--- Where a request goes: to the one owner of all its keys. Where two of them have different owners they have diverged, and where no
--- member serves it goes to nobody (ringpop-go, package forward).
+-- The route of a request: to the one owner of all its keys. If two of them have different owners they have diverged, and if no member
+-- serves there is no node for it (ringpop-go, package forward).
 use Rattle.std.specs.Prelude.{◌≡◌, ◌≢◌, ◌==◌, ℕ, List, All, Option, Some, None, Result, Ok, Err, if◌then◌else◌}
 use Rattle.std.specs.List.{Contains}
 use Rattle.change_core.specs.declared.addresses.Address.{Address}
@@ -26,7 +26,7 @@ pub record HaveDiverged {H : Type 0} (hash_of : H → List ℕ → ℕ) (view : 
   pub other_listed : Contains keys other
   pub differ : owner_in hash_of view one ≢ owner_in hash_of view other
 
--- where the node of an address sends what has this owner
+-- the route of keys with this owner, for the node of an address
 abbrev pub route_to : Option Address → Address → Route
 route_to None own = Nobody
 route_to (Some a) own = if a == own then Here else To a

@@ -1,4 +1,4 @@
--- When an attempt is sent: a run of its calls, and the sends and failures that the run tells of.
+-- The times at which an attempt is sent: a run of its calls, and the sends and failures in the run.
 use Rattle.std.specs.Prelude.{ℕ, ◌+◌, ◌<◌, ◌≤◌, List, [], ◌∷◌, Result, Ok, Err}
 use Rattle.node_core.specs.Viewing.{Viewed}
 use Rattle.forward_core.specs.declared.attempts.Step.{Step}
@@ -17,7 +17,7 @@ pub record AttemptEntry (H : Type 0) : Type 0 where
   pub call : AttemptCall H
   pub after : AttemptState
 
--- from old, the call is answered so and leaves new
+-- from old, the call has this result and leaves new
 abbrev pub AttemptStep : {H : Type 0} → (H → List ℕ → ℕ) → AttemptState → AttemptCall H → AttemptState → Type 0
 AttemptStep hash_of old (ready view now result) new = ReadyStep hash_of view now old result new
 AttemptStep hash_of old (failed now result) new = FailedStep now old result new
@@ -32,7 +32,7 @@ pub data Mark : Type 0 where
   sent_at : ℕ → Mark
   failed_at : ℕ → Mark
 
--- what a call adds to them
+-- the marks that a call adds to them
 abbrev pub marked : {H : Type 0} → AttemptCall H → List Mark → List Mark
 marked (ready view now (Ok (Send a))) marks = sent_at now ∷ marks
 marked (failed now (Ok done)) marks = failed_at now ∷ marks

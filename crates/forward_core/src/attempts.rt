@@ -1,4 +1,4 @@
-//! A request on its way: when it may be sent, to whom, and when it is given up.
+//! A request on its way: when it may be sent, to which node, and when it is abandoned.
 ghost use Rattle.std.specs.Prelude.{◌≡◌, ◌<◌, ◌≤◌, MatchOption};
 ghost use Rattle.forward_core.specs.Attempts.{IsAttempt, IsDue, IsOpen, most_sends, started, with_keys, ReadyStep, FailedStep};
 
@@ -11,13 +11,13 @@ use message_core::Keys;
 use node_core::View;
 use std::marker::Model;
 
-/// How often an attempt is sent at most.
-pub const MOST_SENDS: u32 = 4;
+/// The greatest number of sends of an attempt.
+pub const MAX_SENDS: u32 = 4;
 
-/// How many milliseconds an attempt rests after its first, second and third failure.
+/// The pauses in milliseconds after an attempt's first, second and third failure.
 const PAUSES: [u64; 3] = [3_000, 6_000, 12_000];
 
-/// What is to be done with an attempt now.
+/// The next step of an attempt.
 #[derive(Clone, Copy, Debug, PartialEq, Eq)]
 pub enum Step {
     /// It rests until the moment of this number, which may lie past the greatest moment and is then never reached.
@@ -28,7 +28,7 @@ pub enum Step {
     Send(Address),
 }
 
-/// How an attempt stands.
+/// The stage of an attempt.
 #[derive(Clone, Copy, Debug, PartialEq, Eq)]
 enum Stage {
     /// It has not been sent.
@@ -41,9 +41,9 @@ enum Stage {
     Spent,
 }
 
-/// A request that is sent until a send is answered or none is left, each time to whoever owns its keys by then. An attempt
-/// hears of failures alone: one that was answered is dropped. It is handed each moment and reads no clock. Contracts see
-/// its keys, how often it was sent, and how it stands.
+/// A request that is sent until a send is answered or none is left, each time to the owner of its keys at that time.
+/// Only failures are reported to an attempt: one that was answered is dropped. The caller passes each moment; the
+/// attempt reads no clock. Contracts see its keys, how often it was sent, and its stage.
 #[derive(Debug, Drop)]
 pub struct Attempt {
     keys: Keys,
@@ -61,8 +61,8 @@ impl Model for Attempt {
     ghost invariant = { λ a. IsAttempt a.sends a.stage };
 }
 
-/// An attempt whose keys are lent out, as for the message that it is sent by. Contracts see how often it was sent, and how
-/// it stands.
+/// An attempt whose keys are lent, as for the message that sends it. Contracts see how often it was sent, and its
+/// stage.
 #[derive(Debug, Drop)]
 pub struct Lent {
     sends: u32,
@@ -80,7 +80,7 @@ impl Model for Lent {
 }
 
 impl Lent {
-    /// The attempt for the request of these keys, which are those lent out where it is to go on as it was.
+    /// Returns the attempt with these keys, which are those that were lent if it is to be the same attempt.
     pub fn take_back(self, keys: Keys) -> Attempt
         ensures { result ≡ with_keys keys self }
     {
@@ -104,13 +104,19 @@ impl Attempt {
         }
     }
 
-    /// What is to be done now, by the view handed in: the owner is looked up anew each time. `Wait` exactly where the
-    /// attempt rests still, which it does for 3,000, 6,000 and 12,000 milliseconds after its first, second and third
-    /// failure. `Here` where this node owns the keys, and else `Send`, which counts one send and puts it in flight; any other
-    /// answer changes nothing.
+    /// Returns the next step, by the given view: the owner is looked up again each time. The step is `Wait` while the
+    /// attempt rests, which it does for 3,000, 6,000 and 12,000 milliseconds after its first, second and third failure.
+    /// It is `Here` if this node owns the keys, and else `Send`, which counts one send and puts it in flight; any other
+    /// result changes nothing.
     ///
-    /// Errors, in this order, each before any `Wait`: `RetriesSpent` once the fourth send has failed; `InFlight` while a
-    /// send is; `Diverged` where two of the keys have different owners; `Nobody` where no member serves.
+    /// # Errors
+    ///
+    /// The first that applies is returned, before any `Wait`.
+    ///
+    /// - `RetriesSpent`: the fourth send has failed.
+    /// - `InFlight`: a send is in flight.
+    /// - `Diverged`: two of the keys have different owners.
+    /// - `Nobody`: no member serves.
     pub fn ready<H: PointHash>(&mut self, view: &View<H>, now: Moment) -> Result<Step, ForwardError>
         ensures { ReadyStep H.hash_of view.now now self.old result self.new }
     {
@@ -145,17 +151,19 @@ impl Attempt {
         }
     }
 
-    /// Notes that the send in flight failed at this moment: the attempt rests from then on, or is spent.
+    /// Records that the send in flight failed at this moment: the attempt rests from then on, or is spent.
     ///
-    /// Errors: `NotInFlight` where no send is, which changes nothing; `RetriesSpent` at the fourth failure, which ends
-    /// the attempt.
+    /// # Errors
+    ///
+    /// - `NotInFlight`: no send is in flight. Nothing changes.
+    /// - `RetriesSpent`: this is the fourth failure, which ends the attempt.
     pub fn failed(&mut self, now: Moment) -> Result<(), ForwardError>
         ensures { FailedStep now self.old result self.new }
     {
         if self.stage != Stage::InFlight {
             return Err(ForwardError::NotInFlight);
         }
-        if self.sends == MOST_SENDS {
+        if self.sends == MAX_SENDS {
             self.stage = Stage::Spent;
             return Err(ForwardError::RetriesSpent);
         }
@@ -164,7 +172,7 @@ impl Attempt {
         Ok(())
     }
 
-    /// How often it was sent, from 0 to 4.
+    /// Returns how often it was sent, from 0 to 4.
     pub fn sends(&self) -> u32
         ensures count { result ≡ self.now.sends }
         ensures within { result ≤ most_sends }
@@ -174,7 +182,7 @@ impl Attempt {
         self.sends
     }
 
-    /// Its keys for as long as a message needs them, and what is left of it meanwhile. It takes no memory.
+    /// Returns its keys, for as long as a message needs them, and the attempt without them. It takes no memory.
     pub fn lend(self) -> (Keys, Lent)
         ensures { self ≡ with_keys result.0 result.1 }
     {

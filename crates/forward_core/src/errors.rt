@@ -1,6 +1,6 @@
 use thiserror::Error;
 
-/// Why a call of this crate was refused. None of them is want of memory: the crate takes none.
+/// The errors of this crate's calls. Out of memory is not among them: the crate allocates nothing.
 #[derive(Clone, Copy, Debug, PartialEq, Eq, Error)]
 pub enum ForwardError {
     /// Two of the keys have different owners.

@@ -1,10 +1,11 @@
-//! Laws over the definitions, each the contract of a function that does nothing; `limits` alone hands out the constant.
+//! Theorems about the definitions, each the contract of a function that does nothing; `limits` alone returns the
+//! constant.
 ghost use Rattle.std.specs.Prelude.{◌≡◌};
 ghost use Rattle.forward_core.specs.Attempts.{most_sends};
 ghost use Rattle.forward_core.specs.Decided.{FailuresAreOne, RoutesAreOne, StepsAreOne};
 ghost use Rattle.forward_core.specs.Schedule.{KeepsSchedule};
 
-use crate::attempts::MOST_SENDS;
+use crate::attempts::MAX_SENDS;
 use hash_ring::PointHash;
 
 /// Whatever the calls of an attempt, its sends and failures alternate, at most four of each, the first send whenever it
@@ -13,7 +14,7 @@ pub fn schedule<H: PointHash>()
     ensures { KeepsSchedule H.hash_of }
 {}
 
-/// What is answered is decided: a request has one route by a view or has diverged, one thing is to be done with an attempt by a
+/// The results are determined: a request has one route by a view or has diverged, an attempt has one next step by a
 /// view and at a moment, and a failure leaves one attempt.
 pub fn decided<H: PointHash>()
     ensures routes { RoutesAreOne H.hash_of }
@@ -21,9 +22,9 @@ pub fn decided<H: PointHash>()
     ensures failures { FailuresAreOne }
 {}
 
-/// The limit of this crate's constant is the one that contracts name: how often an attempt is sent at most.
+/// The constant of this crate is the limit that contracts name: the greatest number of sends of an attempt.
 pub fn limits() -> u32
     ensures { result ≡ most_sends }
 {
-    MOST_SENDS
+    MAX_SENDS
 }

@@ -1,4 +1,4 @@
-//! Where a request goes by its keys: to the one member that owns them all, in a few sends on a fixed schedule.
+//! The routing of a request by its keys: to the one member that owns them all, in a few sends on a fixed schedule.
 #![tactic(auto)]
 
 mod attempts;
@@ -7,7 +7,7 @@ pub mod laws;
 mod routes;
 mod routing;
 
-pub use attempts::{Attempt, Lent, MOST_SENDS, Step};
+pub use attempts::{Attempt, Lent, MAX_SENDS, Step};
 pub use errors::ForwardError;
 pub use routes::Route;
 pub use routing::{route, route_keys};

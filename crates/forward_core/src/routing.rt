@@ -1,4 +1,4 @@
-//! Where a request goes, by the owners of its keys.
+//! The route of a request, by the owners of its keys.
 ghost use Rattle.std.specs.Prelude.{◌≡◌, ◌↔◌, [], Ok, Err};
 ghost use Rattle.forward_core.specs.Routes.{route_to, owner_in, HaveDiverged, IsRouteOf};
 
@@ -9,8 +9,8 @@ use hash_ring::PointHash;
 use message_core::{Keys, Text};
 use node_core::View;
 
-/// Where a request goes whose keys have this owner, for the node `own`: it is handled here exactly where the node owns
-/// them itself, and by nobody exactly where they have no owner.
+/// Returns the route of a request whose keys have this owner, for the node `own`: it is handled here if and only if the
+/// node owns the keys itself, and by no node if and only if they have no owner.
 pub fn route(owner: Option<Address>, own: Address) -> Route
     ensures { result ≡ route_to owner own }
 {
@@ -21,11 +21,13 @@ pub fn route(owner: Option<Address>, own: Address) -> Route
     }
 }
 
-/// Where a request of these keys goes, for the node whose view this is: to the one owner of all of them, as the view
-/// names it. It takes no memory, and hashes each key at most once.
+/// Returns the route of a request of these keys, for the node whose view this is: to the one owner of all of them, as
+/// the view names it. If no member serves it is `Route::Nobody`, whatever the keys. It takes no memory, and hashes each
+/// key at most once.
 ///
-/// `Diverged`: exactly where two of the keys have different owners. Where no member serves the answer is
-/// `Route::Nobody`, whatever the keys.
+/// # Errors
+///
+/// - `Diverged`: two of the keys have different owners.
 pub fn route_keys<H: PointHash>(view: &View<H>, keys: &Keys) -> Result<Route, ForwardError>
     ensures routed { IsRouteOf H.hash_of view.now keys.now result }
     ensures diverged { (result ≡ Err ForwardError.Diverged) ↔ HaveDiverged H.hash_of view.now keys.now }

@@ -1,11 +1,11 @@
 -- What callers cite of the pending list: one change for each address, none issued to its source, and facts that last.
-use Rattle.std.proofs.Common.{◌≡◌, ℕ, suc, ◌≢◌, ◌==◌, Bool, true, false, not, nat_lt, cond, if◌then◌else◌, List, [], ◌∷◌, filter, take, refl, sym, ◌∙◌, All, AllPairs, arith, eqb-true}
+use Rattle.std.proofs.Common.{◌≡◌, ℕ, suc, ◌≢◌, ◌==◌, Bool, true, false, not, nat_lt, cond, List, [], ◌∷◌, filter, take, refl, sym, ◌∙◌, All, AllPairs, arith, eqb-true}
 use Rattle.std.proofs.lemmas.Bool.{eqb-false}
 use Rattle.std.proofs.lemmas.List.Elements.{All-cons, All-tail, All-nil, All-filter, All-take, All-map, All-weaker, filter_passes}
 use Rattle.std.proofs.lemmas.List.Kept.{AllPairs-cons, AllPairs-filter}
 use Rattle.change_core.specs.declared.changes.Sourced.{Sourced}
 use Rattle.gossip_core.specs.declared.pending.Pending.{Pending}
-use Rattle.gossip_core.specs.Pending.{subject, fresh, put_pending, may_go_to, issued, is_issued, once_more, counted, below, OnePerAddress}
+use Rattle.gossip_core.specs.Pending.{subject, fresh, put_pending, may_go_to, issued, below, OnePerAddress}
 
 not_is : (b : Bool) → not b ≡ true → b ≡ false
 not_is true h = sym h
@@ -46,15 +46,6 @@ OnePerAddress-put_pending (p ∷ ps) s one =
 
 pub OnePerAddress-below : (limit : ℕ) (ps : List Pending) → OnePerAddress ps → OnePerAddress (below limit ps)
 OnePerAddress-below limit ps one = AllPairs-filter (λ p q. subject p ≢ subject q) (λ p. nat_lt p.count limit) ps one
-
--- a fact of the sourced changes lasts through `counted` and `below`
-pub All-counted : (Q : Sourced → Type 0) (t k : ℕ) (ps : List Pending) → All (λ p. Q p.sourced) ps → All (λ p. Q p.sourced) (counted t k ps)
-All-counted Q t k ps h =
-    All-map (λ p. Q p.sourced) (λ p. if is_issued t k ps p then once_more p else p) ps
-    (All-weaker (λ p. Q p.sourced) (λ p. Q (if is_issued t k ps p then once_more p else p).sourced) (λ p q. elim (is_issued t k ps p) as (λ b. Q (if b then once_more p else p).sourced) [ true ↦ q | false ↦ q ]) ps h)
-
-pub All-below : (P : Pending → Type 0) (limit : ℕ) (ps : List Pending) → All P ps → All P (below limit ps)
-All-below P limit ps h = All-filter (λ p. nat_lt p.count limit) P ps h
 
 -- no change is issued to its source
 pub not_to_its_source : (t k : ℕ) (ps : List Pending) → All (λ s. s.source ≢ t) (issued t k ps)

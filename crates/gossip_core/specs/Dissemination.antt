@@ -1,4 +1,4 @@
--- What contracts see of a `Gossip`, and what its calls make of it.
+-- The model of a `Gossip`, and the effect of its calls.
 use Rattle.std.specs.Prelude.{ℕ, ◌*◌, ◌≤◌, List}
 use Rattle.change_core.specs.declared.changes.Sourced.{Sourced}
 use Rattle.gossip_core.specs.declared.pending.Pending.{Pending}
@@ -18,7 +18,7 @@ most_factor = 1000
 abbrev pub most_limit : ℕ
 most_limit = 20 * most_factor
 
--- one more change is passed on
+-- another change is passed on
 abbrev pub with_news : Dissemination → Sourced → Dissemination
 with_news g s = record g { pending = put_pending g.pending s }
 
@@ -26,7 +26,7 @@ with_news g s = record g { pending = put_pending g.pending s }
 abbrev pub adjusted : Dissemination → ℕ → Dissemination
 adjusted g n = let limit = limit_for g.factor n in record g { limit = limit; pending = below limit g.pending }
 
--- a message took the first k to the target: they count once more, and what has reached the limit goes
+-- a message took the first k to the target: the count of each rises by 1, and what has reached the limit goes
 abbrev pub after_issue : Dissemination → ℕ → ℕ → Dissemination
 after_issue g target k = record g { pending = below g.limit (counted target k g.pending) }
 
@@ -36,7 +36,7 @@ pub record IsBounded (g : Dissemination) : Type 0 where
   pub limit_within : (1 ≤ g.limit) × (g.limit ≤ most_limit)
   pub unspent : AllBelow g.limit g.pending
 
--- what always holds: the bounds are kept, and one change is pending for an address
+-- the invariant: the bounds are kept, and one change is pending for an address
 pub record IsWhole (g : Dissemination) : Type 0 where
   pub bounded : IsBounded g
   pub one_each : OnePerAddress g.pending

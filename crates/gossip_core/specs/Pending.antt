@@ -1,6 +1,6 @@
--- The pending list: the changes that a node still passes on, one for each address, in the order in which their addresses came.
--- The rule is this project's own, after SWIM (DSN 2002), section 4.1, where news rides on pings a multiple of log n times each,
--- and after ringpop-go's package swim.
+-- The pending list: the changes that a node still passes on, one for each address, in the order in which their addresses came. The rule is
+-- this project's own, after SWIM (DSN 2002), section 4.1, where updates ride on pings a multiple of log n times each, and after
+-- ringpop-go's package swim.
 use Rattle.std.specs.Prelude.{ℕ, ◌+◌, ◌*◌, ◌==◌, ◌<◌, ◌≡◌, ◌≢◌, Bool, not, List, [], ◌∷◌, length, map, filter, take, nat_lt, if◌then◌else◌, All, AllPairs}
 use Rattle.std.specs.Int.Digits.{digits_of}
 use Rattle.std.specs.List.{list_any}
@@ -8,7 +8,7 @@ use Rattle.indexmap.specs.IndexMap.{IndexMap, keys, values}
 use Rattle.change_core.specs.declared.changes.Sourced.{Sourced}
 use Rattle.gossip_core.specs.declared.pending.Pending.{Pending}
 
--- the number of decimal digits, of which 0 has one
+-- the number of decimal digits; 0 has one
 abbrev pub digit_count : ℕ → ℕ
 digit_count n = if n == 0 then 1 else length (digits_of 10 n)
 
@@ -16,7 +16,7 @@ digit_count n = if n == 0 then 1 else length (digits_of 10 n)
 abbrev pub limit_for : ℕ → ℕ → ℕ
 limit_for factor n = factor * digit_count n
 
--- whom a pending change is about
+-- the address that a pending change is about
 abbrev pub subject : Pending → ℕ
 subject p = p.sourced.change.address
 
@@ -24,7 +24,7 @@ subject p = p.sourced.change.address
 abbrev pub fresh : Sourced → Pending
 fresh s = record { sourced = s; count = 0 }
 
--- a change about an address stands in the place of the one before it, or else goes last, and has not been issued
+-- a change about an address replaces the one before it, or else goes last, and has not been issued
 abbrev pub put_pending : List Pending → Sourced → List Pending
 put_pending [] s = fresh s ∷ []
 put_pending (p ∷ ps) s = if s.change.address == subject p then fresh s ∷ ps else p ∷ put_pending ps s
@@ -41,11 +41,11 @@ issued target k ps = map (λ p. p.sourced) (take k (filter (may_go_to target) ps
 abbrev pub is_issued : ℕ → ℕ → List Pending → Pending → Bool
 is_issued target k ps p = list_any (λ s. s.change.address == subject p) (issued target k ps)
 
--- issued once more
+-- issued again
 abbrev pub once_more : Pending → Pending
 once_more p = record p { count = p.count + 1 }
 
--- each that is among the first k that may go to the target is issued once more, and each other one stays as it was
+-- the count of each that is among the first k that may go to the target rises by 1, and the others are unchanged
 abbrev pub counted : ℕ → ℕ → List Pending → List Pending
 counted target k ps = map (λ p. if is_issued target k ps p then once_more p else p) ps
 

@@ -1,4 +1,4 @@
--- What happens to a `Gossip` between two puts for an address: issues, adjustments, and puts about others.
+-- The calls of a `Gossip` between two puts for an address: issues, adjustments, and puts about others.
 use Rattle.std.specs.Prelude.{ℕ, ◌+◌, ◌==◌, ◌≢◌, max, List, [], ◌∷◌, count_by, ⊤}
 use Rattle.change_core.specs.declared.changes.Sourced.{Sourced}
 use Rattle.gossip_core.specs.Pending.{issued}
@@ -10,7 +10,7 @@ pub data Event : Type 0 where
   Adjusts : (n : ℕ) → Event
   Issues : (target k : ℕ) → Event
 
--- what the call leaves
+-- the pending list after the call
 abbrev pub after : Dissemination → Event → Dissemination
 after g (Puts s) = with_news g s
 after g (Adjusts n) = adjusted g n
@@ -27,7 +27,7 @@ abbrev pub times_issued : ℕ → Dissemination → List Event → ℕ
 times_issued a g [] = 0
 times_issued a g (e ∷ es) = issues_about a g e + times_issued a (after g e) es
 
--- the greatest limit that stands in a run, from its start to its end
+-- the greatest limit in a run, from its start to its end
 abbrev pub greatest_limit : Dissemination → List Event → ℕ
 greatest_limit g [] = g.limit
 greatest_limit g (e ∷ es) = max g.limit (greatest_limit (after g e) es)

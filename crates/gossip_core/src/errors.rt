@@ -4,7 +4,7 @@ ghost use Rattle.gossip_core.specs.declared.errors.GossipError.TheVariants.{Memo
 use std::alloc::AllocError;
 use thiserror::Error;
 
-/// Why a call of this crate was refused.
+/// The errors of this crate's calls.
 #[derive(Clone, Copy, Debug, PartialEq, Eq, Error)]
 pub enum GossipError {
     #[error("bad piggyback factor")]

@@ -10,7 +10,7 @@ use std::alloc::Global;
 use std::marker::Model;
 
 /// The greatest piggyback factor.
-pub const MOST_FACTOR: u32 = 1_000;
+pub const MAX_FACTOR: u32 = 1_000;
 
 /// The changes that a node passes on. Contracts see the factor, the limit and the list of pending changes.
 #[derive(Drop)]
@@ -34,15 +34,18 @@ impl Model for Gossip {
 }
 
 impl Gossip {
-    /// No pending changes, and the limit of one serving member. Allocates nothing.
+    /// Makes an empty pending list, with the limit of one serving member. The factor `piggyback` is from 1 to
+    /// [`MAX_FACTOR`]. Allocates nothing.
     ///
-    /// The factor `piggyback` is from 1 to [`MOST_FACTOR`]; any other is `BadFactor`.
+    /// # Errors
+    ///
+    /// - `BadFactor`: the factor is out of that range.
     pub fn new(alloc: Global, piggyback: u32) -> Result<Self, GossipError>
         ensures made { IfOk result (λ g. g ≡ record { factor = piggyback; limit = limit_for piggyback 1; pending = [] }) }
         ensures within { IsOk result ↔ ((1 ≤ piggyback) × (piggyback ≤ most_factor)) }
         ensures refusal { IsOkUnless result GossipError.BadFactor }
     {
-        if piggyback == 0 || piggyback > MOST_FACTOR {
+        if piggyback == 0 || piggyback > MAX_FACTOR {
             return Err(GossipError::BadFactor);
         }
         Ok(Gossip {
@@ -53,9 +56,12 @@ impl Gossip {
         })
     }
 
-    /// Makes a change pending that has not been issued: in the place of the one about its address, or last.
+    /// Makes a change pending with count 0: it replaces the one about its address, or goes last. After an error nothing
+    /// has changed.
     ///
-    /// `Memory`, where the list had to grow and could not: nothing is changed. In the place of another it never fails.
+    /// # Errors
+    ///
+    /// - `Memory`: out of memory; never if a change about its address is pending.
     pub fn put(&mut self, sourced: Sourced) -> Result<(), GossipError>
         ensures ok { OnOk result (self.new ≡ with_news self.old sourced) }
         ensures err { OnErr result (self.new ≡ self.old) }
@@ -66,8 +72,8 @@ impl Gossip {
         Ok(())
     }
 
-    /// Sets the limit for `n` serving members, the factor times the decimal digits of `n`, and drops the changes that have
-    /// been issued as often: none, where it does not fall. Allocates nothing.
+    /// Sets the limit for `n` serving members, the factor times the decimal digits of `n`, and drops the changes that
+    /// have been issued as often: none, if the limit does not fall. Allocates nothing.
     ///
     /// The rule is this project's own, after ringpop-go, package swim.
     pub fn adjust(&mut self, n: usize)
@@ -78,10 +84,12 @@ impl Gossip {
         pending::follow_limit(&mut self.pending, before, self.limit);
     }
 
-    /// Issues to `target` the first `at_most` changes that did not come from it. Each counts once more, and one that has
-    /// been issued as often as the limit says is dropped.
+    /// Issues to `target` the first `at_most` changes that did not come from it. The count of each rises by 1, and a
+    /// change whose count reaches the limit is dropped. After an error nothing is issued, and nothing has changed.
     ///
-    /// `Memory`, where the list that is answered found no room: nothing is issued, and nothing is changed.
+    /// # Errors
+    ///
+    /// - `Memory`: out of memory for the result; never if `at_most` is 0 or nothing is pending.
     pub fn issue_for(
         &mut self,
         target: Address,
@@ -98,7 +106,7 @@ impl Gossip {
         Ok(issued)
     }
 
-    /// How often a change is issued before it is dropped.
+    /// Returns how often a change is issued before it is dropped.
     pub fn limit(&self) -> u32
         ensures { result ≡ self.now.limit }
     {
@@ -113,9 +121,11 @@ impl Gossip {
         self.pending.len()
     }
 
-    /// The pending changes, in the order in which their addresses were first put.
+    /// Returns the pending changes, in the order in which their addresses were first put.
     ///
-    /// `Memory`, where the list that is answered found no room.
+    /// # Errors
+    ///
+    /// - `Memory`: out of memory for the result; never if nothing is pending.
     pub fn pending(&self) -> Result<Vec<Sourced>, GossipError>
         ensures pending { IfOk result (λ v. v.items ≡ map (λ p. p.sourced) self.now.pending) }
         ensures growth { OnErr result (0 < length self.now.pending) }

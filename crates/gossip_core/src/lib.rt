@@ -7,4 +7,4 @@ pub mod laws;
 mod pending;
 
 pub use errors::GossipError;
-pub use gossip::{Gossip, MOST_FACTOR};
+pub use gossip::{Gossip, MAX_FACTOR};

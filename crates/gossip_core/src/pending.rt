@@ -16,7 +16,7 @@ pub struct Pending {
 }
 
 impl Pending {
-    /// Whom the change is about.
+    /// Returns the address that the change is about.
     fn subject(&self) -> Address
         ensures { result ≡ subject self.now }
     {
@@ -39,7 +39,7 @@ pub(crate) fn all_of(alloc: Global, pending: &PendingMap) -> Result<Vec<Sourced>
     Ok(changes)
 }
 
-/// Puts a change under its address, in the place of the one before it or last. It has not been issued.
+/// Puts a change under its address, replacing the one before it, or last. It has not been issued.
 pub(crate) fn put(pending: &mut PendingMap, sourced: Sourced) -> Result<(), AllocError>
     requires { IsByAddress pending.old }
     ensures ok { OnOk result (values pending.new ≡ put_pending (values pending.old) sourced) }
@@ -52,7 +52,7 @@ pub(crate) fn put(pending: &mut PendingMap, sourced: Sourced) -> Result<(), Allo
     Ok(())
 }
 
-/// Gives the first `at_most` changes that may go to `target`, each of which counts once more.
+/// Returns the first `at_most` changes that may go to `target`, and raises the count of each by 1.
 pub(crate) fn issue_first(
     alloc: Global,
     pending: &mut PendingMap,
@@ -82,14 +82,14 @@ pub(crate) fn issue_first(
     Ok(changes)
 }
 
-/// Whether no change has reached the limit.
+/// Returns whether no change has reached the limit.
 fn all_below(pending: &PendingMap, limit: u32) -> bool
     ensures { result ≡ list_all (λ p. nat_lt p.count limit) (values pending.now) }
 {
     pending.values().all(|p| p.count < limit)
 }
 
-/// Drops the changes that have reached the limit. Where none has, nothing is moved.
+/// Drops the changes that have reached the limit. If there is none, nothing is moved.
 pub(crate) fn drop_spent(pending: &mut PendingMap, limit: u32)
     requires { IsByAddress pending.old }
     ensures below { values pending.new ≡ below limit (values pending.old) }
@@ -125,7 +125,7 @@ fn decimal_digits(n: usize) -> u32
     n.checked_ilog10().unwrap_or(0) + 1
 }
 
-/// How often a change is issued while `n` members serve.
+/// Returns how often a change is issued while `n` members serve.
 pub(crate) fn limit_at(factor: u32, n: usize) -> u32
     requires { factor ≤ most_factor }
     ensures value { result ≡ limit_for factor n }

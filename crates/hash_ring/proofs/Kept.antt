@@ -27,10 +27,6 @@ use Rattle.hash_ring.proofs.Weights.{none_if_not_some, without_none, positive_fa
 alone : (ps : List Point) → IsAscending point_cmp ps → ascending point_cmp (ps ++ []) ≡ ps
 alone ps up = ap (ascending point_cmp) (append-nil ps) ∙ ascending-ascending point_exact ps up
 
--- all points are those that are merged, where none is late
-pub all_if_none : (ps late : List Point) → IsAscending point_cmp ps → late ≡ [] → ascending point_cmp (ps ++ late) ≡ ps
-all_if_none ps late up e = ap (λ ls. ascending point_cmp (ps ++ ls)) e ∙ alone ps up
-
 module _ (hash : List ℕ → ℕ) (replicas : ℕ) (servers : List Server) where
   pub kept_settled : (all ps late : List Point) (spare space : ℕ) → IsRing hash replicas servers all spare → ps ≡ all → late ≡ [] → length ps ≤ space → IsKept hash replicas servers ps late spare space
   kept_settled all ps late spare space ring e f fits =

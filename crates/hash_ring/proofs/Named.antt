@@ -30,9 +30,6 @@ firsts-append named (x ∷ xs) ys =
 pub named_enough : (n : ℕ) (named more : List Address) → n ≤ length named → length named ≤ n → take n (named ++ more) ≡ named
 named_enough n named more h k = take-append-le n named more h ∙ take_all n named k
 
-pub named_all : (n : ℕ) (named : List Address) → length named ≤ n → take n (named ++ []) ≡ named
-named_all n named k = ap (take n) (append-nil named) ∙ take_all n named k
-
 -- a point of a server that is named, and one of another
 pub named_old : (named : List Address) (p : Point) (ps : List Point) → has named p.server ≡ true → named ++ firsts named (p ∷ ps) ≡ named ++ firsts named ps
 named_old named p ps h = ap (λ zs. named ++ zs) (firsts_seen named p ps h)

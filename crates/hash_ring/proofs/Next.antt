@@ -5,7 +5,7 @@ use Rattle.std.specs.Option.{option_or, IfNone, IfSome}
 use Rattle.std.specs.declared.cmp.Ordering.{Ordering}
 use Rattle.std.specs.declared.cmp.Ordering.TheVariants.{Less, Equal, Greater}
 use Rattle.std.specs.Ordering.{nat_cmp, ord_min}
-use Rattle.std.proofs.lemmas.List.{append-nil, take_more, take_all, take-append-drop}
+use Rattle.std.proofs.lemmas.List.{append-nil, take_more, take-append-drop}
 use Rattle.std.proofs.lemmas.Bool.{cases_order}
 use Rattle.change_core.specs.declared.addresses.Address.{Address}
 use Rattle.change_core.specs.Ascending.{ascending, In, IsAscending, IsExact}
@@ -165,14 +165,6 @@ least_more h ps kept late i x n t m last low at e f =
         ]);
       }
     ]
-
-pub least_is_next : (h : ℕ) (ps late : List Point) (i : ℕ) (n : Point) → IsLeast h (ps ++ late) (ps ++ take i late) n → length late ≤ i → IsNext h (ps ++ late) n.server
-least_is_next h ps late i n last le = record {
-  point = last.point;
-  listed = last.listed;
-  server = ap (λ (p : Point). p.server) last.turned;
-  nearest = λ q k. subst (λ (z : Point). IsLow z (turn h q)) last.turned (last.least q (subst (λ zs. In q (ps ++ zs)) (sym (take_all i late le)) k));
-}
 
 -- ---- its server is the owner
 

@@ -8,9 +8,8 @@ use Rattle.change_core.proofs.Order.{ascending_ascends, in_ascending, in_append,
 use Rattle.hash_ring.specs.declared.points.Point.{Point}
 use Rattle.hash_ring.specs.declared.servers.Server.{Server}
 use Rattle.hash_ring.specs.Points.{point_cmp, points_by, points, AreSmall}
-use Rattle.hash_ring.specs.Servers.{is_same, addresses_of, address_of_server, server_cmp, without, AreServers}
+use Rattle.hash_ring.specs.Servers.{is_same, server_cmp, without, AreServers}
 use Rattle.hash_ring.specs.RingModel.{ring_of, ring_model, IsRing}
-use Rattle.hash_ring.proofs.ListMembers.{map_in}
 use Rattle.hash_ring.proofs.PointOrder.{point_exact, server_exact}
 use Rattle.hash_ring.proofs.Walk.{in_points, in_points_of}
 use Rattle.hash_ring.proofs.Weights.{in_without, AreServers-put, AreServers-without}
@@ -23,12 +22,6 @@ ring_is hash hash_of replicas servers ps late all e f =
 module _ (hash : List ℕ → ℕ) (replicas : ℕ) (servers : List Server) (ps : List Point) {spare : ℕ} (ring : IsRing hash replicas servers ps spare) where
   pub ring_ascends : IsAscending point_cmp ps
   ring_ascends = subst (IsAscending point_cmp) (sym ring.points_are) (ascending_ascends point_exact (flat_map (points_by hash replicas) servers))
-
-  -- each point is a server's
-  pub ring_theirs : (p : Point) → In p ps → In p.server (addresses_of servers)
-  ring_theirs p h =
-      let m = in_points hash replicas servers p (subst (In p) ring.points_are h) in
-      subst (λ a. In a (addresses_of servers)) (sym m.2) (map_in address_of_server m.0 servers m.1)
 
   -- a server more, whose address none has
   in_fresh : (s : Server) (p : Point) → In p (ascending point_cmp (points_by hash replicas s)) → p.server ≡ s.address

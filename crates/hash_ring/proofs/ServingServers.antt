@@ -9,7 +9,7 @@ use Rattle.change_core.specs.Ascending.{In, IsAscending}
 use Rattle.change_core.specs.Members.{members, greatest, serving, is_news, address_of_change, AllAbove, IsMemberList}
 use Rattle.change_core.specs.Status.{is_serving}
 use Rattle.change_core.proofs.Members.{IsGreatest-greatest, greatest-members, Contains-member_list, IsMemberList-members}
-use Rattle.change_core.proofs.News.{members-no_news, greatest-news, greatest-others}
+use Rattle.change_core.proofs.News.{greatest-news, greatest-others}
 use Rattle.change_core.proofs.Order.{in_put, put_new, put_old, put_ascends, same_ascending, in_filter, filter_in, filter_ascends}
 use Rattle.change_core.proofs.Serving.{IsMemberList-filter}
 use Rattle.hash_ring.specs.declared.servers.Server.{Server}
@@ -116,10 +116,6 @@ module _ (cs : List Change) (c : Change) where
       let held : Some c ≡ Some w.0 = sym (greatest-news cs c news) ∙ (ap (greatest (cs ++ c ∷ [])) (sym e) ∙ w.1) in
       let same : c ≡ w.0 = cc held in
       (ap (λ (d : Change). is_serving d.status) same ∙ w.2, w.3 ∙ ap server_of (sym same))
-
-  -- a change that alters nothing that is held alters no server
-  pub servers_of-no_news : is_news cs c ≡ false → servers_of (cs ++ c ∷ []) ≡ servers_of cs
-  servers_of-no_news e = ap (λ ms. map server_of (filter (λ (d : Change). is_serving d.status) ms)) (members-no_news cs c e)
 
   -- the subject of news is a server from then on, with its weight, where the change's status serves
   pub servers_of-with_server : is_news cs c ≡ true → is_serving c.status ≡ true → servers_of (cs ++ c ∷ []) ≡ with_server (server_of c) (servers_of cs)

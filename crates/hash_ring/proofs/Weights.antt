@@ -4,9 +4,7 @@ use Rattle.std.proofs.lemmas.Bool.{eqb-true}
 use Rattle.change_core.specs.declared.addresses.Address.{Address}
 use Rattle.change_core.specs.Ascending.{put, In, IsAscending}
 use Rattle.change_core.proofs.Order.{in_put, put_new, put_old, put_ascends, same_ascending, in_filter, filter_in, filter_all, filter_ascends}
-use Rattle.std.specs.List.{filter}
 use Rattle.std.specs.Option.{is_some}
-use Rattle.hash_ring.specs.declared.points.Point.{Point}
 use Rattle.hash_ring.proofs.ListMembers.{in_map, map_in}
 use Rattle.hash_ring.specs.declared.servers.Server.{Server}
 use Rattle.hash_ring.specs.Servers.{is_same, address_of_server, addresses_of, server_cmp, without, with_server, weight_of, shares, EachOnce, AreServers, has_weight}
@@ -114,11 +112,6 @@ differs a b n = test_cases _ (is_same a b) (λ e. absurd (n (same_is a b e))) (�
 
 pub without_none : (a : Address) (servers : List Server) → weight_of a servers ≡ None → without a servers ≡ servers
 without_none a servers e = filter_all (λ (s : Server). not (is_same s.address a)) servers (λ s h. ap not (differs s.address a (absent_if_none servers a e s h)))
-
-pub points_none : (a : Address) (servers : List Server) (ps : List Point) → weight_of a servers ≡ None → ((p : Point) → In p ps → In p.server (addresses_of servers)) → filter (λ (p : Point). not (is_same p.server a)) ps ≡ ps
-points_none a servers ps e theirs =
-    filter_all (λ (p : Point). not (is_same p.server a)) ps
-    (λ p h. let m = in_map address_of_server p.server servers (theirs p h) in ap not (differs p.server a (λ q. absent_if_none servers a e m.0 m.1 (sym m.2 ∙ q))))
 
 pub once_without : (a : Address) (servers : List Server) → EachOnce servers → EachOnce (without a servers)
 once_without a servers once = λ s t h k. once s t (in_without a s servers h).0 (in_without a t servers k).0

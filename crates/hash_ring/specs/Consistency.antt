@@ -1,4 +1,4 @@
--- The words of the law of consistent hashing (Karger and others, STOC 1997).
+-- The definitions of the theorem of consistent hashing (Karger and others, STOC 1997).
 use Rattle.std.specs.Prelude.{not, List}
 use Rattle.std.specs.List.{filter}
 use Rattle.change_core.specs.declared.addresses.Address.{Address}

@@ -39,7 +39,7 @@ module _ (hash : List ℕ → ℕ) where
   abbrev pub point : Address → ℕ → ℕ
   point server i = hash (address_text server ++ number_text i)
 
-  -- how far the nearest of a server's first n points lies above a key, wrapping around
+  -- the distance of the nearest of a server's first n points above a key, wrapping around
   abbrev pub distance : ℕ → Address → List ℕ → ℕ
   distance n server key = least (λ i. clockwise (hash key) (point server i)) n
 
@@ -55,7 +55,7 @@ module _ (hash : List ℕ → ℕ) where
   abbrev pub owners : ℕ → List Server → List ℕ → List Address
   owners replicas servers key = ascending (by_distance replicas servers key) (addresses_of servers)
 
-  -- the first of them, where there is any
+  -- the first of them, if there is any
   abbrev pub owner : ℕ → List Server → List ℕ → Option Address
   owner replicas servers key = slice_get (owners replicas servers key) 0
 
@@ -67,7 +67,7 @@ module _ (hash : List ℕ → ℕ) where
   abbrev pub points_by : ℕ → Server → List Point
   points_by replicas s = points_of (replicas * s.weight) s.address
 
-  -- the points of the servers, ascending, each once
+  -- the points of the servers, ascending, without repetition
   abbrev pub points : ℕ → List Server → List Point
   points replicas servers = ascending point_cmp (flat_map (points_by replicas) servers)
 

@@ -1,4 +1,4 @@
--- What contracts see of a ring: the servers of ringpop-go, package hashring, with their points kept in order. Weights and room are this project's.
+-- The model of a ring: the servers of ringpop-go, package hashring, with their points kept in order. Weights and room are this project's.
 use Rattle.std.specs.Prelude.{◌≡◌, ◌⊎◌, ℕ, ◌+◌, ◌-◌, ◌*◌, ◌≤◌, nat_lt, min, if◌then◌else◌, List, ◌++◌, length, vec_len, vec_capacity}
 use Rattle.std.specs.Global.{Vec}
 use Rattle.hash_ring.specs.declared.points.Point.{Point}
@@ -15,13 +15,13 @@ pub record RingModel (H : Type 0) : Type 0 where
   pub points : List Point
   pub room : ℕ
 
--- the ring of these servers: hash_of is the function that hash stands for
+-- the ring of these servers: hash_of is the function that hash represents
 abbrev pub ring_of : {H : Type 0} → H → (List ℕ → ℕ) → ℕ → List Server → ℕ → RingModel H
 ring_of hash hash_of replicas servers room =
     record { hash = hash; replicas = replicas; servers = servers; points = points hash_of replicas servers; room = room }
 
--- the points are those that are merged and those that came late; there is room for more where there is room for a server, for its points
--- in addition to the late ones, and for all of them once they are merged
+-- the points are those that are merged and the late ones; there is room for more if there is room for a server, for its points in addition
+-- to the late ones, and for all of them once they are merged
 abbrev pub ring_model : {H : Type 0} → H → ℕ → Vec Server → Vec Point → Vec Point → RingModel H
 ring_model hash replicas servers points late =
     record {

@@ -12,9 +12,11 @@ use Rattle.hash_ring.specs.declared.servers.Server.{Server}
 abbrev pub is_same : Address → Address → Bool
 is_same a b = a == b
 
+-- the address of a server
 abbrev pub address_of_server : Server → Address
 address_of_server s = s.address
 
+-- the addresses of servers, in their order
 abbrev pub addresses_of : List Server → List Address
 addresses_of servers = map address_of_server servers
 
@@ -26,11 +28,11 @@ server_cmp s t = ordering_then (nat_cmp s.address t.address) (nat_cmp s.weight t
 abbrev pub without : Address → List Server → List Server
 without a servers = filter (λ s. not (is_same s.address a)) servers
 
--- the servers with s, in the place of any other of its address, ascending
+-- the servers with s, replacing any other of its address, ascending
 abbrev pub with_server : Server → List Server → List Server
 with_server s servers = put server_cmp s (without s.address servers)
 
--- these servers put in one after another, so that of two of one address the later stays
+-- these servers added one after another, so that of two of one address the later stays
 abbrev pub with_each : List Server → List Server → List Server
 with_each [] servers = servers
 with_each (s ∷ ss) servers = with_each ss (with_server s servers)
@@ -39,11 +41,12 @@ with_each (s ∷ ss) servers = with_each ss (with_server s servers)
 abbrev pub weight_of : Address → List Server → Option ℕ
 weight_of a servers = option_map (λ s. s.weight) (find (λ s. is_same s.address a) servers)
 
--- its weight, and 0 where there is no such server
+-- its weight, and 0 if there is no such server
 abbrev pub weight_or_none : Option ℕ → ℕ
 weight_or_none None = 0
 weight_or_none (Some w) = w
 
+-- the weight of an address among the servers, and 0 if it is not among them
 abbrev pub shares : Address → List Server → ℕ
 shares a servers = weight_or_none (weight_of a servers)
 
@@ -51,7 +54,7 @@ shares a servers = weight_or_none (weight_of a servers)
 abbrev pub EachOnce : List Server → Type 0
 EachOnce servers = (s t : Server) → In s servers → In t servers → s.address ≡ t.address → s ≡ t
 
--- each server has a weight, each address stands once, and they ascend
+-- each server has a weight, each address appears once, and they ascend
 pub record AreServers (servers : List Server) : Type 0 where
   pub ascends : IsAscending server_cmp servers
   pub once : EachOnce servers

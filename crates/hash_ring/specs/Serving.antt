@@ -6,10 +6,11 @@ use Rattle.change_core.specs.Members.{members}
 use Rattle.change_core.specs.Status.{is_serving}
 use Rattle.hash_ring.specs.declared.servers.Server.{Server}
 
+-- the server that a member is, with the member's weight
 abbrev pub server_of : Change → Server
 server_of c = record { address = c.address; weight = c.weight }
 
--- the weight with which what is held of an address serves, if it does
+-- the weight with which an address serves, by its greatest change, if it does
 abbrev pub serving_weight : Option Change → Option ℕ
 serving_weight None = None
 serving_weight (Some c) = if is_serving c.status then Some c.weight else None

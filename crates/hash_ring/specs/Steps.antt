@@ -1,4 +1,4 @@
--- Words of private functions alone: no public clause cites them.
+-- Definitions of private functions alone: no public contract cites them.
 use Rattle.std.specs.Prelude.{◌≡◌, ◌⊎◌, ℕ, ◌<◌, ◌≤◌, Bool, true, false, not, List, [], ◌∷◌, ◌++◌, length, take, drop, if◌then◌else◌}
 use Rattle.std.specs.List.{filter, list_any}
 use Rattle.change_core.specs.declared.addresses.Address.{Address}
@@ -22,21 +22,22 @@ firsts named (p ∷ ps) = if has named p.server then firsts named ps else p.serv
 abbrev pub IsBelow : ℕ → List Point → Type 0
 IsBelow h ps = (p : Point) → In p ps → p.hash < h
 
+-- the points at or after a hash
 abbrev pub IsFrom : ℕ → List Point → Type 0
 IsFrom h ps = (p : Point) → In p ps → h ≤ p.hash
 
--- those named, each once and in the order of addresses
+-- those named, without repetition and in the order of addresses
 pub record IsSorted (named sorted : List Address) : Type 0 where
   pub ascends : IsAscending nat_cmp sorted
   pub listed : (a : Address) → In a sorted → In a named
   pub all : (a : Address) → In a named → In a sorted
   pub fits : length sorted ≤ length named
 
--- a point by how far it stands above a hash, wrapping around
+-- a point by its distance above a hash, wrapping around
 abbrev pub turn : ℕ → Point → Point
 turn from p = record { hash = clockwise from p.hash; server = p.server }
 
--- p stands as near above a hash as q, or nearer, or as near with the lesser address
+-- p is as near above a hash as q, or nearer, or as near with the lesser address
 abbrev pub IsNear : ℕ → Point → Point → Type 0
 IsNear h p q = (turn h p ≡ turn h q) ⊎ (point_cmp (turn h p) (turn h q) ≡ Less)
 
@@ -54,7 +55,7 @@ pub record AreMet (h : ℕ) (ps : List Point) (count : ℕ) (named : List Addres
   pub high : IsFrom h (drop start ps)
   pub met : named ≡ take count (firsts [] (drop start ps ++ take start ps))
 
--- the points of a server are taken out of all, which are merged before, where it was there
+-- the points of a server are removed from all, which are merged before, if it was there
 abbrev pub IsTaken : Address → List Point → List Point → Bool → List Point → List Point → Type 0
 IsTaken a ps late true new more = (new ≡ filter (λ (p : Point). not (is_same p.server a)) (ascending point_cmp (ps ++ late))) × (more ≡ [])
 IsTaken a ps late false new more = (new ≡ ps) × (more ≡ late)

@@ -1,4 +1,4 @@
-//! A ring of many servers at once: its points are hashed one server after another and sorted once.
+//! A ring made of many servers in one call: its points are hashed one server after another and sorted once.
 ghost use Rattle.std.specs.Prelude.{◌≡◌, ◌*◌, ◌≤◌, [], OnOk, vec_capacity};
 ghost use Rattle.change_core.specs.Ascending.{In};
 ghost use Rattle.hash_ring.specs.Points.{IsReplicas, AreSmall, points};
@@ -10,8 +10,8 @@ use crate::points::{Point, point_count, push_points};
 use crate::servers::{Server, put_server};
 use std::alloc::AllocError;
 
-/// Puts servers into a list that is empty, in the place of any other of their address, and makes room in `late` for the points of
-/// each.
+/// Adds servers to a list that is empty, each replacing any other of its address, and makes room in `late` for the
+/// points of each.
 pub(crate) fn list_servers(
     list: &mut Vec<Server>,
     late: &mut Vec<Point>,

@@ -1,15 +1,15 @@
-//! Points that came late: those of servers that were added after the others were merged. They stand as they came, so that
-//! many servers cost one sort and one merge.
+//! Late points: those of servers that were added after the others were merged. They are kept in the order in which they
+//! came, so that many servers cost one sort and one merge.
 ghost use Rattle.std.specs.Prelude.{◌≡◌, ◌+◌, ◌≤◌, [], ◌++◌, length, OnOk, vec_len, vec_capacity};
 ghost use Rattle.change_core.specs.Ascending.{ascending, In, IsAscending};
 ghost use Rattle.hash_ring.specs.Points.{point_cmp};
 
 use crate::points::{Point, merge_points};
-use crate::starts::Starts;
+use crate::starts::SearchIndex;
 use std::alloc::AllocError;
 
 /// Merges the late points into the others, so that none is late. With room this takes no memory.
-pub(crate) fn merge_late(points: &mut Vec<Point>, starts: &mut Starts, late: &mut Vec<Point>)
+pub(crate) fn merge_late(points: &mut Vec<Point>, starts: &mut SearchIndex, late: &mut Vec<Point>)
     requires ascends { IsAscending point_cmp points.old.items }
     requires apart { (p : Point) → In p points.old.items → In p late.old.items → ⊥ }
     requires room { length points.old.items + length (ascending point_cmp late.old.items) ≤ vec_capacity points.old }

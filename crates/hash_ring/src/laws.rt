@@ -1,5 +1,5 @@
-//! Laws of points, distances and owners. Each is the contract of a function that does nothing, for every hash, all servers
-//! and every key.
+//! Theorems about points, distances and owners. Each is the contract of a function that does nothing, for every hash,
+//! all servers and every key.
 ghost use Rattle.std.specs.Prelude.{◌≡◌, ◌≢◌, ◌⊎◌, ◌↔◌, ℕ, ◌+◌, ◌%◌, ◌^◌, ◌<◌, Bool, IsTrue, None, Some, List, filter, slice_get};
 ghost use Rattle.std.specs.List.{Contains};
 ghost use Rattle.std.specs.Option.{option_cmp};
@@ -15,9 +15,8 @@ ghost use Rattle.hash_ring.specs.Serving.{servers_of, serving_weight};
 ghost use Rattle.hash_ring.specs.declared.points.Point.{Point};
 ghost use Rattle.hash_ring.specs.declared.servers.Server.{Server};
 
-/// Consistent hashing, for any hash. Where a server joins, the owner of each key stays or becomes that server;
-/// where one leaves, only its keys move; and the other owners of a key keep their order, also
-/// where its weight changes.
+/// Consistent hashing, for any hash. When a server joins, the owner of each key stays or becomes that server. When a
+/// server leaves, only its keys move. The other owners of a key keep their order, also if the server's weight changes.
 pub fn consistency()
     ensures joins { (hash : List ℕ → ℕ) (replicas : ℕ) (servers : List Server) (s : Server) (key : List ℕ)
         → weight_of s.address servers ≡ None
@@ -34,11 +33,11 @@ pub fn consistency()
         ≡ others a (owners hash replicas servers key) }
 {}
 
-/// Confined disagreement: how two lists of servers differ where they name different owners of a key. If one names `a` and the
-/// other `b`, then `a` has less weight in the other list, or `b` has less weight in the one; a server that is absent has less
-/// weight than one that is present. So if the owner that each list names has the same weight in both, they name one owner,
-/// whatever else they differ in. Servers with the same weights in both lists stand in one order in the owners of both. This
-/// is more than that consistent hashing is monotone (Karger and others, STOC 1997).
+/// Confined disagreement: how two lists of servers differ if they name different owners of a key. If one names `a` and
+/// the other `b`, then `a` has less weight in the other list, or `b` has less weight in the one; a server that is
+/// absent has less weight than one that is present. So if the owner that each list names has the same weight in both,
+/// they name one owner, whatever else they differ in. Servers with the same weights in both lists have one order among
+/// the owners of both. This is more than that consistent hashing is monotone (Karger and others, STOC 1997).
 pub fn confined_disagreement()
     ensures differ { (hash : List ℕ → ℕ) (replicas : ℕ) (one other : List Server) (key : List ℕ) (a b : Address)
         → owner hash replicas one key ≡ Some a
@@ -67,8 +66,8 @@ pub fn distances()
         → IsLeastWay hash n server key way → way ≡ distance hash n server key }
 {}
 
-/// The owners of a key are exactly the servers. Of two of them the nearer comes first, and of two as near that of the
-/// lesser address; so each stands once.
+/// The owners of a key are exactly the servers, each once. Of two of them the nearer comes first, and of two as near
+/// that of the lesser address.
 pub fn owners_by_distance()
     ensures exactly { (hash : List ℕ → ℕ) (replicas : ℕ) (servers : List Server) (key : List ℕ) (a : Address)
         → Contains (owners hash replicas servers key) a ↔ Contains (addresses_of servers) a }
@@ -78,8 +77,7 @@ pub fn owners_by_distance()
         → IsBefore hash replicas servers key a b }
 {}
 
-/// The points are exactly those that each server has by its weight. They ascend by hash and then by address, so each
-/// stands once.
+/// The points are exactly those that each server has by its weight, each once. They ascend by hash and then by address.
 pub fn points_of_servers()
     ensures exactly { (hash : List ℕ → ℕ) (replicas : ℕ) (servers : List Server) (p : Point)
         → Contains (points hash replicas servers) p ↔ IsPointAmong hash replicas servers p }
@@ -88,8 +86,8 @@ pub fn points_of_servers()
         → slice_get (points hash replicas servers) j ≡ Some q → IsPointBefore p q }
 {}
 
-/// The servers that members are have the addresses that serve, in the same order. An address has the weight of the change that
-/// is held of it where that is alive or suspect, and else none.
+/// The servers of a list of changes have the addresses that serve, in the same order. An address has the weight of its
+/// greatest change if that is alive or suspect, and else none.
 pub fn serving_servers()
     ensures addresses { (L : List Change) → addresses_of (servers_of L) ≡ serving L }
     ensures weights { (L : List Change) (a : Address) → weight_of a (servers_of L) ≡ serving_weight (greatest L a) }

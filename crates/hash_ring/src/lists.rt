@@ -14,16 +14,16 @@ use crate::hash::PointHash;
 use crate::late::{merge_all, merge_late};
 use crate::points::{Point, reserve_points, take_points};
 use crate::servers::{Server, take_server};
-use crate::starts::Starts;
+use crate::starts::SearchIndex;
 use change_core::Address;
 use std::alloc::{AllocError, Global};
 
-/// Servers ascending by address, their points ascending, and where searches of these begin.
+/// The servers ascending by address, their points ascending, and the index at which searches of these start.
 #[derive(Drop)]
 pub(crate) struct Lists {
     pub(crate) servers: Vec<Server>,
     pub(crate) points: Vec<Point>,
-    pub(crate) starts: Starts,
+    pub(crate) starts: SearchIndex,
     /// Points of servers that were added since the others were merged, as they came.
     pub(crate) late: Vec<Point>,
 }
@@ -37,7 +37,7 @@ impl Lists {
         Lists {
             servers: Vec::new(alloc),
             points: Vec::new(alloc),
-            starts: Starts::new(alloc),
+            starts: SearchIndex::new(alloc),
             late: Vec::new(alloc),
         }
     }
@@ -55,7 +55,7 @@ impl Lists {
         requires none_late { self.old.late.items ≡ [] }
         ensures servers { OnOk result (self.new.servers.items ≡ with_each servers.now []) }
         ensures kept { OnOk result (IsKept (H.hash_of hash) replicas self.new.servers.items self.new.points.items self.new.late.items (vec_capacity self.new.late) (vec_capacity self.new.points)) }
-        // A failed allocation of the counts where searches begin is not ignored: here, and in the two calls below.
+        // A failed allocation of the index is not ignored: here, and in the two calls below.
         ensures counted { OnOk result (vec_capacity self.new.points / 16 ≤ vec_len self.new.starts.counts) }
     {
         list_servers(&mut self.servers, &mut self.late, replicas, servers)?;
@@ -87,7 +87,7 @@ impl Lists {
         self.starts.widen(&self.points, self.points.capacity())
     }
 
-    /// Makes room for a server more, for a number of late points, and for all points merged.
+    /// Makes room for another server, for a number of late points, and for all points merged.
     pub(crate) fn reserve(&mut self, count: usize) -> Result<(), RingError>
         ensures servers { self.new.servers.items ≡ self.old.servers.items }
         ensures points { self.new.points.items ≡ self.old.points.items }
@@ -113,7 +113,7 @@ impl Lists {
         Ok(())
     }
 
-    /// Takes out a server and its points, and answers whether it was there. Where it was no point is late afterwards.
+    /// Removes a server and its points, and returns whether it was there. If it was, no point is late afterwards.
     pub(crate) fn take_out(&mut self, address: Address) -> bool
         requires servers { AreServers self.old.servers.items }
         requires ascends { IsAscending point_cmp self.old.points.items }

@@ -11,7 +11,7 @@ ghost use Rattle.arrayvec.specs.ArrayString.{array_string_len};
 
 use crate::hash::PointHash;
 use crate::sorted::merge;
-use crate::starts::{Passed, Starts};
+use crate::starts::{CountDelta, SearchIndex};
 use arrayvec::ArrayString;
 use change_core::{Address, AddressText, Weight};
 use itoa::Buffer;
@@ -30,7 +30,7 @@ pub struct Point {
     pub server: Address,
 }
 
-/// How many points a server of a weight has.
+/// Returns the number of points of a server of a weight.
 pub(crate) fn point_count(replicas: u32, weight: Weight) -> u32
     requires { IsReplicas replicas }
     ensures value { result ≡ replicas * weight }
@@ -113,7 +113,7 @@ pub(crate) fn push_points<H: PointHash>(
 /// failed are reserved by the next call.
 pub(crate) fn reserve_points(
     points: &mut Vec<Point>,
-    starts: &mut Starts,
+    starts: &mut SearchIndex,
     count: usize,
 ) -> Result<(), AllocError>
     ensures same { points.new.items ≡ points.old.items }
@@ -135,7 +135,7 @@ pub(crate) fn reserve_points(
 }
 
 /// Merges points into those of other servers. With room this takes no memory.
-pub(crate) fn merge_points(points: &mut Vec<Point>, starts: &mut Starts, fresh: &[Point])
+pub(crate) fn merge_points(points: &mut Vec<Point>, starts: &mut SearchIndex, fresh: &[Point])
     requires ascends { IsAscending point_cmp points.old.items }
     requires fresh_ascends { IsAscending point_cmp fresh.now }
     requires apart { (p : Point) → In p points.old.items → In p fresh.now → ⊥ }
@@ -151,12 +151,12 @@ pub(crate) fn merge_points(points: &mut Vec<Point>, starts: &mut Starts, fresh: 
     starts.add(fresh);
 }
 
-/// Takes out a server's points; the others move together, run by run. This takes no memory.
-pub(crate) fn take_points(points: &mut Vec<Point>, starts: &mut Starts, server: Address)
+/// Removes a server's points; the others move together, run by run. This takes no memory.
+pub(crate) fn take_points(points: &mut Vec<Point>, starts: &mut SearchIndex, server: Address)
     ensures points { points.new.items ≡ filter (λ (p : Point). not (is_same p.server server)) points.old.items }
     ensures capacity { vec_capacity points.new ≡ vec_capacity points.old }
 {
-    let mut passed = Passed::nothing();
+    let mut passed = CountDelta::nothing();
     let mut kept = 0;
     let mut at = 0;
     while at < points.len() {
@@ -172,7 +172,7 @@ pub(crate) fn take_points(points: &mut Vec<Point>, starts: &mut Starts, server: 
     starts.finish(passed);
 }
 
-/// How many points of other servers come first.
+/// Returns how many points of other servers come first.
 fn run_of_others(points: &[Point], server: Address) -> usize
     ensures bound { result ≤ length points.now }
     ensures run { result ≡ position_or_len (λ (p : Point). is_same p.server server) points.now }
@@ -190,7 +190,7 @@ fn first_of(points: &[Point], server: Address) -> Option<usize>
     points.iter().position(|point| is_point_of(point, server))
 }
 
-/// Whether a point is a server's.
+/// Returns whether a point is a server's.
 fn is_point_of(point: &Point, server: Address) -> bool
     ensures { result ≡ is_same point.now.server server }
 {

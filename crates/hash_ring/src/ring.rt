@@ -1,4 +1,4 @@
-//! The ring, kept up to date by edits.
+//! The ring, kept up to date as servers are added and removed.
 ghost use Rattle.std.specs.Prelude.{◌≡◌, ℕ, List, ◌+◌, ◌-◌, ◌*◌, ◌^◌, ◌<◌, ◌≤◌, ◌↔◌, [], ◌∷◌, ◌++◌, length, take, drop, not, false, is_some, IsOk, IfOk, IfSome, IfNone, Err, OnOk, OnErr, IsOkUnless, vec_len, vec_capacity};
 ghost use Rattle.hash_ring.specs.Points.{IsReplicas, IsNearest, owner, owners};
 ghost use Rattle.hash_ring.specs.Servers.{has_weight, weight_of, with_each, with_server, without};
@@ -9,8 +9,8 @@ use crate::hash::PointHash;
 use crate::late::merge_late;
 use crate::lists::Lists;
 use crate::points::{MAX_REPLICAS, point_count, push_points};
-use crate::search::{met_with_late, next_server};
-use crate::servers::{Server, weighs, weight_among};
+use crate::search::{next_server, owners_from_both};
+use crate::servers::{Server, has_weight, weight_among};
 use crate::sorted::place;
 use change_core::{Address, Weight};
 use std::alloc::Global;
@@ -97,7 +97,7 @@ impl<H: PointHash> Ring<H> {
     /// Returns the number of servers.
     pub fn len(&self) -> usize
         ensures count { result ≡ length self.now.servers }
-        // The points that are kept are those of the servers, after any edits.
+        // The points that are kept are those of the servers, after any calls.
         ensures kept { self.now ≡ ring_of self.now.hash (H.hash_of self.now.hash) self.now.replicas self.now.servers self.now.room }
     {
         self.lists.servers.len()
@@ -117,12 +117,12 @@ impl<H: PointHash> Ring<H> {
         weight_among(&self.lists.servers, address)
     }
 
-    /// Reserves room for adding a server, unless the ring has it with at least this weight. What room there is never shrinks, and
-    /// nothing else changes.
+    /// Reserves room for adding a server, unless the ring has it with at least this weight. What room there is never
+    /// shrinks, and nothing else changes.
     ///
     /// # Errors
     ///
-    /// - `Memory`: out of memory; never where there is room.
+    /// - `Memory`: out of memory; never if there is room.
     pub fn reserve_for(&mut self, address: Address, weight: Weight) -> Result<(), RingError>
         ensures room { OnOk result (HasRoom self.new (record { address = address; weight = weight })) }
         ensures enough { HasRoom self.old (record { address = address; weight = weight }) → IsOk result }
@@ -130,7 +130,7 @@ impl<H: PointHash> Ring<H> {
         ensures grown { self.old.room ≤ self.new.room }
         ensures refusal { IsOkUnless result RingError.Memory }
     {
-        if weighs(&self.lists.servers, address, weight) {
+        if has_weight(&self.lists.servers, address, weight) {
             return Ok(());
         }
         let count = point_count(self.replicas, weight) as usize;
@@ -212,12 +212,12 @@ impl<H: PointHash> Ring<H> {
         )
     }
 
-    /// Returns the first `count` owners of a key, the owner first, or all servers where there are fewer: the servers by their distance
-    /// from the key, and at one distance by address.
+    /// Returns the first `count` owners of a key, the owner first, or all servers if there are fewer: the servers by
+    /// their distance from the key, and at one distance by address.
     ///
     /// # Errors
     ///
-    /// - `Memory`: out of memory; never where `count` is 0 or the ring has no servers.
+    /// - `Memory`: out of memory; never if `count` is 0 or the ring has no servers.
     pub fn owners(&self, key: &[u8], count: usize) -> Result<Vec<Address>, RingError>
         ensures named { IfOk result (λ named. named.items ≡ take count (owners (H.hash_of self.now.hash) self.now.replicas self.now.servers key.now)) }
         ensures growth { OnErr result ((0 < count) × (0 < length self.now.servers)) }
@@ -229,7 +229,7 @@ impl<H: PointHash> Ring<H> {
         if count == 0 {
             return Ok(Vec::new(alloc));
         }
-        met_with_late(
+        owners_from_both(
             alloc,
             &self.lists.points,
             &self.lists.starts,

@@ -10,18 +10,18 @@ use crate::errors::RingError;
 use crate::late::merge_all;
 use crate::points::Point;
 use crate::sorted::place;
-use crate::starts::Starts;
+use crate::starts::SearchIndex;
 use change_core::Address;
 use std::alloc::{AllocError, Global};
 
-/// How many points a search looks at one by one before it halves all of them.
+/// The number of points that a search looks at one by one before its binary search of all of them.
 const REACH: usize = 48;
 
-/// Up to how many servers those named are looked through one by one.
+/// The greatest number of owners that are looked through one by one.
 const FEW: usize = 32;
 
 /// The place of the first point at or after a hash.
-fn first_at(points: &[Point], starts: &Starts, hash: u64) -> usize
+fn first_at(points: &[Point], starts: &SearchIndex, hash: u64) -> usize
     requires { IsAscending point_cmp points.now }
     ensures bound { result ≤ length points.now }
     ensures low { IsBelow hash (take result points.now) }
@@ -33,8 +33,8 @@ fn first_at(points: &[Point], starts: &Starts, hash: u64) -> usize
     }
 }
 
-/// The place of the first point at or after a hash, if it is one of the next after a place. A walk whose first point
-/// is not below the hash knows nothing of the points before it, so it has found none, unless it began at 0.
+/// The place of the first point at or after a hash, if it is one of the next after a place. A walk whose first point is
+/// not below the hash knows nothing of the points before it, so it has found none, unless it started at 0.
 fn near(points: &[Point], place: usize, hash: u64) -> Option<usize>
     requires { IsAscending point_cmp points.now }
     ensures bound { IfSome result (λ found. found ≤ length points.now) }
@@ -50,7 +50,7 @@ fn near(points: &[Point], place: usize, hash: u64) -> Option<usize>
     Some(place + steps)
 }
 
-/// How many points stand before the first at or after a hash, if there is one.
+/// Returns how many points come before the first at or after a hash, if there is one.
 fn steps_up(points: &[Point], hash: u64) -> Option<usize>
     ensures { result ≡ position (λ (p : Point). not (ltb p.hash hash)) points.now }
 {
@@ -60,7 +60,7 @@ fn steps_up(points: &[Point], hash: u64) -> Option<usize>
 /// The server of the nearest point above a hash, wrapping around at 2^64: of those that ascend, or a late one.
 pub(crate) fn next_server(
     points: &[Point],
-    starts: &Starts,
+    starts: &SearchIndex,
     late: &[Point],
     hash: u64,
 ) -> Option<Address>
@@ -71,9 +71,9 @@ pub(crate) fn next_server(
 {
     let start = first_at(points, starts, hash);
     let first = first_around(points, start).or(late.first().copied())?;
-    let mut nearest = turned(&first, hash);
+    let mut nearest = clockwise_from(&first, hash);
     for point in late {
-        nearest = nearest.min(turned(point, hash));
+        nearest = nearest.min(clockwise_from(point, hash));
     }
     Some(nearest.server)
 }
@@ -87,7 +87,7 @@ fn first_around(points: &[Point], start: usize) -> Option<Point>
 }
 
 /// A point by how far it lies above a hash, wrapping around at 2^64.
-fn turned(point: &Point, hash: u64) -> Point
+fn clockwise_from(point: &Point, hash: u64) -> Point
     ensures { result ≡ turn hash point.now }
 {
     Point {
@@ -96,11 +96,11 @@ fn turned(point: &Point, hash: u64) -> Point
     }
 }
 
-/// The servers of points that ascend and of late ones, from a hash on, as `met` gives them of all in one list.
-pub(crate) fn met_with_late(
+/// The servers of points that ascend and of late ones, from a hash on, as `owners_from` gives them of all in one list.
+pub(crate) fn owners_from_both(
     alloc: Global,
     points: &[Point],
-    starts: &Starts,
+    starts: &SearchIndex,
     late: &[Point],
     hash: u64,
     count: usize,
@@ -111,18 +111,18 @@ pub(crate) fn met_with_late(
     ensures refusal { IsOkUnless result RingError.Memory }
 {
     if late.is_empty() {
-        return met(alloc, points, starts, hash, count);
+        return owners_from(alloc, points, starts, hash, count);
     }
     let mut all = Vec::new(alloc);
     merge_all(&mut all, points, late)?;
-    met(alloc, &all, &Starts::new(alloc), hash, count)
+    owners_from(alloc, &all, &SearchIndex::new(alloc), hash, count)
 }
 
 /// The servers of points that ascend, from a hash on, wrapping around, each where it comes first, up to a count.
-fn met(
+fn owners_from(
     alloc: Global,
     points: &[Point],
-    starts: &Starts,
+    starts: &SearchIndex,
     hash: u64,
     count: usize,
 ) -> Result<Vec<Address>, RingError>
@@ -137,8 +137,8 @@ fn met(
     Ok(named)
 }
 
-/// Names the points' servers from a place on, wrapping around, each where it comes first, up to a count. Many are looked for in
-/// a sorted list of their own, so that none of them is compared with all that are named.
+/// Names the points' servers from a place on, wrapping around, each where it comes first, up to a count. Many are
+/// looked up in a separate sorted list, so that none of them is compared with all that are named.
 fn name_around(
     points: &[Point],
     start: usize,
@@ -158,8 +158,8 @@ fn name_around(
         return Ok(());
     }
     let mut sorted = Vec::with_capacity(*named.allocator(), count)?;
-    name_many(after, count, named, &mut sorted);
-    name_many(before, count, named, &mut sorted);
+    distinct_from_sorted(after, count, named, &mut sorted);
+    distinct_from_sorted(before, count, named, &mut sorted);
     Ok(())
 }
 
@@ -181,8 +181,13 @@ fn name_servers(points: &[Point], count: usize, named: &mut Vec<Address>)
     }
 }
 
-/// The same for many servers: those named stand in `sorted` too, to be found by halves. With room this takes no memory.
-fn name_many(points: &[Point], count: usize, named: &mut Vec<Address>, sorted: &mut Vec<Address>)
+/// The same for many servers: those named are in `sorted` too, for binary search. With room this takes no memory.
+fn distinct_from_sorted(
+    points: &[Point],
+    count: usize,
+    named: &mut Vec<Address>,
+    sorted: &mut Vec<Address>,
+)
     requires few { length named.old.items ≤ count }
     requires room { count ≤ vec_capacity named.old }
     requires sorted_room { count ≤ vec_capacity sorted.old }

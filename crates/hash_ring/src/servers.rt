@@ -26,8 +26,8 @@ pub(crate) fn weight_among(servers: &[Server], address: Address) -> Option<Weigh
     }
 }
 
-/// Whether the server of an address has at least this weight.
-pub(crate) fn weighs(servers: &[Server], address: Address, weight: Weight) -> bool
+/// Returns whether the server of an address has at least this weight.
+pub(crate) fn has_weight(servers: &[Server], address: Address, weight: Weight) -> bool
     requires { AreServers servers.now }
     ensures { IsTrue result ↔ (weight ≤ shares address servers.now) }
 {
@@ -38,7 +38,7 @@ pub(crate) fn weighs(servers: &[Server], address: Address, weight: Weight) -> bo
     }
 }
 
-/// Takes out a server, and answers whether it was there.
+/// Removes a server, and returns whether it was there.
 pub(crate) fn take_server(servers: &mut Vec<Server>, address: Address) -> bool
     requires { AreServers servers.old.items }
     ensures servers { servers.new.items ≡ without address servers.old.items }
@@ -52,7 +52,7 @@ pub(crate) fn take_server(servers: &mut Vec<Server>, address: Address) -> bool
     true
 }
 
-/// Puts a server in the place of any other of its address.
+/// Adds a server, replacing any other of its address.
 pub(crate) fn put_server(servers: &mut Vec<Server>, server: &Server) -> Result<(), AllocError>
     requires servers { AreServers servers.old.items }
     requires weighed { 0 < server.now.weight }

@@ -1,62 +1,65 @@
-//! Where searches of the points begin. No clause speaks of what they are: a wrong start costs time alone.
+//! The index of places at which searches of the points start. No contract covers its values: a wrong start costs time
+//! alone.
 ghost use Rattle.std.specs.Prelude.{◌≡◌, ◌/◌, ◌≤◌, OnOk, vec_len};
 
 use crate::points::Point;
 use std::alloc::{AllocError, Global};
 
-/// For how many places of the points' list there is one start.
+/// The number of places of the points' list for each start.
 const SPREAD: usize = 16;
 
-/// How many points stand before each of as many equal parts of the hashes as the list is long.
+/// An index into the points: `counts[i]` is the number of points before part i, of as many equal parts of the range of
+/// hashes as the list is long.
 #[derive(Drop)]
-pub(crate) struct Starts {
+pub(crate) struct SearchIndex {
     counts: Vec<u32>,
 }
 
-/// How far an edit of the points is counted: up to which part, and what it changes from there on, modulo 2^32.
+/// A state of counting a change of the points: up to which part it is counted, and what it changes from there on,
+/// modulo 2^32.
 #[derive(Clone, Copy)]
-pub(crate) struct Passed {
+pub(crate) struct CountDelta {
     part: usize,
     change: u32,
 }
 
-impl Passed {
-    pub(crate) fn nothing() -> Passed {
-        Passed { part: 0, change: 0 }
+impl CountDelta {
+    pub(crate) fn nothing() -> CountDelta {
+        CountDelta { part: 0, change: 0 }
     }
 
     /// One point more from here on.
-    fn one_more(self) -> Passed {
-        Passed {
+    fn one_more(self) -> CountDelta {
+        CountDelta {
             part: self.part,
             change: self.change.wrapping_add(1),
         }
     }
 
     /// One point fewer from here on.
-    fn one_fewer(self) -> Passed {
-        Passed {
+    fn one_fewer(self) -> CountDelta {
+        CountDelta {
             part: self.part,
             change: self.change.wrapping_sub(1),
         }
     }
 }
 
-impl Starts {
-    pub(crate) fn new(alloc: Global) -> Starts {
-        Starts {
+impl SearchIndex {
+    pub(crate) fn new(alloc: Global) -> SearchIndex {
+        SearchIndex {
             counts: Vec::new(alloc),
         }
     }
 
     /// Fills starts that are empty with others.
-    pub(crate) fn fill_as(&mut self, others: &Starts) -> Result<(), AllocError>
+    pub(crate) fn fill_as(&mut self, others: &SearchIndex) -> Result<(), AllocError>
         ensures { OnOk result (vec_len others.now.counts ≤ vec_len self.new.counts) }
     {
         self.counts.extend_from_slice(&others.counts)
     }
 
-    /// Makes the list long enough for a number of points. Where an allocation fails it is unchanged.
+    /// Makes the list long enough for a number of points. If an allocation fails it is unchanged.
     pub(crate) fn widen(&mut self, points: &[Point], capacity: usize) -> Result<(), AllocError>
         // A failed allocation is not ignored.
         ensures { OnOk result (capacity / 16 ≤ vec_len self.new.counts) }
@@ -74,20 +77,20 @@ impl Starts {
     pub(crate) fn add(&mut self, points: &[Point])
         ensures { vec_len self.new.counts ≡ vec_len self.old.counts }
     {
-        let mut passed = Passed::nothing();
+        let mut passed = CountDelta::nothing();
         for point in points {
             passed = self.reach(passed, point.hash).one_more();
         }
         self.finish(passed);
     }
 
-    /// Counts the next of points that ascend and are taken out.
-    pub(crate) fn take(&mut self, passed: Passed, hash: u64) -> Passed {
+    /// Counts the next of points that ascend and are removed.
+    pub(crate) fn take(&mut self, passed: CountDelta, hash: u64) -> CountDelta {
         self.reach(passed, hash).one_fewer()
     }
 
-    /// Ends what was begun: the parts after the last such point.
-    pub(crate) fn finish(&mut self, passed: Passed)
+    /// Completes the count: the parts after the last such point.
+    pub(crate) fn finish(&mut self, passed: CountDelta)
         ensures { vec_len self.new.counts ≡ vec_len self.old.counts }
     {
         let parts = self.counts.len();
@@ -95,12 +98,12 @@ impl Starts {
     }
 
     /// Counts what was passed up to the part of the next point's hash.
-    fn reach(&mut self, passed: Passed, hash: u64) -> Passed
+    fn reach(&mut self, passed: CountDelta, hash: u64) -> CountDelta
         ensures { vec_len self.new.counts ≡ vec_len self.old.counts }
     {
         let part = share(hash, self.counts.len()).saturating_add(1);
         raise(&mut self.counts, passed, part);
-        Passed {
+        CountDelta {
             part,
             change: passed.change,
         }
@@ -115,7 +118,7 @@ impl Starts {
 }
 
 /// Adds the change to the counts up to a part.
-fn raise(counts: &mut [u32], passed: Passed, next: usize) {
+fn raise(counts: &mut [u32], passed: CountDelta, next: usize) {
     if let Some(between) = counts.get_mut(passed.part..next) {
         for count in between {
             *count = count.wrapping_add(passed.change);

@@ -1,11 +1,12 @@
 ghost use Rattle.std.specs.Prelude.{◌≡◌, ◌+◌};
 ghost use Rattle.std.specs.List.Sorted.{IsStrictlyIncreasing};
 
-use crate::given::{incarnation, node};
-use change_core::{Address, GREATEST_NUMBER, Moment, Status};
+use crate::given::{check_refused, incarnation, node};
+use change_core::{Address, MAX_NUMBER, Moment, Status};
 use detector_core::{
     Addresses, DetectorError, Due, Lost, Outcome, Probe, Prober, Running, Said, Timers,
 };
+use std::env::Env;
 use std::process::Abort;
 
 fn moment(rt: &impl Abort, number: u64) -> Moment {
@@ -30,9 +31,9 @@ fn four(rt: &impl Abort) -> [Address; 4]
     [node(rt, 2), node(rt, 3), node(rt, 4), node(rt, 5)]
 }
 
-/// A pick. Where a growth is refused nothing has changed, and the next try goes on.
+/// A pick. If an allocation fails nothing has changed, and the next try continues.
 fn pick(
-    rt: &impl Abort,
+    rt: &(impl Env + Abort),
     prober: &mut Prober,
     pingable: &[Address],
 ) -> Result<Option<Probe>, DetectorError>
@@ -41,6 +42,7 @@ fn pick(
     let before = prober.running();
     match prober.next_target(pingable) {
         Err(DetectorError::Memory) => {
+            check_refused(rt);
             assert!(rt; prober.running() == before);
             prober.next_target(pingable)
         }
@@ -48,9 +50,9 @@ fn pick(
     }
 }
 
-/// A loss. Where a growth is refused nothing has changed, and the next try goes on.
+/// A loss. If an allocation fails nothing has changed, and the next try continues.
 fn lose(
-    rt: &impl Abort,
+    rt: &(impl Env + Abort),
     prober: &mut Prober,
     number: u64,
     pingable: &[Address],
@@ -60,6 +62,7 @@ fn lose(
     let before = prober.running();
     match prober.lost(number, pingable) {
         Err(DetectorError::Memory) => {
+            check_refused(rt);
             assert!(rt; prober.running() == before);
             prober.lost(number, pingable)
         }
@@ -67,11 +70,12 @@ fn lose(
     }
 }
 
-/// Starts a timer. Where the growth is refused nothing has changed, and the next try goes on.
-fn start(rt: &impl Abort, timers: &mut Timers, number: u8, next: Status, deadline: u64) {
-    let last = moment(rt, GREATEST_NUMBER);
+/// Starts a timer. If the allocation fails nothing has changed, and the next try continues.
+fn start(rt: &(impl Env + Abort), timers: &mut Timers, number: u8, next: Status, deadline: u64) {
+    let last = moment(rt, MAX_NUMBER);
     let before = (timers.len(), timers.due(last));
     if timers.reserve_one().is_err() {
+        check_refused(rt);
         assert!(rt; (timers.len(), timers.due(last)) == before);
         let Ok(()) = timers.reserve_one() else {
             panic!(rt; "no room")
@@ -80,8 +84,8 @@ fn start(rt: &impl Abort, timers: &mut Timers, number: u8, next: Status, deadlin
     timers.set(node(rt, number), incarnation(rt, 1), next, deadline);
 }
 
-/// The probe that begins.
-fn begin(rt: &impl Abort, prober: &mut Prober, pingable: &[Address]) -> Probe
+/// The probe that starts.
+fn begin(rt: &(impl Env + Abort), prober: &mut Prober, pingable: &[Address]) -> Probe
     requires { IsStrictlyIncreasing pingable.now }
 {
     let Ok(Some(probe)) = pick(rt, prober, pingable) else {
@@ -91,7 +95,7 @@ fn begin(rt: &impl Abort, prober: &mut Prober, pingable: &[Address]) -> Probe
 }
 
 /// The helpers that are asked where a probe is lost.
-fn ask(rt: &impl Abort, prober: &mut Prober, number: u64, pingable: &[Address]) -> Addresses
+fn ask(rt: &(impl Env + Abort), prober: &mut Prober, number: u64, pingable: &[Address]) -> Addresses
     requires { IsStrictlyIncreasing pingable.now }
 {
     let Ok(Lost::Ask(helpers)) = lose(rt, prober, number, pingable) else {
@@ -101,7 +105,7 @@ fn ask(rt: &impl Abort, prober: &mut Prober, number: u64, pingable: &[Address]) 
 }
 
 /// Picks of these members, each acked.
-fn assert_picks(rt: &impl Abort, prober: &mut Prober, pingable: &[Address], wanted: &[u8])
+fn assert_picks(rt: &(impl Env + Abort), prober: &mut Prober, pingable: &[Address], wanted: &[u8])
     requires { IsStrictlyIncreasing pingable.now }
 {
     for number in wanted {
@@ -118,8 +122,8 @@ const PICKS: [(u64, [u8; 4], [u8; 4], [u8; 3]); 3] = [
     (7, [3, 4, 2, 4], [3, 2, 3, 5], [5, 3, 5]),
 ];
 
-/// The numbers were made by a program of its own after the published PCG32 and Rust's `rand`: each order holds each of
-/// the members that were pingable when it was made, those who left are passed over, and those who came wait.
+/// The numbers were made by a separate program after the published PCG32 and Rust's `rand`: each order holds each of
+/// the members that were pingable when it was made, those who left are skipped, and those who came wait.
 #[test]
 fn picks_follow_from_the_seed(rt: HostRuntime) {
     for (seed, of_three, of_four, of_pair) in &PICKS {
@@ -130,7 +134,8 @@ fn picks_follow_from_the_seed(rt: HostRuntime) {
     }
 }
 
-/// Each row is a seed and two orders of the three; both are picked whole before another is made.
+/// Each entry is a seed and two orders of the three; both are picked whole before another is made.
+/// Three members and every probe acked: the picks 1 to 3 are the three, and so are the picks 4 to 6.
 #[test]
 fn two_rounds_hold_each_member(rt: HostRuntime) {
     for (seed, orders) in &[(7, [3, 4, 2, 4, 3, 2]), (1, [4, 2, 3, 2, 4, 3])] {
@@ -140,7 +145,13 @@ fn two_rounds_hold_each_member(rt: HostRuntime) {
 }
 
 /// Loses its first probe, of this target, asks these helpers, and picks this member next.
-fn ask_and_go_on(rt: &impl Abort, prober: &mut Prober, target: u8, wanted: [u8; 2], next: u8) {
+fn ask_and_go_on(
+    rt: &(impl Env + Abort),
+    prober: &mut Prober,
+    target: u8,
+    wanted: [u8; 2],
+    next: u8,
+) {
     let pingable = four(rt);
     let probe = begin(rt, prober, &pingable);
     assert!(rt; probe.target == node(rt, target));
@@ -156,12 +167,13 @@ fn helpers_follow_from_the_seed(rt: HostRuntime) {
     ask_and_go_on(&rt, &mut Prober::new(rt.alloc(), 1, 2, 0), 5, [2, 4], 2);
 }
 
-/// Whether a probe was lost, and there is nobody to ask.
+/// Whether a probe was lost, and there is no helper to ask.
 fn asks_nobody(lost: Result<Lost, DetectorError>) -> bool {
     matches!(lost, Ok(Lost::NoHelper))
 }
 
 /// The probe is of the only other member.
+/// No helpers: a lost probe asks no helper, and no probe runs.
 #[test]
 fn a_probe_with_nobody_to_ask_ends(rt: HostRuntime) {
     let target = node(&rt, 2);
@@ -184,6 +196,7 @@ fn a_probe_with_nobody_to_ask_ends(rt: HostRuntime) {
     }
 }
 
+/// No helpers: a lost probe asks no helper, and no probe runs.
 #[test]
 fn no_helper_is_asked_where_none_may_be(rt: HostRuntime) {
     let mut prober = Prober::new(rt.alloc(), 1, 0, 0);
@@ -193,17 +206,18 @@ fn no_helper_is_asked_where_none_may_be(rt: HostRuntime) {
     assert!(rt; prober.running().is_none());
 }
 
+/// The last probe number was `LIM`: spent.
 #[test]
 fn numbers_run_out(rt: HostRuntime) {
     let target = node(&rt, 2);
-    let mut spent = Prober::new(rt.alloc(), 1, 3, GREATEST_NUMBER);
+    let mut spent = Prober::new(rt.alloc(), 1, 3, MAX_NUMBER);
     assert!(rt; pick(&rt, &mut spent, &[target]) == Err(DetectorError::Spent));
     let mut prober = Prober::new(rt.alloc(), 1, 3, 7);
     assert!(rt; pick(&rt, &mut prober, &[]) == Ok(None));
     assert!(rt; pick(&rt, &mut prober, &[target]) == Ok(Some(Probe { number: 8, target })));
 }
 
-/// What the helpers' words come to, told in the order of asking until they decide. Each answer is foretold.
+/// The outcome of the helpers' reports, told in the order of asking until they decide. Each answer is foretold.
 fn hear(
     rt: &impl Abort,
     prober: &mut Prober,
@@ -224,7 +238,7 @@ fn hear(
     outcome
 }
 
-/// Words of three helpers, and what they come to.
+/// Reports of three helpers, and the outcome.
 const DECIDED: [([Said; 3], Outcome); 5] = [
     (
         [Said::Failed, Said::Failed, Said::Failed],
@@ -249,6 +263,8 @@ const DECIDED: [([Said; 3], Outcome); 5] = [
 ];
 
 /// All of four are asked but the target.
+/// A lost probe among four asks the other three. All failed: inconclusive. One that did not reach it, two failed: suspect. The first
+/// reached it: reached.
 #[test]
 fn helpers_decide(rt: HostRuntime) {
     let pingable = four(&rt);
@@ -267,11 +283,13 @@ fn helpers_decide(rt: HostRuntime) {
 }
 
 /// The lesser of two helpers is waited for, which says one word and no other.
+/// 16 helpers, members B, C, D: the two others are asked, and the lesser is waited for. It fails twice: waiting, then not asked. Lost
+/// again: stale.
 #[test]
 fn a_helper_answers_once(rt: HostRuntime) {
     let mut prober = Prober::new(rt.alloc(), 7, 16, 0);
     let pingable = three(&rt);
-    let number = begin(&rt, &mut prober, &pingable).number;
+    let Probe { number, target } = begin(&rt, &mut prober, &pingable);
     let unasked = prober.would_say(1, node(&rt, 2), Said::Failed);
     assert!(rt; unasked == Err(DetectorError::NotAsked));
     let helpers = ask(&rt, &mut prober, number, &pingable);
@@ -282,6 +300,9 @@ fn a_helper_answers_once(rt: HostRuntime) {
         .min()
         .expect(&rt, "a helper");
     assert!(rt; helpers.as_slice().len() == 2 && prober.target_of(2).is_none());
+    for member in &pingable {
+        assert!(rt; helpers.as_slice().contains(member) == (*member != target));
+    }
     let running = prober.running().expect(&rt, "a probe");
     assert!(rt; running.waiting == Some(helper));
     for (number, wanted) in &[
@@ -305,23 +326,25 @@ fn due(rt: &impl Abort, number: u8, next: Status) -> Option<Due> {
 }
 
 /// The last of three lies beyond the greatest moment; two are cleared.
+/// Deadlines 20 of B and 10 of C: none at 9, C at 10, B at 20, and C once B is cleared. A deadline of `LIM` + 1 has not come at `LIM`.
 #[test]
 fn timers_run_out_at_their_deadlines(rt: HostRuntime) {
     let mut timers = Timers::new(rt.alloc());
-    for (number, deadline) in [(2, 20), (3, 10), (4, GREATEST_NUMBER + 1)] {
+    for (number, deadline) in [(2, 20), (3, 10), (4, MAX_NUMBER + 1)] {
         start(&rt, &mut timers, number, Status::Faulty, deadline);
     }
     assert!(rt; timers.due(moment(&rt, 9)).is_none());
-    for (now, number) in [(10, 3), (20, 2), (GREATEST_NUMBER, 2)] {
+    for (now, number) in [(10, 3), (20, 2), (MAX_NUMBER, 2)] {
         let wanted = due(&rt, number, Status::Faulty);
         assert!(rt; timers.due(moment(&rt, now)) == wanted, "at {now}");
     }
     assert!(rt; timers.clear(node(&rt, 2)) && !timers.clear(node(&rt, 2)));
     assert!(rt; timers.due(moment(&rt, 20)) == due(&rt, 3, Status::Faulty));
     timers.clear(node(&rt, 3));
-    assert!(rt; timers.due(moment(&rt, GREATEST_NUMBER)).is_none() && timers.len() == 1);
+    assert!(rt; timers.due(moment(&rt, MAX_NUMBER)).is_none() && timers.len() == 1);
 }
 
+/// Deadlines 5,000 and then 86,405,000 of one member: none a millisecond before, due at each.
 #[test]
 fn a_timer_is_replaced(rt: HostRuntime) {
     let mut timers = Timers::new(rt.alloc());

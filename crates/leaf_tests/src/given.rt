@@ -3,6 +3,7 @@ ghost use Rattle.std.specs.Prelude.{◌≡◌, ◌+◌};
 ghost use Rattle.change_core.specs.Address.{address_of};
 
 use change_core::{Address, Change, Digest, Incarnation, Sourced, Status, Weight};
+use std::env::Env;
 use std::process::Abort;
 
 pub(crate) const A: &str = "10.0.0.1:1";
@@ -10,6 +11,13 @@ pub(crate) const A: &str = "10.0.0.1:1";
 pub(crate) const B: &str = "10.0.0.2:1";
 
 pub(crate) const C: &str = "10.0.0.3:1";
+
+/// Checks that an allocation is to fail, as the environment says if `scripts/fail-alloc` runs a test: else a call was out of memory
+/// though there was enough. It takes no memory.
+pub(crate) fn check_refused(rt: &(impl Env + Abort)) {
+    let mut number = [0u8; 32];
+    assert!(rt; rt.var("FAIL_ALLOC", &mut number).is_ok());
+}
 
 pub(crate) fn address(rt: &impl Abort, text: &str) -> Address {
     Address::parse(text).ok().expect(rt, "an address")
@@ -46,7 +54,7 @@ pub(crate) fn change(rt: &impl Abort, text: &str, number: u64, status: Status, h
     }
 }
 
-/// A change as a node says it.
+/// A change with a node as its source.
 pub(crate) fn said_by(rt: &impl Abort, change: Change, source: Address, number: u64) -> Sourced {
     Sourced {
         change,
@@ -55,7 +63,7 @@ pub(crate) fn said_by(rt: &impl Abort, change: Change, source: Address, number: 
     }
 }
 
-/// Whether what was written is this text.
+/// Whether this text was written.
 pub(crate) fn is_text<E: Drop>(written: Result<String, E>, text: &str) -> bool {
     match written {
         Ok(written) => written.as_str() == text,

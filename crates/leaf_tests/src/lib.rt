@@ -1,13 +1,16 @@
-//! The tests of the crates below the node: what no clause of theirs says. They stand in a crate of their own, so that a crate is not
-//! proved again with its tests.
+//! The tests of the crates below the node: what their contracts do not cover. They are in a separate crate, so that a
+//! crate is not proved again with its tests.
 #![tactic(auto)]
 
-/// What a call answers, made once more where a growth was refused.
+/// What a call answers. It is made again if an allocation failed, which happens only if `scripts/fail-alloc` runs the test.
 #[cfg(test)]
 macro_rules! again {
-    ($error:ident, $call:expr) => {
+    ($rt:expr, $error:ident, $call:expr) => {
         match $call {
-            Err($error::Memory) => $call,
+            Err($error::Memory) => {
+                crate::given::check_refused($rt);
+                $call
+            }
             answer => answer,
         }
     };

@@ -1,16 +1,17 @@
-//! What no clause says: that the calls succeed, that threads take turns, and what a refused growth leaves.
+//! What contracts do not cover: that the calls succeed, that threads take turns, and what a failed allocation leaves.
 ghost use Rattle.std.specs.Prelude.{◌≡◌, ◌++◌, ◌∷◌, [], ℕ, Option, IfOk};
 ghost use Rattle.std.specs.List.{All, filter_map};
 ghost use Rattle.turn_lock.specs.History.{turn};
 ghost use Rattle.turn_lock.specs.Passes.{name_of, opening_of, number_of, seen, IsOutside, IsInside};
 
 use std::alloc::Global;
+use std::env::Env;
 use std::process::Abort;
 use std::sync::Wait;
 use std::thread;
 use std::thread::{Threads, join};
 use std::time::{Clock, Duration};
-use turn_lock::{CloseError, CloseRefused, LockError, MOST_PASSES, NewError, TurnLock};
+use turn_lock::{CloseError, CloseRefused, LockError, MAX_PASSES, NewError, TurnLock};
 
 mod tally;
 
@@ -51,7 +52,7 @@ fn has<R: Wait>(rt: &R, lock: &Shared, pass: &mut Entrant, number: u64) -> Resul
     Ok(found)
 }
 
-/// Adds a number so many times, and then enters so often at most until it reads the other; whether it did.
+/// Adds a number this many times, and then enters this often at most until it reads the other; whether it did.
 fn add_and_look<R: Wait + Clock>(
     rt: &R,
     lock: &Shared,
@@ -76,9 +77,9 @@ fn add_and_look<R: Wait + Clock>(
     Ok((pass, false))
 }
 
-/// A new lock. Where memory was refused, it is asked for once more.
+/// A new lock. If out of memory, it is made again.
 fn made(
-    rt: &impl Abort,
+    rt: &(impl Env + Abort),
     alloc: Global,
     name: u64,
     passes: u32,
@@ -88,6 +89,7 @@ fn made(
     ensures name { name_of result.0 ≡ name }
 {
     let lock = again!(
+        rt,
         NewError,
         TurnLock::new(
             alloc,
@@ -102,7 +104,7 @@ fn made(
 
 /// A new lock with two passes, and the list that they came in, now empty.
 fn pair(
-    rt: &impl Abort,
+    rt: &(impl Env + Abort),
     alloc: Global,
     name: u64,
     turns: u32,
@@ -144,7 +146,7 @@ fn close_pair(
     lock.close(room).ok().expect(rt, "it closes")
 }
 
-/// `add_and_look` with each pass in a thread of its own, each for the number that the other adds.
+/// `add_and_look` with each pass in its own thread, each for the number that the other adds.
 fn add_and_look_in_both<R: Abort + Threads + Wait + Clock + Sync>(
     rt: &R,
     lock: &Shared,
@@ -173,6 +175,7 @@ fn add_and_look_in_both<R: Abort + Threads + Wait + Clock + Sync>(
     (first, second)
 }
 
+/// Two threads enter a thousand times each and add their number: closing gives 2,000 entries, 1,000 of each.
 #[test]
 fn two_threads_add_a_thousand_each(rt: HostRuntime) {
     let (lock, first, second, room) = pair(&rt, rt.alloc(), 7, 1000);
@@ -181,6 +184,7 @@ fn two_threads_add_a_thousand_each(rt: HostRuntime) {
     assert!(rt; tally.numbers.len() == 2000 && tally.count(1) == 1000 && tally.count(2) == 1000);
 }
 
+/// Two threads each add an entry, and enter again until they read the other's: both read it.
 #[test]
 fn each_of_two_threads_reads_the_others_entry(rt: HostRuntime) {
     let (lock, first, second, _) = pair(&rt, rt.alloc(), 7, 20_000);
@@ -229,9 +233,10 @@ fn a_pass_waits_while_another_rests_inside(rt: HostRuntime) {
     assert!(rt; wait_for_a_number(&rt, &lock, first, second) == Ok(true));
 }
 
+/// 0 passes, 1,025 passes and 0 turns: bad count, and the state comes back.
 #[test]
 fn counts_out_of_range_hand_the_state_back(rt: HostRuntime) {
-    for (passes, turns) in &[(0, 1), (MOST_PASSES + 1, 1), (1, 0)] {
+    for (passes, turns) in &[(0, 1), (MAX_PASSES + 1, 1), (1, 0)] {
         let mut tally = Tally::with_room(&rt, rt.alloc(), 1);
         tally.add(5);
         let refused = TurnLock::new(rt.alloc(), 7, tally, *passes, *turns).err();
@@ -244,7 +249,7 @@ fn counts_out_of_range_hand_the_state_back(rt: HostRuntime) {
 
 #[test]
 fn a_lock_with_the_most_passes_and_turns_closes(rt: HostRuntime) {
-    let (lock, passes) = made(&rt, rt.alloc(), 7, MOST_PASSES, u32::MAX);
+    let (lock, passes) = made(&rt, rt.alloc(), 7, MAX_PASSES, u32::MAX);
     assert!(rt; passes.len() == 1024);
     assert!(rt; lock.close(passes).is_ok());
 }
@@ -259,6 +264,7 @@ fn add_thrice<R: Wait>(rt: &R, lock: &Shared, pass: &mut Entrant) -> [Result<(),
     [once, twice, add(rt, lock, pass, 1)]
 }
 
+/// Two turns: the third entry finds the pass spent.
 #[test]
 fn a_pass_is_spent_after_its_turns(rt: HostRuntime) {
     let (lock, mut first, second, room) = pair(&rt, rt.alloc(), 7, 2);
@@ -268,6 +274,7 @@ fn a_pass_is_spent_after_its_turns(rt: HostRuntime) {
     assert!(rt; tally.count(1) == 2);
 }
 
+/// A pass of another lock, in `enter` and in `close`: foreign pass.
 #[test]
 #[tactic(auto, unfolding(turn_lock::specs::Passes::IsOutside))]
 fn a_pass_of_another_lock_is_refused(rt: HostRuntime) {
@@ -283,6 +290,7 @@ fn a_pass_of_another_lock_is_refused(rt: HostRuntime) {
     assert!(rt; refused.cause == CloseError::ForeignPass && refused.passes.len() == 2);
 }
 
+/// Closing with one pass of two: missing pass, lock and pass come back; with both: the state.
 #[test]
 fn a_lock_does_not_close_without_a_pass(rt: HostRuntime) {
     let (lock, mut first, second, mut passes) = pair(&rt, rt.alloc(), 7, 2);

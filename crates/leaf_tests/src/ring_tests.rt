@@ -1,24 +1,42 @@
 ghost use Rattle.std.specs.Prelude.{◌≡◌, ◌≤◌, ◌<◌, ℕ, List, ◌%◌, ◌^◌, sum};
 ghost use Rattle.hash_ring.specs.RingModel.{HasRoom};
 
-use crate::given::{A, B, C, address, weight};
+use crate::given::{A, B, C, address, check_refused, weight};
 use change_core::{Address, Weight};
 use hash_ring::*;
 use std::alloc::Global;
+use std::env::Env;
 use std::process::Abort;
 use std::sync::atomic::{AtomicU64, Ordering};
 
-/// What is seen of a ring beside its room.
-fn seen<H: PointHash>(ring: &Ring<H>, server: Address) -> (usize, Option<Weight>, Option<Address>) {
-    (ring.len(), ring.weight(server), ring.owner(b"key"))
+/// What callers see of a ring, apart from its room: how many servers it has, the weight of one of them, and who owns a key before, at
+/// and between the points of the servers by sum.
+type Seen = (usize, Option<Weight>, [Option<Address>; 6]);
+
+fn seen<H: PointHash>(ring: &Ring<H>, server: Address) -> Seen {
+    let owners = [
+        ring.owner(b""),
+        ring.owner(b"zzzz/"),
+        ring.owner(b"zzzz0"),
+        ring.owner(b"zzzz1"),
+        ring.owner(b"zzzz2"),
+        ring.owner(b"zzzz3"),
+    ];
+    (ring.len(), ring.weight(server), owners)
 }
 
-/// Makes room for a server, at the second try where the first was refused. A refusal leaves the ring as it was.
-fn reserve<H: PointHash>(rt: &impl Abort, ring: &mut Ring<H>, server: Address, weight: Weight)
+/// Makes room for a server, at the second try if the first ran out of memory. That leaves the ring unchanged.
+fn reserve<H: PointHash>(
+    rt: &(impl Env + Abort),
+    ring: &mut Ring<H>,
+    server: Address,
+    weight: Weight,
+)
     ensures { HasRoom ring.new (record { address = server; weight = weight }) }
 {
     let before = seen(ring, server);
     if ring.reserve_for(server, weight) == Err(RingError::Memory) {
+        check_refused(rt);
         assert!(rt; seen(ring, server) == before);
     }
     let Ok(()) = ring.reserve_for(server, weight) else {
@@ -27,7 +45,7 @@ fn reserve<H: PointHash>(rt: &impl Abort, ring: &mut Ring<H>, server: Address, w
 }
 
 /// Makes room for a server, and adds it.
-fn add<H: PointHash>(rt: &impl Abort, ring: &mut Ring<H>, text: &str, number: u8) -> bool {
+fn add<H: PointHash>(rt: &(impl Env + Abort), ring: &mut Ring<H>, text: &str, number: u8) -> bool {
     let server = address(rt, text);
     let weight = weight(rt, number);
     reserve(rt, ring, server, weight);
@@ -36,7 +54,7 @@ fn add<H: PointHash>(rt: &impl Abort, ring: &mut Ring<H>, text: &str, number: u8
 
 /// A ring of these servers, of weight 1.
 fn ring_of<H: PointHash>(
-    rt: &impl Abort,
+    rt: &(impl Env + Abort),
     alloc: Global,
     hash: H,
     replicas: u32,
@@ -49,26 +67,33 @@ fn ring_of<H: PointHash>(
     ring
 }
 
-/// The owners of a key, at the second try where the first was refused. A refusal leaves the ring as it was.
-fn owners<H: PointHash>(rt: &impl Abort, ring: &Ring<H>, key: &[u8], count: usize) -> Vec<Address> {
+/// The owners of a key, at the second try if the first ran out of memory. That leaves the ring unchanged.
+fn owners<H: PointHash>(
+    rt: &(impl Env + Abort),
+    ring: &Ring<H>,
+    key: &[u8],
+    count: usize,
+) -> Vec<Address> {
     let server = address(rt, A);
     let before = seen(ring, server);
     match ring.owners(key, count) {
         Ok(named) => named,
         Err(_) => {
+            check_refused(rt);
             assert!(rt; seen(ring, server) == before);
             ring.owners(key, count).ok().expect(rt, "owners")
         }
     }
 }
 
-/// A copy, at the second try where the first was refused. A refusal leaves the ring as it was.
-fn copy<H: PointHash>(rt: &impl Abort, ring: &Ring<H>) -> Ring<H> {
+/// A copy, at the second try if the first ran out of memory. That leaves the ring unchanged.
+fn copy<H: PointHash>(rt: &(impl Env + Abort), ring: &Ring<H>) -> Ring<H> {
     let server = address(rt, A);
     let before = seen(ring, server);
     match ring.copy() {
         Ok(copy) => copy,
         Err(_) => {
+            check_refused(rt);
             assert!(rt; seen(ring, server) == before);
             ring.copy().ok().expect(rt, "a copy")
         }
@@ -78,8 +103,8 @@ fn copy<H: PointHash>(rt: &impl Abort, ring: &Ring<H>) -> Ring<H> {
 /// A key, how many owners are asked for, and their texts.
 type Row<'a> = (&'a str, usize, &'a [&'a str]);
 
-/// Names the owners of each row, in this order, and the first of them where there is one.
-fn check_rows<H: PointHash>(rt: &impl Abort, ring: &Ring<H>, rows: &[Row]) {
+/// Names the owners of each entry, in this order, and the first of them if there is one.
+fn check_rows<H: PointHash>(rt: &(impl Env + Abort), ring: &Ring<H>, rows: &[Row]) {
     for row in rows {
         let (key, count, texts) = *row;
         let named = owners(rt, ring, key.as_bytes(), count);
@@ -115,7 +140,10 @@ const WEIGHTED: [Row<'static>; 3] = [
     ("zzzz3", 3, &[B, A, C]),
 ];
 
-/// The second of three servers becomes heavier, and then as before.
+/// The second of three servers becomes heavier, and then has its first weight again.
+/// Three owners of `zzzz1`: B, C, A. Of `zzzz2`: C, A, B. Of `zzzz3`: A, B, C. Owners of the empty key: none of none, A of one, A, B, C
+/// of nine. B with weight 3, whose points are 536 to 541: B, C, A for `zzzz1` and for `zzzz2`, B, A, C for `zzzz3`. With weight 1 again:
+/// unchanged. To add a server that is there, or to remove one that is not, changes nothing.
 #[test]
 fn owners_by_sum_and_weight(rt: HostRuntime) {
     let mut ring = ring_of(&rt, rt.alloc(), SumHash, 2, &[C, A, B]);
@@ -152,6 +180,8 @@ fn a_lighter_server_needs_no_room(rt: HostRuntime) {
 }
 
 /// A ring loses its servers.
+/// An empty ring: no owner, no owners. The owners of `zzzz0` and `zzzz1` are A and B. B is removed: A and C. A copy made before still
+/// says A and B. To add a server that is there, or to remove one that is not, changes nothing.
 #[test]
 fn a_copy_stays_as_it_was(rt: HostRuntime) {
     let mut ring = ring_of(&rt, rt.alloc(), SumHash, 2, &[A, B, C]);
@@ -169,6 +199,7 @@ fn a_copy_stays_as_it_was(rt: HostRuntime) {
 }
 
 /// It is copied, with no second try.
+/// A copy of a ring that never had a server is made without memory.
 #[test]
 fn a_copy_of_nothing_takes_no_memory(rt: HostRuntime) {
     let ring = ring_of(&rt, rt.alloc(), SumHash, 2, &[]);
@@ -176,6 +207,8 @@ fn a_copy_of_nothing_takes_no_memory(rt: HostRuntime) {
     assert!(rt; copy.len() == 0 && copy.owner(b"key").is_none());
 }
 
+/// By SHA-256, 100 points: `10.0.0.1:1` and `10.0.0.1:11` both have the point text `10.0.0.1:110`. As a key it has these owners in this
+/// order.
 #[test]
 fn a_tie_goes_to_the_lesser_address(rt: HostRuntime) {
     let texts = ["10.0.0.1:11", A];
@@ -183,6 +216,7 @@ fn a_tie_goes_to_the_lesser_address(rt: HostRuntime) {
     check_rows(&rt, &ring, &[("10.0.0.1:110", 2, &[A, "10.0.0.1:11"])]);
 }
 
+/// The hashes of `abc` and of the empty text begin with `ba7816bf8f01cfea` and `e3b0c44298fc1c14`.
 #[test]
 fn sha256_begins_with_eight_bytes(rt: HostRuntime) {
     assert!(rt; Sha256Hash.hash(b"abc") == 0xba78_16bf_8f01_cfea);
@@ -202,6 +236,7 @@ fn server(rt: &impl Abort, text: &str, number: u8) -> Server {
 }
 
 /// Of two servers of one address the weight that came last holds.
+/// A ring of many servers at once: of two of one address the later; BadReplicas for none.
 #[test]
 fn a_ring_of_many_servers_at_once(rt: HostRuntime) {
     let servers = [
@@ -213,6 +248,7 @@ fn a_ring_of_many_servers_at_once(rt: HostRuntime) {
     let refused = Ring::with_servers(rt.alloc(), SumHash, 0, &servers).err();
     assert!(rt; refused == Some(RingError::BadReplicas));
     let made = again!(
+        &rt,
         RingError,
         Ring::with_servers(rt.alloc(), SumHash, 2, &servers)
     );
@@ -222,6 +258,7 @@ fn a_ring_of_many_servers_at_once(rt: HostRuntime) {
     check_rows(&rt, &ring, &rows);
 }
 
+/// 0 and 1,001 points for each server: bad replicas.
 #[test]
 fn replicas_are_bounded(rt: HostRuntime) {
     let bad = Some(RingError::BadReplicas);
@@ -246,8 +283,8 @@ impl<'a> PointHash for CountingHash<'a> {
     }
 }
 
-/// An edit hashes the points that it brings.
-fn count_edits<'a>(rt: &impl Abort, ring: &mut Ring<CountingHash<'a>>, calls: &AtomicU64) {
+/// A change hashes the points that it brings.
+fn count_edits<'a>(rt: &(impl Env + Abort), ring: &mut Ring<CountingHash<'a>>, calls: &AtomicU64) {
     let server = address(rt, A);
     let heavy = weight(rt, 8);
     reserve(rt, ring, server, heavy);
@@ -260,13 +297,13 @@ fn count_edits<'a>(rt: &impl Abort, ring: &mut Ring<CountingHash<'a>>, calls: &A
     assert!(rt; calls.load(Ordering::SeqCst) == before.wrapping_add(70));
 }
 
-/// A look-up hashes the key, and what takes points away nothing, nor does a copy.
-fn count_others<'a>(rt: &impl Abort, ring: &mut Ring<CountingHash<'a>>, calls: &AtomicU64) {
+/// A lookup hashes the key; removing points hashes nothing, nor does a copy.
+fn count_others<'a>(rt: &(impl Env + Abort), ring: &mut Ring<CountingHash<'a>>, calls: &AtomicU64) {
     let server = address(rt, A);
     let before = calls.load(Ordering::SeqCst);
     ring.owner(b"key");
     assert!(rt; calls.load(Ordering::SeqCst) == before.wrapping_add(1));
-    let copy = again!(RingError, ring.copy()).ok().expect(rt, "a copy");
+    let copy = again!(rt, RingError, ring.copy()).ok().expect(rt, "a copy");
     assert!(rt; copy.len() == 1 && copy.weight(server) == Weight::new(2));
     drop(copy);
     ring.remove(server);
@@ -296,7 +333,8 @@ fn draw(state: &mut u64, bound: u64) -> u64
 /// The ports of servers whose texts run into one another.
 const PORTS: [u16; 6] = [1, 11, 2, 12, 110, 21];
 
-/// The weights of the servers of these ports, as they should be in a ring: kept beside it, by the edits alone.
+/// The weights of the servers of these ports, as they should be in a ring: kept in a list, as servers are added and
+/// removed.
 type Weights = [Option<Weight>; 6];
 
 /// The weight that the server of an address should have.
@@ -321,7 +359,12 @@ fn count_beside(weights: &Weights) -> usize {
 }
 
 /// Adds a server to a ring, or removes it.
-fn edit<H: PointHash>(rt: &impl Abort, ring: &mut Ring<H>, weights: &mut Weights, state: &mut u64) {
+fn edit<H: PointHash>(
+    rt: &(impl Env + Abort),
+    ring: &mut Ring<H>,
+    weights: &mut Weights,
+    state: &mut u64,
+) {
     let place = draw(state, 6) as usize;
     let server = Address::new(0x0a00_0001, PORTS[place]).expect(rt, "a port");
     if draw(state, 4) == 0 {
@@ -337,7 +380,7 @@ fn edit<H: PointHash>(rt: &impl Abort, ring: &mut Ring<H>, weights: &mut Weights
 
 /// Names all servers as owners of a key, by their distance and then by address.
 fn check_key<H: PointHash>(
-    rt: &impl Abort,
+    rt: &(impl Env + Abort),
     ring: &Ring<H>,
     weights: &Weights,
     hash: H,
@@ -356,9 +399,9 @@ fn check_key<H: PointHash>(
     }
 }
 
-/// Twenty edits of a ring, and ten keys after each. By `SumHash` the points lie from 535 to 690, and the keys from 488 to
-/// 743, so before them, among them, at them and past them.
-fn check_edits<H: PointHash>(rt: &impl Abort, ring: &mut Ring<H>, hash: H, seed: u64) {
+/// Twenty changes of a ring, and ten keys after each. By `SumHash` the points lie from 535 to 690, and the keys from
+/// 488 to 743, so before them, among them, at them and past them.
+fn check_edits<H: PointHash>(rt: &(impl Env + Abort), ring: &mut Ring<H>, hash: H, seed: u64) {
     let mut state = seed;
     let mut weights: Weights = [None; 6];
     for _ in 0..20 {
@@ -377,7 +420,7 @@ fn owners_are_the_servers_by_distance(rt: HostRuntime) {
     check_edits(&rt, &mut digests, Sha256Hash, 2);
 }
 
-/// So many are named where so many are asked for, by their distance.
+/// This many are named where this many are asked for, by their distance.
 #[test]
 fn many_owners(rt: HostRuntime) {
     let mut ring = ring_of(&rt, rt.alloc(), Sha256Hash, 3, &[]);
@@ -401,14 +444,19 @@ fn many_owners(rt: HostRuntime) {
 }
 
 /// A ring names the owners of a key that a settled one names.
-fn answer_alike(rt: &impl Abort, ring: &Ring<SumHash>, settled: &Ring<SumHash>, key: &[u8]) {
+fn answer_alike(
+    rt: &(impl Env + Abort),
+    ring: &Ring<SumHash>,
+    settled: &Ring<SumHash>,
+    key: &[u8],
+) {
     let named = owners(rt, settled, key, 40);
     assert!(rt; owners(rt, ring, key, 40).as_slice() == named.as_slice());
     assert!(rt; ring.owner(key) == named.first().copied());
 }
 
 /// Both rings answer alike, and so does a copy of the first.
-fn check_alike(rt: &impl Abort, late: &Ring<SumHash>, settled: &Ring<SumHash>) {
+fn check_alike(rt: &(impl Env + Abort), late: &Ring<SumHash>, settled: &Ring<SumHash>) {
     let copied = copy(rt, late);
     for place in 0..16u8 {
         let key = [b'z', b'z', b'z', b'z', place * 16];
@@ -419,7 +467,7 @@ fn check_alike(rt: &impl Abort, late: &Ring<SumHash>, settled: &Ring<SumHash>) {
 
 /// Adds a server to both rings, or removes it from both.
 fn edit_both(
-    rt: &impl Abort,
+    rt: &(impl Env + Abort),
     late: &mut Ring<SumHash>,
     settled: &mut Ring<SumHash>,
     state: &mut u64,
@@ -435,8 +483,9 @@ fn edit_both(
     }
 }
 
-/// One ring is settled at the end alone, and the other after each edit: servers are added, leave, and come back with other
-/// weights.
+/// One ring is settled at the end alone, and the other after each change: servers are added, leave, and come back with
+/// other weights.
+/// A ring that is settled after each of 60 edits, one that is settled at their end alone, and copies of that name the same owners.
 #[test]
 fn a_ring_settles_late(rt: HostRuntime) {
     let mut late = ring_of(&rt, rt.alloc(), SumHash, 3, &[]);

@@ -7,7 +7,7 @@ use Rattle.std.proofs.lemmas.List.{length-map}
 use Rattle.std.proofs.lemmas.List.Elements.{All-cons, All-nil}
 use Rattle.change_core.specs.declared.changes.Change.{Change}
 use Rattle.change_core.specs.declared.changes.Sourced.{Sourced}
-use Rattle.detector_core.specs.declared.asked.Asked.{Asked}
+use Rattle.detector_core.specs.declared.asked.AskedHelper.{AskedHelper}
 use Rattle.detector_core.specs.declared.asked.Outcome.TheVariants as outcome
 use Rattle.detector_core.specs.declared.asked.Said.{Said}
 use Rattle.detector_core.specs.Helpers.{noted, unanswered}
@@ -82,7 +82,7 @@ module _ (k : ℕ) where
 
   asked_spent : (pingable : List ℕ) (target : ℕ) (s : ProbeState) (helpers : List ℕ) (t : ProbeState) → k ≤ s.last → WasAsked pingable target s helpers t → IsSpent t
   asked_spent pingable target s helpers t le was =
-      let said_nothing : ℕ → Asked = λ h. record { helper = h; said = None } in (
+      let said_nothing : ℕ → AskedHelper = λ h. record { helper = h; said = None } in (
         omega (arith, le, ap (λ (x : ProbeState). x.last) was.left),
         has_asked t (record { target = target; asked = unanswered helpers }) (ap (λ (x : ProbeState). x.running) was.left)
             (omega (arith, length-map helpers said_nothing, was.somebody, was.chosen.as_many)),

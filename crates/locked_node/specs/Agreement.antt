@@ -1,4 +1,4 @@
--- Nodes that threads shared agree where their logs hold the same changes, whatever the threads did.
+-- Nodes that threads shared agree if their logs hold the same changes, whatever the threads did.
 use Rattle.std.specs.Prelude.{◌≡◌, ℕ, List}
 use Rattle.change_core.specs.declared.changes.Change.{Change}
 use Rattle.change_core.specs.Members.{HaveSameChanges}

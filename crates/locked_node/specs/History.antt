@@ -1,4 +1,4 @@
--- What threads did to a node: its calls, in the order of their turns.
+-- The history of a node that threads share: its calls, in the order of their turns.
 use Rattle.std.specs.Prelude.{◌≡◌, ℕ, Option, Some, None, List, [], ◌∷◌}
 use Rattle.std.specs.List.{filter_map}
 use Rattle.change_core.specs.declared.changes.Change.{Change}
@@ -10,7 +10,7 @@ use Rattle.node_core.specs.Node.{Node, Seen}
 use Rattle.node_core.specs.Run.{log}
 use Rattle.turn_lock.specs.declared.kept.Turn.{Turn}
 
--- one call: what was asked, what was answered, and the node after it
+-- one call, its answer, and the node after it
 pub record CallEntry (H : Type 0) : Type 0 where
   pub call : Call
   pub answer : Answer H
@@ -40,21 +40,21 @@ abbrev pub HistoriesKeepIt : {H : Type 0} → (H → List ℕ → ℕ) → Type 
 HistoriesKeepIt {H} hash_of =
     (opening last : Node H) (history : History H) → IsNode opening → LegalHistory hash_of opening history last → IsKeptThrough opening history × IsNode last
 
--- the node stands for a history that is legal from the opening, which was as a node is between any two calls
+-- the node represents a history that is legal from the opening, which satisfied a node's invariant
 abbrev pub StandsFor : {H : Type 0} → (H → List ℕ → ℕ) → Seen H → History H → Seen H → Type 0
 StandsFor hash_of opening history now = IsSeen hash_of opening × LegalHistory hash_of opening.node history now.node
 
--- the event of a call, where it is one: a view has none
+-- the event of a call; a view has none
 abbrev pub event_in : Call → Option Event
 event_in (OfEvent event) = Some event
 event_in OfView = None
 
--- the reply of an answer, where it is one: a view is none
+-- the reply of an answer; a view has none
 abbrev pub reply_in : {H : Type 0} → Answer H → Option Reply
 reply_in (WithReply reply) = Some reply
 reply_in (WithView result) = None
 
--- the log of a node that began so, after a history: what the calls put in, in their order; a view puts nothing in
+-- the log of a node with this opening, after a history: the changes of the calls, in their order; a view changes nothing
 abbrev pub log_of : {H : Type 0} → Node H → History H → List Change
 log_of {H} opening history =
     log opening.own opening.members

@@ -1,4 +1,4 @@
--- A node takes at most once that a probe is lost, whatever its threads do. Lost probes and helpers are those of SWIM, section 3.1.
+-- A node accepts at most once that a probe is lost, whatever its threads do. Lost probes and helpers are those of SWIM, section 3.1.
 use Rattle.std.specs.Prelude.{◌≡◌, ℕ, List, ◌∷◌, ◌++◌, Ok, Err}
 use Rattle.std.specs.List.{All}
 use Rattle.node_core.specs.declared.errors.NodeError.TheVariants as refusal
@@ -11,11 +11,12 @@ use Rattle.turn_lock.specs.declared.kept.Turn.{Turn}
 use Rattle.turn_lock.specs.History.{turn}
 use Rattle.locked_node.specs.History.{CallEntry, entry_of, History, LegalHistory}
 
--- where a call says that this probe is lost, it is refused, since the probe is stale
+-- a call that reports the loss of this probe is refused, since the probe is stale
 abbrev pub LosesNoMore : {H : Type 0} → ℕ → CallEntry H → Type 0
 LosesNoMore number e = (moment : ℕ) → e.call ≡ OfEvent (call.Lost number moment) → e.answer ≡ WithReply (reply.Lost (Err refusal.StaleProbe))
 
--- once a node took it that a probe is lost, every later call that says so again, by whatever pass, is refused, whether the probe's helpers have answered or not
+-- once a node has accepted that a probe is lost, every later call that reports it again, by whatever pass, is refused, whether the probe's
+-- helpers have answered or not
 abbrev pub LossesAreTakenOnce : {H : Type 0} → (H → List ℕ → ℕ) → Type 0
 LossesAreTakenOnce {H} hash_of =
     (opening after last : Node H) (before later : History H) (pass number moment : ℕ) (loss : NodeLost)

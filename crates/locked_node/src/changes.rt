@@ -6,7 +6,7 @@ ghost use Rattle.node_core.specs.declared.events.Event.TheVariants as event;
 ghost use Rattle.node_core.specs.declared.events.Reply.TheVariants as reply;
 
 use crate::node::{LockedNode, NodePass};
-use crate::turns::Asked;
+use crate::turns::LockedCall;
 use change_core::{Change, Moment, Sourced};
 use hash_ring::PointHash;
 use message_core::Message;
@@ -21,14 +21,14 @@ struct Take<'a> {
     ghost few: { length changes.now ≤ most_members },
 }
 
-impl<'a, H: PointHash> Asked<H> for Take<'a> {
+impl<'a, H: PointHash> LockedCall<H> for Take<'a> {
     type Reply = Result<Taken, Stopped>;
 
     ghost call = { λ a. OfEvent (event.Take a.changes.now a.moment) };
 
     ghost answer = { λ r. WithReply (reply.Take r) };
 
-    fn ask(&self, node: &mut NodeState<H>) -> Result<Taken, Stopped> {
+    fn perform(&self, node: &mut NodeState<H>) -> Result<Taken, Stopped> {
         node.take(self.changes, self.moment)
     }
 }
@@ -36,14 +36,14 @@ impl<'a, H: PointHash> Asked<H> for Take<'a> {
 #[derive(Clone, Copy)]
 struct Receive<'a>(&'a Message, Moment);
 
-impl<'a, H: PointHash> Asked<H> for Receive<'a> {
+impl<'a, H: PointHash> LockedCall<H> for Receive<'a> {
     type Reply = Received;
 
     ghost call = { λ a. OfEvent (event.Receive a.0.now a.1) };
 
     ghost answer = { λ r. WithReply (reply.Receive r) };
 
-    fn ask(&self, node: &mut NodeState<H>) -> Received {
+    fn perform(&self, node: &mut NodeState<H>) -> Received {
         node.receive(self.0, self.1)
     }
 }
@@ -51,14 +51,14 @@ impl<'a, H: PointHash> Asked<H> for Receive<'a> {
 #[derive(Clone, Copy)]
 struct Leave;
 
-impl<H: PointHash> Asked<H> for Leave {
+impl<H: PointHash> LockedCall<H> for Leave {
     type Reply = Result<Change, NodeError>;
 
     ghost call = { λ _. OfEvent event.Leave };
 
     ghost answer = { λ r. WithReply (reply.Leave r) };
 
-    fn ask(&self, node: &mut NodeState<H>) -> Result<Change, NodeError> {
+    fn perform(&self, node: &mut NodeState<H>) -> Result<Change, NodeError> {
         node.leave()
     }
 }
@@ -66,14 +66,14 @@ impl<H: PointHash> Asked<H> for Leave {
 #[derive(Clone, Copy)]
 struct Rejoin;
 
-impl<H: PointHash> Asked<H> for Rejoin {
+impl<H: PointHash> LockedCall<H> for Rejoin {
     type Reply = Result<Change, NodeError>;
 
     ghost call = { λ _. OfEvent event.Rejoin };
 
     ghost answer = { λ r. WithReply (reply.Rejoin r) };
 
-    fn ask(&self, node: &mut NodeState<H>) -> Result<Change, NodeError> {
+    fn perform(&self, node: &mut NodeState<H>) -> Result<Change, NodeError> {
         node.rejoin()
     }
 }
@@ -81,14 +81,14 @@ impl<H: PointHash> Asked<H> for Rejoin {
 #[derive(Clone, Copy)]
 struct Expire(Moment);
 
-impl<H: PointHash> Asked<H> for Expire {
+impl<H: PointHash> LockedCall<H> for Expire {
     type Reply = Result<Option<Change>, NodeError>;
 
     ghost call = { λ a. OfEvent (event.Expire a.0) };
 
     ghost answer = { λ r. WithReply (reply.Expire r) };
 
-    fn ask(&self, node: &mut NodeState<H>) -> Result<Option<Change>, NodeError> {
+    fn perform(&self, node: &mut NodeState<H>) -> Result<Option<Change>, NodeError> {
         node.expire(self.0)
     }
 }
@@ -96,8 +96,15 @@ impl<H: PointHash> Asked<H> for Expire {
 impl<H: PointHash> LockedNode<H> {
     ghost use Rattle.locked_node.specs.Passes.{Fits, IsAnswered, IsBarred};
 
-    /// Takes at most 4,096 changes one after another, at a moment. Where the node refuses one, the reply says how many were
-    /// taken before it, and why.
+    /// Processes at most 4,096 changes one after another, at a moment. If one of them fails, the reply has the number
+    /// of those processed before it, and the cause.
+    ///
+    /// # Errors
+    ///
+    /// The call is not made, and the pass is unchanged.
+    ///
+    /// - `ForeignPass`: the pass has another node's name. This is checked first.
+    /// - `PassSpent`: the pass has made all its calls.
     pub fn take<R: Wait>(
         &self,
         rt: &R,
@@ -114,7 +121,14 @@ impl<H: PointHash> LockedNode<H> {
         self.turn(rt, pass, &Take { changes, moment })
     }
 
-    /// Takes the changes of a message, at a moment, and makes the answer that it wants.
+    /// Processes the changes of a message, at a moment, and makes its answer.
+    ///
+    /// # Errors
+    ///
+    /// The call is not made, and the pass is unchanged.
+    ///
+    /// - `ForeignPass`: the pass has another node's name. This is checked first.
+    /// - `PassSpent`: the pass has made all its calls.
     pub fn receive<R: Wait>(
         &self,
         rt: &R,
@@ -130,7 +144,14 @@ impl<H: PointHash> LockedNode<H> {
         self.turn(rt, pass, &Receive(message, moment))
     }
 
-    /// The node leaves. It may answer `AlreadyLeft` or `Memory`.
+    /// Leaves the cluster. The reply may be `AlreadyLeft` or `Memory`.
+    ///
+    /// # Errors
+    ///
+    /// The call is not made, and the pass is unchanged.
+    ///
+    /// - `ForeignPass`: the pass has another node's name. This is checked first.
+    /// - `PassSpent`: the pass has made all its calls.
     pub fn leave<R: Wait>(
         &self,
         rt: &R,
@@ -144,7 +165,14 @@ impl<H: PointHash> LockedNode<H> {
         self.turn(rt, pass, &Leave)
     }
 
-    /// The node is back after it left. It may answer `NotLeft`, `Exhausted` or `Memory`.
+    /// Comes back after leaving. The reply may be `NotLeft`, `Exhausted` or `Memory`.
+    ///
+    /// # Errors
+    ///
+    /// The call is not made, and the pass is unchanged.
+    ///
+    /// - `ForeignPass`: the pass has another node's name. This is checked first.
+    /// - `PassSpent`: the pass has made all its calls.
     pub fn rejoin<R: Wait>(
         &self,
         rt: &R,
@@ -158,7 +186,15 @@ impl<H: PointHash> LockedNode<H> {
         self.turn(rt, pass, &Rejoin)
     }
 
-    /// Puts in one change that is due at a moment, that of the least address, or answers None where none is, or `Memory`.
+    /// Applies one change that is due at a moment, that of the least address. The reply is None if none is due, and may
+    /// be `Memory`.
+    ///
+    /// # Errors
+    ///
+    /// The call is not made, and the pass is unchanged.
+    ///
+    /// - `ForeignPass`: the pass has another node's name. This is checked first.
+    /// - `PassSpent`: the pass has made all its calls.
     pub fn expire<R: Wait>(
         &self,
         rt: &R,

@@ -1,5 +1,5 @@
 //! The node that threads share: each call of it is made in one turn of a lock, and its reply is the one-thread node's
-//! at a point of one legal history, which begins with all that the caller's pass had seen.
+//! at a point of one legal history. All that the caller's pass had seen is a prefix of that history.
 #![tactic(auto)]
 
 mod changes;

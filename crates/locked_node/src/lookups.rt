@@ -1,11 +1,11 @@
-//! What a locked node answers of its members and its ring. Nothing changes.
+//! Lookups of a locked node's members and its ring. Nothing changes.
 ghost use Rattle.std.specs.Prelude.{◌≡◌, IfOk, IfErr};
 ghost use Rattle.node_core.specs.Calls.{OfEvent, OfView, WithReply, WithView};
 ghost use Rattle.node_core.specs.declared.events.Event.TheVariants as event;
 ghost use Rattle.node_core.specs.declared.events.Reply.TheVariants as reply;
 
 use crate::node::{LockedNode, NodePass};
-use crate::turns::Asked;
+use crate::turns::LockedCall;
 use change_core::{Address, Change, Digest, Entry};
 use detector_core::Addresses;
 use hash_ring::PointHash;
@@ -17,14 +17,14 @@ use turn_lock::LockError;
 #[derive(Clone, Copy)]
 struct Own;
 
-impl<H: PointHash> Asked<H> for Own {
+impl<H: PointHash> LockedCall<H> for Own {
     type Reply = Change;
 
     ghost call = { λ _. OfEvent event.Own };
 
     ghost answer = { λ r. WithReply (reply.Own r) };
 
-    fn ask(&self, node: &mut NodeState<H>) -> Change {
+    fn perform(&self, node: &mut NodeState<H>) -> Change {
         node.own()
     }
 }
@@ -32,14 +32,14 @@ impl<H: PointHash> Asked<H> for Own {
 #[derive(Clone, Copy)]
 struct Member(Address);
 
-impl<H: PointHash> Asked<H> for Member {
+impl<H: PointHash> LockedCall<H> for Member {
     type Reply = Option<Entry>;
 
     ghost call = { λ a. OfEvent (event.Member a.0) };
 
     ghost answer = { λ r. WithReply (reply.Member r) };
 
-    fn ask(&self, node: &mut NodeState<H>) -> Option<Entry> {
+    fn perform(&self, node: &mut NodeState<H>) -> Option<Entry> {
         node.member(self.0)
     }
 }
@@ -47,14 +47,14 @@ impl<H: PointHash> Asked<H> for Member {
 #[derive(Clone, Copy)]
 struct Len;
 
-impl<H: PointHash> Asked<H> for Len {
+impl<H: PointHash> LockedCall<H> for Len {
     type Reply = usize;
 
     ghost call = { λ _. OfEvent event.Len };
 
     ghost answer = { λ r. WithReply (reply.Len r) };
 
-    fn ask(&self, node: &mut NodeState<H>) -> usize {
+    fn perform(&self, node: &mut NodeState<H>) -> usize {
         node.len()
     }
 }
@@ -62,14 +62,14 @@ impl<H: PointHash> Asked<H> for Len {
 #[derive(Clone, Copy)]
 struct Owner<'a>(&'a [u8]);
 
-impl<'a, H: PointHash> Asked<H> for Owner<'a> {
+impl<'a, H: PointHash> LockedCall<H> for Owner<'a> {
     type Reply = Option<Address>;
 
     ghost call = { λ a. OfEvent (event.Owner a.0.now) };
 
     ghost answer = { λ r. WithReply (reply.Owner r) };
 
-    fn ask(&self, node: &mut NodeState<H>) -> Option<Address> {
+    fn perform(&self, node: &mut NodeState<H>) -> Option<Address> {
         node.owner(self.0)
     }
 }
@@ -77,14 +77,14 @@ impl<'a, H: PointHash> Asked<H> for Owner<'a> {
 #[derive(Clone, Copy)]
 struct Owners<'a>(&'a [u8], usize);
 
-impl<'a, H: PointHash> Asked<H> for Owners<'a> {
+impl<'a, H: PointHash> LockedCall<H> for Owners<'a> {
     type Reply = Result<Addresses, NodeError>;
 
     ghost call = { λ a. OfEvent (event.Owners a.0.now a.1) };
 
     ghost answer = { λ r. WithReply (reply.Owners r) };
 
-    fn ask(&self, node: &mut NodeState<H>) -> Result<Addresses, NodeError> {
+    fn perform(&self, node: &mut NodeState<H>) -> Result<Addresses, NodeError> {
         node.owners(self.0, self.1)
     }
 }
@@ -92,14 +92,14 @@ impl<'a, H: PointHash> Asked<H> for Owners<'a> {
 #[derive(Clone, Copy)]
 struct Members;
 
-impl<H: PointHash> Asked<H> for Members {
+impl<H: PointHash> LockedCall<H> for Members {
     type Reply = Result<ChangeList, NodeError>;
 
     ghost call = { λ _. OfEvent event.Members };
 
     ghost answer = { λ r. WithReply (reply.Members r) };
 
-    fn ask(&self, node: &mut NodeState<H>) -> Result<ChangeList, NodeError> {
+    fn perform(&self, node: &mut NodeState<H>) -> Result<ChangeList, NodeError> {
         node.members()
     }
 }
@@ -107,14 +107,14 @@ impl<H: PointHash> Asked<H> for Members {
 #[derive(Clone, Copy)]
 struct DigestText;
 
-impl<H: PointHash> Asked<H> for DigestText {
+impl<H: PointHash> LockedCall<H> for DigestText {
     type Reply = Result<Text, NodeError>;
 
     ghost call = { λ _. OfEvent event.DigestText };
 
     ghost answer = { λ r. WithReply (reply.DigestText r) };
 
-    fn ask(&self, node: &mut NodeState<H>) -> Result<Text, NodeError> {
+    fn perform(&self, node: &mut NodeState<H>) -> Result<Text, NodeError> {
         node.digest_text()
     }
 }
@@ -122,14 +122,14 @@ impl<H: PointHash> Asked<H> for DigestText {
 #[derive(Clone, Copy)]
 struct MembersDigest;
 
-impl<H: PointHash> Asked<H> for MembersDigest {
+impl<H: PointHash> LockedCall<H> for MembersDigest {
     type Reply = Result<Digest, NodeError>;
 
     ghost call = { λ _. OfEvent event.Digest };
 
     ghost answer = { λ r. WithReply (reply.Digest r) };
 
-    fn ask(&self, node: &mut NodeState<H>) -> Result<Digest, NodeError> {
+    fn perform(&self, node: &mut NodeState<H>) -> Result<Digest, NodeError> {
         node.digest()
     }
 }
@@ -137,14 +137,14 @@ impl<H: PointHash> Asked<H> for MembersDigest {
 #[derive(Clone, Copy)]
 struct MakeView;
 
-impl<H: PointHash> Asked<H> for MakeView {
+impl<H: PointHash> LockedCall<H> for MakeView {
     type Reply = Result<View<H>, NodeError>;
 
     ghost call = { λ _. OfView };
 
     ghost answer = { λ r. WithView r };
 
-    fn ask(&self, node: &mut NodeState<H>) -> Result<View<H>, NodeError> {
+    fn perform(&self, node: &mut NodeState<H>) -> Result<View<H>, NodeError> {
         node.view()
     }
 }
@@ -152,7 +152,14 @@ impl<H: PointHash> Asked<H> for MakeView {
 impl<H: PointHash> LockedNode<H> {
     ghost use Rattle.locked_node.specs.Passes.{Fits, IsAnswered, IsBarred, IsCalled};
 
-    /// What the node holds of itself, as a change.
+    /// Returns the node's own entry, as a change.
+    ///
+    /// # Errors
+    ///
+    /// The call is not made, and the pass is unchanged.
+    ///
+    /// - `ForeignPass`: the pass has another node's name. This is checked first.
+    /// - `PassSpent`: the pass has made all its calls.
     pub fn own<R: Wait>(&self, rt: &R, pass: &mut NodePass<H>) -> Result<Change, LockError>
         requires { Fits self.now pass.old }
         ensures called { IfOk result (IsAnswered H.hash_of self.now pass.old pass.new event.Own reply.Own) }
@@ -162,7 +169,14 @@ impl<H: PointHash> LockedNode<H> {
         self.turn(rt, pass, &Own)
     }
 
-    /// What the node holds of an address.
+    /// Returns the entry that the node holds of an address.
+    ///
+    /// # Errors
+    ///
+    /// The call is not made, and the pass is unchanged.
+    ///
+    /// - `ForeignPass`: the pass has another node's name. This is checked first.
+    /// - `PassSpent`: the pass has made all its calls.
     pub fn member<R: Wait>(
         &self,
         rt: &R,
@@ -177,7 +191,14 @@ impl<H: PointHash> LockedNode<H> {
         self.turn(rt, pass, &Member(address))
     }
 
-    /// How many members the node holds, itself among them.
+    /// Returns the number of members that the node holds, itself among them.
+    ///
+    /// # Errors
+    ///
+    /// The call is not made, and the pass is unchanged.
+    ///
+    /// - `ForeignPass`: the pass has another node's name. This is checked first.
+    /// - `PassSpent`: the pass has made all its calls.
     pub fn len<R: Wait>(&self, rt: &R, pass: &mut NodePass<H>) -> Result<usize, LockError>
         requires { Fits self.now pass.old }
         ensures called { IfOk result (IsAnswered H.hash_of self.now pass.old pass.new event.Len reply.Len) }
@@ -187,7 +208,15 @@ impl<H: PointHash> LockedNode<H> {
         self.turn(rt, pass, &Len)
     }
 
-    /// The owner of a key: of the serving members the one nearest to it. None exactly where none serves. Nothing grows here.
+    /// Returns the owner of a key: of the serving members the one nearest to it. None if and only if no member serves.
+    /// Nothing is allocated.
+    ///
+    /// # Errors
+    ///
+    /// The call is not made, and the pass is unchanged.
+    ///
+    /// - `ForeignPass`: the pass has another node's name. This is checked first.
+    /// - `PassSpent`: the pass has made all its calls.
     pub fn owner<R: Wait>(
         &self,
         rt: &R,
@@ -202,7 +231,15 @@ impl<H: PointHash> LockedNode<H> {
         self.turn(rt, pass, &Owner(key))
     }
 
-    /// The first `count` owners of a key, the owner first, or all serving members where there are fewer, or `Memory`.
+    /// Returns the first `count` owners of a key, the owner first, or all serving members if there are fewer. The reply
+    /// may be `Memory`.
+    ///
+    /// # Errors
+    ///
+    /// The call is not made, and the pass is unchanged.
+    ///
+    /// - `ForeignPass`: the pass has another node's name. This is checked first.
+    /// - `PassSpent`: the pass has made all its calls.
     pub fn owners<R: Wait>(
         &self,
         rt: &R,
@@ -218,7 +255,14 @@ impl<H: PointHash> LockedNode<H> {
         self.turn(rt, pass, &Owners(key, count))
     }
 
-    /// The members, ascending by address, or `Memory`.
+    /// Returns the members, ascending by address. The reply may be `Memory`.
+    ///
+    /// # Errors
+    ///
+    /// The call is not made, and the pass is unchanged.
+    ///
+    /// - `ForeignPass`: the pass has another node's name. This is checked first.
+    /// - `PassSpent`: the pass has made all its calls.
     pub fn members<R: Wait>(
         &self,
         rt: &R,
@@ -232,7 +276,14 @@ impl<H: PointHash> LockedNode<H> {
         self.turn(rt, pass, &Members)
     }
 
-    /// The members as one line of text, or `Memory`.
+    /// Returns the members as one line of text. The reply may be `Memory`.
+    ///
+    /// # Errors
+    ///
+    /// The call is not made, and the pass is unchanged.
+    ///
+    /// - `ForeignPass`: the pass has another node's name. This is checked first.
+    /// - `PassSpent`: the pass has made all its calls.
     pub fn digest_text<R: Wait>(
         &self,
         rt: &R,
@@ -246,7 +297,14 @@ impl<H: PointHash> LockedNode<H> {
         self.turn(rt, pass, &DigestText)
     }
 
-    /// The SHA-256 of the digest text, or `Memory`.
+    /// Returns the SHA-256 of the digest text. The reply may be `Memory`.
+    ///
+    /// # Errors
+    ///
+    /// The call is not made, and the pass is unchanged.
+    ///
+    /// - `ForeignPass`: the pass has another node's name. This is checked first.
+    /// - `PassSpent`: the pass has made all its calls.
     pub fn digest<R: Wait>(
         &self,
         rt: &R,
@@ -260,7 +318,15 @@ impl<H: PointHash> LockedNode<H> {
         self.turn(rt, pass, &MembersDigest)
     }
 
-    /// A copy of the ring, made in one turn and used outside, where it names owners as the node did then; or `Memory`.
+    /// Returns a copy of the ring, made in one turn and used outside, where it names owners as the node did then. The
+    /// reply may be `Memory`.
+    ///
+    /// # Errors
+    ///
+    /// The call is not made, and the pass is unchanged.
+    ///
+    /// - `ForeignPass`: the pass has another node's name. This is checked first.
+    /// - `PassSpent`: the pass has made all its calls.
     pub fn view<R: Wait>(
         &self,
         rt: &R,

@@ -5,7 +5,7 @@ ghost use Rattle.node_core.specs.declared.events.Event.TheVariants as event;
 ghost use Rattle.node_core.specs.declared.events.Reply.TheVariants as reply;
 
 use crate::node::{LockedNode, NodePass};
-use crate::turns::Asked;
+use crate::turns::LockedCall;
 use change_core::Address;
 use hash_ring::PointHash;
 use message_core::Message;
@@ -16,14 +16,14 @@ use turn_lock::LockError;
 #[derive(Clone, Copy)]
 struct JoinMessage;
 
-impl<H: PointHash> Asked<H> for JoinMessage {
+impl<H: PointHash> LockedCall<H> for JoinMessage {
     type Reply = Result<Message, NodeError>;
 
     ghost call = { λ _. OfEvent event.JoinMessage };
 
     ghost answer = { λ r. WithReply (reply.JoinMessage r) };
 
-    fn ask(&self, node: &mut NodeState<H>) -> Result<Message, NodeError> {
+    fn perform(&self, node: &mut NodeState<H>) -> Result<Message, NodeError> {
         node.join_message()
     }
 }
@@ -31,14 +31,14 @@ impl<H: PointHash> Asked<H> for JoinMessage {
 #[derive(Clone, Copy)]
 struct PingTo(Address);
 
-impl<H: PointHash> Asked<H> for PingTo {
+impl<H: PointHash> LockedCall<H> for PingTo {
     type Reply = Result<Message, NodeError>;
 
     ghost call = { λ a. OfEvent (event.PingTo a.0) };
 
     ghost answer = { λ r. WithReply (reply.PingTo r) };
 
-    fn ask(&self, node: &mut NodeState<H>) -> Result<Message, NodeError> {
+    fn perform(&self, node: &mut NodeState<H>) -> Result<Message, NodeError> {
         node.ping_to(self.0)
     }
 }
@@ -46,14 +46,14 @@ impl<H: PointHash> Asked<H> for PingTo {
 #[derive(Clone, Copy)]
 struct PingReqTo(Address, Address);
 
-impl<H: PointHash> Asked<H> for PingReqTo {
+impl<H: PointHash> LockedCall<H> for PingReqTo {
     type Reply = Result<Message, NodeError>;
 
     ghost call = { λ a. OfEvent (event.PingReqTo a.0 a.1) };
 
     ghost answer = { λ r. WithReply (reply.PingReqTo r) };
 
-    fn ask(&self, node: &mut NodeState<H>) -> Result<Message, NodeError> {
+    fn perform(&self, node: &mut NodeState<H>) -> Result<Message, NodeError> {
         node.ping_req_to(self.0, self.1)
     }
 }
@@ -61,14 +61,14 @@ impl<H: PointHash> Asked<H> for PingReqTo {
 #[derive(Clone, Copy)]
 struct PingReqAckTo(Address, Address, bool);
 
-impl<H: PointHash> Asked<H> for PingReqAckTo {
+impl<H: PointHash> LockedCall<H> for PingReqAckTo {
     type Reply = Result<Message, NodeError>;
 
     ghost call = { λ a. OfEvent (event.PingReqAckTo a.0 a.1 a.2) };
 
     ghost answer = { λ r. WithReply (reply.PingReqAckTo r) };
 
-    fn ask(&self, node: &mut NodeState<H>) -> Result<Message, NodeError> {
+    fn perform(&self, node: &mut NodeState<H>) -> Result<Message, NodeError> {
         node.ping_req_ack_to(self.0, self.1, self.2)
     }
 }
@@ -76,7 +76,14 @@ impl<H: PointHash> Asked<H> for PingReqAckTo {
 impl<H: PointHash> LockedNode<H> {
     ghost use Rattle.locked_node.specs.Passes.{Fits, IsAnswered, IsBarred};
 
-    /// What a node that wants to join sends to a host, or `Memory`.
+    /// Makes the message that a node sends to a host to join. The reply may be `Memory`.
+    ///
+    /// # Errors
+    ///
+    /// The call is not made, and the pass is unchanged.
+    ///
+    /// - `ForeignPass`: the pass has another node's name. This is checked first.
+    /// - `PassSpent`: the pass has made all its calls.
     pub fn join_message<R: Wait>(
         &self,
         rt: &R,
@@ -90,7 +97,14 @@ impl<H: PointHash> LockedNode<H> {
         self.turn(rt, pass, &JoinMessage)
     }
 
-    /// A ping of a target, with what is passed on to it, or `Memory`.
+    /// Makes a ping of a target, with the changes to pass on to it. The reply may be `Memory`.
+    ///
+    /// # Errors
+    ///
+    /// The call is not made, and the pass is unchanged.
+    ///
+    /// - `ForeignPass`: the pass has another node's name. This is checked first.
+    /// - `PassSpent`: the pass has made all its calls.
     pub fn ping_to<R: Wait>(
         &self,
         rt: &R,
@@ -105,7 +119,15 @@ impl<H: PointHash> LockedNode<H> {
         self.turn(rt, pass, &PingTo(target))
     }
 
-    /// What asks a helper to ping a target, with what is passed on to the helper, or `Memory`.
+    /// Makes a request to a helper to ping a target, with the changes to pass on to the helper. The reply may be
+    /// `Memory`.
+    ///
+    /// # Errors
+    ///
+    /// The call is not made, and the pass is unchanged.
+    ///
+    /// - `ForeignPass`: the pass has another node's name. This is checked first.
+    /// - `PassSpent`: the pass has made all its calls.
     pub fn ping_req_to<R: Wait>(
         &self,
         rt: &R,
@@ -121,7 +143,15 @@ impl<H: PointHash> LockedNode<H> {
         self.turn(rt, pass, &PingReqTo(helper, target))
     }
 
-    /// What tells a requester whether a target was reached, with what is passed on to the requester, or `Memory`.
+    /// Makes a report to a requester on whether a target was reached, with the changes to pass on to the requester. The
+    /// reply may be `Memory`.
+    ///
+    /// # Errors
+    ///
+    /// The call is not made, and the pass is unchanged.
+    ///
+    /// - `ForeignPass`: the pass has another node's name. This is checked first.
+    /// - `PassSpent`: the pass has made all its calls.
     pub fn ping_req_ack_to<R: Wait>(
         &self,
         rt: &R,

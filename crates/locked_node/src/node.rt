@@ -14,14 +14,14 @@ use turn_lock::{NewError, Pass, TurnLock};
 /// The right to make calls of a locked node. It is with one thread at a time.
 pub type NodePass<H> = Pass<Held<H>>;
 
-/// A node that threads share. Each call is that of `NodeState` under the same name, made in one turn of a lock, for which
-/// it waits; no clause says that a turn ever comes. Where the pass is let in, the call is one entry of a history that is
-/// legal from the node that this one was made with, begins with all that the pass had seen, and is what it has seen from
-/// then on. The reply stands in that entry, a refusal by the node among the replies. Each call also answers, with the pass
-/// as it was, `ForeignPass` where the pass bears the name of another node, else `PassSpent` where it has made as many calls as it may.
+/// A node that threads share. Each call is that of `NodeState` under the same name, made in one turn of a lock, for
+/// which it waits; no contract promises that a turn ever comes. A call that is made is one entry of a history that is
+/// legal from the node that this one was made with; the pass has seen this history from then on, and what it had seen
+/// before is a prefix of it. The entry has the reply, which may be an error of the node. A call that is not made
+/// returns a `LockError`, and leaves the pass unchanged.
 ///
-/// A pass that bears this node's name is to be one of those that were made with it, and in no call. Two locked nodes of one
-/// address bear one name, so `ForeignPass` does not tell their passes apart.
+/// A pass that has this node's name has to be one of those that were made with it, and in no call. Two locked nodes of
+/// one address have one name, so `ForeignPass` does not tell their passes apart.
 #[derive(Drop)]
 pub struct LockedNode<H: PointHash> {
     pub(crate) lock: TurnLock<Held<H>>,
@@ -33,11 +33,14 @@ impl<H: PointHash> LockedNode<H> {
     ghost use Rattle.turn_lock.specs.Passes.{number_of, IsInRange, IsNewError};
     ghost use Rattle.locked_node.specs.Passes.{opening_of, name_of, passes_of, AreOwn, Fits, IsNew, IsClosed, RefusesToClose};
 
-    /// The node, shared by so many passes (1 to 1,024), each for so many calls (at least 1). Its name is the number of its
-    /// address, the IPv4 number times 65,536 plus the port. The passes come in the order of their numbers, from 0 on.
+    /// Shares the node by `passes` passes (1 to 1,024), each for `turns` calls (at least 1). Its name is the number of
+    /// its address, the IPv4 number times 65,536 plus the port. The passes come in the order of their numbers, from 0
+    /// on.
     ///
-    /// Errors: `BadCount`, with the very node, where the passes or the turns are out of range, else `Memory` where a growth
-    /// was refused. At `Memory` the node is given up.
+    /// # Errors
+    ///
+    /// - `BadCount`: the passes or the turns are out of range. This is checked first. The node is returned.
+    /// - `Memory`: out of memory. The node is dropped.
     pub fn new(
         alloc: Global,
         node: NodeState<H>,
@@ -60,12 +63,14 @@ impl<H: PointHash> LockedNode<H> {
         }
     }
 
-    /// Takes the node back, after one history that is legal from the node that this one was made with: each pass had seen
-    /// a beginning of it, and it has the calls of each pass, once and in their order, and no other. The node is that of
-    /// the history's log. The passes are all that were made, each once, in whatever order. Nothing grows here.
+    /// Takes the node back, after one history that is legal from the node that this one was made with: each pass had
+    /// seen a prefix of it, and it has the calls of each pass, once and in their order, and no other. The node is that
+    /// of the history's log. The passes are all that were made, without repetition, in any order. Nothing is allocated.
     ///
-    /// Errors: `ForeignPass` where some pass bears another node's name, else `MissingPass` where there are fewer passes than
-    /// were made, both with the very node and passes.
+    /// # Errors
+    ///
+    /// - `ForeignPass`: some pass has another node's name. This is checked first. The node and the passes are returned.
+    /// - `MissingPass`: there are fewer passes than were made. The node and the passes are returned.
     pub fn close(self, passes: Vec<NodePass<H>>) -> Result<NodeState<H>, CloseRefused<H>>
         requires { All (Fits self) passes.items }
         ensures closed { IfOk result (IsClosed H.hash_of self passes.items) }

@@ -5,7 +5,7 @@ ghost use Rattle.node_core.specs.declared.events.Event.TheVariants as event;
 ghost use Rattle.node_core.specs.declared.events.Reply.TheVariants as reply;
 
 use crate::node::{LockedNode, NodePass};
-use crate::turns::Asked;
+use crate::turns::LockedCall;
 use change_core::{Address, Moment};
 use detector_core::{Probe, Running, Said};
 use hash_ring::PointHash;
@@ -16,14 +16,14 @@ use turn_lock::LockError;
 #[derive(Clone, Copy)]
 struct NextProbe;
 
-impl<H: PointHash> Asked<H> for NextProbe {
+impl<H: PointHash> LockedCall<H> for NextProbe {
     type Reply = Result<Option<Probe>, NodeError>;
 
     ghost call = { λ _. OfEvent event.Probe };
 
     ghost answer = { λ r. WithReply (reply.Probe r) };
 
-    fn ask(&self, node: &mut NodeState<H>) -> Result<Option<Probe>, NodeError> {
+    fn perform(&self, node: &mut NodeState<H>) -> Result<Option<Probe>, NodeError> {
         node.probe()
     }
 }
@@ -31,14 +31,14 @@ impl<H: PointHash> Asked<H> for NextProbe {
 #[derive(Clone, Copy)]
 struct Acked(u64);
 
-impl<H: PointHash> Asked<H> for Acked {
+impl<H: PointHash> LockedCall<H> for Acked {
     type Reply = Result<(), NodeError>;
 
     ghost call = { λ a. OfEvent (event.Acked a.0) };
 
     ghost answer = { λ r. WithReply (reply.Acked r) };
 
-    fn ask(&self, node: &mut NodeState<H>) -> Result<(), NodeError> {
+    fn perform(&self, node: &mut NodeState<H>) -> Result<(), NodeError> {
         node.acked(self.0)
     }
 }
@@ -46,14 +46,14 @@ impl<H: PointHash> Asked<H> for Acked {
 #[derive(Clone, Copy)]
 struct Lost(u64, Moment);
 
-impl<H: PointHash> Asked<H> for Lost {
+impl<H: PointHash> LockedCall<H> for Lost {
     type Reply = Result<NodeLost, NodeError>;
 
     ghost call = { λ a. OfEvent (event.Lost a.0 a.1) };
 
     ghost answer = { λ r. WithReply (reply.Lost r) };
 
-    fn ask(&self, node: &mut NodeState<H>) -> Result<NodeLost, NodeError> {
+    fn perform(&self, node: &mut NodeState<H>) -> Result<NodeLost, NodeError> {
         node.lost(self.0, self.1)
     }
 }
@@ -61,14 +61,14 @@ impl<H: PointHash> Asked<H> for Lost {
 #[derive(Clone, Copy)]
 struct HelperSaid(u64, Address, Said, Moment);
 
-impl<H: PointHash> Asked<H> for HelperSaid {
+impl<H: PointHash> LockedCall<H> for HelperSaid {
     type Reply = Result<NodeOutcome, NodeError>;
 
     ghost call = { λ a. OfEvent (event.HelperSaid a.0 a.1 a.2 a.3) };
 
     ghost answer = { λ r. WithReply (reply.HelperSaid r) };
 
-    fn ask(&self, node: &mut NodeState<H>) -> Result<NodeOutcome, NodeError> {
+    fn perform(&self, node: &mut NodeState<H>) -> Result<NodeOutcome, NodeError> {
         node.helper_said(self.0, self.1, self.2, self.3)
     }
 }
@@ -76,14 +76,14 @@ impl<H: PointHash> Asked<H> for HelperSaid {
 #[derive(Clone, Copy)]
 struct RunningProbe;
 
-impl<H: PointHash> Asked<H> for RunningProbe {
+impl<H: PointHash> LockedCall<H> for RunningProbe {
     type Reply = Option<Running>;
 
     ghost call = { λ _. OfEvent event.Running };
 
     ghost answer = { λ r. WithReply (reply.Running r) };
 
-    fn ask(&self, node: &mut NodeState<H>) -> Option<Running> {
+    fn perform(&self, node: &mut NodeState<H>) -> Option<Running> {
         node.running()
     }
 }
@@ -91,7 +91,15 @@ impl<H: PointHash> Asked<H> for RunningProbe {
 impl<H: PointHash> LockedNode<H> {
     ghost use Rattle.locked_node.specs.Passes.{Fits, IsAnswered, IsBarred};
 
-    /// Begins a probe of the next member in turn, or answers None where there is none, or `Busy`, `Spent` or `Memory`.
+    /// Starts a probe of the next member in turn. The reply is None if no member is pingable, and may be `Busy`,
+    /// `Spent` or `Memory`.
+    ///
+    /// # Errors
+    ///
+    /// The call is not made, and the pass is unchanged.
+    ///
+    /// - `ForeignPass`: the pass has another node's name. This is checked first.
+    /// - `PassSpent`: the pass has made all its calls.
     pub fn probe<R: Wait>(
         &self,
         rt: &R,
@@ -105,7 +113,14 @@ impl<H: PointHash> LockedNode<H> {
         self.turn(rt, pass, &NextProbe)
     }
 
-    /// Ends a probe whose target was reached. It may answer `StaleProbe`.
+    /// Ends a probe whose target was reached. The reply may be `StaleProbe`.
+    ///
+    /// # Errors
+    ///
+    /// The call is not made, and the pass is unchanged.
+    ///
+    /// - `ForeignPass`: the pass has another node's name. This is checked first.
+    /// - `PassSpent`: the pass has made all its calls.
     pub fn acked<R: Wait>(
         &self,
         rt: &R,
@@ -120,7 +135,15 @@ impl<H: PointHash> LockedNode<H> {
         self.turn(rt, pass, &Acked(number))
     }
 
-    /// Gives a probe up: others are to be asked about its target, or it is suspect; or answers `StaleProbe` or `Memory`.
+    /// Ends the direct ping of a probe as lost: others have to be asked about its target, or it is suspect. The reply
+    /// may be `StaleProbe` or `Memory`.
+    ///
+    /// # Errors
+    ///
+    /// The call is not made, and the pass is unchanged.
+    ///
+    /// - `ForeignPass`: the pass has another node's name. This is checked first.
+    /// - `PassSpent`: the pass has made all its calls.
     pub fn lost<R: Wait>(
         &self,
         rt: &R,
@@ -136,8 +159,15 @@ impl<H: PointHash> LockedNode<H> {
         self.turn(rt, pass, &Lost(number, moment))
     }
 
-    /// Notes at a moment what a helper said of a target. Where the verdict is that the target is suspect, it is held so. It
-    /// may answer `StaleProbe`, `NotAsked` or `Memory`.
+    /// Records, at a moment, a helper's report on a target. If the verdict is that the target is suspect, the node
+    /// holds it so. The reply may be `StaleProbe`, `NotAsked` or `Memory`.
+    ///
+    /// # Errors
+    ///
+    /// The call is not made, and the pass is unchanged.
+    ///
+    /// - `ForeignPass`: the pass has another node's name. This is checked first.
+    /// - `PassSpent`: the pass has made all its calls.
     pub fn helper_said<R: Wait>(
         &self,
         rt: &R,
@@ -155,7 +185,14 @@ impl<H: PointHash> LockedNode<H> {
         self.turn(rt, pass, &HelperSaid(number, helper, said, moment))
     }
 
-    /// The probe that runs, with the helper of least address that was asked and has not answered.
+    /// Returns the probe that runs, with the helper of least address that was asked and has not answered.
+    ///
+    /// # Errors
+    ///
+    /// The call is not made, and the pass is unchanged.
+    ///
+    /// - `ForeignPass`: the pass has another node's name. This is checked first.
+    /// - `PassSpent`: the pass has made all its calls.
     pub fn running<R: Wait>(
         &self,
         rt: &R,

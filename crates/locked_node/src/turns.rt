@@ -11,8 +11,8 @@ use std::marker::PhantomData;
 use std::sync::Wait;
 use turn_lock::{LockError, TurnLock};
 
-/// A call of the node with its arguments: how it is made, and what the history has of it.
-pub(crate) trait Asked<H: PointHash> {
+/// A call of the node with its arguments, and its entry in the history.
+pub(crate) trait LockedCall<H: PointHash> {
     ghost use Rattle.node_core.specs.Calls.{Call, Answer, CallStep};
 
     type Reply;
@@ -21,20 +21,20 @@ pub(crate) trait Asked<H: PointHash> {
 
     ghost answer: { Self.Reply → Answer H };
 
-    fn ask(&self, node: &mut NodeState<H>) -> Self::Reply
+    fn perform(&self, node: &mut NodeState<H>) -> Self::Reply
         ensures { CallStep H.hash_of node.old.node (call self.now) (answer result) node.new.node };
 }
 
-/// How a turn ends in which such a call was made.
+/// The end of a turn in which such a call was made.
 struct TurnEnd<H, A> {
     hash: PhantomData<H>,
     asked: PhantomData<A>,
 }
 
-impl<H: PointHash, A: Asked<H>> TurnEnd<H, A> {
+impl<H: PointHash, A: LockedCall<H>> TurnEnd<H, A> {
     ghost use Rattle.locked_node.specs.History.{CallEntry, StandsFor};
 
-    /// Gives the turn back. What was asked and answered stands there for contracts, where it names the entry.
+    /// Gives the turn back. The call and the reply are parameters for contracts alone, which name the entry by them.
     fn leave(
         lock: &TurnLock<Held<H>>,
         pass: &mut NodePass<H>,
@@ -56,9 +56,10 @@ impl<H: PointHash, A: Asked<H>> TurnEnd<H, A> {
 impl<H: PointHash> LockedNode<H> {
     ghost use Rattle.locked_node.specs.Passes.{Fits, IsBarred, IsCalled};
 
-    /// Waits for a turn, makes the call of the node, and gives the turn back. It waits at the gate, where the kernel wakes it,
-    /// and any waiter may be next; a ticket would name the one thread that goes on, whether a processor runs it or not.
-    pub(crate) fn turn<R: Wait, A: Asked<H>>(
+    /// Waits for a turn, makes the call of the node, and gives the turn back. It waits at the gate, where the kernel
+    /// wakes it, and any waiter may be next; a ticket would name the one thread that runs next, whether a processor
+    /// runs it or not.
+    pub(crate) fn turn<R: Wait, A: LockedCall<H>>(
         &self,
         rt: &R,
         pass: &mut NodePass<H>,
@@ -71,7 +72,7 @@ impl<H: PointHash> LockedNode<H> {
     {
         let _gate = self.gate.lock(rt);
         let mut held = self.lock.enter(rt, pass)?;
-        let reply = asked.ask(&mut held.node);
+        let reply = asked.perform(&mut held.node);
         TurnEnd::<H, A>::leave(&self.lock, pass, held, asked, &reply);
         Ok(reply)
     }

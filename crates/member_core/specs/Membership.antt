@@ -1,6 +1,6 @@
--- What contracts see of a node's membership, how it judges a change, and what a commit makes of it. That a node refutes a wrong change
--- about itself by a greater incarnation is SWIM (DSN 2002, section 4.2), and that it may hold itself as leave is ringpop-go, package swim.
--- The verdicts, weights and limits are this project's.
+-- The model of a node's membership, the verdict on a change, and the effect of a commit. That a node refutes a wrong change about itself by
+-- a greater incarnation is SWIM (DSN 2002, section 4.2), and that it may hold itself as leave is ringpop-go, package swim. The verdicts,
+-- weights and limits are this project's.
 use Rattle.std.specs.Prelude.{◌≡◌, ℕ, ◌<◌, ◌≤◌, cond, ◌==◌, nat_lt, ◌&&◌, List, [], ◌∷◌, ◌++◌, Some, None, length, is_none}
 use Rattle.change_core.specs.declared.changes.Change.{Change}
 use Rattle.change_core.specs.declared.changes.Sourced.{Sourced}
@@ -14,7 +14,7 @@ use Rattle.change_core.specs.Members.{greatest, members, is_news, IsMemberList}
 use Rattle.member_core.specs.declared.verdicts.Verdict.{Verdict}
 use Rattle.member_core.specs.declared.verdicts.Verdict.TheVariants.{Old, Take, Refute, Exhausted, Full}
 
--- the node's own entry, all members with it, how many there may be, and how many more find room without a growth
+-- the node's own entry, all members with it, their greatest number, and for how many more there is room without an allocation
 pub record Membership : Type 0 where
   pub own : Change
   pub members : List Change
@@ -42,21 +42,21 @@ pub record IsMembership (own : Change) (members : List Change) (max : ℕ) : Typ
 abbrev pub birth : ℕ → ℕ → ℕ → Change
 birth own incarnation weight = record { address = own; incarnation = incarnation; status = Alive; weight = weight }
 
--- a change about the node itself: old unless it exceeds the node's own entry; taken where it has the node's own status, whatever its
--- weight; else refuted while an incarnation is left
+-- a change about the node itself: old unless it exceeds the node's own entry; taken if it has the node's own status, whatever its weight;
+-- else refuted while an incarnation is left
 abbrev pub judged_own : Change → Change → Verdict
 judged_own own c =
     cond (exceeds c own) (cond (rank c.status == rank own.status) (Take c) (cond (nat_lt c.incarnation greatest_number) (Refute c (refutation own c)) Exhausted)) Old
 
--- a change about another: old where what is held stands against it; else taken, unless its address is unknown and there is no room
+-- a change about another: old unless it exceeds the current entry; else taken, unless its address is unknown and there is no room
 abbrev pub judged_other : List Change → ℕ → Change → Verdict
 judged_other ms max c = cond (is_news ms c) (cond (is_none (greatest ms c.address) && (length ms == max)) Full (Take c)) Old
 
--- what becomes of a change
+-- the verdict on a change
 abbrev pub judged : Membership → Change → Verdict
 judged m c = cond (c.address == m.own.address) (judged_own m.own c) (judged_other m.members m.max c)
 
--- what a verdict puts in
+-- the entries that a verdict writes
 abbrev pub put_in : Verdict → List Change
 put_in Old = []
 put_in (Take c) = c ∷ []
@@ -64,11 +64,11 @@ put_in (Refute given next) = given ∷ next ∷ []
 put_in Exhausted = []
 put_in Full = []
 
--- the node's own entry after a change that was put in
+-- the node's own entry after a change is written
 abbrev pub own_after : Change → Change → Change
 own_after own c = cond (c.address == own.address) c own
 
--- the node's own entry after a commit: what was taken about the node itself, or its refutation
+-- the node's own entry after a commit: the change that was applied to the node itself, or its refutation
 abbrev pub own_committed : Change → Verdict → Change
 own_committed own Old = own
 own_committed own (Take c) = own_after own c
@@ -76,7 +76,7 @@ own_committed own (Refute given next) = next
 own_committed own Exhausted = own
 own_committed own Full = own
 
--- a membership after its own entry became this one and these changes were put in, with the room that is left
+-- a membership after its own entry became this one and these changes were written, with the room that is left
 abbrev pub after_put : Membership → Change → List Change → ℕ → Membership
 after_put m own cs room = record { own = own; members = members (m.members ++ cs); max = m.max; room = room }
 
@@ -93,6 +93,6 @@ pub record IsOwnAssertion (own c : Change) : Type 0 where
   pub overrides : Overrides c own
   pub alive_or_leave : IsOwnStatus c.status
 
--- a change as the node itself says it
+-- a change with the node itself as its source
 abbrev pub said_by : Change → Change → Sourced
 said_by own c = record { change = c; source = own.address; source_incarnation = own.incarnation }

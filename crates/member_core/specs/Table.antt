@@ -1,15 +1,15 @@
--- What contracts see of a member table.
+-- The model of a member table.
 use Rattle.std.specs.Prelude.{ℕ, ◌≤◌, List, length}
 use Rattle.change_core.specs.declared.changes.Change.{Change}
 use Rattle.change_core.specs.Numbers.{most_members}
 use Rattle.change_core.specs.Members.{IsMemberList}
 
--- the members, and how many there may be
+-- the members, and their greatest number
 pub record Table : Type 0 where
   pub members : List Change
   pub max : ℕ
 
--- the same, and how many more members find room without a growth
+-- the same, and for how many more members there is room without an allocation
 pub record Store : Type 0 where
   pub members : List Change
   pub max : ℕ

@@ -1,4 +1,5 @@
-//! The laws of verdicts. Each is the contract of a function that does nothing, for every membership and every change.
+//! Theorems about verdicts. Each is the contract of a function that does nothing, for every membership and every
+//! change.
 ghost use Rattle.std.specs.Prelude.{◌≡◌, ◌≢◌, ◌↔◌, ◌<◌, ◌≤◌, false, IsTrue, None, Some, length};
 ghost use Rattle.change_core.specs.declared.changes.Change.{Change};
 ghost use Rattle.change_core.specs.Members.{greatest, members, is_news};
@@ -7,7 +8,7 @@ ghost use Rattle.change_core.specs.Refutation.{refutation, is_refuted, log_one};
 ghost use Rattle.member_core.specs.declared.verdicts.Verdict.TheVariants.{Old, Take, Refute, Exhausted, Full};
 ghost use Rattle.member_core.specs.Membership.{Membership, IsMembership, judged};
 
-/// A change is old exactly where it is no news to the members. The log with an old change comes to the same members.
+/// A change is old if and only if it is not new to the members. The log with an old change gives the same members.
 pub fn old_changes()
     ensures no_news { (m : Membership) (c : Change) → IsMembership m.own m.members m.max
         → (judged m c ≡ Old) ↔ (is_news m.members c ≡ false) }
@@ -15,9 +16,9 @@ pub fn old_changes()
         → judged m c ≡ Old → members (log_one m.own.address m.members c) ≡ m.members }
 {}
 
-/// When each other verdict comes. A change that calls for a refutation is refuted by it, or is exhausted where its incarnation is
-/// the greatest. It is full for an address that is unknown and not the node's own where there are as many members as there may
-/// be. Any other news is taken. A verdict speaks of the change that was given.
+/// The conditions of the other verdicts. A change that calls for a refutation is refuted by it, or is exhausted if its
+/// incarnation is the greatest. It is full if its address is unknown and not the node's own, and there are as many
+/// members as allowed. Any other new change is applied. A verdict is about the change that was given.
 pub fn verdicts()
     ensures full { (m : Membership) (c : Change) → IsMembership m.own m.members m.max
         → (judged m c ≡ Full) ↔ ((c.address ≢ m.own.address) × (greatest m.members c.address ≡ None) × (length m.members ≡ m.max)) }

@@ -1,4 +1,4 @@
-//! The members that a list of changes comes to, kept as a table and edited one change at a time.
+//! The members of a list of changes, kept as a table and updated one change at a time.
 #![tactic(auto)]
 
 mod entries;

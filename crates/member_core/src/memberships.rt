@@ -16,9 +16,9 @@ use std::marker::Model;
 
 /// The members as one node holds them, itself among them, always as alive or leave.
 ///
-/// Contracts see its own entry, the member list, the greatest number of members, and how many more find room
-/// without a growth. The node answers a wrong change about itself with a greater incarnation, as in SWIM
-/// (DSN 2002, section 4.2); precedence and the other rules are this project's.
+/// Contracts see its own entry, the member list, the greatest number of members, and for how many more there is room
+/// without an allocation. The node refutes a wrong change about itself with a greater incarnation, as in SWIM (DSN
+/// 2002, section 4.2); precedence and the other rules are this project's.
 #[derive(Drop)]
 pub struct Members {
     own: Change,
@@ -36,9 +36,12 @@ impl Model for Members {
 }
 
 impl Members {
-    /// The node alone, alive, with room for at most `max` members, from 1 to 4,096.
+    /// Makes the node alone, alive, with room for at most `max` members, from 1 to 4,096.
     ///
-    /// Errors: `BadLimit` for any other `max`, before memory is asked for; `Memory`.
+    /// # Errors
+    ///
+    /// - `BadLimit`: `max` is not from 1 to 4,096. This is checked before any allocation.
+    /// - `Memory`: out of memory.
     pub fn new(
         alloc: Global,
         own: Address,
@@ -58,7 +61,7 @@ impl Members {
         Ok(Members { own, entries })
     }
 
-    /// What becomes of a change. It takes no memory.
+    /// Returns the verdict on a change. It takes no memory.
     pub fn judge(&self, change: Change) -> Verdict
         ensures { result ≡ judged self.now change }
     {
@@ -69,9 +72,11 @@ impl Members {
         }
     }
 
-    /// Makes room for one more entry. Where there is room already it succeeds.
+    /// Makes room for another entry. It succeeds if there is room already. After an error all is unchanged.
     ///
-    /// Errors: `Memory`.
+    /// # Errors
+    ///
+    /// - `Memory`: out of memory.
     pub fn reserve_one(&mut self) -> Result<(), MemberError>
         ensures ok { OnOk result (0 < self.new.room) }
         ensures kept { self.new ≡ record self.old { room = self.new.room } }
@@ -83,8 +88,8 @@ impl Members {
         self.entries.reserve_one()
     }
 
-    /// Puts in what the present verdict on a change says, which has to be `Take` or `Refute`. For an unknown
-    /// address room was made. It takes no memory.
+    /// Writes the entries of the current verdict on a change, which has to be `Take` or `Refute`. For an unknown
+    /// address there has to be room. It takes no memory.
     pub fn commit(&mut self, verdict: Verdict)
         requires { CanCommit self.old verdict }
         ensures value { self.new ≡ after_put self.old (own_committed self.old.own verdict) (put_in verdict) self.new.room }
@@ -106,7 +111,7 @@ impl Members {
         }
     }
 
-    /// Puts in what the node asserts of itself, to leave or to come back: about itself, overriding its entry,
+    /// Writes an entry that the node asserts of itself, to leave or to come back: about itself, overriding its entry,
     /// alive or leave. It takes no memory, and no room.
     pub fn commit_own(&mut self, change: Change)
         requires { IsOwnAssertion self.old.own change }
@@ -132,7 +137,7 @@ impl Members {
         }
     }
 
-    /// What is held of an address.
+    /// Returns the entry of an address.
     pub fn get(&self, address: Address) -> Option<Entry>
         ensures { result ≡ option_map entry_of (greatest self.now.members address) }
     {
@@ -147,7 +152,7 @@ impl Members {
         self.own
     }
 
-    /// How many members there are, the node itself among them.
+    /// Returns the number of members, the node itself among them.
     pub fn len(&self) -> usize
         ensures count { result ≡ length self.now.members }
         ensures valid { IsMembership self.now.own self.now.members self.now.max }
@@ -163,9 +168,11 @@ impl Members {
         self.entries.as_slice()
     }
 
-    /// The members, ascending by address.
+    /// Returns the members, ascending by address.
     ///
-    /// Errors: `Memory`.
+    /// # Errors
+    ///
+    /// - `Memory`: out of memory.
     pub fn list(&self) -> Result<Vec<Change>, MemberError>
         ensures list { IfOk result (λ v. v.items ≡ self.now.members) }
         ensures refusal { IsOkUnless result MemberError.Memory }
@@ -173,10 +180,12 @@ impl Members {
         self.entries.list()
     }
 
-    /// The members as one line of text: address, status word, incarnation, and `*` and the weight where it is
-    /// over 1, without spaces, joined by `;`.
+    /// Returns the members as one line of text: address, status word, incarnation, and `*` and the weight if it is over
+    /// 1, without spaces, joined by `;`.
     ///
-    /// Errors: `Memory`.
+    /// # Errors
+    ///
+    /// - `Memory`: out of memory.
     pub fn digest_text(&self) -> Result<String, MemberError>
         ensures text { IfOk result (λ s. string_bytes s ≡ digest_text self.now.members) }
         // No other list of changes has the text.
@@ -186,9 +195,11 @@ impl Members {
         self.entries.text()
     }
 
-    /// The SHA-256 of the digest text (FIPS 180-4).
+    /// Returns the SHA-256 of the digest text (FIPS 180-4).
     ///
-    /// Errors: `Memory`, for the text.
+    /// # Errors
+    ///
+    /// - `Memory`: out of memory for the text.
     pub fn digest(&self) -> Result<Digest, MemberError>
         ensures digest { IfOk result (λ d. d.bytes ≡ sha256 (digest_text self.now.members)) }
         ensures refusal { IsOkUnless result MemberError.Memory }
@@ -196,10 +207,12 @@ impl Members {
         self.entries.digest()
     }
 
-    /// The same, and it is kept: until a change is put in, neither this call nor `digest` makes it anew or asks for
-    /// memory.
+    /// Returns the digest and keeps it: until a change is written, neither this call nor `digest` computes it again or
+    /// allocates.
     ///
-    /// Errors: `Memory`, for the text.
+    /// # Errors
+    ///
+    /// - `Memory`: out of memory for the text.
     pub fn keep_digest(&mut self) -> Result<Digest, MemberError>
         ensures digest { IfOk result (λ d. d.bytes ≡ sha256 (digest_text self.old.members)) }
         ensures same { self.new ≡ self.old }
@@ -208,10 +221,12 @@ impl Members {
         self.entries.keep_digest()
     }
 
-    /// The members, ascending by address, each with the node itself as source, at its incarnation: a full
+    /// Returns the members, ascending by address, each with the node itself as source, at its incarnation: a full
     /// synchronisation (ringpop-go, package swim).
     ///
-    /// Errors: `Memory`.
+    /// # Errors
+    ///
+    /// - `Memory`: out of memory.
     pub fn full_sync(&self) -> Result<Vec<Sourced>, MemberError>
         ensures list { IfOk result (λ v. v.items ≡ map (said_by self.now.own) self.now.members) }
         ensures refusal { IsOkUnless result MemberError.Memory }
@@ -220,7 +235,7 @@ impl Members {
     }
 }
 
-/// The node's own entry after a change is put in.
+/// Returns the node's own entry after a change is written.
 fn own_after(own: &Change, change: &Change) -> Change
     ensures { result ≡ own_after own.now change.now }
 {
@@ -243,7 +258,7 @@ fn birth(own: Address, incarnation: Incarnation, weight: Weight) -> Change
     }
 }
 
-/// What becomes of a change about the node itself.
+/// Returns the verdict on a change about the node itself.
 fn judge_own(own: &Change, change: &Change) -> Verdict
     requires { change.now.address ≡ own.now.address }
     ensures { result ≡ judged_own own.now change.now }
@@ -268,7 +283,7 @@ fn judge_own(own: &Change, change: &Change) -> Verdict
     }
 }
 
-/// What becomes of a change about another.
+/// Returns the verdict on a change about another node.
 #[tactic(auto, using(crate::proofs::Commits::old_of_other))]
 fn judge_other(entries: &Entries, change: &Change) -> Verdict
     ensures { result ≡ judged_other entries.now.members entries.now.max change.now }
@@ -291,7 +306,7 @@ fn judge_other(entries: &Entries, change: &Change) -> Verdict
     }
 }
 
-/// Each change as the node itself says it.
+/// Returns each change with the node itself as its source.
 fn said_by(alloc: Global, own: &Change, changes: &[Change]) -> Result<Vec<Sourced>, MemberError>
     ensures list { IfOk result (λ v. v.items ≡ map (said_by own.now) changes.now) }
     ensures refusal { IsOkUnless result MemberError.Memory }

@@ -11,10 +11,10 @@ use change_core::{Address, Change, Digest, Entry};
 use std::alloc::Global;
 use std::marker::Model;
 
-/// The greatest change of each address among all that were taken, ascending by address. No address is its own.
+/// The greatest change of each address among all that were applied, ascending by address. The table has no own address.
 ///
-/// Contracts see the member list and the greatest number of members. Entries are kept sorted and looked up by
-/// halving.
+/// Contracts see the member list and the greatest number of members. Entries are kept sorted and looked up by binary
+/// search.
 #[derive(Drop)]
 pub struct MemberTable {
     entries: Entries,
@@ -31,9 +31,11 @@ impl Model for MemberTable {
 }
 
 impl MemberTable {
-    /// An empty table for at most `max` members, from 1 to 4,096. It takes no memory yet.
+    /// Makes an empty table for at most `max` members, from 1 to 4,096. It takes no memory yet.
     ///
-    /// Errors: `BadLimit` for any other `max`.
+    /// # Errors
+    ///
+    /// - `BadLimit`: `max` is not from 1 to 4,096.
     pub fn new(alloc: Global, max: usize) -> Result<Self, MemberError>
         ensures ok { IfOk result (λ t. (t.members ≡ []) × (t.max ≡ max) × (1 ≤ max) × (max ≤ most_members)) }
         ensures refusal { IsOkUnless result MemberError.BadLimit }
@@ -43,17 +45,20 @@ impl MemberTable {
         Ok(MemberTable { entries })
     }
 
-    /// Takes a change, and answers whether it altered the entry of its address.
+    /// Applies a change, and returns whether it altered the entry of its address. After an error the table is
+    /// unchanged.
     ///
-    /// Errors: `Full` exactly for an unknown address where there are `max` members; `Memory` for an unknown
-    /// address whose entry finds no room. The table is then as before.
+    /// # Errors
+    ///
+    /// - `Full`: the address is unknown and there are `max` members.
+    /// - `Memory`: out of memory; only for an unknown address.
     pub fn take(&mut self, change: Change) -> Result<bool, MemberError>
         ensures ok { IfOk result (λ altered. (altered ≡ is_news self.old.members change)
             × (self.new.members ≡ members (self.old.members ++ change ∷ []))) }
         ensures max { self.new.max ≡ self.old.max }
         ensures fits { length self.new.members ≤ self.new.max }
 
-        // What is known is taken, whatever memory there is.
+        // A change about a known address never fails.
         ensures full { IsErrOf result MemberError.Full ↔
             ((greatest self.old.members change.address ≡ None) × (length self.old.members ≡ self.old.max)) }
         ensures known { IsSome (greatest self.old.members change.address) → IsOk result }
@@ -64,14 +69,14 @@ impl MemberTable {
         self.entries.put(&change)
     }
 
-    /// What is held of an address.
+    /// Returns the entry of an address.
     pub fn get(&self, address: Address) -> Option<Entry>
         ensures { result ≡ option_map entry_of (greatest self.now.members address) }
     {
         self.entries.find(address).map(|change| change.entry())
     }
 
-    /// How many members there are.
+    /// Returns the number of members.
     pub fn len(&self) -> usize
         ensures count { result ≡ length self.now.members }
         ensures valid { IsTable self.now.members self.now.max }
@@ -79,16 +84,18 @@ impl MemberTable {
         self.entries.len()
     }
 
-    /// Whether no member is held: not a change was taken.
+    /// Returns whether the table is empty: no change was applied.
     pub fn is_empty(&self) -> bool
         ensures { IsTrue result ↔ (self.now.members ≡ []) }
     {
         self.entries.as_slice().is_empty()
     }
 
-    /// The members, ascending by address.
+    /// Returns the members, ascending by address.
     ///
-    /// Errors: `Memory`.
+    /// # Errors
+    ///
+    /// - `Memory`: out of memory; never without members.
     pub fn list(&self) -> Result<Vec<Change>, MemberError>
         ensures list { IfOk result (λ v. v.items ≡ self.now.members) }
         ensures growth { OnErr result (0 < length self.now.members) }
@@ -97,10 +104,12 @@ impl MemberTable {
         self.entries.list()
     }
 
-    /// The members as one line of text: address, status word, incarnation, and `*` and the weight where it is
-    /// over 1, without spaces, joined by `;`.
+    /// Returns the members as one line of text: address, status word, incarnation, and `*` and the weight if it is over
+    /// 1, without spaces, joined by `;`.
     ///
-    /// Errors: `Memory`.
+    /// # Errors
+    ///
+    /// - `Memory`: out of memory; never without members.
     pub fn digest_text(&self) -> Result<String, MemberError>
         ensures text { IfOk result (λ s. string_bytes s ≡ digest_text self.now.members) }
         // No other list of changes has the text.
@@ -111,9 +120,11 @@ impl MemberTable {
         self.entries.text()
     }
 
-    /// The SHA-256 of the digest text (FIPS 180-4).
+    /// Returns the SHA-256 of the digest text (FIPS 180-4).
     ///
-    /// Errors: `Memory`, for the text.
+    /// # Errors
+    ///
+    /// - `Memory`: out of memory for the text; never without members.
     pub fn digest(&self) -> Result<Digest, MemberError>
         ensures digest { IfOk result (λ d. d.bytes ≡ sha256 (digest_text self.now.members)) }
         ensures growth { OnErr result (0 < length self.now.members) }

@@ -1,6 +1,6 @@
--- How many keys a request has.
+-- The greatest number of keys of a request.
 use Rattle.std.specs.Prelude.{ℕ}
 
--- how many keys a request has at most
+-- the greatest number of keys of a request
 abbrev pub max_keys : ℕ
 max_keys = 256

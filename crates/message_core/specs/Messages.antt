@@ -1,4 +1,4 @@
--- What a message is for.
+-- The kind of a message.
 use Rattle.message_core.specs.declared.kinds.Kind.{Kind}
 use Rattle.message_core.specs.declared.kinds.Kind.TheVariants as kind
 use Rattle.message_core.specs.declared.messages.Content.{Content}

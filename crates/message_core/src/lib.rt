@@ -1,5 +1,4 @@
-//! What nodes send to one another: messages, the lists and texts in them, and the words and names that stand for their
-//! parts in JSON.
+//! The messages that nodes send to one another, the lists and texts in them, and the names of their parts in JSON.
 #![tactic(auto)]
 
 mod errors;

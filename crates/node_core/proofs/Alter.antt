@@ -23,7 +23,7 @@ use Rattle.node_core.specs.declared.configs.Config.{Config}
 use Rattle.node_core.specs.declared.errors.NodeError.{NodeError}
 use Rattle.node_core.specs.Invariant.{IsNode}
 use Rattle.node_core.specs.Node.{Node, altered, asserts, is_timed, members_after, next_status, timers_with, wait_for}
-use Rattle.node_core.specs.Parts.{Parts, AreParts, node_of, seen_in}
+use Rattle.node_core.specs.Parts.{Parts, AreParts, node_of}
 use Rattle.node_core.proofs.Agreed.{ring_of-hash}
 use Rattle.node_core.proofs.Kept.{altered_kept}
 
@@ -105,12 +105,6 @@ module _ {H : Type 0} (hash_of : H → List ℕ → ℕ) (p : Parts H) (parts : 
       ∙ ap (λ (x : RingModel H). record (node_of edited) { own = p.members.own.address; members = p.members.members; hash = x.hash }) e.ring_err
       ∙ ap (λ (ts : List Timer). record (node_of p) { timers = ts; gossip = gossip }) e.rest_err.0
       ∙ ap (λ (g : Dissemination). record (node_of p) { gossip = g }) e.rest_err.1
-
-  pub edited_same : (r : Result (Unit {0}) NodeError) → Edited r → OnErr r (seen_in edited ≡ seen_in p)
-  edited_same (Ok done) e = tt
-  edited_same (Err error) e =
-      ap (λ (n : Node H). record (seen_in edited) { node = n }) (node_same error e)
-      ∙ ap (λ (x : RingModel H). record (seen_in p) { points = x.points }) e.ring_err
 
   pub edited_parts : (r : Result (Unit {0}) NodeError) → Edited r → AreParts hash_of edited
   edited_parts (Ok done) e =

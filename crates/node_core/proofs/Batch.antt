@@ -2,7 +2,6 @@
 use Rattle.std.proofs.Common.{◌≡◌, ℕ, ◌+◌, ◌<◌, ◌≤◌, List, [], ◌∷◌, ◌++◌, map, take, drop, length, get_or, Some, None, refl, sym, ◌∙◌, ap, subst, arith}
 use Rattle.std.proofs.lemmas.List.{take_more, drop_more}
 use Rattle.std.proofs.lemmas.Option.{slice_get-get_or}
-use Rattle.std.proofs.Math.Seq.{take-length, drop-length}
 use Rattle.change_core.specs.declared.changes.Change.{Change}
 use Rattle.change_core.specs.declared.changes.Sourced.{Sourced}
 use Rattle.change_core.specs.Members.{greatest, members, alters}
@@ -12,7 +11,7 @@ use Rattle.change_core.specs.Refutation.{is_refuted, log_one}
 use Rattle.change_core.specs.Change.{change_of}
 use Rattle.node_core.specs.Log.{applied, refuted, one_if}
 use Rattle.node_core.specs.Node.{Node}
-use Rattle.node_core.specs.Taking.{alteration, took, took_all, NoneRefused, refusal, StopsFor, TakesOne, StopsOne, TakesAll, TakesFirst, altered_in, refuted_by}
+use Rattle.node_core.specs.Taking.{alteration, took, took_all, NoneRefused, refusal, StopsFor, TakesOne, StopsOne, TakesFirst, altered_in, refuted_by}
 use Rattle.node_core.proofs.Greatest.{Agree, greatest-members}
 use Rattle.node_core.proofs.Log.{IsSettled, agree-log_one, took_members, altered_by-own, settled-by}
 
@@ -90,17 +89,6 @@ module _ {H : Type 0} (start : Node H) (given : List Sourced) where
         refuted_is = omega (arith, right, so.refuted_is);
         few = omega (arith, so.few);
         fewer = omega (arith, so.fewer);
-      }
-
-  pub TakesAll-end : (n a r : ℕ) (node : Node H) → n ≡ length given → HasTaken start given n a r node → TakesAll start given (record { applied = a; refuted = r }) node
-  TakesAll-end n a r node end so =
-      let front : take n given ≡ given = ap (λ k. take k given) end ∙ take-length given in
-      let back : map change_of (drop n given) ≡ [] = ap (λ k. map change_of (drop k given)) end ∙ ap (map change_of) (drop-length given) in
-      record {
-        none_refused = subst (λ (ss : List Sourced). NoneRefused start ss) front so.none_refused;
-        applied_is = omega (arith, ap (applied node.own node.members) back, so.applied_is);
-        refuted_is = omega (arith, ap (refuted node.own node.members) back, so.refuted_is);
-        new_is = so.node_is ∙ ap (took_all start) front;
       }
 
   pub TakesFirst-stop : (n a r : ℕ) (node new : Node H) (s : Sourced) (cause : StopCause) → n < length given → s ≡ get_or given n s → HasTaken start given n a r node → StopsOne node s cause new

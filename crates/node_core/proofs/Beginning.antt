@@ -17,7 +17,7 @@ use Rattle.node_core.specs.declared.configs.Config.{Config}
 use Rattle.node_core.specs.Configs.{IsConfig}
 use Rattle.node_core.specs.Invariant.{IsNode}
 use Rattle.node_core.specs.Node.{Node, asserted_by, birth}
-use Rattle.node_core.specs.Parts.{Parts, AreParts, node_of, seen_in, seen_of}
+use Rattle.node_core.specs.Parts.{Parts, AreParts, node_of}
 use Rattle.node_core.specs.World.{newborn}
 use Rattle.node_core.proofs.Agreed.{ring_of-hash}
 use Rattle.node_core.proofs.Invariant.{newborn_kept}
@@ -71,12 +71,6 @@ module _ {H : Type 0} (hash_of : H → List ℕ → ℕ) (hash : H) (config : Co
         ∙ ap (λ (g : Dissemination). record (node_of begun) { own = own; hash = hash; members = birth own incarnation config.weight ∷ []; gossip = g }) gossip_begun
         ∙ ap (λ (t : TimerList). record (newborn hash config own incarnation moment generator) { timers = t.timers; probing = probing }) b.timers_are
         ∙ ap (λ (s : ProbeState). record (newborn hash config own incarnation moment generator) { probing = s }) b.probing_is
-
-    pub seen_begun : seen_in begun ≡ seen_of hash_of (newborn hash config own incarnation moment generator)
-    seen_begun =
-        ap (λ (n : Node H). record (seen_in begun) { node = n }) node_begun
-        ∙ ap (λ (r : RingModel H). record { node = newborn hash config own incarnation moment generator; points = r.points })
-        (b.ring_is ∙ ap (λ (ss : List Server). ring_of hash (hash_of hash) config.replicas ss ring.room) (sym (servers_of-birth own incarnation config.weight)))
 
     pub parts_begun : IsConfig config → AreParts hash_of begun
     parts_begun configured = record {

@@ -1,5 +1,5 @@
 -- What a membership may be edited by, and what it is then.
-use Rattle.std.proofs.Common.{◌≡◌, ◌≢◌, ℕ, ◌<◌, ◌&&◌, Bool, true, false, not, cond, eqb, List, [], ◌∷◌, ◌++◌, length, Option, Some, None, map, refl, sym, ◌∙◌, ap, subst, inl, inr}
+use Rattle.std.proofs.Common.{◌≡◌, ◌≢◌, ℕ, ◌&&◌, Bool, true, false, not, cond, eqb, List, [], ◌∷◌, ◌++◌, length, Option, Some, None, map, refl, sym, ◌∙◌, ap, subst, inl, inr}
 use Rattle.std.specs.Prelude.{option_map}
 use Rattle.std.proofs.lemmas.Bool.{and_from, and_parts, eq-eqb, eqb-true, ne_eqb, cases_eq, not-false}
 use Rattle.change_core.specs.declared.changes.Change.{Change}
@@ -16,7 +16,7 @@ use Rattle.detector_core.specs.declared.timers.Timer.{Timer}
 use Rattle.detector_core.specs.Timers.{HasTimer}
 use Rattle.member_core.specs.declared.verdicts.Verdict.{Verdict}
 use Rattle.member_core.specs.declared.verdicts.Verdict.TheVariants.{Old, Take, Refute, Exhausted, Full}
-use Rattle.member_core.specs.Membership.{Membership, IsMembership, IsOwnStatus, CanCommit, judged, judged_other, judged_own, put_in, own_after, own_committed}
+use Rattle.member_core.specs.Membership.{Membership, IsMembership, IsOwnStatus, judged, judged_other, judged_own, put_in, own_after, own_committed}
 use Rattle.member_core.proofs.Commits.{Alters, CanPut-refute, is_news-alters, is_refuted-judged, members-refuted, refuted, refutes}
 use Rattle.node_core.specs.declared.edits.Edit.{Edit}
 use Rattle.node_core.specs.declared.edits.Edit.TheVariants.{Judged, Own}
@@ -104,13 +104,6 @@ module _ (m : Membership) (stands : IsMembership m.own m.members m.max) where
       let same : d ≡ c = cc in
       subst (IsGain m) same (record { news = own_news d may.overrides.0 ∙ exceeds-true d m.own may.overrides.1; stays = λ s. may.alive_or_leave })
 
-  pub CanCommit-edit : (v : Verdict) → MayEdit m (Judged v) → ((c : Change) → entry_in (Judged v) ≡ Some c → greatest m.members c.address ≡ None → 0 < m.room) → CanCommit m v
-  CanCommit-edit Old may room = absurd may
-  CanCommit-edit (Take c) may room = (may, room c refl)
-  CanCommit-edit (Refute given next) may room = may
-  CanCommit-edit Exhausted may room = absurd may
-  CanCommit-edit Full may room = absurd may
-
   -- the members are those with the entry more
   pub members-put : (v : Verdict) → MayEdit m (Judged v) → (c : Change) → entry_in (Judged v) ≡ Some c → members (m.members ++ put_in v) ≡ members (m.members ++ c ∷ [])
   members-put Old may c e = absurd may
@@ -152,12 +145,6 @@ pub IsTimed-kept : {H : Type 0} (hash_of : H → List ℕ → ℕ) (p : Parts H)
 IsTimed-kept hash_of p parts a c held timed =
     let r = timer_of-some (timer_of p.timers.timers a) _ (parts.kept.timed a ∙ ap (purpose p.members.own.address) held ∙ ap (λ b. cond b (Some (c.incarnation, next_status c.status)) None) timed) in
     HasTimer-of p.timers.timers a r.0 r.1
-
--- an entry that wants no timer has none to have, or has one
-pub unwanted : (timed waits : Bool) → (timed && not waits) ≡ false → timed ≡ true → waits ≡ true
-unwanted true true e h = refl
-unwanted true false e h = cc
-unwanted false waits e h = cc
 
 -- what is held of an address with a deadline has its timer, where the address is another's
 pub HasTimer-held : (own : ℕ) (members : List Change) (timers : List Timer) (c : Change) → IsTimed own members timers c.address → is_timed own c ≡ true

@@ -37,14 +37,6 @@ pub record Follows {H : Type 0} (old : Node H) (L : List Change) (new : Node H) 
   pub own_is : new.own ≡ old.own
   pub members_is : new.members ≡ members L
 
--- nothing was put in
-Follows-none : {H : Type 0} (old new : Node H) → IsSettled old → new.own ≡ old.own → new.members ≡ old.members → Follows old old.members new
-Follows-none old new settled o m = record { own_is = o; members_is = m ∙ sym settled }
-
-Follows-same : {H : Type 0} (old new : Node H) → IsSettled old → new ≡ old → Follows old old.members new
-Follows-same {H} old new settled e =
-    Follows-none old new settled (ap (λ (n : Node H). n.own) e) (ap (λ (n : Node H). n.members) e)
-
 Follows-is : {H : Type 0} (old new after : Node H) (L : List Change) → new ≡ after → Follows old L after → Follows old L new
 Follows-is {H} old new after L e f = subst (λ (n : Node H). Follows old L n) (sym e) f
 

@@ -1,4 +1,4 @@
--- Lists that hold the same changes come to the same, and so do nodes whose logs hold them.
+-- Lists that hold the same changes give the same members, owners and points, and so do nodes whose logs hold them.
 use Rattle.std.specs.Prelude.{◌≡◌, ℕ, List}
 use Rattle.change_core.specs.declared.changes.Change.{Change}
 use Rattle.change_core.specs.Members.{members, digest_text, HaveSameChanges}
@@ -13,7 +13,7 @@ pub record AgreeOnAll (L K : List Change) : Type 0 where
   pub owners_same : (hash : List ℕ → ℕ) (replicas : ℕ) (key : List ℕ) → owners hash replicas (servers_of L) key ≡ owners hash replicas (servers_of K) key
   pub points_same : (hash : List ℕ → ℕ) (replicas : ℕ) → points hash replicas (servers_of L) ≡ points hash replicas (servers_of K)
 
--- what a node holds is what this log comes to: its members, and the points of its ring
+-- a node holds the result of this log: its members, and the points of its ring
 pub record IsNodeOf {H : Type 0} (hash_of : H → List ℕ → ℕ) (seen : Seen H) (log : List Change) : Type 0 where
   pub members_are : seen.node.members ≡ members log
   pub points_are : seen.points ≡ points (hash_of seen.node.hash) seen.node.config.replicas (servers_of log)
@@ -34,7 +34,7 @@ NodesAgree {H} hash_of =
     (a b : Seen H) (L K : List Change) → IsNodeOf hash_of a L → IsNodeOf hash_of b K → HaveSameChanges L K
     → a.node.hash ≡ b.node.hash → a.node.config.replicas ≡ b.node.config.replicas → Agree hash_of a b
 
--- what a node answers is what the definitions say of this log: the text, the digest, the servers of a view, the owners of every key
+-- a node's answers are those that the definitions give for this log: the text, the digest, the servers of a view, the owners of every key
 pub record AnswersByLog {H : Type 0} (hash_of : H → List ℕ → ℕ) (seen : Seen H) (log : List Change) : Type 0 where
   pub text_is : digest_text seen.node.members ≡ digest_text (members log)
   pub digest_is : digest_of seen.node.members ≡ digest_of (members log)
@@ -42,6 +42,6 @@ pub record AnswersByLog {H : Type 0} (hash_of : H → List ℕ → ℕ) (seen : 
   pub owners_are : (key : List ℕ) → owners (hash_of seen.node.hash) seen.node.config.replicas (servers_of seen.node.members) key
       ≡ owners (hash_of seen.node.hash) seen.node.config.replicas (servers_of log) key
 
--- so it is of each node that holds what its log comes to
+-- so it is of each node that holds the result of its log
 abbrev pub NodesAnswerByLog : {H : Type 0} → (H → List ℕ → ℕ) → Type 0
 NodesAnswerByLog {H} hash_of = (seen : Seen H) (log : List Change) → IsNodeOf hash_of seen log → AnswersByLog hash_of seen log

@@ -1,4 +1,4 @@
--- What a node asserts of itself unasked: that it leaves, and that it is back.
+-- The entries that a node asserts of itself unasked: that it leaves, and that it is back.
 use Rattle.std.specs.Prelude.{◌≡◌, ◌≢◌, ◌+◌, ◌<◌, Result, Ok, Err}
 use Rattle.change_core.specs.declared.changes.Change.{Change}
 use Rattle.change_core.specs.declared.statuses.Status.TheVariants.{Alive, Leave}

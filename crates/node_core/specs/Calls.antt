@@ -13,12 +13,13 @@ pub data Call : Type 0 where
   OfEvent : Event → Call
   OfView : Call
 
--- what a call answers
+-- the answer to a call
 pub data Answer (H : Type 0) : Type 0 where
   WithReply : Reply → Answer H
   WithView : Result (Viewed H) NodeError → Answer H
 
--- from old, the node may give this answer to the call and go on to new: to an event as a node does; a view is of the node as it is, and changes nothing
+-- from old, the node may give this answer to the call and become new: to an event as a node does; a view is of the node as it is, and
+-- changes nothing
 abbrev pub CallStep : {H : Type 0} → (H → List ℕ → ℕ) → Node H → Call → Answer H → Node H → Type 0
 CallStep hash_of old (OfEvent event) (WithReply reply) new = NodeStep hash_of old event reply new
 CallStep hash_of old OfView (WithView result) new = Answers (view_of old) result × (new ≡ old)

@@ -1,4 +1,4 @@
--- Which configurations a node can be made with.
+-- The configurations with which a node can be made.
 use Rattle.std.specs.Prelude.{◌≡◌, ℕ, ◌&&◌, nat_le, Bool, cond, List, Option, Some, None, codes}
 use Rattle.change_core.specs.Numbers.{greatest_number, most_members}
 use Rattle.node_core.specs.declared.configs.Config.{Config}
@@ -40,7 +40,7 @@ bad_field c =
 abbrev pub IsConfig : Config → Type 0
 IsConfig c = bad_field c ≡ None
 
--- what serves most clusters
+-- a configuration that suits most clusters
 abbrev pub standard : Config
 standard = record {
   replicas = 100;

@@ -1,4 +1,4 @@
--- What a node puts into its membership: what a verdict says, or what it asserts of itself.
+-- The entries that a node writes to its membership: those of a verdict, or its own assertion.
 use Rattle.std.specs.Prelude.{◌≡◌, ℕ, true, List, Option, Some, None}
 use Rattle.change_core.specs.declared.changes.Change.{Change}
 use Rattle.change_core.specs.Members.{greatest}
@@ -19,7 +19,7 @@ entry_in (Judged Exhausted) = None
 entry_in (Judged Full) = None
 entry_in (Own c) = Some c
 
--- it is what the membership says of a change, or what it may assert
+-- it is the membership's verdict on a change, or a change that the membership may assert
 abbrev pub MayEdit : Membership → Edit → Type 0
 MayEdit m (Judged Old) = ⊥
 MayEdit m (Judged (Take c)) = judged m c ≡ Take c

@@ -1,4 +1,4 @@
--- What a refusal of a part is as a refusal of the node.
+-- The error of a node for an error of one of its parts.
 use Rattle.member_core.specs.declared.errors.MemberError.{MemberError}
 use Rattle.member_core.specs.declared.errors.MemberError.TheVariants as member
 use Rattle.hash_ring.specs.declared.errors.RingError.{RingError}
@@ -11,23 +11,23 @@ use Rattle.node_core.specs.declared.configs.ConfigField.TheVariants as field
 use Rattle.node_core.specs.declared.errors.NodeError.{NodeError}
 use Rattle.node_core.specs.declared.errors.NodeError.TheVariants.{BadConfig, Full, Busy, Spent, StaleProbe, NotAsked, Memory}
 
--- a refusal of the members: a bad limit is the bad field `MaxMembers`, and any other keeps its name
+-- an error of the members: a bad limit is the bad field `MaxMembers`, and any other keeps its name
 abbrev pub error_of_members : MemberError → NodeError
 error_of_members member.BadLimit = BadConfig field.MaxMembers
 error_of_members member.Full = Full
 error_of_members member.Memory = Memory
 
--- a refusal of the ring: a bad number of replicas is the bad field `Replicas`, and want of memory keeps its name
+-- an error of the ring: a bad number of replicas is the bad field `Replicas`, and out of memory keeps its name
 abbrev pub error_of_ring : RingError → NodeError
 error_of_ring ring.BadReplicas = BadConfig field.Replicas
 error_of_ring ring.Memory = Memory
 
--- a refusal of the pending changes: a bad factor is the bad field `Piggyback`, and want of memory keeps its name
+-- an error of the pending changes: a bad factor is the bad field `Piggyback`, and out of memory keeps its name
 abbrev pub error_of_gossip : GossipError → NodeError
 error_of_gossip gossip.BadFactor = BadConfig field.Piggyback
 error_of_gossip gossip.Memory = Memory
 
--- a refusal of the prober or of the timers: each keeps its name
+-- an error of the prober or of the timers: each keeps its name
 abbrev pub error_of_detector : DetectorError → NodeError
 error_of_detector detector.Busy = Busy
 error_of_detector detector.Spent = Spent

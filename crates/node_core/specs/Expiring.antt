@@ -1,4 +1,4 @@
--- What becomes of entries at their deadlines.
+-- The effect of deadlines on entries.
 use Rattle.std.specs.Prelude.{◌≡◌, ◌≢◌, ℕ, ◌==◌, ◌&&◌, Bool, false, nat_le, Option, Some, None, Result, Ok, Err, List}
 use Rattle.std.specs.List.{find}
 use Rattle.change_core.specs.declared.changes.Change.{Change}
@@ -16,7 +16,7 @@ abbrev pub is_reached : ℕ → Option Timer → Bool
 is_reached now None = false
 is_reached now (Some t) = nat_le t.deadline now
 
--- an entry of another is due where it is suspect or faulty and its deadline is reached
+-- an entry of another is due if it is suspect or faulty and its deadline is reached
 abbrev pub is_due : {H : Type 0} → Node H → Change → Bool
 is_due node c = is_timed node.own c && is_reached node.moment (timer_of node.timers c.address)
 
@@ -24,11 +24,11 @@ is_due node c = is_timed node.own c && is_reached node.moment (timer_of node.tim
 abbrev pub due : {H : Type 0} → Node H → Option Change
 due node = find (is_due node) node.members
 
--- what an entry becomes at its deadline
+-- an entry with its next status
 abbrev pub expired : Change → Change
 expired c = record c { status = next_status c.status }
 
--- the entry that is due at a moment becomes what it does at its deadline, or none is due; for want of memory nothing changes
+-- the entry that is due at a moment gets its next status, or none is due; out of memory changes nothing
 abbrev pub ExpireStep : {H : Type 0} → Node H → ℕ → Result (Option Change) NodeError → Node H → Type 0
 ExpireStep old moment (Ok None) new = (due (at_moment old moment) ≡ None) × (new ≡ at_moment old moment)
 ExpireStep old moment (Ok (Some change)) new =

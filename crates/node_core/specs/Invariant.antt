@@ -1,4 +1,4 @@
--- What holds of a node between any two calls.
+-- The invariant of a node: it holds between any two calls.
 use Rattle.std.specs.Prelude.{◌≡◌, ◌≢◌, ℕ, ◌<◌, ◌≤◌, true, cond, Option, Some, None, List, length, option_map}
 use Rattle.change_core.specs.declared.changes.Change.{Change}
 use Rattle.change_core.specs.declared.statuses.Status.{Status}
@@ -17,7 +17,7 @@ use Rattle.hash_ring.specs.Serving.{servers_of}
 use Rattle.node_core.specs.Node.{Node, Seen, asserts, is_timed, next_status}
 use Rattle.node_core.specs.Step.{NodeStep}
 
--- what a timer is set for
+-- the purpose of a timer
 abbrev pub Purpose : Type 0
 Purpose = ℕ × Status
 
@@ -25,12 +25,12 @@ Purpose = ℕ × Status
 abbrev pub purpose_of : Timer → Purpose
 purpose_of t = (t.incarnation, t.next)
 
--- what the timer of an entry is to be set for: another's that is suspect or faulty has one, at its incarnation
+-- the purpose of an entry's timer: another's entry that is suspect or faulty has one, at its incarnation
 abbrev pub purpose : ℕ → Option Change → Option Purpose
 purpose own None = None
 purpose own (Some c) = cond (is_timed own c) (Some (c.incarnation, next_status c.status)) None
 
--- what holds of a node between any two calls: of its entries, pending changes, timers, probe and configuration
+-- the invariant of a node between any two calls: of its entries, pending changes, timers, probe and configuration
 pub record IsNode {H : Type 0} (node : Node H) : Type 0 where
   -- one entry for each address, ascending, and no more than may be
   pub one_each : IsMemberList node.members

@@ -1,4 +1,4 @@
--- What no call of a node changes.
+-- The parts of a node that no call changes.
 use Rattle.std.specs.Prelude.{◌≡◌, ℕ, List}
 use Rattle.node_core.specs.Calls.{Call, Answer, CallStep}
 use Rattle.node_core.specs.Node.{Node}

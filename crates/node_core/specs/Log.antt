@@ -1,4 +1,4 @@
--- The log of a node: what it began with, and then each change that it took, its refutations among them, in the order in which they came.
+-- The log of a node: its first members, and then each change that it took, its refutations among them, in the order in which they came.
 use Rattle.std.specs.Prelude.{ℕ, ◌+◌, Bool, cond, List, [], ◌∷◌}
 use Rattle.change_core.specs.declared.changes.Change.{Change}
 use Rattle.change_core.specs.Members.{greatest, alters}
@@ -9,7 +9,7 @@ abbrev pub log_given : ℕ → List Change → List Change → List Change
 log_given own log [] = log
 log_given own log (c ∷ cs) = log_given own (log_one own log c) cs
 
--- 1 where it is so, and else 0
+-- 1 if it is so, and else 0
 abbrev pub one_if : Bool → ℕ
 one_if b = cond b 1 0
 

@@ -1,4 +1,4 @@
--- What a node puts into its messages, and what it takes from one.
+-- The messages that a node makes, and the changes that it reads from one.
 use Rattle.std.specs.Prelude.{ℕ, Bool, List, [], ◌∷◌, map, nat_eq, cond}
 use Rattle.std.specs.Cmp.Lexicographic.{pointwise}
 use Rattle.sha2.specs.Sha256.{sha256}
@@ -34,7 +34,7 @@ news_of node changes = record { checksum = digest_of node.members; changes = cha
 abbrev pub full_sync : {H : Type 0} → Node H → List Sourced
 full_sync node = map (said_by node) node.members
 
--- what the node passes on in a message to the target
+-- the changes that the node passes on in a message to the target
 abbrev pub piggyback : {H : Type 0} → Node H → ℕ → List Sourced
 piggyback node target = issued target node.config.per_message node.gossip.pending
 
@@ -59,7 +59,7 @@ carried (Refused reason) = []
 abbrev pub joined_by : {H : Type 0} → Node H → Message
 joined_by node = says node (Joined (news_of node (full_sync node)))
 
--- what an ack carries: what is passed on to the sender, or, where that is nothing and the digests differ, the whole membership
+-- the changes of an ack: those to pass on to the sender, or, if there are none and the digests differ, the whole membership
 abbrev pub ack_changes : {H : Type 0} → Node H → Digest → List Sourced → List Sourced
 ack_changes node checksum [] = cond (is_same_digest checksum (digest_of node.members)) [] (full_sync node)
 ack_changes node checksum (s ∷ ss) = s ∷ ss

@@ -1,4 +1,4 @@
--- What contracts see of a node, and what one alteration makes of it.
+-- The model of a node, and the effect of one alteration.
 use Rattle.std.specs.Prelude.{ℕ, ◌+◌, ◌==◌, ◌&&◌, Bool, true, false, not, cond, max, Option, Some, None, List, [], ◌∷◌, ◌++◌, length, filter}
 use Rattle.change_core.specs.declared.changes.Change.{Change}
 use Rattle.change_core.specs.declared.changes.Sourced.{Sourced}
@@ -37,12 +37,12 @@ asserts Faulty = false
 asserts Leave = true
 asserts Tombstone = false
 
--- what is held, and where nothing is, a birth at incarnation 0 with weight 1
+-- the own entry, and if there is none, a first entry at incarnation 0 with weight 1
 abbrev pub or_birth : ℕ → Option Change → Change
 or_birth own None = birth own 0 1
 or_birth own (Some c) = c
 
--- what the node holds of itself
+-- the node's own entry
 abbrev pub own_change : {H : Type 0} → Node H → Change
 own_change node = or_birth node.own (greatest node.members node.own)
 
@@ -58,7 +58,7 @@ asserted_by own c = record { change = c; source = own; source_incarnation = c.in
 abbrev pub at_moment : {H : Type 0} → Node H → ℕ → Node H
 at_moment node moment = record node { moment = max node.moment moment }
 
--- what an entry becomes at its deadline
+-- the status that an entry of this status gets at its deadline
 abbrev pub next_status : Status → Status
 next_status Alive = Alive
 next_status Suspect = Faulty
@@ -66,7 +66,7 @@ next_status Faulty = Tombstone
 next_status Leave = Leave
 next_status Tombstone = Tombstone
 
--- whether an entry with this status comes to a deadline: a suspect or a faulty one does
+-- whether an entry with this status has a deadline: a suspect or a faulty one does
 abbrev pub has_deadline : Status → Bool
 has_deadline Alive = false
 has_deadline Suspect = true
@@ -74,7 +74,7 @@ has_deadline Faulty = true
 has_deadline Leave = false
 has_deadline Tombstone = false
 
--- after how many milliseconds it does
+-- the time in milliseconds until that deadline
 abbrev pub wait_for : Config → Status → ℕ
 wait_for config Alive = 0
 wait_for config Suspect = config.suspect_ms
@@ -97,7 +97,7 @@ timers_with own config moment timers c =
 abbrev pub members_after : {H : Type 0} → Node H → Change → List Change
 members_after node c = members (node.members ++ c ∷ [])
 
--- one alteration: the entry stands among the members, it is passed on under the limit of those that serve now, and its timer is set or ended
+-- one alteration: the entry is among the members, it is passed on under the limit of those that serve now, and its timer is set or ended
 abbrev pub altered : {H : Type 0} → Node H → Sourced → Node H
 altered node s =
     record node {

@@ -1,4 +1,4 @@
--- The parts that a node keeps, what is seen of them, and how they agree.
+-- The parts that a node keeps, their model, and how they agree.
 use Rattle.std.specs.Prelude.{◌≡◌, ℕ, List}
 use Rattle.detector_core.specs.Probing.{ProbeState}
 use Rattle.detector_core.specs.Timers.{TimerList, IsAscending}
@@ -34,7 +34,7 @@ node_of p = record {
   probing = p.probing;
 }
 
--- what is seen of these parts: their node, and the points of their ring
+-- the model of these parts: their node, and the points of their ring
 abbrev pub seen_in : {H : Type 0} → Parts H → Seen H
 seen_in p = record { node = node_of p; points = p.ring.points }
 

@@ -1,4 +1,4 @@
--- What a node's probes do.
+-- The probes of a node.
 use Rattle.std.specs.Prelude.{◌≡◌, ◌≢◌, ◌⊎◌, ℕ, ◌<◌, Option, Some, None, Result, Ok, Err, [], IsSome}
 use Rattle.change_core.specs.declared.changes.Change.{Change}
 use Rattle.change_core.specs.declared.statuses.Status.{Status}
@@ -20,7 +20,7 @@ use Rattle.node_core.specs.declared.events.NodeOutcome.{NodeOutcome}
 use Rattle.node_core.specs.declared.events.NodeOutcome.TheVariants as answered
 use Rattle.node_core.specs.Node.{Node, altered, at_moment, pingable, said_by}
 
--- a probe begins: a pingable target in turn, of any new order where one is due, and every other pingable member comes nearer
+-- a probe starts: a pingable target in turn, of any new order if one is due, and every other pingable member comes nearer
 abbrev pub ProbeStep : {H : Type 0} → Node H → Result (Option Probe) NodeError → Node H → Type 0
 ProbeStep old (Ok (Some pick)) new =
     (old.probing.running ≡ None) × IsPick (pingable old) old.probing pick new.probing × (new ≡ record old { probing = new.probing })
@@ -30,7 +30,7 @@ ProbeStep old (Err error.Spent) new = (old.probing.running ≡ None) × (old.pro
 ProbeStep old (Err error.Memory) new = (old.probing.running ≡ None) × (old.probing.last < greatest_number) × (pingable old ≢ []) × (new ≡ old)
 ProbeStep old (Err other) new = ⊥
 
--- the pick of a probe that begins is the one that the node's generator draws
+-- the pick of a probe that starts is the one that the node's generator draws
 abbrev pub ProbeDraw : {H : Type 0} → Node H → Result (Option Probe) NodeError → Node H → Type 0
 ProbeDraw old (Ok (Some pick)) new = IsDrawnPick (pingable old) old.probing pick new.probing
 ProbeDraw old (Ok None) new = Unit {0}
@@ -53,7 +53,7 @@ abbrev pub suspicion_in : Option Change → Option Change
 suspicion_in None = None
 suspicion_in (Some c) = suspicion_of c c.status
 
--- the same of what the node holds of the target
+-- the same of the node's entry of the target
 abbrev pub suspicion : {H : Type 0} → Node H → ℕ → Option Change
 suspicion node target = suspicion_in (greatest node.members target)
 
@@ -73,7 +73,7 @@ pub record Suspects {H : Type 0} (old : Node H) (target : ℕ) (moment : ℕ) (c
   pub change_is : change ≡ suspicion old target
   pub new_is : new ≡ ended (put_in (at_moment old moment) change)
 
--- the probe runs and asked nobody yet: helpers are asked, any different ones, or where nobody can be, its target is suspect
+-- the probe runs and has asked no helper yet: helpers are asked, any different ones, or if there is none its target is suspect
 abbrev pub LostStep : {H : Type 0} → Node H → ℕ → ℕ → Result NodeLost NodeError → Node H → Type 0
 LostStep old number moment (Ok (lost.Ask helpers)) new =
     (target : ℕ) × (unasked_target old.probing number ≡ Some target) × WasLost (pingable old) target old.probing (Ask helpers) new.probing
@@ -92,7 +92,7 @@ LostDraw old number (Ok (lost.Ask helpers)) new =
 LostDraw old number (Ok (lost.Suspect change)) new = Unit {0}
 LostDraw old number (Err refused) new = Unit {0}
 
--- what a helper's word comes to; after the verdict that the target is suspect it is
+-- the result of a helper's report; after the verdict that the target is suspect it is
 abbrev pub HelperStep : {H : Type 0} → Node H → ℕ → ℕ → Said → ℕ → Result NodeOutcome NodeError → Node H → Type 0
 HelperStep old number helper said moment (Ok answered.Waiting) new =
     (would_say old.probing number helper said ≡ Ok outcome.Waiting)

@@ -1,4 +1,4 @@
--- What a node does with a message.
+-- The effect of a message on a node.
 use Rattle.std.specs.Prelude.{◌≡◌, ℕ, Bool, true, false, Result, Ok, Err}
 use Rattle.message_core.specs.declared.messages.Message.{Message}
 use Rattle.message_core.specs.declared.messages.Content.{Content}
@@ -13,7 +13,7 @@ use Rattle.node_core.specs.Messages.{carried, joined_by, ack_by, told}
 use Rattle.node_core.specs.Node.{Node}
 use Rattle.node_core.specs.Taking.{TakeStep}
 
--- what is answered to a message of this source, once its changes are taken
+-- the answer to a message of this source, once its changes are processed
 abbrev pub AnswerStep : {H : Type 0} → Node H → ℕ → Content → Message → Node H → Type 0
 AnswerStep mid source (Join news) answer new = (answer ≡ joined_by mid) × (new ≡ mid)
 AnswerStep mid source (Ping news) answer new = (answer ≡ ack_by mid source news.checksum) × (new ≡ told mid source)
@@ -32,7 +32,7 @@ is_gossip (Reply body) = false
 is_gossip NotOwner = false
 is_gossip (Refused reason) = false
 
--- whether it wants an answer
+-- whether it needs an answer
 abbrev pub is_answered : Content → Bool
 is_answered (Join news) = true
 is_answered (Joined news) = false
@@ -45,17 +45,18 @@ is_answered (Reply body) = false
 is_answered NotOwner = false
 is_answered (Refused reason) = false
 
--- what a message comes to that wants no answer, by what became of its changes
+-- the result of a message that needs no answer, by the result of its changes
 abbrev pub as_taken : Result Taken Stopped → Received
 as_taken (Ok taken) = received.Done taken
 as_taken (Err stopped) = received.Stopped stopped
 
--- what a message comes to whose changes were taken, by its answer
+-- the result of a message whose changes were processed, by its answer
 abbrev pub as_answered : Taken → Result Message NodeError → Received
 as_answered taken (Ok message) = received.Answer taken message
 as_answered taken (Err error) = received.NoAnswer taken
 
--- the changes of a message of the membership are taken; where all are and it wants an answer, it has one or finds no memory; any other does nothing
+-- the changes of a message of the membership are processed; if all are and it needs an answer, the answer is returned, or out of memory;
+-- any other does nothing
 abbrev pub ReceiveStep : {H : Type 0} → Node H → Message → ℕ → Received → Node H → Type 0
 ReceiveStep old message moment (received.Done taken) new =
     (is_gossip message.content ≡ true) × (is_answered message.content ≡ false) × TakeStep old (carried message.content) moment (Ok taken) new
@@ -67,7 +68,7 @@ ReceiveStep old message moment (received.Stopped stopped) new =
     (is_gossip message.content ≡ true) × TakeStep old (carried message.content) moment (Err stopped) new
 ReceiveStep old message moment received.NotGossip new = (is_gossip message.content ≡ false) × (new ≡ old)
 
--- a message is made, or there is no memory and nothing changes
+-- a message is made, or out of memory, and nothing changes
 abbrev pub MakeStep : {H : Type 0} → Node H → Message → Node H → Result Message NodeError → Node H → Type 0
 MakeStep old message after (Ok made) new = (made ≡ message) × (new ≡ after)
 MakeStep old message after (Err error.Memory) new = new ≡ old

@@ -1,4 +1,4 @@
--- A run of calls, and the log that it leaves: what each call put in, in the order of the calls.
+-- A run of calls, and the log that it leaves: the changes of each call, in the order of the calls.
 use Rattle.std.specs.Prelude.{◌≡◌, ℕ, Option, Some, None, Ok, Err, List, [], ◌∷◌, ◌++◌, map, take}
 use Rattle.change_core.specs.declared.changes.Change.{Change}
 use Rattle.change_core.specs.Change.{change_of}
@@ -45,7 +45,7 @@ said_in (answer.Lost (Ok (lost.Suspect change))) = change_in change
 said_in (answer.HelperSaid (Ok (answered.Suspect change))) = change_in change
 said_in reply = []
 
--- the log with what one call put in
+-- the log with the changes of one call
 abbrev pub log_step : ℕ → List Change → Event → Reply → List Change
 log_step own log event reply = log_given own log (given_in event reply) ++ said_in reply
 
@@ -55,7 +55,7 @@ log own start [] replies = start
 log own start (event ∷ events) [] = start
 log own start (event ∷ events) (reply ∷ replies) = log own (log_step own start event reply) events replies
 
--- from old, the node may give these replies to these calls, one after another, and go on to new
+-- from old, the node may give these replies to these calls, one after another, and become new
 abbrev pub IsRun : {H : Type 0} → (H → List ℕ → ℕ) → Node H → List Event → List Reply → Node H → Type 0
 IsRun hash_of old [] [] new = new ≡ old
 IsRun hash_of old [] (reply ∷ replies) new = ⊥
@@ -63,7 +63,7 @@ IsRun hash_of old (event ∷ events) [] new = ⊥
 IsRun {H} hash_of old (event ∷ events) (reply ∷ replies) new =
     (mid : Node H) × NodeStep hash_of old event reply mid × IsRun hash_of mid events replies new
 
--- a node's members are what its log comes to
+-- a node's members are the members of its log
 abbrev pub MembersAreLog : {H : Type 0} → (H → List ℕ → ℕ) → Type 0
 MembersAreLog {H} hash_of =
     (old new : Node H) (events : List Event) (replies : List Reply)

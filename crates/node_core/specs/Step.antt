@@ -1,4 +1,4 @@
--- One call of a node: from old, it may give this reply to the call and go on to new.
+-- One call of a node: from old, it may give this reply to the call and become new.
 use Rattle.std.specs.Prelude.{◌≡◌, ◌<◌, ℕ, Result, Ok, Err, List, length, take, slice_get, option_map}
 use Rattle.change_core.specs.Change.{entry_of}
 use Rattle.change_core.specs.Members.{greatest, digest_text}
@@ -20,13 +20,13 @@ use Rattle.node_core.specs.Probes.{ProbeStep, ProbeDraw, AckedStep, LostStep, Lo
 use Rattle.node_core.specs.Receiving.{ReceiveStep, MakeStep}
 use Rattle.node_core.specs.Taking.{TakeStep}
 
--- a look at the node answers this, or there is no memory
+-- a lookup returns this value, or is out of memory
 abbrev pub Answers : {X : Type 0} → X → Result X NodeError → Type 0
 Answers x (Ok y) = y ≡ x
 Answers x (Err error.Memory) = Unit {0}
 Answers x (Err other) = ⊥
 
--- the first n owners of a key among these servers are answered; where one is to be named there may be no memory
+-- the first n owners of a key among these servers are returned; out of memory only if one is to be named
 abbrev pub NamesOwners : (List ℕ → ℕ) → ℕ → List Server → List ℕ → ℕ → Result (List ℕ) NodeError → Type 0
 NamesOwners hash replicas servers key n (Ok named) = named ≡ take n (owners hash replicas servers key)
 NamesOwners hash replicas servers key n (Err error.Memory) = (0 < n) × (0 < length servers)
@@ -36,7 +36,7 @@ NamesOwners hash replicas servers key n (Err other) = ⊥
 abbrev pub owners_by : {H : Type 0} → (H → List ℕ → ℕ) → Node H → List ℕ → List ℕ
 owners_by hash_of node key = owners (hash_of node.hash) node.config.replicas (servers_of node.members) key
 
--- from old, the node may give this reply to the call and go on to new
+-- from old, the node may give this reply to the call and become new
 abbrev pub NodeStep : {H : Type 0} → (H → List ℕ → ℕ) → Node H → Event → Reply → Node H → Type 0
 NodeStep hash_of old (call.Take given moment) (answer.Take result) new = TakeStep old given moment result new
 NodeStep hash_of old (call.Receive message moment) (answer.Receive result) new = ReceiveStep old message moment result new
@@ -66,7 +66,8 @@ NodeStep hash_of old call.Digest (answer.Digest result) new = Answers (digest_of
 -- no other reply is given
 NodeStep hash_of old event reply new = ⊥
 
--- what a call chooses at random is what the node's generator draws: the pick of a probe, and the helpers that are asked. `NodeStep` leaves both free
+-- the random choices of a call are drawn by the node's generator: the pick of a probe, and the helpers that are asked. `NodeStep` leaves
+-- both free
 abbrev pub DrawStep : {H : Type 0} → Node H → Event → Reply → Node H → Type 0
 DrawStep old call.Probe (answer.Probe result) new = ProbeDraw old result new
 DrawStep old (call.Lost number moment) (answer.Lost result) new = LostDraw old number result new

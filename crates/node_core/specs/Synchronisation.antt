@@ -1,4 +1,4 @@
--- What taking a batch whole leaves, as when it is another node's whole membership.
+-- The result of a batch that is processed whole, as when it is another node's whole membership.
 use Rattle.std.specs.Prelude.{◌≡◌, ◌≢◌, ℕ, ◌≤◌, List, ◌++◌, Some, Ok}
 use Rattle.change_core.specs.declared.changes.Change.{Change}
 use Rattle.change_core.specs.Members.{greatest, IsMemberList}
@@ -19,8 +19,8 @@ pub record TakesGreatest (own : ℕ) (log given : List Change) : Type 0 where
   pub of_itself : (held c : Change) → IsMemberList given → refuted own log given ≡ 1 → greatest log own ≡ Some held → greatest given own ≡ Some c
       → greatest (log_given own log given) own ≡ Some (refutation held c)
 
--- what a node holds after it took all that another holds, of which it refuted one change at most: of every other address the greatest of both memberships; of itself too
--- where it refuted nothing, and else its refutation of what the other held of it
+-- the members of a node after it took all that another holds and refuted at most one change of it: of every other address the greatest of
+-- both memberships; of itself too if it refuted nothing, and else its refutation of the other's entry of it
 pub record IsSynchronised {H : Type 0} (taker giver : Node H) (taken : Taken) (new : Node H) : Type 0 where
   pub refuted_once : taken.refuted ≤ 1
   pub of_others : (a : ℕ) → a ≢ taker.own → greatest new.members a ≡ greatest (taker.members ++ giver.members) a
@@ -28,7 +28,7 @@ pub record IsSynchronised {H : Type 0} (taker giver : Node H) (taken : Taken) (n
   pub of_itself : (held c : Change) → taken.refuted ≡ 1 → greatest taker.members taker.own ≡ Some held → greatest giver.members taker.own ≡ Some c
       → greatest new.members taker.own ≡ Some (refutation held c)
 
--- so it is of any two nodes, as they are between two calls, where the one took the whole membership of the other
+-- so it is of any two nodes, as they are between two calls, if the one took the whole membership of the other
 abbrev pub NodesSynchronise : Type 0 → Type 0
 NodesSynchronise H =
     (taker giver new : Node H) (moment : ℕ) (taken : Taken)

@@ -1,4 +1,4 @@
--- What a node does with changes that it is given: which alter an entry, which are refuted, and where a batch stops.
+-- The effect of given changes on a node: which alter an entry, which are refuted, and at which a batch stops.
 use Rattle.std.specs.Prelude.{◌≡◌, ℕ, ◌==◌, ◌&&◌, Bool, not, nat_lt, cond, Option, Some, None, Result, Ok, Err, List, [], ◌∷◌, length, map, take, slice_get, is_none}
 use Rattle.change_core.specs.declared.changes.Change.{Change}
 use Rattle.change_core.specs.declared.changes.Sourced.{Sourced}
@@ -27,41 +27,42 @@ abbrev pub altered_by : {H : Type 0} → Node H → Option Sourced → Node H
 altered_by node None = node
 altered_by node (Some s) = altered node s
 
--- the node once one given change is taken
+-- the node after one given change
 abbrev pub took : {H : Type 0} → Node H → Sourced → Node H
 took node s = altered_by node (alteration node s)
 
--- the node once these are taken, one after another
+-- the node after these changes, one after another
 abbrev pub took_all : {H : Type 0} → Node H → List Sourced → Node H
 took_all node [] = node
 took_all node (s ∷ ss) = took_all (took node s) ss
 
--- what a given change is refused for: it calls for a refutation and its incarnation is the greatest, or for an entry past the greatest number of them
+-- the cause for which a given change is refused: it calls for a refutation and its incarnation is the greatest, or for an entry past the
+-- greatest number of them
 abbrev pub refusal : {H : Type 0} → Node H → Change → Option StopCause
 refusal node c =
     cond (is_refuted node.own (greatest node.members node.own) c && not (nat_lt c.incarnation greatest_number))
     (Some Exhausted)
     (cond (is_none (greatest node.members c.address) && (length node.members == node.config.max_members)) (Some Full) None)
 
--- none of these is refused, taken one after another
+-- none of these is refused, processed one after another
 abbrev pub NoneRefused : {H : Type 0} → Node H → List Sourced → Type 0
 NoneRefused node [] = Unit {0}
 NoneRefused node (s ∷ ss) = (refusal node s.change ≡ None) × NoneRefused (took node s) ss
 
--- a batch may stop here for this cause: want of memory may stop where the change is not refused and alters an entry
+-- a batch may stop here for this cause: out of memory only if the change is not refused and alters an entry
 abbrev pub StopsFor : {H : Type 0} → Node H → Sourced → StopCause → Type 0
 StopsFor node s Exhausted = refusal node s.change ≡ Some Exhausted
 StopsFor node s Full = refusal node s.change ≡ Some Full
 StopsFor node s Memory = (refusal node s.change ≡ None) × (is_none (alteration node s) ≡ Bool.false)
 
--- every change of the batch is taken
+-- every change of the batch is processed
 pub record TakesAll {H : Type 0} (old : Node H) (given : List Sourced) (taken : Taken) (new : Node H) : Type 0 where
   pub none_refused : NoneRefused old given
   pub applied_is : taken.applied ≡ applied old.own old.members (map change_of given)
   pub refuted_is : taken.refuted ≡ refuted old.own old.members (map change_of given)
   pub new_is : new ≡ took_all old given
 
--- the first ones are taken, and the next stops the batch
+-- the first ones are processed, and the next stops the batch
 pub record TakesFirst {H : Type 0} (old : Node H) (given : List Sourced) (stopped : Stopped) (new : Node H) : Type 0 where
   pub next : Sourced
   pub next_is : slice_get given stopped.taken ≡ Some next
@@ -69,12 +70,12 @@ pub record TakesFirst {H : Type 0} (old : Node H) (given : List Sourced) (stoppe
   pub stops : StopsFor (took_all old (take stopped.taken given)) next stopped.cause
   pub new_is : new ≡ took_all old (take stopped.taken given)
 
--- a batch is taken whole, or up to the change that stops it, from the moment that it is handed
+-- a batch is processed whole, or up to the change that stops it, from the given moment
 abbrev pub TakeStep : {H : Type 0} → Node H → List Sourced → ℕ → Result Taken Stopped → Node H → Type 0
 TakeStep old given moment (Ok taken) new = TakesAll (at_moment old moment) given taken new
 TakeStep old given moment (Err stopped) new = TakesFirst (at_moment old moment) given stopped new
 
--- 1 where a given change altered an entry, itself or by its refutation, and else 0
+-- 1 if a given change altered an entry, itself or by its refutation, and else 0
 abbrev pub altered_in : Effect → ℕ
 altered_in Unaltered = 0
 altered_in Applied = 1
@@ -86,7 +87,7 @@ refuted_by Unaltered = 0
 refuted_by Applied = 0
 refuted_by Refuted = 1
 
--- one given change is taken, and this is what it does: nothing, an alteration, or a refutation
+-- one given change is processed, with this effect: nothing, an alteration, or a refutation
 pub record TakesOne {H : Type 0} (old : Node H) (s : Sourced) (effect : Effect) (new : Node H) : Type 0 where
   pub none_refused : refusal old s.change ≡ None
   pub applied_is : altered_in effect ≡ one_if (alters (greatest old.members s.change.address) s.change)

@@ -1,4 +1,4 @@
--- Many nodes and the messages between them: a message may come to any node, again and in any order, or never.
+-- Many nodes and the messages between them: a message may arrive at any node, again and in any order, or never.
 use Rattle.std.specs.Prelude.{◌≡◌, ℕ, ◌<◌, ◌==◌, cond, Option, Some, None, Ok, List, [], ◌∷◌, ◌++◌}
 use Rattle.change_core.specs.declared.changes.Change.{Change}
 use Rattle.change_core.specs.declared.changes.Sourced.{Sourced}
@@ -22,7 +22,7 @@ use Rattle.node_core.specs.Node.{Node, asserts, birth, asserted_by}
 use Rattle.node_core.specs.Run.{given_in}
 use Rattle.node_core.specs.Step.{NodeStep}
 
--- what a node begins as
+-- a new node
 abbrev pub newborn : {H : Type 0} → H → Config → ℕ → ℕ → ℕ → Lcg → Node H
 newborn hash config own incarnation moment generator = record {
   own = own;
@@ -35,7 +35,7 @@ newborn hash config own incarnation moment generator = record {
   probing = record { last = 0; helpers = config.helpers; rest = []; generator = generator; running = None };
 }
 
--- the refutations that stand in a log for these given changes
+-- the refutations in a log for these given changes
 abbrev pub refuted_in : ℕ → List Change → List Change → List Change
 refuted_in own log [] = []
 refuted_in own log (c ∷ cs) = refutations own (greatest log own) c ++ refuted_in own (log_one own log c) cs
@@ -46,7 +46,7 @@ renewed_in (answer.Leave (Ok change)) = change ∷ []
 renewed_in (answer.Rejoin (Ok change)) = change ∷ []
 renewed_in reply = []
 
--- what a node asserts of itself in one call: its refutations, and that it leaves or is back
+-- the entries that a node asserts of itself in one call: its refutations, and that it leaves or is back
 abbrev pub asserted_in : {H : Type 0} → Node H → Event → Reply → List Change
 asserted_in old event reply = refuted_in old.own old.members (given_in event reply) ++ renewed_in reply
 
@@ -65,7 +65,7 @@ pub record World (H : Type 0) : Type 0 where
   pub messages : List Message
   pub asserted : List Change
 
--- what may happen: a node starts, starts again, or is called. A message that comes is a call of `receive`, and one that never does is lost
+-- an event: a node starts, starts again, or is called. A message that arrives is a call of `receive`, and one that never does is lost
 pub data WorldEvent (H : Type 0) : Type 0 where
   Starts : (hash : H) (config : Config) (own incarnation moment : ℕ) (generator : Lcg) → WorldEvent H
   Restarts : (hash : H) (config : Config) (own incarnation moment : ℕ) (generator : Lcg) → WorldEvent H
@@ -75,7 +75,7 @@ pub data WorldEvent (H : Type 0) : Type 0 where
 abbrev pub placed_at : {H : Type 0} → ℕ → Node H → (ℕ → Option (Node H)) → ℕ → Option (Node H)
 placed_at own node nodes a = cond (a == own) (Some node) (nodes a)
 
--- the world with a newborn node at its address, which asserts its birth
+-- the world with a new node at its address, which asserts its first entry
 abbrev pub begins : {H : Type 0} → World H → H → Config → ℕ → ℕ → ℕ → Lcg → World H
 begins w hash config own incarnation moment generator = record {
   nodes = placed_at own (newborn hash config own incarnation moment generator) w.nodes;
@@ -98,13 +98,13 @@ happens w (Starts hash config own incarnation moment generator) = begins w hash 
 happens w (Restarts hash config own incarnation moment generator) = begins w hash config own incarnation moment generator
 happens w (Calls own event reply after) = called w (w.nodes own) own event reply after
 
--- what comes to a node is a message that was made; nothing is taken that no message brought
+-- a node receives only messages that were made; no change arrives without a message
 abbrev pub Comes : List Message → Event → Type 0
 Comes messages (call.Take given moment) = ⊥
 Comes messages (call.Receive message moment) = In message messages
 Comes messages event = Unit {0}
 
--- this may happen now: a start where there is no node, a restart past all that its address has asserted, a step of a node that is there
+-- this may happen now: a start if there is no node, a restart past all that its address has asserted, a step of a node that is there
 abbrev pub MayHappen : {H : Type 0} → (H → List ℕ → ℕ) → World H → WorldEvent H → Type 0
 MayHappen hash_of w (Starts hash config own incarnation moment generator) = w.nodes own ≡ None
 MayHappen hash_of w (Restarts hash config own incarnation moment generator) = (c : Change) → In c w.asserted → c.address ≡ own → c.incarnation < incarnation
@@ -125,11 +125,11 @@ world_after w (e ∷ es) = world_after (happens w e) es
 abbrev pub nothing : {H : Type 0} → World H
 nothing = record { nodes = λ a. None; messages = []; asserted = [] }
 
--- what a change rests on: alive and leave on themselves, suspect, faulty and tombstone on alive at that incarnation and weight
+-- the change on which a change rests: alive and leave on themselves, suspect, faulty and tombstone on alive at that incarnation and weight
 abbrev pub grounds : Change → Change
 grounds c = cond (asserts c.status) c (record c { status = Alive })
 
--- what the change rests on was asserted
+-- the change on which this one rests was asserted
 abbrev pub IsGrounded : List Change → Change → Type 0
 IsGrounded asserted c = In (grounds c) asserted
 
@@ -137,7 +137,7 @@ IsGrounded asserted c = In (grounds c) asserted
 abbrev pub IsAssertedAt : List Change → ℕ → ℕ → Type 0
 IsAssertedAt asserted a incarnation = (c : Change) × In c asserted × (c.address ≡ a) × (c.incarnation ≡ incarnation)
 
--- of two changes that may be there the first, and where it is not the second
+-- of two changes that may be there the first, and if it is not there the second
 abbrev pub later : Option Change → Option Change → Option Change
 later (Some c) earlier = Some c
 later None earlier = earlier
@@ -147,12 +147,12 @@ abbrev pub last_about : ℕ → List Change → Option Change
 last_about a [] = None
 last_about a (c ∷ cs) = later (last_about a cs) (cond (c.address == a) (Some c) None)
 
--- an entry that is held or told: its address asserted its incarnation, and what it rests on
+-- an entry of a node or of a message: its address asserted its incarnation, and the entry on which it rests
 pub record IsTrueEntry (asserted : List Change) (c : Change) : Type 0 where
   pub incarnation : IsAssertedAt asserted c.address c.incarnation
   pub grounded : IsGrounded asserted c
 
--- a change that is told: the entry, and its source's incarnation
+-- a change of a message: the entry, and its source's incarnation
 pub record IsTrueNews (asserted : List Change) (s : Sourced) : Type 0 where
   pub entry : IsTrueEntry asserted s.change
   pub source : IsAssertedAt asserted s.source s.source_incarnation
@@ -170,7 +170,7 @@ pub record IsTrueNode {H : Type 0} (asserted : List Change) (a : ℕ) (node : No
   pub is_own : node.own ≡ a
   pub itself : greatest node.members a ≡ last_about a asserted
 
--- every node and every message of a world tells the truth
+-- every node and every message of a world has true entries alone
 pub record IsTrueWorld {H : Type 0} (w : World H) : Type 0 where
   pub nodes : (a : ℕ) (node : Node H) → w.nodes a ≡ Some node → IsTrueNode w.asserted a node
   pub messages : (message : Message) → In message w.messages → IsTrueMessage w.asserted message

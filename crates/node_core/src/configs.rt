@@ -1,36 +1,38 @@
-//! What a node is configured with.
+//! The configuration of a node.
 ghost use Rattle.std.specs.Prelude.{◌≡◌, IsTrue, ◌↔◌};
 ghost use Rattle.node_core.specs.Configs.{bad_field, field_name, standard};
 
-use change_core::{GREATEST_NUMBER, MOST_MEMBERS, Weight};
-use gossip_core::MOST_FACTOR;
+use change_core::{MAX_MEMBERS, MAX_NUMBER, Weight};
+use gossip_core::MAX_FACTOR;
 use hash_ring::MAX_REPLICAS;
 use std::fmt;
 
-/// How many threads serve a node of a cluster at most.
-pub const MOST_WORKERS: u32 = 16;
+/// The greatest number of threads that serve a node of a cluster.
+pub const MAX_WORKERS: u32 = 16;
 
-/// What a node is made with, beside its address and its hash.
+/// The configuration of a node, apart from its address and its hash.
 #[derive(Clone, Copy, Debug, PartialEq, Eq)]
 pub struct Config {
-    /// How many points of the ring each unit of a server's weight has, from 1 to 1,000. More points spread the keys more
-    /// evenly; each change of the ring then costs more.
+    /// The number of points of the ring for each unit of a server's weight, from 1 to 1,000. More points spread the
+    /// keys more evenly; each change of the ring then costs more.
     pub replicas: u32,
-    /// How many members are held at most, the node itself among them, from 1 to 4,096. News of more are refused.
+    /// The greatest number of members, the node itself among them, from 1 to 4,096. Changes about others past it are
+    /// refused.
     pub max_members: usize,
-    /// After how many milliseconds a suspect becomes faulty, from 1 to 2^53 - 1. A longer time gives a slow node more
-    /// chance to refute; a dead one keeps its keys longer.
+    /// The time in milliseconds until a suspect becomes faulty, from 1 to 2^53 - 1. A longer time gives a slow node
+    /// more chance to refute; a dead one keeps its keys longer.
     pub suspect_ms: u64,
-    /// After how many milliseconds a faulty member becomes a tombstone, from 1 to 2^53 - 1.
+    /// The time in milliseconds until a faulty member becomes a tombstone, from 1 to 2^53 - 1.
     pub faulty_ms: u64,
-    /// How many members are asked to ping a target that did not answer, from 0 to 16. More helpers make a false suspicion
-    /// rarer and cost more messages.
+    /// The number of members that are asked to ping a target that did not answer, from 0 to 16. More helpers make a
+    /// false suspicion rarer and cost more messages.
     pub helpers: usize,
-    /// How often a change is passed on for each decimal digit of the number of serving members, from 1 to 1,000.
+    /// The number of times that a change is passed on for each decimal digit of the number of serving members, from 1
+    /// to 1,000.
     pub piggyback: u32,
-    /// How many changes a message carries at most, from 1 to 4,096.
+    /// The greatest number of changes in a message, from 1 to 4,096.
     pub per_message: usize,
-    /// How many shares of the ring the node takes.
+    /// The node's number of shares of the ring.
     pub weight: Weight,
 }
 
@@ -73,14 +75,14 @@ impl fmt::Display for ConfigField {
     }
 }
 
-/// How many helpers may be asked about a lost target at most.
-const MOST_HELPERS: usize = 16;
+/// The greatest number of helpers that can be asked about a lost target.
+const MAX_HELPERS: usize = 16;
 
 impl Config {
-    /// What serves most clusters: 100 points of the ring for each unit of weight, up to 4,096 members, 5 seconds until a
-    /// suspect is faulty and a day until it is a tombstone, 3 helpers, 15 times passed on for each digit of the number of
-    /// serving members, 64 changes in a message, and the weight 1. The points, both waits, the helpers and the factor are
-    /// ringpop-go's, the rest is this project's own.
+    /// Returns a configuration that suits most clusters: 100 points of the ring for each unit of weight, up to 4,096
+    /// members, 5 seconds until a suspect is faulty and a day until it is a tombstone, 3 helpers, 15 times passed on
+    /// for each digit of the number of serving members, 64 changes in a message, and the weight 1. The points, both
+    /// waits, the helpers and the factor are ringpop-go's, the rest is this project's own.
     pub fn standard() -> Self
         ensures { result ≡ standard }
     {
@@ -89,7 +91,7 @@ impl Config {
         };
         Config {
             replicas: 100,
-            max_members: MOST_MEMBERS,
+            max_members: MAX_MEMBERS,
             suspect_ms: 5_000,
             faulty_ms: 86_400_000,
             helpers: 3,
@@ -99,29 +101,29 @@ impl Config {
         }
     }
 
-    /// The first field that is out of its range, in the order in which they stand.
+    /// Returns the first field that is out of its range, in the order of the fields.
     pub(crate) fn bad_field(&self) -> Option<ConfigField>
         ensures { result ≡ bad_field self.now }
     {
         if self.replicas < 1 || self.replicas > MAX_REPLICAS {
             return Some(ConfigField::Replicas);
         }
-        if self.max_members < 1 || self.max_members > MOST_MEMBERS {
+        if self.max_members < 1 || self.max_members > MAX_MEMBERS {
             return Some(ConfigField::MaxMembers);
         }
-        if self.suspect_ms < 1 || self.suspect_ms > GREATEST_NUMBER {
+        if self.suspect_ms < 1 || self.suspect_ms > MAX_NUMBER {
             return Some(ConfigField::SuspectMs);
         }
-        if self.faulty_ms < 1 || self.faulty_ms > GREATEST_NUMBER {
+        if self.faulty_ms < 1 || self.faulty_ms > MAX_NUMBER {
             return Some(ConfigField::FaultyMs);
         }
-        if self.helpers > MOST_HELPERS {
+        if self.helpers > MAX_HELPERS {
             return Some(ConfigField::Helpers);
         }
-        if self.piggyback < 1 || self.piggyback > MOST_FACTOR {
+        if self.piggyback < 1 || self.piggyback > MAX_FACTOR {
             return Some(ConfigField::Piggyback);
         }
-        if self.per_message < 1 || self.per_message > MOST_MEMBERS {
+        if self.per_message < 1 || self.per_message > MAX_MEMBERS {
             return Some(ConfigField::PerMessage);
         }
         None

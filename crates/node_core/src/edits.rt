@@ -1,4 +1,4 @@
-//! One alteration, in every part or in none: each growth is made before the first part is edited.
+//! One alteration of all parts, or of none: all memory is reserved before the first part is changed.
 ghost use Rattle.std.specs.Prelude.{◌≡◌, ◌⊎◌, ◌<◌, ◌≤◌, ◌&&◌, not, [], ◌∷◌, ◌++◌, length, cond, true, false, None, Some, OnOk, OnErr, IsOkUnless};
 ghost use Rattle.std.specs.Option.{option_map_or};
 ghost use Rattle.change_core.specs.declared.changes.Change.{Change};
@@ -24,14 +24,14 @@ use gossip_core::Gossip;
 use hash_ring::PointHash;
 use member_core::{Members, Verdict};
 
-/// What is put into the membership: what it says of a given change, or what the node asserts of itself.
+/// The change that is written to the membership: the verdict on a given change, or the node's own assertion.
 #[derive(Clone, Copy)]
 pub(crate) enum Edit {
     Judged(Verdict),
     Own(Change),
 }
 
-/// Puts in what an edit says. For an unknown address room was made.
+/// Writes the entries of such a change. For an unknown address there has to be room.
 fn edit_members(members: &mut Members, edit: Edit)
     requires valid { IsMembership members.old.own members.old.members members.old.max }
     requires may { MayEdit members.old edit }
@@ -47,7 +47,7 @@ fn edit_members(members: &mut Members, edit: Edit)
     }
 }
 
-/// The ring has a member exactly where it serves.
+/// Adds a serving member to the ring, and removes another.
 fn edit_ring<H: PointHash>(ring: &mut SharedRing<H>, change: &Change)
     requires room { is_serving change.now.status ≡ true → HasRoom ring.old (server_of change.now) }
     ensures { ring.new ≡ ring_of ring.old.hash (H.hash_of ring.old.hash) ring.old.replicas
@@ -60,7 +60,7 @@ fn edit_ring<H: PointHash>(ring: &mut SharedRing<H>, change: &Change)
     }
 }
 
-/// What an entry of this status becomes at its deadline. One that has none stays.
+/// Returns the status that an entry of this status gets at its deadline. One that has none stays.
 fn next_status(status: Status) -> Status
     ensures { result ≡ next_status status }
 {
@@ -71,7 +71,7 @@ fn next_status(status: Status) -> Status
     }
 }
 
-/// After how many milliseconds an entry of this status comes to its deadline, and 0 where it has none.
+/// Returns after how many milliseconds an entry of this status reaches its deadline, and 0 if it has none.
 fn wait_for(config: &Config, status: Status) -> u64
     requires configured { IsConfig config.now }
     ensures value { result ≡ wait_for config.now status }
@@ -84,21 +84,21 @@ fn wait_for(config: &Config, status: Status) -> u64
     }
 }
 
-/// Whether entries of this status have a deadline.
+/// Returns whether entries of this status have a deadline.
 fn has_deadline(status: Status) -> bool
     ensures { result ≡ has_deadline status }
 {
     matches!(status, Status::Suspect | Status::Faulty)
 }
 
-/// Whether an entry has a timer: it has a deadline and is another's.
+/// Returns whether an entry has a timer: it has a deadline and is another node's.
 fn is_timed(own: Address, change: &Change) -> bool
     ensures { result ≡ is_timed own change.now }
 {
     has_deadline(change.status) && change.address != own
 }
 
-/// Whether a timer is to be made for an entry: it has one, and what is held had none.
+/// Returns whether a timer has to be made for an entry: it has one, and the entry before it had none.
 fn wants_timer(own: Address, change: &Change, held: Option<Entry>) -> bool
     ensures { result ≡ (is_timed own change.now && not (option_map_or (λ e. has_deadline e.status) held false)) }
 {
@@ -127,7 +127,7 @@ fn edit_timers(timers: &mut Timers, own: Address, config: &Config, moment: Momen
     }
 }
 
-/// Makes room for the timer of an entry, where it wants one.
+/// Makes room for the timer of an entry, if it needs one.
 fn reserve_timer(
     timers: &mut Timers,
     own: Address,
@@ -147,8 +147,8 @@ fn reserve_timer(
     Ok(())
 }
 
-/// Makes room in each part that the news needs it in, and then makes the news pending: the last growth, and the first
-/// edit.
+/// Makes room for the change in each part that needs it, and then makes the change pending: the last allocation, and
+/// the first alteration.
 fn make_room<H: PointHash>(
     members: &mut Members,
     ring: &mut SharedRing<H>,
@@ -182,8 +182,9 @@ fn make_room<H: PointHash>(
     Ok(())
 }
 
-/// Makes one alteration in every part, or none in any. Only room may have been made then. The parts come one by one, since between
-/// two edits they are those of no node, and a method of the node would have to keep what holds of one.
+/// Makes one alteration in all parts, or none in any; after an error only room may have been made. The parts are passed
+/// one by one: between two alterations they are those of no node, and a method of the node would have to keep its
+/// invariant.
 pub(crate) fn alter_parts<H: PointHash>(
     members: &mut Members,
     ring: &mut SharedRing<H>,

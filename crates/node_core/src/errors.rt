@@ -1,4 +1,4 @@
-//! What a node's calls refuse.
+//! The errors of a node's calls.
 ghost use Rattle.std.specs.Prelude.{◌≡◌};
 ghost use Rattle.node_core.specs.declared.errors.NodeError.TheVariants.{Memory as want_of_memory};
 ghost use Rattle.node_core.specs.Errors.{error_of_members, error_of_ring, error_of_gossip, error_of_detector};
@@ -12,7 +12,7 @@ use std::alloc::AllocError;
 use std::fmt;
 use thiserror::Error;
 
-/// Why a call of a node was refused.
+/// The errors of a node's calls.
 #[derive(Clone, Copy, Debug, PartialEq, Eq, Error)]
 pub enum NodeError {
     /// The first field of the configuration that is out of its range.
@@ -33,7 +33,7 @@ pub enum NodeError {
     StaleProbe,
     /// The helper was not asked, or has answered.
     NotAsked,
-    /// A growth was refused.
+    /// Out of memory.
     Memory,
 }
 

@@ -6,14 +6,14 @@ use detector_core::{Addresses, Probe, Running, Said};
 use message_core::{Changes, Message, Text};
 use thiserror::Error;
 
-/// How many changes altered an entry, and how many of these were refuted.
+/// The number of changes that altered an entry, and how many of these were refuted.
 #[derive(Clone, Copy, Debug, PartialEq, Eq)]
 pub struct Taken {
     pub applied: usize,
     pub refuted: usize,
 }
 
-/// Why a batch of changes stopped.
+/// The cause for which a batch of changes stopped.
 #[derive(Clone, Copy, Debug, PartialEq, Eq, Error)]
 pub enum StopCause {
     /// The next change calls for a refutation, and no incarnation is left for it.
@@ -22,12 +22,12 @@ pub enum StopCause {
     /// The next change is about an unknown address, and as many members are held as may be.
     #[error("too many members")]
     Full,
-    /// A growth was refused.
+    /// Out of memory.
     #[error("out of memory")]
     Memory,
 }
 
-/// A batch that stopped: its first `taken` changes were taken, old ones counted too, and no other.
+/// A batch that stopped: its first `taken` changes were processed, old ones counted too, and no other.
 #[derive(Clone, Copy, Debug, PartialEq, Eq, Error)]
 #[error("stopped after {taken} changes: {cause}")]
 pub struct Stopped {
@@ -35,31 +35,31 @@ pub struct Stopped {
     pub cause: StopCause,
 }
 
-/// What a message that was received came to.
+/// The result of a message that was received.
 #[derive(Debug, Drop)]
 pub enum Received {
-    /// Its changes are taken, and it wants no answer.
+    /// Its changes are processed, and it needs no answer.
     Done(Taken),
-    /// Its changes are taken, and this is the answer.
+    /// Its changes are processed, and this is the answer.
     Answer(Taken, Message),
-    /// Its changes are taken, and the answer found no memory.
+    /// Its changes are processed, and the answer is missing: out of memory.
     NoAnswer(Taken),
-    /// The taking of its changes stopped, and no answer is made.
+    /// A change stopped the batch, and no answer is made.
     Stopped(Stopped),
-    /// It is no message of the membership, and nothing is taken.
+    /// The message is not of the membership, and is ignored.
     NotGossip,
 }
 
-/// What becomes of a probe that was lost.
+/// The result of a probe that was lost.
 #[derive(Debug, Drop)]
 pub enum NodeLost {
     /// These members are to be asked to ping the target.
     Ask(Addresses),
-    /// Nobody could be asked: the target is suspect, by this change where it was held as alive.
+    /// There is no helper to ask: the target is suspect, by this change if it was alive.
     Suspect(Option<Change>),
 }
 
-/// What a helper's word comes to.
+/// The result of a helper's report.
 #[derive(Clone, Copy, Debug, PartialEq, Eq)]
 pub enum NodeOutcome {
     /// Another helper has not answered.
@@ -111,7 +111,7 @@ pub enum Event {
     Digest,
 }
 
-/// What a call answered: a variant for each variant of `Event`, under its name.
+/// The reply to a call: a variant for each variant of `Event`, under its name.
 #[derive(Debug, Drop)]
 pub enum Reply {
     Take(Result<Taken, Stopped>),

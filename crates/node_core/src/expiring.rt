@@ -1,4 +1,4 @@
-//! What a node says itself: of others at their deadlines, and of itself that it leaves or is back.
+//! The entries that a node asserts by itself: of others at their deadlines, and of itself that it leaves or is back.
 ghost use Rattle.std.specs.Prelude.{◌≡◌, option_map, IfSome, OnOk, OnErr, IsOkUnless};
 ghost use Rattle.member_core.specs.Membership.{judged, IsOwnAssertion};
 ghost use Rattle.node_core.specs.Asserting.{LeaveStep, RejoinStep};
@@ -8,18 +8,22 @@ ghost use Rattle.node_core.specs.Node.{altered, asserted_by, at_moment, own_chan
 
 use crate::edits::Edit;
 use crate::errors::NodeError;
-use crate::node::{NodeState, asserted};
+use crate::node::{NodeState, sourced_by_self};
 use crate::taking::later;
-use change_core::{Change, GREATEST_NUMBER, Moment, Status};
+use change_core::{Change, MAX_NUMBER, Moment, Status};
 use hash_ring::PointHash;
 use member_core::Verdict;
 
 impl<H: PointHash> NodeState<H> {
-    /// Puts in one change that is due at a moment, that of the least address: a suspect whose time to refute is over
-    /// becomes faulty (SWIM, DSN 2002, section 4.2), and an entry that was faulty for long a tombstone. None where none
-    /// is due. Called until it answers None, it puts in all.
+    /// Applies one change that is due at a moment, that of the least address: a suspect whose time to refute is over
+    /// becomes faulty (SWIM, DSN 2002, section 4.2), and an entry that was faulty for long a tombstone. Returns None if
+    /// none is due. Called until it returns None, it applies all.
     ///
-    /// Errors: `Memory`, after which the node is at the moment where it was.
+    /// # Errors
+    ///
+    /// The node is then unchanged, its moment too.
+    ///
+    /// - `Memory`: out of memory; never if none is due.
     pub fn expire(&mut self, moment: Moment) -> Result<Option<Change>, NodeError>
         ensures step { ExpireStep self.old.node moment result self.new.node }
     {
@@ -31,9 +35,13 @@ impl<H: PointHash> NodeState<H> {
         Ok(Some(change))
     }
 
-    /// The node leaves: it holds itself as leave at its incarnation, and tells that (ringpop-go, package swim).
+    /// Leaves the cluster: the node holds itself as leave at its incarnation, and passes that on (ringpop-go, package
+    /// swim). After an error the node is unchanged.
     ///
-    /// Errors: `AlreadyLeft`; `Memory`.
+    /// # Errors
+    ///
+    /// - `AlreadyLeft`: the node has left.
+    /// - `Memory`: out of memory.
     pub fn leave(&mut self) -> Result<Change, NodeError>
         ensures step { LeaveStep self.old.node result self.new.node }
     {
@@ -49,9 +57,13 @@ impl<H: PointHash> NodeState<H> {
         Ok(change)
     }
 
-    /// The node is back after it left: alive at the next incarnation.
+    /// Comes back after leaving: the node is alive at the next incarnation. After an error the node is unchanged.
     ///
-    /// Errors: `NotLeft`; `Exhausted` where its incarnation is the greatest; `Memory`.
+    /// # Errors
+    ///
+    /// - `NotLeft`: the node has not left.
+    /// - `Exhausted`: its incarnation is the greatest.
+    /// - `Memory`: out of memory.
     pub fn rejoin(&mut self) -> Result<Change, NodeError>
         ensures step { RejoinStep self.old.node result self.new.node }
     {
@@ -59,7 +71,7 @@ impl<H: PointHash> NodeState<H> {
         if own.status != Status::Leave {
             return Err(NodeError::NotLeft);
         }
-        if own.incarnation.number() == GREATEST_NUMBER {
+        if own.incarnation.number() == MAX_NUMBER {
             return Err(NodeError::Exhausted);
         }
         let Some(incarnation) = own.incarnation.next() else {
@@ -74,7 +86,7 @@ impl<H: PointHash> NodeState<H> {
         Ok(change)
     }
 
-    /// Puts in, at a moment, what the node says of another that it holds.
+    /// Writes an entry, at a moment, that the node asserts of another that it holds.
     pub(crate) fn say(&mut self, change: &Change, moment: Moment) -> Result<(), NodeError>
         requires { judged (membership_of self.old.node) change.now ≡ Verdict.Take change.now }
         ensures ok { OnOk result (self.new.node ≡ altered (at_moment self.old.node moment) (said_by self.old.node change.now)) }
@@ -93,7 +105,7 @@ impl<H: PointHash> NodeState<H> {
         }
     }
 
-    /// Puts in what the node asserts of itself.
+    /// Writes an entry that the node asserts of itself.
     fn renew(&mut self, change: &Change) -> Result<(), NodeError>
         requires { IsOwnAssertion (own_change self.old.node) change.now }
         ensures ok { OnOk result (self.new.node ≡ altered self.old.node (asserted_by self.old.node.own change.now)) }
@@ -102,13 +114,13 @@ impl<H: PointHash> NodeState<H> {
     {
         // The proof knows the type's invariant where a field is read.
         let _ = &self.moment;
-        let news = asserted(change);
+        let news = sourced_by_self(change);
         let altered = self.alter(Edit::Own(*change), &news);
         self.settle();
         altered
     }
 
-    /// What the entry of the least address that is due at a moment becomes.
+    /// Returns the entry of least address that is due at a moment, with its next status.
     fn due(&self, moment: Moment) -> Option<Change>
         ensures value { result ≡ option_map expired (due (at_moment self.now.node moment)) }
         ensures taken { IfSome result (λ change. judged (membership_of self.now.node) change ≡ Verdict.Take change) }

@@ -1,4 +1,4 @@
-//! Laws over the definitions, each the contract of a function that does nothing.
+//! Theorems about the definitions, each the contract of a function that does nothing.
 ghost use Rattle.std.specs.Prelude.{◌≡◌, ◌++◌, List, ℕ};
 ghost use Rattle.change_core.specs.declared.changes.Change.{Change};
 ghost use Rattle.change_core.specs.Members.{members, HaveSameChanges};
@@ -15,22 +15,22 @@ ghost use Rattle.node_core.specs.World.{WorldsAreTrue, newborn};
 use crate::configs::Config;
 use hash_ring::PointHash;
 
-/// Lists that hold the same changes, in any order, grouping and repetition, come to the same members, owners and points.
+/// Lists that hold the same changes, in any order, grouping and repetition, give the same members, owners and points.
 pub fn merge()
     ensures same { (L K : List Change) → HaveSameChanges L K → AgreeOnAll L K }
     ensures grouped { (L K : List Change) → members (members L ++ K) ≡ members (L ++ K) }
 {}
 
-/// Nodes whose logs hold the same changes hold the same members, with one text and digest, name the same owners of every key,
-/// and have the same ring, if they have one hash and one number of replica points; all else of them may differ. What each
-/// answers is what the definitions say of its log.
+/// Nodes whose logs hold the same changes hold the same members, with one text and digest, name the same owners of
+/// every key, and have the same ring, if they have one hash and one number of replica points; all else of them may
+/// differ. The answers of each are those that the definitions give for its log.
 pub fn agreement<H: PointHash>()
     ensures agree { NodesAgree H.hash_of }
     ensures by_log { NodesAnswerByLog H.hash_of }
 {}
 
-/// A batch that is taken whole leaves the greatest of both; of itself the taker holds its refutation where it made one. So a node
-/// that takes another's whole membership holds of every other address the greatest of both memberships.
+/// A batch that is processed whole leaves the greatest of both; of itself the receiver holds its refutation if it made
+/// one. So a node that takes another's whole membership holds of every other address the greatest of both memberships.
 pub fn synchronisation<H>()
     ensures batch { (own : ℕ) (log given : List Change) → TakesGreatest own log given }
     ensures nodes { NodesSynchronise H }
@@ -46,7 +46,7 @@ pub fn identity<H: PointHash>()
     ensures { CallsLeaveItself H.hash_of }
 {}
 
-/// A node begins with its invariant, and every call keeps it.
+/// A new node satisfies the invariant, and every call keeps it.
 pub fn node_invariant<H: PointHash>()
     ensures begins { (hash : H) (config : Config) (own incarnation moment : ℕ) (generator : Lcg)
         → IsConfig config → IsNode (newborn hash config own incarnation moment generator) }

@@ -20,7 +20,7 @@ mod runs;
 mod taking;
 mod views;
 
-pub use configs::{Config, ConfigField, MOST_WORKERS};
+pub use configs::{Config, ConfigField, MAX_WORKERS};
 pub use errors::NodeError;
 pub use events::{Event, NodeLost, NodeOutcome, Received, Reply, StopCause, Stopped, Taken};
 pub use lists::{ChangeList, KeyBytes};

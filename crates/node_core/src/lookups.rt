@@ -1,4 +1,4 @@
-//! What a node answers of its members and its ring. Nothing that is seen of it changes.
+//! Lookups of a node's members and its ring. They change nothing that contracts see.
 ghost use Rattle.std.specs.Prelude.{◌≡◌, slice_get};
 ghost use Rattle.change_core.specs.Members.{digest_text};
 ghost use Rattle.detector_core.specs.Picks.{running_of};
@@ -17,60 +17,71 @@ use hash_ring::PointHash;
 use message_core::Text;
 
 impl<H: PointHash> NodeState<H> {
-    /// The owner of a key: of the serving members the one nearest to it (ringpop-go, package hashring). None exactly where
-    /// none serves. It takes no memory and hashes the key alone.
+    /// Returns the owner of a key: of the serving members the one nearest to it (ringpop-go, package hashring). None if
+    /// and only if no member serves. It takes no memory and hashes the key alone.
     pub fn owner(&self, key: &[u8]) -> Option<Address>
         ensures { result ≡ slice_get (owners_by H.hash_of self.now.node key.now) 0 }
     {
         self.ring.owner(key)
     }
 
-    /// The first `count` owners of a key, the owner first, or all serving members where there are fewer.
+    /// Returns the first `count` owners of a key, the owner first, or all serving members if there are fewer.
     ///
-    /// Errors: `Memory`, for the list; never where nobody is to be named.
+    /// # Errors
+    ///
+    /// - `Memory`: out of memory; never if `count` is 0 or no member serves.
     pub fn owners(&self, key: &[u8], count: usize) -> Result<Addresses, NodeError>
         ensures { NamesOwners (H.hash_of self.now.node.hash) self.now.node.config.replicas (servers_of self.now.node.members) key.now count result }
     {
         Ok(Addresses::from_vec(self.ring.owners(key, count)?))
     }
 
-    /// The members, ascending by address.
+    /// Returns the members, ascending by address.
     ///
-    /// Errors: `Memory`, for the list.
+    /// # Errors
+    ///
+    /// - `Memory`: out of memory.
     pub fn members(&self) -> Result<ChangeList, NodeError>
         ensures { Answers self.now.node.members result }
     {
         Ok(ChangeList::from_vec(self.members.list()?))
     }
 
-    /// The members as one line of text, which no other member list has.
+    /// Returns the members as one line of text. Each list of members has a different text.
     ///
-    /// Errors: `Memory`, for the text.
+    /// # Errors
+    ///
+    /// - `Memory`: out of memory.
     pub fn digest_text(&self) -> Result<Text, NodeError>
         ensures { Answers (digest_text self.now.node.members) result }
     {
         Ok(Text::from_string(self.members.digest_text()?))
     }
 
-    /// The SHA-256 of the digest text (FIPS 180-4).
+    /// Returns the SHA-256 of the digest text (FIPS 180-4).
     ///
-    /// Errors: `Memory`, for the text.
+    /// # Errors
+    ///
+    /// - `Memory`: out of memory for the text.
     pub fn digest(&self) -> Result<Digest, NodeError>
         ensures { Answers (digest_of self.now.node.members) result }
     {
         Ok(self.members.digest()?)
     }
 
-    /// The ring as it is now, which names the owners of keys as the node does, whatever the node takes afterwards. The points
-    /// are copied by the first view after a change of the ring, and the next ones share that copy; nothing is hashed.
+    /// Returns the ring as it is now. It names the owners of keys as the node does now, whatever changes later. The
+    /// points are copied by the first view after a change of the ring, and the next ones share that copy; nothing is
+    /// hashed.
     ///
-    /// Errors: `Memory`, for the copy.
+    /// # Errors
+    ///
+    /// - `Memory`: out of memory for the copy.
     pub fn view(&mut self) -> Result<View<H>, NodeError>
         ensures answer { Answers (view_of self.old.node) result }
         ensures same { self.new ≡ self.old }
     {
-        let own = self.members.own().address;
-        Ok(View::of(own, self.ring.shared()?))
+        let own = self.members.own();
+        Ok(View::of(&own, self.ring.shared()?))
     }
 
     /// The probe that runs, with the helper of least address that was asked and has not answered.

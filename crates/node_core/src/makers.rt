@@ -12,10 +12,12 @@ use hash_ring::PointHash;
 use message_core::{Changes, Content, Message, News};
 
 impl<H: PointHash> NodeState<H> {
-    /// What a node that wants to join sends to a host: its own entry, to be answered by all that the host holds
-    /// (ringpop-go, package swim). Nothing changes.
+    /// Makes the message that a node sends to a host to join: its own entry, to be answered by all members that the
+    /// host holds (ringpop-go, package swim). Nothing changes.
     ///
-    /// Errors: `Memory`.
+    /// # Errors
+    ///
+    /// - `Memory`: out of memory.
     pub fn join_message(&self) -> Result<Message, NodeError>
         ensures step { MakeStep self.now.node (join_by self.now.node) self.now.node result self.now.node }
     {
@@ -27,9 +29,11 @@ impl<H: PointHash> NodeState<H> {
         Ok(self.message(Content::Join(News { checksum, changes })))
     }
 
-    /// A ping of a target (SWIM, section 3.1), with what is passed on to it (section 4.1).
+    /// Makes a ping of a target (SWIM, section 3.1), with the changes to pass on to it (section 4.1).
     ///
-    /// Errors: `Memory`; then nothing counts as passed on.
+    /// # Errors
+    ///
+    /// - `Memory`: out of memory. Nothing counts as passed on.
     pub fn ping_to(&mut self, target: Address) -> Result<Message, NodeError>
         ensures step { MakeStep self.old.node (ping_by self.old.node target) (told self.old.node target) result self.new.node }
     {
@@ -37,9 +41,11 @@ impl<H: PointHash> NodeState<H> {
         Ok(self.message(Content::Ping(news)))
     }
 
-    /// What asks a helper to ping a target (SWIM, section 3.1), with what is passed on to the helper.
+    /// Makes a request to a helper to ping a target (SWIM, section 3.1), with the changes to pass on to the helper.
     ///
-    /// Errors: `Memory`; then nothing counts as passed on.
+    /// # Errors
+    ///
+    /// - `Memory`: out of memory. Nothing counts as passed on.
     pub fn ping_req_to(&mut self, helper: Address, target: Address) -> Result<Message, NodeError>
         ensures step { MakeStep self.old.node (ping_req_by self.old.node helper target) (told self.old.node helper) result self.new.node }
     {
@@ -47,9 +53,11 @@ impl<H: PointHash> NodeState<H> {
         Ok(self.message(Content::PingReq(news, target)))
     }
 
-    /// What tells a requester whether a target was reached, with what is passed on to the requester.
+    /// Makes a report to a requester on whether a target was reached, with the changes to pass on to the requester.
     ///
-    /// Errors: `Memory`; then nothing counts as passed on.
+    /// # Errors
+    ///
+    /// - `Memory`: out of memory. Nothing counts as passed on.
     pub fn ping_req_ack_to(
         &mut self,
         requester: Address,
@@ -62,9 +70,11 @@ impl<H: PointHash> NodeState<H> {
         Ok(self.message(Content::PingReqAck(news, target, reached)))
     }
 
-    /// The answer to a join: all members, each with the node as its source. Nothing changes.
+    /// Makes the answer to a join: all members, each with the node as its source. Nothing changes.
     ///
-    /// Errors: `Memory`.
+    /// # Errors
+    ///
+    /// - `Memory`: out of memory.
     pub(crate) fn joined(&self) -> Result<Message, NodeError>
         ensures step { MakeStep self.now.node (joined_by self.now.node) self.now.node result self.now.node }
     {
@@ -73,10 +83,12 @@ impl<H: PointHash> NodeState<H> {
         Ok(self.message(Content::Joined(News { checksum, changes })))
     }
 
-    /// The answer to a ping of this source that carried this checksum: what is passed on to the source, or where that is
-    /// nothing and the digests differ all members (ringpop-go, package swim: a full synchronisation).
+    /// Makes the answer to a ping of this source that carried this checksum: the changes to pass on to the source, or,
+    /// if there are none and the digests differ, all members (ringpop-go, package swim: a full synchronisation).
     ///
-    /// Errors: `Memory`; then nothing counts as passed on.
+    /// # Errors
+    ///
+    /// - `Memory`: out of memory. Nothing counts as passed on.
     pub(crate) fn ack(&mut self, source: Address, checksum: Digest) -> Result<Message, NodeError>
         ensures step { MakeStep self.old.node (ack_by self.old.node source checksum) (told self.old.node source) result self.new.node }
     {
@@ -87,7 +99,7 @@ impl<H: PointHash> NodeState<H> {
         Ok(self.message(Content::Ack(news)))
     }
 
-    /// A change as the node says it.
+    /// Returns a change with the node as its source.
     pub(crate) fn said(&self, change: &Change) -> Sourced
         ensures { result ≡ said_by self.now.node change.now }
     {
@@ -111,12 +123,12 @@ impl<H: PointHash> NodeState<H> {
         }
     }
 
-    /// The digest, made anew only where the members changed since it was made last, and what is passed on to a target. The
-    /// digest is made first, so that nothing is issued in vain.
+    /// Returns the digest, computed again only if the members changed since the last time, and the changes to pass on
+    /// to a target. The digest comes first, so that no change is issued in vain.
     fn news_for(&mut self, target: Address) -> Result<News, NodeError>
         ensures news { IfOk result (λ n. n ≡ news_of self.old.node (piggyback self.old.node target)) }
         ensures ok { OnOk result (self.new.node ≡ told self.old.node target) }
-        // News of nothing change nothing.
+        // Without changes to pass on nothing changes.
         ensures nothing { IfOk result (λ n. n.changes ≡ [] → self.new ≡ self.old) }
         ensures err { OnErr result (self.new ≡ self.old) }
         ensures refusal { IsOkUnless result NodeError.Memory }

@@ -26,9 +26,9 @@ use std::alloc::Global;
 use std::fmt;
 use std::marker::Model;
 
-/// The node of one thread: the members as it holds them, the ring of those that serve, what it still passes on, the
-/// deadlines of others' suspect and faulty entries, and its probe (SWIM, DSN 2002; ringpop-go, package swim). It is
-/// handed each moment and reads no clock. Contracts see the node and the points of its ring.
+/// The node of one thread: the members as it holds them, the ring of those that serve, the changes that it still passes
+/// on, the deadlines of others' suspect and faulty entries, and its probe (SWIM, DSN 2002; ringpop-go, package swim).
+/// The caller passes each moment; the node reads no clock. Contracts see the node and the points of its ring.
 #[derive(Drop)]
 pub struct NodeState<H: PointHash> {
     pub(crate) config: Config,
@@ -69,10 +69,14 @@ impl<H: PointHash> Model for NodeState<H> {
 }
 
 impl<H: PointHash> NodeState<H> {
-    /// A node alone in its cluster, alive at this incarnation with the weight of the configuration. `seed` decides its
-    /// random choices, and `moment` is the first that it knows.
+    /// Makes a node alone in its cluster, alive at this incarnation with the weight of the configuration. `seed`
+    /// decides its random choices, and `moment` is the first that it knows.
     ///
-    /// Errors: `BadConfig` with the first field that is out of its range, before memory is asked for; `Memory`.
+    /// # Errors
+    ///
+    /// - `BadConfig`: a field is out of its range; the first such field is named. This is checked before any
+    ///   allocation.
+    /// - `Memory`: out of memory.
     pub fn new(
         alloc: Global,
         config: Config,
@@ -104,7 +108,7 @@ impl<H: PointHash> NodeState<H> {
         })
     }
 
-    /// How many members the node holds, itself among them.
+    /// Returns the number of members that the node holds, itself among them.
     pub fn len(&self) -> usize
         ensures count { result ≡ length self.now.node.members }
         // What holds of a node between any two calls.
@@ -113,14 +117,14 @@ impl<H: PointHash> NodeState<H> {
         self.members.len()
     }
 
-    /// What the node holds of itself, as a change.
+    /// Returns the node's own entry, as a change.
     pub fn own(&self) -> Change
         ensures { result ≡ own_change self.now.node }
     {
         self.members.own()
     }
 
-    /// What the node holds of an address.
+    /// Returns the entry that the node holds of an address.
     pub fn member(&self, address: Address) -> Option<Entry>
         ensures { result ≡ option_map entry_of (greatest self.now.node.members address) }
     {
@@ -129,7 +133,7 @@ impl<H: PointHash> NodeState<H> {
 }
 
 impl<H: PointHash> NodeState<H> {
-    /// Makes one alteration in every part, or none in any.
+    /// Makes one alteration in all parts, or none in any.
     pub(crate) fn alter(&mut self, edit: Edit, news: &Sourced) -> Result<(), NodeError>
         requires may { MayEdit (membership_of self.old.node) edit }
         requires entry { entry_in edit ≡ Some news.now.change }
@@ -171,19 +175,19 @@ impl<H: PointHash> fmt::Debug for NodeState<H> {
     }
 }
 
-/// What a node passes on at first: its birth. `Memory`: a growth was refused.
+/// Makes the pending list of a new node: its first entry. `Memory`: out of memory.
 fn first_news(alloc: Global, piggyback: u32, birth: &Change) -> Result<Gossip, GossipError>
     requires { (1 ≤ piggyback) × (piggyback ≤ most_factor) }
     ensures news { IfOk result (λ g. g ≡ with_news (record { factor = piggyback; limit = limit_for piggyback 1; pending = [] }) (asserted_by birth.now.address birth.now)) }
     ensures refusal { IsOkUnless result GossipError.Memory }
 {
     let mut gossip = Gossip::new(alloc, piggyback)?;
-    gossip.put(asserted(birth))?;
+    gossip.put(sourced_by_self(birth))?;
     Ok(gossip)
 }
 
 /// A change of the node's own entry, said by itself.
-pub(crate) fn asserted(change: &Change) -> Sourced
+pub(crate) fn sourced_by_self(change: &Change) -> Sourced
     ensures { result ≡ asserted_by change.now.address change.now }
 {
     Sourced {

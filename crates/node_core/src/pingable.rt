@@ -1,4 +1,4 @@
-//! Whom a node pings: the serving members but itself.
+//! The members that a node pings: the serving ones but itself.
 ghost use Rattle.std.specs.Prelude.{◌≡◌, ◌≢◌, ◌==◌, ◌&&◌, ◌<◌, [], not, min, length, count_by, IsTrue, IfOk, OnErr, IsOkUnless};
 ghost use Rattle.std.specs.List.{list_any};
 ghost use Rattle.std.specs.List.Sorted.{IsStrictlyIncreasing};
@@ -10,9 +10,9 @@ use crate::errors::NodeError;
 use change_core::{Address, Change};
 use std::alloc::Global;
 
-/// The serving members of a list other than the node itself, ascending.
+/// Returns the serving members of a list other than the node itself, ascending.
 ///
-/// `Memory`: the list was refused, and somebody would have been on it.
+/// `Memory`: out of memory; never if the list is empty.
 pub(crate) fn list_pingable(
     alloc: Global,
     members: &[Change],
@@ -36,7 +36,7 @@ pub(crate) fn list_pingable(
     Ok(found)
 }
 
-/// Whether anyone may be asked about a target: `helpers` at most, pingable and not the target.
+/// Returns whether there is a helper to ask about a target: at most `helpers`, pingable and not the target.
 pub(crate) fn can_ask(members: &[Change], own: Address, target: Address, helpers: usize) -> bool
     requires { IsMemberList members.now }
     ensures some { IsTrue result → 0 < min helpers (length (others (others (serving members.now) own) target)) }
@@ -45,14 +45,14 @@ pub(crate) fn can_ask(members: &[Change], own: Address, target: Address, helpers
     helpers > 0 && has_other(members, own, target)
 }
 
-/// Whether one of the members may be pinged and is not the target.
+/// Returns whether one of the members is pingable and not the target.
 fn has_other(members: &[Change], own: Address, target: Address) -> bool
     ensures { result ≡ list_any (λ c. (is_serving c.status && not (c.address == own)) && not (c.address == target)) members.now }
 {
     members.iter().any(|change| is_pingable(own, change) && change.address != target)
 }
 
-/// How many of the members may be pinged.
+/// Returns how many of the members are pingable.
 fn count_pingable(members: &[Change], own: Address) -> usize
     ensures { result ≡ count_by (λ c. is_serving c.status && not (c.address == own)) members.now }
 {
@@ -62,7 +62,7 @@ fn count_pingable(members: &[Change], own: Address) -> usize
         .count()
 }
 
-/// A member may be pinged that serves and is not the node itself.
+/// Returns whether a member is pingable: it serves and is not the node itself.
 fn is_pingable(own: Address, change: &Change) -> bool
     ensures { result ≡ (is_serving change.now.status && not (change.now.address == own)) }
 {

@@ -18,10 +18,14 @@ use hash_ring::PointHash;
 use member_core::Members;
 
 impl<H: PointHash> NodeState<H> {
-    /// Begins a probe of the next member in turn, or answers None where nobody can be pinged (SWIM, section 4.3).
+    /// Starts a probe of the next member in turn, or returns None if no member is pingable (SWIM, section 4.3). After
+    /// an error the node is unchanged.
     ///
-    /// Errors: `Busy`, a probe runs; `Spent`, no probe number is left; `Memory`, for the list of those that can be pinged
-    /// or for a new order of them. The node is then as before.
+    /// # Errors
+    ///
+    /// - `Busy`: a probe runs. This is checked first.
+    /// - `Spent`: no probe number is left.
+    /// - `Memory`: out of memory, for the list of pingable members or for a new order of them.
     pub fn probe(&mut self) -> Result<Option<Probe>, NodeError>
         ensures step { ProbeStep self.old.node result self.new.node }
         ensures drawn { ProbeDraw self.old.node result self.new.node }
@@ -31,9 +35,11 @@ impl<H: PointHash> NodeState<H> {
         self.pick(&pingable)
     }
 
-    /// Ends a probe whose target was reached.
+    /// Ends a probe whose target was reached. After an error the node is unchanged.
     ///
-    /// Errors: `StaleProbe`, it is not the running one.
+    /// # Errors
+    ///
+    /// - `StaleProbe`: it is not the running probe.
     pub fn acked(&mut self, number: u64) -> Result<(), NodeError>
         ensures step { AckedStep self.old.node number result self.new.node }
     {
@@ -41,10 +47,14 @@ impl<H: PointHash> NodeState<H> {
         Ok(())
     }
 
-    /// Gives a probe up at a moment. Other members are to be asked about its target, as many as the configuration says or
-    /// all there are; where there are none the target is suspect at once.
+    /// Ends the direct ping of a probe as lost, at a moment. Returns the members to ask about its target, as many as
+    /// the configuration allows or all there are; if there are none the target is suspect. After an error the node is
+    /// unchanged.
     ///
-    /// Errors: `StaleProbe`, it is not the running one, or helpers were asked already; `Memory`. The node is then as before.
+    /// # Errors
+    ///
+    /// - `StaleProbe`: it is not the running probe, or helpers were asked already.
+    /// - `Memory`: out of memory, for the helpers or for the suspicion.
     pub fn lost(&mut self, number: u64, moment: Moment) -> Result<NodeLost, NodeError>
         ensures step { LostStep self.old.node number moment result self.new.node }
         ensures drawn { LostDraw self.old.node number result self.new.node }
@@ -59,10 +69,14 @@ impl<H: PointHash> NodeState<H> {
         }
     }
 
-    /// Notes at a moment what a helper said of a target. Where the verdict is that the target is suspect, it is held so.
+    /// Records, at a moment, a helper's report on a target. If the verdict is that the target is suspect, the node
+    /// holds it so. After an error the node is unchanged.
     ///
-    /// Errors: `StaleProbe`, it is not the running probe; `NotAsked`, this helper was not asked, or has answered; `Memory`,
-    /// for the suspicion. The node is then as before.
+    /// # Errors
+    ///
+    /// - `StaleProbe`: it is not the running probe.
+    /// - `NotAsked`: this helper was not asked, or has answered.
+    /// - `Memory`: out of memory for the suspicion.
     pub fn helper_said(
         &mut self,
         number: u64,
@@ -96,7 +110,7 @@ impl<H: PointHash> NodeState<H> {
         }
     }
 
-    /// Whether a probe may begin, were there anybody to ping.
+    /// Checks that a probe could start, if there is a member to ping.
     fn may_probe(&self) -> Result<(), NodeError>
         ensures free { OnOk result ((self.now.node.probing.running ≡ None) × (self.now.node.probing.last < greatest_number)) }
         ensures refusal { IfErr result (λ e. ProbeStep self.now.node (Err e) self.now.node) }
@@ -105,7 +119,7 @@ impl<H: PointHash> NodeState<H> {
         Ok(())
     }
 
-    /// Begins a probe of the next of those that can be pinged.
+    /// Starts a probe of the next of the pingable members.
     fn pick(&mut self, targets: &[Address]) -> Result<Option<Probe>, NodeError>
         requires { targets.now ≡ pingable self.old.node }
         ensures step { ProbeStep self.old.node result self.new.node }
@@ -131,7 +145,7 @@ impl<H: PointHash> NodeState<H> {
         }
     }
 
-    /// Ends a lost probe about whose target nobody can be asked: the target is suspect.
+    /// Ends a lost probe about whose target there is no helper to ask: the target is suspect.
     fn give_up(
         &mut self,
         number: u64,
@@ -151,7 +165,7 @@ impl<H: PointHash> NodeState<H> {
         Ok(NodeLost::Suspect(change))
     }
 
-    /// Whether anyone may be asked about a target.
+    /// Returns whether there is a helper to ask about a target.
     fn can_ask(&self, target: Address) -> bool
         ensures some { IsTrue result → 0 < helper_count self.now.node.probing (pingable self.now.node) target }
         ensures none { IsTrue (not result) → helper_count self.now.node.probing (pingable self.now.node) target ≡ 0 }
@@ -165,7 +179,7 @@ impl<H: PointHash> NodeState<H> {
         )
     }
 
-    /// Tells the prober what a helper said, at a moment.
+    /// Passes a helper's report to the prober, at a moment.
     fn note(&mut self, number: u64, helper: Address, said: Said, moment: Moment)
         requires { IsOk (would_say self.old.node.probing number helper said) }
         ensures { (outcome : Outcome) → would_say self.old.node.probing number helper said ≡ Ok outcome
@@ -177,7 +191,7 @@ impl<H: PointHash> NodeState<H> {
         };
     }
 
-    /// Holds a target as suspect from a moment on, at its incarnation, where it is held as alive.
+    /// Holds a target as suspect from a moment on, at its incarnation, if it is alive.
     fn suspect(&mut self, target: Address, moment: Moment) -> Result<Option<Change>, NodeError>
         requires other { target ≢ self.old.node.own }
         ensures change { IfOk result (λ change. change ≡ suspicion self.old.node target) }

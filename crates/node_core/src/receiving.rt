@@ -10,9 +10,9 @@ use hash_ring::PointHash;
 use message_core::{Content, Message};
 
 impl<H: PointHash> NodeState<H> {
-    /// Takes the changes of a message, at a moment, and makes the answer that it wants: to a join the whole membership; to
-    /// a ping what is passed on to its sender, or, where that is nothing and the digests differ, the whole membership
-    /// (ringpop-go, package swim). A message that is none of the membership changes nothing.
+    /// Processes the changes of a message, at a moment, and makes its answer: to a join the whole membership; to a ping
+    /// the changes to pass on to its sender, or, if there are none and the digests differ, the whole membership
+    /// (ringpop-go, package swim). A message that is not of the membership changes nothing.
     pub fn receive(&mut self, message: &Message, moment: Moment) -> Received
         ensures step { ReceiveStep self.old.node message.now moment result self.new.node }
     {
@@ -35,7 +35,7 @@ impl<H: PointHash> NodeState<H> {
     }
 }
 
-/// What a message came to whose changes were taken, by its answer.
+/// Returns the result of a message whose changes were processed, by its answer.
 fn answered(taken: Taken, answer: Result<Message, NodeError>) -> Received
     ensures { result ≡ as_answered taken answer }
 {
@@ -45,7 +45,7 @@ fn answered(taken: Taken, answer: Result<Message, NodeError>) -> Received
     }
 }
 
-/// What a message came to that wants no answer, by what became of its changes.
+/// Returns the result of a message that needs no answer, by the result of its changes.
 fn taken(outcome: Result<Taken, Stopped>) -> Received
     ensures { result ≡ as_taken outcome }
 {

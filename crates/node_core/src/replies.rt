@@ -1,4 +1,4 @@
-//! What a run of calls answered.
+//! The replies of a run of calls.
 ghost use Rattle.std.specs.Prelude.{◌≡◌};
 
 use crate::events::Reply;
@@ -45,7 +45,7 @@ pub struct Run<H: PointHash> {
     pub replies: Replies,
 }
 
-/// A run that found no memory for its replies: no call was made, and the node is as it was.
+/// A run without memory for its replies: no call was made, and the node is unchanged.
 #[derive(Debug, Drop, Error)]
 #[error("out of memory")]
 pub struct RunRefused<H: PointHash> {

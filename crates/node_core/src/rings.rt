@@ -11,7 +11,7 @@ use std::alloc::Global;
 use std::marker::Model;
 use std::sync::Arc;
 
-/// A ring, and the copy of it that was handed out last, while it is still the same. Contracts see the ring alone.
+/// A ring, and the last copy of it that was shared, while it is still the same. Contracts see the ring alone.
 #[derive(Drop)]
 pub(crate) struct SharedRing<H: PointHash> {
     ring: Ring<H>,
@@ -32,7 +32,7 @@ impl<H: PointHash> Model for SharedRing<H> {
 }
 
 impl<H: PointHash> SharedRing<H> {
-    /// The ring of one server, of which nothing was handed out. `Memory`: a growth was refused.
+    /// Makes the ring of one server, not shared yet. `Memory`: out of memory.
     pub(crate) fn of_one(
         alloc: Global,
         hash: H,
@@ -54,7 +54,7 @@ impl<H: PointHash> SharedRing<H> {
         })
     }
 
-    /// How many servers there are.
+    /// Returns the number of servers.
     pub(crate) fn len(&self) -> usize
         ensures count { result ≡ length self.now.servers }
         ensures kept { self.now ≡ ring_of self.now.hash (H.hash_of self.now.hash) self.now.replicas self.now.servers self.now.room }
@@ -105,7 +105,7 @@ impl<H: PointHash> SharedRing<H> {
         self.ring.owner(key)
     }
 
-    /// The first owners of a key. `Memory`: the list was refused.
+    /// Returns the first owners of a key. `Memory`: out of memory.
     pub(crate) fn owners(&self, key: &[u8], count: usize) -> Result<Vec<Address>, RingError>
         ensures named { IfOk result (λ named. named.items ≡ take count (owners (H.hash_of self.now.hash) self.now.replicas self.now.servers key.now)) }
         ensures growth { OnErr result ((0 < count) × (0 < length self.now.servers)) }
@@ -114,8 +114,8 @@ impl<H: PointHash> SharedRing<H> {
         self.ring.owners(key, count)
     }
 
-    /// The ring as it is now, shared with whoever asked for it since it last changed. It is copied where nobody did.
-    /// `Memory`: a growth was refused.
+    /// Returns the ring as it is now, shared by all callers since it last changed; the first of them copies it.
+    /// `Memory`: out of memory.
     pub(crate) fn shared(&mut self) -> Result<Arc<Ring<H>>, RingError>
         ensures same { self.new ≡ self.old }
         ensures shown { IfOk result (λ shown. arc_value shown ≡ record self.old { room = (arc_value shown).room }) }

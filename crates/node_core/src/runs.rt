@@ -11,11 +11,14 @@ use crate::replies::{Replies, Run, RunRefused};
 use hash_ring::PointHash;
 use std::alloc::Global;
 
-/// Makes these calls of a node, one after another. The node's members are then those of its log: what it held at first,
-/// each change that a call counted as taken, and what the node said itself, its refutations among it. Its own address, its hash
-/// and its configuration stay.
+/// Makes these calls of a node, one after another. The node's members are then those of its log: those that it held at
+/// first, each change that a call counted as taken, and each change that the node made itself, its refutations among
+/// them. Its own address, its hash and its configuration stay.
 ///
-/// `RunRefused`, only where the list of the replies found no memory: no call was made.
+/// # Errors
+///
+/// - `RunRefused`: out of memory for the list of replies; never without calls. No call was made, and the node is
+///   returned unchanged.
 pub fn run<H: PointHash>(
     alloc: Global,
     node: NodeState<H>,
@@ -47,7 +50,7 @@ pub fn run<H: PointHash>(
 }
 
 impl<H: PointHash> NodeState<H> {
-    /// Makes the call that an event names, and answers what it answered. Each call of a node has an event, but for `new`,
+    /// Makes the call that an event names, and returns its reply. Each call of a node has an event, but for `new`,
     /// `view` and `run`.
     pub fn apply(&mut self, event: &Event) -> Reply
         ensures step { NodeStep H.hash_of self.old.node event.now result self.new.node }

@@ -6,12 +6,12 @@ ghost use Rattle.node_core.specs.Taking.{altered_in, refuted_by, TakesOne, Stops
 
 use crate::edits::Edit;
 use crate::events::{StopCause, Stopped, Taken};
-use crate::node::{NodeState, asserted};
+use crate::node::{NodeState, sourced_by_self};
 use change_core::{Moment, Sourced};
 use hash_ring::PointHash;
 use member_core::Verdict;
 
-/// What a change that was taken did.
+/// The effect of a change that was processed.
 #[derive(Clone, Copy)]
 enum Effect {
     /// It is old.
@@ -23,7 +23,7 @@ enum Effect {
 }
 
 impl Effect {
-    /// How many entries were altered.
+    /// Returns how many entries were altered.
     fn altered(&self) -> usize
         ensures value { result ≡ altered_in self.now }
         ensures within { result ≤ 1 }
@@ -34,7 +34,7 @@ impl Effect {
         }
     }
 
-    /// How many refutations were made.
+    /// Returns how many refutations were made.
     fn refuted(&self) -> usize
         ensures value { result ≡ refuted_by self.now }
         ensures within { result ≤ 1 }
@@ -47,13 +47,18 @@ impl Effect {
 }
 
 impl<H: PointHash> NodeState<H> {
-    /// Takes changes one after another, at a moment. An old change does nothing; a wrong change about the node itself is
-    /// refuted (SWIM, DSN 2002, section 4.2). Answers how many altered an entry, and how many of them were refuted.
+    /// Processes changes one after another, at a moment. An old change does nothing; a wrong change about the node
+    /// itself is refuted (SWIM, DSN 2002, section 4.2). Returns how many altered an entry, and how many of them were
+    /// refuted. At most 4,096 changes may be given.
     ///
-    /// It stops at the first change that is refused: `Exhausted` where it calls for a refutation at an incarnation past
-    /// the greatest, `Full` where its address is unknown and as many members are held as may be, `Memory` where a growth
-    /// was refused. The changes before it are then in every part, and the rest in none; the moment has passed. At most
-    /// 4,096 changes may be given.
+    /// # Errors
+    ///
+    /// The first change that fails stops the batch: those before it are applied completely, the rest not at all; the
+    /// moment has passed.
+    ///
+    /// - `Exhausted`: the change calls for a refutation at an incarnation past the greatest.
+    /// - `Full`: its address is unknown, and there are `max_members` members.
+    /// - `Memory`: out of memory; only for a change that would alter an entry.
     pub fn take(&mut self, changes: &[Sourced], moment: Moment) -> Result<Taken, Stopped>
         requires few { length changes.now ≤ most_members }
         ensures step { TakeStep self.old.node changes.now moment result self.new.node }
@@ -110,7 +115,7 @@ impl<H: PointHash> NodeState<H> {
                 Err(_) => Err(StopCause::Memory),
             },
             Verdict::Refute { given, next } => {
-                let news = asserted(&next);
+                let news = sourced_by_self(&next);
                 match self.alter(Edit::Judged(Verdict::Refute { given, next }), &news) {
                     Ok(()) => Ok(Effect::Refuted),
                     Err(_) => Err(StopCause::Memory),

@@ -1,11 +1,11 @@
 -- Acts one after the other.
 use Rattle.std.proofs.Common.{◌≡◌, ℕ, refl, sym, subst, arith, Result, Ok, Err, List, [], ◌∷◌, ◌++◌, append-nil}
-use Rattle.std.specs.Prelude.{IfOk, IfErr, IsErrAnd}
+use Rattle.std.specs.Prelude.{IfErr, IsErrAnd}
 use Rattle.std.proofs.lemmas.List.{map-append}
 use Rattle.node_core.specs.Calls.{Call, Answer}
 use Rattle.locked_node.specs.declared.node.LockedNode.{LockedNode}
 use Rattle.locked_node.specs.History.{CallEntry, entry_of}
-use Rattle.locked_node.specs.Passes.{NodePass, Fits, Made, IsCalled}
+use Rattle.locked_node.specs.Passes.{NodePass, Made, IsCalled}
 use Rattle.locked_node.proofs.Histories.{made_in_turn}
 use Rattle.peer_core.specs.Acts.{Act, OfActs, Just, Nothing, Then, acts_of, Makes}
 
@@ -13,14 +13,6 @@ use Rattle.peer_core.specs.Acts.{Act, OfActs, Just, Nothing, Then, acts_of, Make
 pub said_so : {T E : Type 0} (P : E → Type 0) (r : Result T E) (e : E) → IsErrAnd r (λ x. x ≡ e) → P e → IfErr r P
 said_so P (Ok x) e is h = tt
 said_so P (Err x) e is h = subst P (sym is) h
-
-pub by_ok : {T E : Type 0} (P : T → Type 0) (r : Result T E) → ((x : T) → r ≡ Ok x → P x) → IfOk r P
-by_ok P (Ok x) f = f x refl
-by_ok P (Err e) f = tt
-
-pub by_err : {T E : Type 0} (P : E → Type 0) (r : Result T E) → ((e : E) → r ≡ Err e → P e) → IfErr r P
-by_err P (Ok x) f = tt
-by_err P (Err e) f = f e refl
 
 module _ {H : Type 0} where
   pub made_none : (locked : LockedNode H) (p : NodePass H) → Made locked p p []
@@ -52,10 +44,3 @@ module _ {H : Type 0} where
   pub makes_as : {locked : LockedNode H} {P : OfActs H} {p q : NodePass H} (Q : OfActs H)
       → ((acts : List (Act H)) → P acts → Q acts) → Makes locked P p q → Makes locked Q p q
   makes_as Q f m = record { entries = m.entries; made = m.made; so = f (acts_of m.entries) m.so }
-
-  pub makes_fits : {locked : LockedNode H} {P : OfActs H} {p q : NodePass H} → Makes locked P p q → Fits locked p → Fits locked q
-  makes_fits m = m.made.fits
-
-  pub called_fits : {hash_of : H → List ℕ → ℕ} {locked : LockedNode H} {p q : NodePass H} {call : Call} {answer : Answer H}
-      → IsCalled hash_of locked p q call answer → Fits locked p → Fits locked q
-  called_fits c = c.made.fits

@@ -23,11 +23,11 @@ use Rattle.peer_core.specs.declared.forwarding.Request.{Request}
 use Rattle.peer_core.specs.declared.forwarding.Tried.{Tried}
 use Rattle.peer_core.specs.declared.forwarding.Tried.TheVariants.{Again}
 use Rattle.peer_core.specs.Errors.{error_of_forward, error_of_lock}
-use Rattle.peer_core.specs.Forwarding.{Plans, CarriesOut, Handles, Hears, IsHandled, IsJudged, IsRequest, IsRequestRefusal, Times, LooksUp, Rests, Sends, StandsFor, TriesOnce, way_of_try}
+use Rattle.peer_core.specs.Forwarding.{Plans, CarriesOut, Handles, IsForwarded, IsHandled, IsJudged, IsRequest, IsRequestRefusal, Times, LooksUp, Rests, Sends, StandsFor, TriesOnce, way_of_try}
 use Rattle.peer_core.specs.Handling.{MayHandle}
 use Rattle.peer_core.specs.Links.{MayAnswer}
 use Rattle.peer_core.specs.Parts.{Bars, Does, Next, Until}
-use Rattle.peer_core.specs.Serving.{Says}
+use Rattle.peer_core.specs.Serving.{message_from}
 use Rattle.peer_core.proofs.Parts.{Leads, bars_none, does_fail_memory, does_give, does_part, does_quiet, leads_none}
 
 pub lock_in_request : (l : LockError) → IsRequestRefusal (error_of_lock l)
@@ -68,6 +68,17 @@ same_request request keys back body lent attempt a e t =
     let same : attempt ≡ request.attempt = t ∙ ap (λ (ks : List (List ℕ)). with_keys ks lent) (sym k) ∙ sym a in
     ap (λ (x : AttemptState). record { attempt = x; body = body }) same ∙ ap (λ (x : List ℕ). record { attempt = request.attempt; body = x }) (sym b)
 
+-- so what was sent with the keys that were lent out was sent with the request's
+pub sent_lent : {H : Type 0} (Came : MayAnswer) (Time : Times) (view : Viewed H) (owner : Address) (request : Request) (keys : List (List ℕ)) (lent : LentState)
+    (message : Message) (answer : Result Message LinkError) (now : ℕ) (r : Result Tried ClusterError) → request.attempt ≡ with_keys keys lent
+    → message ≡ message_from view (content.Forward keys request.body) → Came owner message answer → Time.told now → IsJudged now request answer r
+    → IsForwarded Came Time view owner request r
+sent_lent Came Time view owner request keys lent message answer now r e made came told h =
+    let same : keys ≡ request.attempt.keys = sym (ap (λ (a : AttemptState). a.keys) e) in
+    let is : message ≡ message_from view (content.Forward request.attempt.keys request.body) =
+    made ∙ ap (λ (ks : List (List ℕ)). message_from view (content.Forward ks request.body)) same in
+    (answer, subst (λ (m : Message). Came owner m answer) is came, (now, told, h))
+
 pub judged_as : (now : ℕ) (one other : Request) (answer : Result Message LinkError) (r : Result Tried ClusterError)
     → one ≡ other → IsJudged now one answer r → IsJudged now other answer r
 judged_as now one other answer r e h = subst (λ (x : Request). IsJudged now x answer r) e h
@@ -100,18 +111,10 @@ module _ {H : Type 0} (locked : LockedNode H) (p : NodePass H) where
       bars_none (λ (x : ClusterError). IsJudged now request answer (Err x)) locked p e (no_judgement now request answer) h
 
   -- what came over the link was judged
-  pub hears_so : (Came : MayAnswer) (Time : Times) (owner : Address) (request : Request) (message : Message) (answer : Result Message LinkError) (now : ℕ)
-      (r : Result Tried ClusterError) → Came owner message answer → Time.told now → IsJudged now request answer r → Does locked (Hears Came Time owner request message) r p p
-  hears_so Came Time owner request message answer now r came told h =
-      does_quiet (Hears Came Time owner request message) locked p r (refl, (answer, came, (now, told, h))) (judged_bars now request answer r h)
-
-  -- the keys that were lent out went along
-  pub sends_lent : (Came : MayAnswer) (Time : Times) (owner : Address) (request : Request) (keys : List (List ℕ)) (lent : LentState) {q : NodePass H}
-      {r : Result Tried ClusterError} → request.attempt ≡ with_keys keys lent
-      → Does locked (Next (Says (content.Forward keys request.body)) (Hears Came Time owner request)) r p q → Does locked (Sends Came Time owner request) r p q
-  sends_lent Came Time owner request keys lent {q = q} {r = r} e d =
-      let same : keys ≡ request.attempt.keys = sym (ap (λ (a : AttemptState). a.keys) e) in
-      subst (λ (ks : List (List ℕ)). Does locked (Next (Says (content.Forward ks request.body)) (Hears Came Time owner request)) r p q) same d
+  pub sends_so : (Came : MayAnswer) (Time : Times) (view : Viewed H) (owner : Address) (request : Request) (r : Result Tried ClusterError)
+      → IsForwarded Came Time view owner request r → Does locked (Sends Came Time view owner request) r p p
+  sends_so Came Time view owner request r (answer, came, (now, told, h)) =
+      does_quiet (Sends Came Time view owner request) locked p r (refl, (answer, came, (now, told, h))) (judged_bars now request answer r h)
 
   handled_bars : (Handled : MayHandle) (keys : List (List ℕ)) (body : List ℕ) (r : Result (List ℕ) ClusterError) → IsHandled Handled keys body r → IfErr r (Bars locked p)
   handled_bars Handled keys body (Ok text) h = tt
@@ -124,10 +127,10 @@ module _ {H : Type 0} (locked : LockedNode H) (p : NodePass H) where
 
   -- a view says what is to be done, or turns the attempt away; or there is none
   pub decides_step : (hash_of : H → List ℕ → ℕ) (now : ℕ) (old new : AttemptState) (v : Result (Viewed H) NodeError) (view : Viewed H) (step : Step)
-      → v ≡ Ok view → ReadyStep hash_of view now old (Ok step) new → Does locked (Plans hash_of now old new v) (Ok step) p p
+      → v ≡ Ok view → ReadyStep hash_of view now old (Ok step) new → Does locked (Plans hash_of now old new v) (Ok (view, step)) p p
   decides_step hash_of now old new v view step is h =
-      subst (λ (x : Result (Viewed H) NodeError). Does locked (Plans hash_of now old new x) (Ok step) p p) (sym is)
-      (does_quiet (Plans hash_of now old new (Ok view)) locked p (Ok step) (refl, h) tt)
+      subst (λ (x : Result (Viewed H) NodeError). Does locked (Plans hash_of now old new x) (Ok (view, step)) p p) (sym is)
+      (does_quiet (Plans hash_of now old new (Ok view)) locked p (Ok (view, step)) (refl, refl, h) tt)
 
   pub decides_refusal : (hash_of : H → List ℕ → ℕ) (now : ℕ) (old new : AttemptState) (v : Result (Viewed H) NodeError) (view : Viewed H) (f : ForwardError)
       → v ≡ Ok view → ReadyStep hash_of view now old (Err f) new → Does locked (Plans hash_of now old new v) (Err (error_of_forward f)) p p

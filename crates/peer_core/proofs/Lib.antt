@@ -1,6 +1,7 @@
 pub mod Acts
 pub mod Hosts
 pub mod Named
+pub mod Healed
 pub mod Parts
 pub mod Turns
 pub mod Hands

@@ -9,7 +9,7 @@ use Rattle.node_core.specs.Calls.{OfEvent, WithReply}
 use Rattle.turn_lock.specs.declared.errors.LockError.{LockError}
 use Rattle.turn_lock.specs.declared.errors.LockError.TheVariants as lock
 use Rattle.locked_node.specs.declared.node.LockedNode.{LockedNode}
-use Rattle.locked_node.specs.Passes.{NodePass, Fits, IsCalled, Refuses}
+use Rattle.locked_node.specs.Passes.{NodePass, IsCalled, Refuses}
 use Rattle.peer_core.specs.declared.errors.ClusterError.{ClusterError}
 use Rattle.peer_core.specs.declared.errors.ClusterError.TheVariants as error
 use Rattle.peer_core.specs.declared.hearing.Heard.{Heard}
@@ -209,9 +209,6 @@ module _ {H : Type 0} where
   pub does_fail_memory : {A : Type 0} (locked : LockedNode H) (p : NodePass H) → Does {A = A} locked (Fails error.Memory) (Err error.Memory) p p
   does_fail_memory locked p = does_fail locked p error.Memory (λ l e. absurd (not_memory l e))
 
-  pub does_fail_node : {A : Type 0} (locked : LockedNode H) (p : NodePass H) (n : NodeError) → Does {A = A} locked (Fails (error_of_node n)) (Err (error_of_node n)) p p
-  does_fail_node locked p n = does_fail locked p (error_of_node n) (bars_node locked p n)
-
   pub does_fail_none : {A : Type 0} (locked : LockedNode H) (p : NodePass H) → Does {A = A} locked (Fails error.NoneJoined) (Err error.NoneJoined) p p
   does_fail_none locked p = does_fail locked p error.NoneJoined (λ l e. absurd (not_none l e))
 
@@ -233,6 +230,3 @@ module _ {H : Type 0} where
       → IsErrAnd r (λ x. x ≡ e) → Does locked (Step s) (Err e) p q → Does locked (Until Step way s) r p q
   does_stop_turn_at Step way s e (Ok b) h d = absurd h
   does_stop_turn_at Step way s e (Err x) h d = does_as (ap Err h) (does_stop_turn Step way s e d)
-
-  pub does_fits : {A : Type 0} {locked : LockedNode H} {P : Part H A} {r : Result A ClusterError} {p q : NodePass H} → Does locked P r p q → Fits locked p → Fits locked q
-  does_fits d = d.makes.made.fits

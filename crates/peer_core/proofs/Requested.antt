@@ -3,14 +3,11 @@ use Rattle.std.proofs.Common.{◌≡◌, ◌≢◌, ◌∙◌, ℕ, refl, sym, a
 use Rattle.std.specs.Prelude.{◌⊎◌, Contains}
 use Rattle.std.proofs.lemmas.List.Elements.{Contains-append_left}
 use Rattle.change_core.specs.declared.addresses.Address.{Address}
-use Rattle.change_core.specs.declared.changes.Change.{Change}
 use Rattle.message_core.specs.declared.messages.Content.{Content}
 use Rattle.message_core.specs.declared.messages.Content.TheVariants as content
 use Rattle.message_core.specs.declared.messages.Message.{Message}
 use Rattle.node_core.specs.declared.errors.NodeError.{NodeError}
 use Rattle.node_core.specs.declared.errors.NodeError.TheVariants as node
-use Rattle.node_core.specs.declared.events.Event.TheVariants as call
-use Rattle.node_core.specs.declared.events.Reply.TheVariants as reply
 use Rattle.node_core.specs.Viewing.{Viewed}
 use Rattle.forward_core.specs.declared.attempts.Stage.TheVariants as stage
 use Rattle.forward_core.specs.declared.attempts.Step.{Step}
@@ -27,27 +24,15 @@ use Rattle.peer_core.specs.declared.errors.LinkError.TheVariants as link
 use Rattle.peer_core.specs.declared.forwarding.Request.{Request}
 use Rattle.peer_core.specs.declared.forwarding.Tried.{Tried}
 use Rattle.peer_core.specs.declared.forwarding.Tried.TheVariants.{Answered, Again}
-use Rattle.peer_core.specs.Acts.{Act, OfActs, did, looked}
+use Rattle.peer_core.specs.Acts.{Act, OfActs, looked}
 use Rattle.peer_core.specs.Errors.{error_of_forward}
 use Rattle.peer_core.specs.Forwarding.{CarriesOut, IsFailure, IsHandled, IsJudged, LooksUp, Times, TriesOnce, way_of_try}
 use Rattle.peer_core.specs.Handling.{MayHandle}
 use Rattle.peer_core.specs.Links.{MayAnswer}
 use Rattle.peer_core.specs.Parts.{IsOfLock, onward, ended, Until}
 use Rattle.peer_core.specs.Requests.{Owns, IsOfHandler, IsOfOwner, IsAnswered, IsUnanswered, RequestsRest}
-use Rattle.peer_core.specs.Serving.{message_by, Says}
+use Rattle.peer_core.specs.Serving.{message_from}
 use Rattle.peer_core.proofs.Servings.{has_first, has_later}
-
-module _ {H : Type 0} where
-  -- a message of the node's own is made by one look at its own entry
-  says_own : (told : Content) (answer : Message) (acts : List (Act H)) → Says told (Ok answer) acts
-      → (own : Change) × Contains acts (did call.Own (reply.Own own)) × (answer ≡ message_by own told)
-  says_own told answer acts (inl h) = absurd h
-  says_own told answer acts (inr (own, (first, next, eq, c, g))) =
-      (own, has_first (did call.Own (reply.Own own)) acts first next eq c, (let same : Ok answer ≡ Ok (message_by own told) = g.1 in cc))
-
-  says_refused : (told : Content) (e : ClusterError) (acts : List (Act H)) → Says told (Err e) acts → IsOfLock e
-  says_refused told e acts (inl c) = c.1
-  says_refused told e acts (inr (own, (first, next, eq, c, g))) = absurd (let no : Err e ≡ Ok (message_by own told) = g.1 in cc)
 
 -- how an answer that came from the owner refuses a request
 judged_refusal : (now : ℕ) (request : Request) (answer : Result Message LinkError) (e : ClusterError) → IsJudged now request answer (Err e)
@@ -74,11 +59,9 @@ module _ {H : Type 0} (hash_of : H → List ℕ → ℕ) (Came : MayAnswer) (Han
   owner_later answer xs ys w = (
     w.0,
     w.1,
-    w.2,
-    (has_later (looked (Ok w.0)) (xs ++ ys) xs ys refl w.3.0, w.3.1),
+    (has_later (looked (Ok w.0)) (xs ++ ys) xs ys refl w.2.0, w.2.1),
+    w.3,
     w.4,
-    has_later (did call.Own (reply.Own w.2)) (xs ++ ys) xs ys refl w.5,
-    w.6,
   )
 
   answered_later : (text : List ℕ) (xs ys : List (Act H)) → IsAnswered hash_of Came Handled keys body text ys → IsAnswered hash_of Came Handled keys body text (xs ++ ys)
@@ -152,11 +135,13 @@ module _ {H : Type 0} (hash_of : H → List ℕ → ℕ) (Came : MayAnswer) (Han
       let seen : Contains acts (looked (Err n)) = has_first (looked (Err n)) acts first next eq v.0 in
       subst (λ (x : ClusterError). Unanswered x acts) (sym is) (IsUnanswered.no_view (subst (λ (x : NodeError). Contains acts (looked (Err x))) v.1 seen))
 
-  looked_up : (now : ℕ) (old new : AttemptState) (step : Step) (acts : List (Act H)) → LooksUp hash_of now old new (Ok step) acts
-      → (view : Viewed H) × Contains acts (looked (Ok view)) × ReadyStep hash_of view now old (Ok step) new
-  looked_up now old new step acts (inl h) = absurd h
-  looked_up now old new step acts (inr (Ok view, (first, next, eq, v, p))) = (view, has_first (looked (Ok view)) acts first next eq v, p.1)
-  looked_up now old new step acts (inr (Err n, (first, next, eq, v, p))) = absurd (let no : Ok step ≡ Err error.Memory = p.1 in cc)
+  looked_up : (now : ℕ) (old new : AttemptState) (plan : Viewed H × Step) (acts : List (Act H)) → LooksUp hash_of now old new (Ok plan) acts
+      → Contains acts (looked (Ok plan.0)) × ReadyStep hash_of plan.0 now old (Ok plan.1) new
+  looked_up now old new plan acts (inl h) = absurd h
+  looked_up now old new plan acts (inr (Ok view, (first, next, eq, v, (none, is, h)))) =
+      subst (λ (x : Viewed H). Contains acts (looked (Ok x)) × ReadyStep hash_of x now old (Ok plan.1) new) (sym is)
+      (has_first (looked (Ok view)) acts first next eq v, h)
+  looked_up now old new plan acts (inr (Err n, (first, next, eq, v, p))) = absurd (let no : Ok plan ≡ Err error.Memory = p.1 in cc)
 
   handled_as_asked : (ks : List (List ℕ)) (b : List ℕ) (r : Result (List ℕ) ClusterError) → ks ≡ keys → b ≡ body → IsHandled Handled ks b r → IsHandled Handled keys body r
   handled_as_asked ks b r k e h =
@@ -168,7 +153,7 @@ module _ {H : Type 0} (hash_of : H → List ℕ → ℕ) (Came : MayAnswer) (Han
 
   here_so : (request : Request) (view : Viewed H) (r : Result Tried ClusterError) (acts xs ys : List (Act H)) → acts ≡ xs ++ ys
       → Owns hash_of Came Handled keys body view view.own acts → request.attempt.keys ≡ keys → request.body ≡ body
-      → CarriesOut Came Handled Time request Here r ys → Tried_so r acts
+      → CarriesOut Came Handled Time request (view, Here) r ys → Tried_so r acts
   here_so request view (Ok t) acts xs ys e o k b (inl h) = absurd h
   here_so request view (Err x) acts xs ys e o k b (inl h) =
       handler_refusal hash_of Came Handled keys body x view acts o (handled_as_asked hash_of Came Handled keys body request.attempt.keys request.body (Err x) k b h.1)
@@ -176,37 +161,22 @@ module _ {H : Type 0} (hash_of : H → List ℕ → ℕ) (Came : MayAnswer) (Han
       subst (λ (x : Result Tried ClusterError). Tried_so x acts) (sym g.1)
       (inl (view, o, handled_as_asked hash_of Came Handled keys body request.attempt.keys request.body (Ok text) k b h.1))
 
-  asked_for : (own : Change) (owner : Address) (ks : List (List ℕ)) (b : List ℕ) (message : Message) (answer : Result Message LinkError) → message ≡ message_by own (content.Forward ks b)
-      → ks ≡ keys → b ≡ body → Came owner message answer → Came owner (message_by own (content.Forward keys body)) answer
-  asked_for own owner ks b message answer is k e c =
+  asked_for : (view : Viewed H) (owner : Address) (ks : List (List ℕ)) (b : List ℕ) (answer : Result Message LinkError)
+      → ks ≡ keys → b ≡ body → Came owner (message_from view (content.Forward ks b)) answer → Came owner (message_from view (content.Forward keys body)) answer
+  asked_for view owner ks b answer k e c =
       subst (λ (m : Message). Came owner m answer)
-      (is ∙ ap (λ (x : List (List ℕ)). message_by own (content.Forward x b)) k ∙ ap (λ (x : List ℕ). message_by own (content.Forward keys x)) e) c
+      (ap (λ (x : List (List ℕ)). message_from view (content.Forward x b)) k ∙ ap (λ (x : List ℕ). message_from view (content.Forward keys x)) e) c
 
   send_so : (request : Request) (view : Viewed H) (owner : Address) (r : Result Tried ClusterError) (acts xs ys : List (Act H)) → acts ≡ xs ++ ys
       → Owns hash_of Came Handled keys body view owner acts → owner ≢ view.own → request.attempt.keys ≡ keys → request.body ≡ body → request.attempt.stage ≡ stage.InFlight
-      → CarriesOut Came Handled Time request (Send owner) r ys → Tried_so r acts
-  send_so request view owner (Ok t) acts xs ys e o ne k b flies (inl h) = absurd h
-  send_so request view owner (Err x) acts xs ys e o ne k b flies (inl h) =
-      of_lock hash_of Came Handled keys body x acts (says_refused (content.Forward request.attempt.keys request.body) x ys h)
-  send_so request view owner r acts xs ys e o ne k b flies (inr (message, (first, next, eq, s, (none, (answer, came, (now, told, h)))))) =
-      let own : (own : Change) × Contains first (did call.Own (reply.Own own)) × (message ≡ message_by own (content.Forward request.attempt.keys request.body)) =
-      says_own (content.Forward request.attempt.keys request.body) message first s in
-      let act : Act H = did call.Own (reply.Own own.0) in
-      let seen : Contains ys act = subst (λ (zs : List (Act H)). Contains zs act) (sym eq) (Contains-append_left first next act own.1) in
-      judged_so hash_of Came Handled keys body now request answer r acts k b flies (
-        view,
-        owner,
-        own.0,
-        o,
-        ne,
-        has_later act acts xs ys e seen,
-        asked_for own.0 owner request.attempt.keys request.body message answer own.2 k b came,
-      )
-      h
+      → CarriesOut Came Handled Time request (view, Send owner) r ys → Tried_so r acts
+  send_so request view owner r acts xs ys e o ne k b flies (none, (answer, came, (now, told, h))) =
+      judged_so hash_of Came Handled keys body now request answer r acts k b flies
+      (view, owner, o, ne, asked_for view owner request.attempt.keys request.body answer k b came) h
 
   carried : (now : ℕ) (old : AttemptState) (request : Request) (view : Viewed H) (step : Step) (r : Result Tried ClusterError) (acts xs ys : List (Act H)) → acts ≡ xs ++ ys
       → Contains acts (looked (Ok view)) → old.keys ≡ keys → IsOpen old.stage → request.body ≡ body → ReadyStep hash_of view now old (Ok step) request.attempt
-      → CarriesOut Came Handled Time request step r ys → Tried_so r acts
+      → CarriesOut Came Handled Time request (view, step) r ys → Tried_so r acts
   carried now old request view (Wait until) r acts xs ys e c k o b h p =
       subst (λ (x : Result Tried ClusterError). Tried_so x acts) (sym p.1.1)
       (ap (λ (a : AttemptState). a.keys) h.3 ∙ k, b, subst (λ (a : AttemptState). IsOpen a.stage) (sym h.3) o)
@@ -221,12 +191,12 @@ module _ {H : Type 0} (hash_of : H → List ℕ → ℕ) (Came : MayAnswer) (Han
       → TriesOnce hash_of Came Handled Time request r acts → Tried_so r acts
   try_so request (Ok t) acts k b o (now, told, (attempt, inl h)) = absurd h
   try_so request (Err e) acts k b o (now, told, (attempt, inl h)) = look_refused hash_of Came Handled keys body now request.attempt attempt e acts k o h
-  try_so request r acts k b o (now, told, (attempt, inr (step, (first, next, eq, l, p)))) =
-      let seen : (view : Viewed H) × Contains first (looked (Ok view)) × ReadyStep hash_of view now request.attempt (Ok step) attempt =
-      looked_up hash_of Came Handled keys body now request.attempt attempt step first l in
-      let among : Contains acts (looked (Ok seen.0)) =
-      subst (λ (zs : List (Act H)). Contains zs (looked (Ok seen.0))) (sym eq) (Contains-append_left first next (looked (Ok seen.0)) seen.1) in
-      carried now request.attempt (record { attempt = attempt; body = request.body }) seen.0 step r acts first next eq among k o b seen.2 p
+  try_so request r acts k b o (now, told, (attempt, inr ((view, step), (first, next, eq, l, p)))) =
+      let seen : Contains first (looked (Ok view)) × ReadyStep hash_of view now request.attempt (Ok step) attempt =
+      looked_up hash_of Came Handled keys body now request.attempt attempt (view, step) first l in
+      let among : Contains acts (looked (Ok view)) =
+      subst (λ (zs : List (Act H)). Contains zs (looked (Ok view))) (sym eq) (Contains-append_left first next (looked (Ok view)) seen.0) in
+      carried now request.attempt (record { attempt = attempt; body = request.body }) view step r acts first next eq among k o b seen.1 p
 
   ended_so : (x : Tried) (text : List ℕ) (acts : List (Act H)) → way_of_try x ≡ ended text → Tried_so (Ok x) acts → IsAnswered hash_of Came Handled keys body text acts
   ended_so (Answered t) text acts e w = let same : t ≡ text = cc in subst (λ (y : List ℕ). IsAnswered hash_of Came Handled keys body y acts) same w

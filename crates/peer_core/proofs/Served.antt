@@ -1,5 +1,5 @@
 -- What is served, put together from its calls.
-use Rattle.std.proofs.Common.{◌≡◌, ◌≢◌, ℕ, Bool, true, false, true≢false, refl, sym, subst, ◌∙◌, inl, inr, List, Option, Some, Result, Ok, Err}
+use Rattle.std.proofs.Common.{◌≡◌, ◌≢◌, ℕ, Bool, false, is_ok, refl, sym, subst, inr, List, Option, Result, Ok, Err}
 use Rattle.change_core.specs.declared.addresses.Address.{Address}
 use Rattle.node_core.specs.declared.errors.NodeError.{NodeError}
 use Rattle.node_core.specs.declared.errors.NodeError.TheVariants as node
@@ -13,11 +13,8 @@ use Rattle.message_core.specs.declared.messages.Content.TheVariants as content
 use Rattle.message_core.specs.declared.messages.Content.TheVariants.{Refused}
 use Rattle.message_core.specs.declared.messages.Message.{Message}
 use Rattle.message_core.specs.declared.messages.News.{News}
-use Rattle.node_core.specs.declared.events.Received.TheVariants as received
-use Rattle.node_core.specs.declared.events.Taken.{Taken}
 use Rattle.node_core.specs.Calls.{CallStep, OfEvent, OfView, WithReply, WithView}
 use Rattle.node_core.specs.Node.{Node}
-use Rattle.node_core.specs.Receiving.{AnswerStep, ReceiveStep, is_answered, is_gossip}
 use Rattle.node_core.specs.Viewing.{Viewed}
 use Rattle.locked_node.specs.declared.node.LockedNode.{LockedNode}
 use Rattle.locked_node.specs.Passes.{NodePass, IsCalled, Refuses}
@@ -28,57 +25,11 @@ use Rattle.peer_core.specs.Errors.{error_of_lock}
 use Rattle.peer_core.specs.Handling.{MayHandle}
 use Rattle.peer_core.specs.Links.{MayAnswer}
 use Rattle.peer_core.specs.Parts.{Asks, Does, Next}
-use Rattle.peer_core.specs.Serving.{Decides, IsDecided, PassesOn, Reaches, Says, Seeks, GivesMade, Serves, TellsRequester, Views}
+use Rattle.peer_core.specs.Serving.{message_from, Decides, IsDecided, PassesOn, Reaches, Says, Seeks, GivesMade, Serves, TellsRequester, Views}
 use Rattle.peer_core.proofs.Acts.{makes_as, makes_one}
 use Rattle.peer_core.proofs.Parts.{does_give, does_part, locked_out}
 
--- what is answered is of the membership
-gossip_of_answered : (c : Content) → is_answered c ≡ true → is_gossip c ≡ true
-gossip_of_answered (content.Join news) e = refl
-gossip_of_answered (content.Joined news) e = refl
-gossip_of_answered (content.Ping news) e = refl
-gossip_of_answered (content.Ack news) e = refl
-gossip_of_answered (content.PingReq news target) e = refl
-gossip_of_answered (content.PingReqAck news target reached) e = refl
-gossip_of_answered (content.Forward keys body) e = e
-gossip_of_answered (content.Reply body) e = e
-gossip_of_answered content.NotOwner e = e
-gossip_of_answered (content.Refused reason) e = e
-
 module _ {H : Type 0} where
-  -- only what wants an answer is answered
-  answered_only : (mid : Node H) (source : ℕ) (c : Content) (answer : Message) (new : Node H)
-      → AnswerStep mid source c answer new → is_answered c ≡ true
-  answered_only mid source (content.Join news) answer new step = refl
-  answered_only mid source (content.Ping news) answer new step = refl
-  answered_only mid source (content.Joined news) answer new step = absurd step
-  answered_only mid source (content.Ack news) answer new step = absurd step
-  answered_only mid source (content.PingReq news target) answer new step = absurd step
-  answered_only mid source (content.PingReqAck news target reached) answer new step = absurd step
-  answered_only mid source (content.Forward keys body) answer new step = absurd step
-  answered_only mid source (content.Reply body) answer new step = absurd step
-  answered_only mid source content.NotOwner answer new step = absurd step
-  answered_only mid source (content.Refused reason) answer new step = absurd step
-
-  -- a message that wants an answer is not just taken
-  pub not_done : (old new : Node H) (m : Message) (now : ℕ) (taken : Taken) → is_answered m.content ≡ true → ReceiveStep old m now (received.Done taken) new → ⊥
-  not_done old new m now taken e step = true≢false (sym e ∙ step.1)
-
-  -- a message that wants an answer is of the membership
-  pub not_foreign : (old new : Node H) (m : Message) (now : ℕ) → is_gossip m.content ≡ true → ReceiveStep old m now received.NotGossip new → ⊥
-  not_foreign old new m now e step = true≢false (sym e ∙ step.0)
-
-  pub not_foreign_answered : (old new : Node H) (m : Message) (now : ℕ) → is_answered m.content ≡ true → ReceiveStep old m now received.NotGossip new → ⊥
-  not_foreign_answered old new m now e = not_foreign old new m now (gossip_of_answered m.content e)
-
-  -- a message that wants no answer gets none
-  pub not_answered : (old new : Node H) (m : Message) (now : ℕ) (taken : Taken) (answer : Message)
-      → is_answered m.content ≡ false → ReceiveStep old m now (received.Answer taken answer) new → ⊥
-  not_answered old new m now taken answer e step = true≢false (sym (answered_only step.0 m.source m.content answer new step.2) ∙ e)
-
-  pub not_wanting : (old new : Node H) (m : Message) (now : ℕ) (taken : Taken) → is_answered m.content ≡ false → ReceiveStep old m now (received.NoAnswer taken) new → ⊥
-  not_wanting old new m now taken e step = true≢false (sym step.0 ∙ e)
-
   -- the node refuses a view and an answer for want of memory alone
   no_view : (hash_of : H → List ℕ → ℕ) (old new : Node H) (n : NodeError) → CallStep hash_of old OfView (WithView (Err n)) new → n ≡ node.Memory
   no_view hash_of old new node.Memory s = refl
@@ -145,21 +96,28 @@ module _ {H : Type 0} where
   tells_as requester target found known {locked = locked} {p = p} {q = q} {r = r} e d =
       subst (λ (x : Option Bool). Does locked (TellsRequester requester target x) r p q) (sym e) d
 
-  -- the target is the node itself
-  pub reaches_itself : (Came : MayAnswer) (now : ℕ) (target own : Address) (locked : LockedNode H) (p : NodePass H)
-      → own ≡ target → Does locked (Reaches Came now target own) (Ok (Some true)) p p
-  reaches_itself Came now target own locked p e = does_part (Reaches Came now target own) (λ acts h. inl (e, h)) (does_give locked p (Some true))
-
   -- or another
   pub reaches_other : (Came : MayAnswer) (now : ℕ) (target own : Address) {locked : LockedNode H} {p q : NodePass H} {r : Result (Option Bool) ClusterError}
       → own ≢ target → Does locked (Next (Asks (Pinged Came target)) (Seeks now)) r p q → Does locked (Reaches Came now target own) r p q
   reaches_other Came now target own e d = does_part (Reaches Came now target own) (λ acts h. inr (e, h)) d
 
-  -- what one view decides is said
-  pub decides_so : (hash_of : H → List ℕ → ℕ) (Handled : MayHandle) (keys : List (List ℕ)) (body : List ℕ) (view : Result (Viewed H) NodeError)
-      {locked : LockedNode H} {p q : NodePass H} {r : Result Message ClusterError} (told : Content)
-      → IsDecided hash_of Handled keys body view told → Does locked (Says told) r p q → Does locked (Decides hash_of Handled keys body view) r p q
-  decides_so hash_of Handled keys body view told h d = does_part (Decides hash_of Handled keys body view) (λ acts s. (told, h, s)) d
+  -- what a view decides is answered
+  pub decides_so : (hash_of : H → List ℕ → ℕ) (Handled : MayHandle) (keys : List (List ℕ)) (body : List ℕ) (known : Result (Viewed H) NodeError)
+      (view : Viewed H) (locked : LockedNode H) (p : NodePass H) (told : Content) (answer : Message) → known ≡ Ok view
+      → IsDecided hash_of Handled keys body view told → answer ≡ message_from view told
+      → Does locked (Decides hash_of Handled keys body known) (Ok answer) p p
+  decides_so hash_of Handled keys body known view locked p told answer is h made =
+      let from : Does locked (Decides hash_of Handled keys body (Ok view)) (Ok (message_from view told)) p p =
+      does_part (Decides hash_of Handled keys body (Ok view)) (λ acts s. (told, h, s)) (does_give locked p (message_from view told)) in
+      subst (λ (x : Result (Viewed H) NodeError). Does locked (Decides hash_of Handled keys body x) (Ok answer) p p) (sym is)
+      (subst (λ (m : Message). Does locked (Decides hash_of Handled keys body (Ok view)) (Ok m) p p) (sym made) from)
+
+  -- where there was none, that is said
+  pub decides_none : (hash_of : H → List ℕ → ℕ) (Handled : MayHandle) (keys : List (List ℕ)) (body : List ℕ) (known : Result (Viewed H) NodeError)
+      {locked : LockedNode H} {p q : NodePass H} {r : Result Message ClusterError} → is_ok known ≡ false
+      → Does locked (Says (Refused reason.Memory)) r p q → Does locked (Decides hash_of Handled keys body known) r p q
+  decides_none hash_of Handled keys body (Ok view) e d = cc
+  decides_none hash_of Handled keys body (Err n) e d = d
 
   -- a PingReq is what was served
   pub serves_ping_req : (hash_of : H → List ℕ → ℕ) (Came : MayAnswer) (Handled : MayHandle) (message : Message) (now : ℕ) (news : News) (target : Address)

@@ -6,6 +6,7 @@ use Rattle.change_core.specs.declared.addresses.Address.{Address}
 use Rattle.change_core.specs.declared.changes.Change.{Change}
 use Rattle.message_core.specs.declared.kinds.Kind.TheVariants as kind
 use Rattle.message_core.specs.declared.kinds.Reason.{Reason}
+use Rattle.message_core.specs.declared.kinds.Reason.TheVariants as reason
 use Rattle.message_core.specs.declared.messages.Content.{Content}
 use Rattle.message_core.specs.declared.messages.Content.TheVariants as content
 use Rattle.message_core.specs.declared.messages.Message.{Message}
@@ -25,7 +26,7 @@ use Rattle.peer_core.specs.Asking.{IsSent}
 use Rattle.peer_core.specs.Handling.{MayHandle}
 use Rattle.peer_core.specs.Links.{MayAnswer, IsAckOf}
 use Rattle.peer_core.specs.Provenance.{pinged, AnswersSo, IsDecidedSo, IsFound, IsMadeOf, IsReport, ServingsRest}
-use Rattle.peer_core.specs.Serving.{message_by, Answers, Finds, AnswersPingReq, Forwards, Gossips, IsDecided, PassesOn, Reaches, Reports, Says, Seeks, GivesMade, Serves, TellsRequester, Views}
+use Rattle.peer_core.specs.Serving.{message_by, message_from, Answers, Finds, AnswersPingReq, Forwards, Gossips, IsDecided, PassesOn, Reaches, Reports, Says, Seeks, GivesMade, Serves, TellsRequester, Views}
 
 module _ {H : Type 0} where
   says_so : (told : Content) (answer : Message) (acts : List (Act H)) → Says told (Ok answer) acts → answer.content ≡ told
@@ -179,18 +180,15 @@ module _ {H : Type 0} (Came : MayAnswer) (now : ℕ) (target : Address) where
   passes_so message answer acts (inr t) = follows_by message.source answer t.0 acts t.1.0 t.1.1 t.1.2 t.1.4
 
 module _ {H : Type 0} (hash_of : H → List ℕ → ℕ) (Handled : MayHandle) (keys : List (List ℕ)) (body : List ℕ) (answer : Message) where
-  decided_by : (view : Result (Viewed H) NodeError) (acts xs ys : List (Act H)) → acts ≡ xs ++ ys → Views (Ok view) xs
-      → (told : Content) → answer.content ≡ told → IsDecided hash_of Handled keys body view told
-      → IsDecidedSo hash_of Handled keys body answer.content acts
-  decided_by (Ok view) acts xs ys e seen told is p =
-      (Ok view, has_first (looked (Ok view)) acts xs ys e seen, subst (λ (c : Content). IsDecided hash_of Handled keys body (Ok view) c) (sym is) p)
-  decided_by (Err n) acts xs ys e seen told is p =
-      (Err n, has_first (looked (Err n)) acts xs ys e seen.0, subst (λ (c : Content). IsDecided {H = H} hash_of Handled keys body (Err n) c) (sym is) p)
-
   forwards_so : (acts : List (Act H)) → Forwards hash_of Handled keys body (Ok answer) acts → IsDecidedSo hash_of Handled keys body answer.content acts
   forwards_so acts (inl h) = absurd h
-  forwards_so acts (inr t) =
-      decided_by t.0 acts t.1.0 t.1.1 t.1.2 t.1.3 t.1.4.0 (says_so t.1.4.0 answer t.1.1 t.1.4.2) t.1.4.1
+  forwards_so acts (inr (Ok view, (first, next, eq, seen, (told, decided, gives)))) =
+      let is : answer ≡ message_from view told = (let same : Ok answer ≡ Ok (message_from view told) = gives.1 in cc) in
+      let content_is : told ≡ answer.content = sym (ap (λ (m : Message). m.content) is) in
+      inl (view, has_first (looked (Ok view)) acts first next eq seen, subst (λ (c : Content). IsDecided hash_of Handled keys body view c) content_is decided)
+  forwards_so acts (inr (Err n, (first, next, eq, seen, says))) =
+      let among : Contains acts (looked (Err n)) = has_first (looked (Err n)) acts first next eq seen.0 in
+      inr (subst (λ (x : NodeError). Contains acts (looked (Err x))) seen.1 among, says_so (content.Refused reason.Memory) answer next says)
 
 pub servings_rest : {H : Type 0} (hash_of : H → List ℕ → ℕ) (Came : MayAnswer) (Handled : MayHandle) → ServingsRest hash_of Came Handled
 servings_rest {H} hash_of Came Handled message answer now acts p = by_content message.content p

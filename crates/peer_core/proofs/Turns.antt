@@ -1,5 +1,5 @@
 -- Turns of the loops of rounds and joins.
-use Rattle.std.proofs.Common.{◌≡◌, ℕ, ◌+◌, ◌<◌, ◌≤◌, zero, suc, refl, sym, ap, subst, arith, Bool, true, false, is_some, is_none, Option, Some, None, Result, Ok, Err, List, [], ◌∷◌, length, get_or, drop, add-one}
+use Rattle.std.proofs.Common.{◌≡◌, ℕ, ◌+◌, ◌<◌, ◌≤◌, zero, suc, refl, sym, ap, subst, arith, Bool, true, false, is_some, is_none, Option, Some, None, Result, Ok, List, [], ◌∷◌, length, get_or, drop, add-one}
 use Rattle.std.proofs.Math.Seq.{drop-cons}
 use Rattle.change_core.specs.declared.addresses.Address.{Address}
 use Rattle.change_core.specs.declared.changes.Change.{Change}
@@ -13,9 +13,8 @@ use Rattle.peer_core.specs.declared.rounds.Round.{Round}
 use Rattle.peer_core.specs.Links.{MayAnswer}
 use Rattle.peer_core.specs.Parts.{Part, onward, ended, Does}
 use Rattle.peer_core.specs.Rounds.{AsksHelpers, Finishes, FinishesBy, Unless, way_of_ending, way_of_expiry, way_of_waiting}
-use Rattle.peer_core.specs.Joining.{Counts, JoinsHost, JoinsHosts}
-use Rattle.peer_core.specs.declared.errors.ClusterError.TheVariants as error
-use Rattle.peer_core.proofs.Parts.{Leads, does_as, does_fail_none, does_give, does_left, leads_rest}
+use Rattle.peer_core.specs.Joining.{JoinsHost, JoinsHosts}
+use Rattle.peer_core.proofs.Parts.{Leads, does_as, does_give, does_left, leads_rest}
 
 pub expiry_ends : (x : Option Change) → is_none x ≡ true → way_of_expiry x ≡ ended tt
 expiry_ends None e = refl
@@ -116,11 +115,3 @@ module _ {H : Type 0} where
       → Leads locked (JoinsHosts Came now 0 hosts) (JoinsHosts Came now n (h ∷ drop (i + 1) hosts)) p q
   joining_on Came now hosts n i h {locked} {p} {q} lt e m =
       subst (λ (hs : List Address). Leads locked (JoinsHosts Came now 0 hosts) (JoinsHosts Came now n hs) p q) (drop_here hosts i h lt e) m
-
-  pub counts_none : (locked : LockedNode H) (p : NodePass H) (n : ℕ) → n ≡ 0 → Does locked (Counts n) (Err error.NoneJoined) p p
-  counts_none locked p zero e = does_fail_none locked p
-  counts_none locked p (suc n) e = absurd (omega arith)
-
-  pub counts_some : (locked : LockedNode H) (p : NodePass H) (n : ℕ) → ¬ (n ≡ 0) → Does locked (Counts n) (Ok n) p p
-  counts_some locked p zero h = absurd (h refl)
-  counts_some locked p (suc n) h = does_give locked p (suc n)

@@ -13,7 +13,7 @@ use Rattle.locked_node.specs.Passes.{NodePass, Made}
 abbrev pub Act : Type 0 → Type 0
 Act H = Call × Answer H
 
--- what may hold of acts
+-- a property of acts
 abbrev pub OfActs : Type 0 → Type 1
 OfActs H = List (Act H) → Type 0
 
@@ -34,7 +34,7 @@ module _ {H : Type 0} where
   abbrev pub Nothing : OfActs H
   Nothing acts = acts ≡ []
 
-  -- acts of which the one holds, and then acts of which the other does
+  -- acts that satisfy the first, and then acts that satisfy the other
   abbrev pub Then : OfActs H → OfActs H → OfActs H
   Then First Next acts = (first next : List (Act H)) × (acts ≡ first ++ next) × First first × Next next
 
@@ -42,7 +42,7 @@ module _ {H : Type 0} where
   abbrev pub acts_of : List (CallEntry H) → List (Act H)
   acts_of entries = map (λ (e : CallEntry H). (e.call, e.answer)) entries
 
-  -- The pass made calls of which this holds, and can be handed in again.
+  -- The pass made calls that satisfy this, and can be used again.
   pub record Makes (locked : LockedNode H) (So : OfActs H) (old new : NodePass H) : Type 0 where
     pub entries : List (CallEntry H)
     pub made : Made locked old new entries

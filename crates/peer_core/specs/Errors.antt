@@ -1,4 +1,4 @@
--- How the refusals of a node, of its lock and of an attempt are called here: each by its own name.
+-- The errors of a node, of its lock and of an attempt under their names here: each has its own.
 use Rattle.forward_core.specs.declared.errors.ForwardError.{ForwardError}
 use Rattle.forward_core.specs.declared.errors.ForwardError.TheVariants as forward
 use Rattle.node_core.specs.declared.errors.NodeError.{NodeError}
@@ -34,7 +34,7 @@ error_of_forward forward.RetriesSpent = error.RetriesSpent
 error_of_forward forward.InFlight = error.InFlight
 error_of_forward forward.NotInFlight = error.NotInFlight
 
--- how a round may be refused
+-- the errors of a round
 abbrev pub IsRoundRefusal : ClusterError → Type 0
 IsRoundRefusal error.ForeignPass = Unit {0}
 IsRoundRefusal error.PassSpent = Unit {0}
@@ -45,10 +45,17 @@ IsRoundRefusal error.NotAsked = Unit {0}
 IsRoundRefusal error.Memory = Unit {0}
 IsRoundRefusal other = ⊥
 
--- how a join may be refused
+-- the errors of a join
 abbrev pub IsJoinRefusal : ClusterError → Type 0
 IsJoinRefusal error.NoneJoined = Unit {0}
 IsJoinRefusal error.ForeignPass = Unit {0}
 IsJoinRefusal error.PassSpent = Unit {0}
 IsJoinRefusal error.Memory = Unit {0}
 IsJoinRefusal other = ⊥
+
+-- the errors of healing
+abbrev pub IsHealRefusal : ClusterError → Type 0
+IsHealRefusal error.ForeignPass = Unit {0}
+IsHealRefusal error.PassSpent = Unit {0}
+IsHealRefusal error.Memory = Unit {0}
+IsHealRefusal other = ⊥

@@ -5,6 +5,8 @@ pub mod Asking
 pub mod Parts
 pub mod Rounds
 pub mod Joining
+pub mod Meeting
+pub mod Healing
 pub mod Handling
 pub mod Serving
 pub mod Forwarding

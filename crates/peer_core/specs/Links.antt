@@ -1,4 +1,4 @@
--- What a node may be answered by another, and what is heard in it.
+-- The answers that a node may get from another, and how they are read.
 use Rattle.std.specs.Prelude.{◌≡◌, ◌≢◌, ◌==◌, ℕ, Bool, Option, Some, None, Result, Ok, Err, if◌then◌else◌}
 use Rattle.change_core.specs.declared.addresses.Address.{Address}
 use Rattle.message_core.specs.declared.errors.WireError.{WireError}
@@ -13,7 +13,7 @@ use Rattle.peer_core.specs.declared.errors.LinkError.TheVariants.{Io, Closed, Wi
 use Rattle.peer_core.specs.declared.hearing.Heard.{Heard}
 use Rattle.peer_core.specs.declared.hearing.Heard.TheVariants as heard
 
--- what may be answered at an address to a message, a fault included; only a call of a link can show it
+-- the answers that may come from an address to a message, errors included; only a call of a link can show one
 abbrev pub MayAnswer : Type 1
 MayAnswer = Address → Message → Result Message LinkError → Type 0
 
@@ -26,7 +26,7 @@ failures_in (Err (Wire fault)) = 0
 failures_in (Err Spent) = 0
 failures_in (Err Memory) = 0
 
--- A fault of a line is a link's own where it says more than that the line could not be read or found no memory.
+-- An error of a line is a link's `Wire` if it is another than that the line could not be read or out of memory.
 abbrev pub IsNamed : LinkError → Type 0
 IsNamed (Wire fault) = (fault ≢ wire.Io) × (fault ≢ wire.Memory)
 IsNamed Io = Unit {0}
@@ -34,7 +34,7 @@ IsNamed Closed = Unit {0}
 IsNamed Spent = Unit {0}
 IsNamed Memory = Unit {0}
 
--- a fault of a line as a link names it
+-- an error of a line as a link names it
 abbrev pub fault_named : WireError → LinkError
 fault_named wire.Io = Io
 fault_named wire.Memory = Memory
@@ -63,12 +63,12 @@ word_on a other = None
 abbrev pub TellsOf : Address → Message → Type 0
 TellsOf a message = word_on a message.content ≢ None
 
--- another answer than one that was wanted, and no want of memory
+-- another answer than a wanted one, and not out of memory
 abbrev pub IsOther : (Message → Type 0) → Result Message LinkError → Type 0
 IsOther Wanted (Ok message) = ¬ Wanted message
 IsOther Wanted (Err error) = error ≢ Memory
 
--- what is heard in an answer: the one that was wanted, another, or that the link found no memory
+-- the result of an answer: the wanted one, another, or that the link ran out of memory
 abbrev pub IsHeard : (Message → Type 0) → Result Message LinkError → Heard → Type 0
 IsHeard Wanted answer (heard.Answer message) = (answer ≡ Ok message) × Wanted message
 IsHeard Wanted answer heard.Other = IsOther Wanted answer

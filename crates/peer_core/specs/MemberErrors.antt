@@ -73,32 +73,32 @@ abbrev pub widened : {A E : Type 0} → (E → ClusterError) → Result A E → 
 widened error_of (Ok a) = Ok a
 widened error_of (Err e) = Err (error_of e)
 
--- how the node may refuse a call that copies
+-- the node's errors of a call that copies
 abbrev pub IsCallRefusal : NodeError → Type 0
 IsCallRefusal node.Memory = Unit {0}
 IsCallRefusal other = ⊥
 
--- how the node may refuse to leave
+-- the node's errors of `leave`
 abbrev pub IsLeaveRefusal : NodeError → Type 0
 IsLeaveRefusal node.AlreadyLeft = Unit {0}
 IsLeaveRefusal node.Memory = Unit {0}
 IsLeaveRefusal other = ⊥
 
--- how the node may refuse to rejoin
+-- the node's errors of `rejoin`
 abbrev pub IsRejoinRefusal : NodeError → Type 0
 IsRejoinRefusal node.NotLeft = Unit {0}
 IsRejoinRefusal node.Exhausted = Unit {0}
 IsRejoinRefusal node.Memory = Unit {0}
 IsRejoinRefusal other = ⊥
 
--- what the locked node answered, by what the member answers
+-- the locked node's answer for a member's result
 abbrev pub answer_of_call : {A : Type 0} → Result A CallError → Result (Result A NodeError) LockError
 answer_of_call (Ok a) = Ok (Ok a)
 answer_of_call (Err call.ForeignPass) = Err lock.ForeignPass
 answer_of_call (Err call.PassSpent) = Err lock.PassSpent
 answer_of_call (Err call.Memory) = Ok (Err node.Memory)
 
--- what the locked node answered to `leave`, by what the member answers
+-- the locked node's answer to `leave` for a member's result
 abbrev pub answer_of_leave : {A : Type 0} → Result A LeaveError → Result (Result A NodeError) LockError
 answer_of_leave (Ok a) = Ok (Ok a)
 answer_of_leave (Err leave.ForeignPass) = Err lock.ForeignPass
@@ -106,7 +106,7 @@ answer_of_leave (Err leave.PassSpent) = Err lock.PassSpent
 answer_of_leave (Err leave.AlreadyLeft) = Ok (Err node.AlreadyLeft)
 answer_of_leave (Err leave.Memory) = Ok (Err node.Memory)
 
--- what the locked node answered to `rejoin`, by what the member answers
+-- the locked node's answer to `rejoin` for a member's result
 abbrev pub answer_of_rejoin : {A : Type 0} → Result A RejoinError → Result (Result A NodeError) LockError
 answer_of_rejoin (Ok a) = Ok (Ok a)
 answer_of_rejoin (Err rejoin.ForeignPass) = Err lock.ForeignPass
@@ -115,7 +115,7 @@ answer_of_rejoin (Err rejoin.NotLeft) = Ok (Err node.NotLeft)
 answer_of_rejoin (Err rejoin.Exhausted) = Ok (Err node.Exhausted)
 answer_of_rejoin (Err rejoin.Memory) = Ok (Err node.Memory)
 
--- the locked node's answer and the member's come to the same under the errors of `ClusterError`
+-- the locked node's answer and the member's are the same under the errors of `ClusterError`
 abbrev pub AnswersAgree : Type 0 → Type 0
 AnswersAgree A =
     ((r : Result A CallError) → allowed (answer_of_call r) ≡ widened error_of_call r)

@@ -16,13 +16,14 @@ pub record Caller (H : Type 0) : Type 0 where
   pub pass : MutBor (NodePass H)
 
 module _ {H : Type 0} where
-  -- The member did the part, which came to that. It has the same node and the same pass.
+  -- The member did the part, with this result. It has the same node and the same pass.
   pub record Done {A : Type 0} (P : Part H A) (r : Result A ClusterError) (old new : Caller H) : Type 0 where
     pub node : new.node ≡ old.node
     pub pass : new.pass.ghost_name ≡ old.pass.ghost_name
     pub does : Does old.node P r old.pass.now new.pass.now
 
-  -- The member made this call of the node, which was answered so; or the lock refused the pass, and nothing changed. It has the same node and the same pass.
+  -- The member made this call of the node, with this answer; or the lock refused the pass, and nothing changed. It has the same node and
+  -- the same pass.
   pub record Called {A : Type 0} (hash_of : H → List ℕ → ℕ) (call : Call) (answer_of : A → Answer H) (r : Result A LockError) (old new : Caller H) : Type 0 where
     pub node : new.node ≡ old.node
     pub pass : new.pass.ghost_name ≡ old.pass.ghost_name

@@ -1,5 +1,5 @@
--- What the calls of a round and of a join rest on, each on the answers that came before it, and what an answer rests on. Probes and helpers
--- are those of SWIM, section 3.1.
+-- The provenance of the calls of a round and of a join, each from the answers that came before it, and of an answer. Probes and helpers are
+-- those of SWIM, section 3.1.
 use Rattle.std.specs.Prelude.{◌≡◌, ◌⊎◌, ℕ, ◌<◌, Bool, true, false, List, [], ◌∷◌, ◌++◌, Contains, count_by, Option, Some, None, Result, Ok, Err, IfOk, IfErr}
 use Rattle.change_core.specs.declared.addresses.Address.{Address}
 use Rattle.detector_core.specs.declared.asked.Said.{Said}
@@ -45,16 +45,16 @@ use Rattle.peer_core.specs.Serving.{IsDecided, Serves}
 abbrev pub IsRefusal : Message → Type 0
 IsRefusal answer = kind_of answer.content ≡ kind.Refused
 
--- the later of two, where there is one
+-- the later of two, if there is one
 abbrev pub later_of : {A : Type 0} → Option A → Option A → Option A
 later_of None earlier = earlier
 later_of (Some x) earlier = Some x
 
--- a probe of which no helper was asked
+-- a probe about which no helper was asked
 abbrev pub unasked : ℕ → Address → Running
 unasked k a = record { number = k; target = a; waiting = None }
 
--- the refusal in a reply, of the calls of a round or of a join
+-- the error in a reply, of the calls of a round or of a join
 abbrev pub refusal_in : Reply → Option NodeError
 refusal_in (reply.Expire (Err n)) = Some n
 refusal_in (reply.Probe (Err n)) = Some n
@@ -72,18 +72,18 @@ module _ {H : Type 0} where
   last_of f [] = None
   last_of f (act ∷ acts) = later_of (last_of f acts) (f act)
 
-  -- the probe that a call begins
+  -- the probe that a call starts
   abbrev pub begun_by : Act H → Option Probe
   begun_by (OfEvent call.Probe, WithReply (reply.Probe (Ok probe))) = probe
   begun_by other = None
 
-  -- the probe that a call begins or finds running, and whom it waits for
+  -- the probe that a call starts or finds running, and the helper for which it waits
   abbrev pub shown_by : Act H → Option Running
   shown_by (OfEvent call.Probe, WithReply (reply.Probe (Ok (Some probe)))) = Some (unasked probe.number probe.target)
   shown_by (OfEvent call.Running, WithReply (reply.Running found)) = found
   shown_by other = None
 
-  -- whom the node names to be asked about the target of a probe, once it is told that the probe of this number is lost
+  -- the helpers that the node names to be asked about the target of a probe, at the call that reports the probe of this number as lost
   abbrev pub named_by : Act H → Option (ℕ × List Address)
   named_by (OfEvent (call.Lost k t), WithReply (reply.Lost (Ok (lost.Ask helpers)))) = Some (k, helpers)
   named_by other = None
@@ -92,11 +92,11 @@ module _ {H : Type 0} where
   abbrev pub WasNamed : ℕ → Address → OfActs H
   WasNamed k h before = (helpers : List Address) × (last_of named_by before ≡ Some (k, helpers)) × Contains helpers h
 
-  -- the probe in hand: the last that was begun or was found running
+  -- the probe in hand: the last that was started or was found running
   abbrev pub InHand : Running → OfActs H
   InHand running before = last_of shown_by before ≡ Some running
 
-  -- no probe was begun by these acts
+  -- no probe was started by these acts
   abbrev pub NoneBegun : OfActs H
   NoneBegun before = last_of begun_by before ≡ None
 
@@ -113,7 +113,7 @@ module _ {H : Type 0} where
   CameIn Came message before =
       (a : Address) × (q : Message) × (Contains before (pinged a q) ⊎ ((target : Address) × Contains before (asked a target q))) × Came a q (Ok message)
 
-  -- directly before, an Ack of the target was taken, which came from it for a ping
+  -- directly before, an Ack of the target was processed, which came from it for a ping
   abbrev pub IsReached : MayAnswer → ℕ → Address → OfActs H
   IsReached Came now a before =
       (q ack : Message) × (r : Received) × (front : List (Act H))
@@ -122,11 +122,11 @@ module _ {H : Type 0} where
       × Came a q (Ok ack)
       × IsAckOf a ack
 
-  -- another answer than an Ack, and no want of memory, came from the target for a ping
+  -- another answer than an Ack, and not out of memory, came from the target for a ping
   abbrev pub IsLost : MayAnswer → Address → OfActs H
   IsLost Came a before = (q : Message) × (answer : Result Message LinkError) × Contains before (pinged a q) × Came a q answer × IsOther (IsAckOf a) answer
 
-  -- what is said for a helper about the target is what came from it
+  -- the report for a helper on the target is the one that came from it
   abbrev pub SaidBy : MayAnswer → Address → Address → Said → OfActs H
   SaidBy Came h a said.Reached before =
       (q m : Message) × Contains before (asked h a q) × Came h q (Ok m) × (word_on a m.content ≡ Some true)
@@ -135,20 +135,21 @@ module _ {H : Type 0} where
   SaidBy Came h a said.Failed before =
       (q : Message) × (answer : Result Message LinkError) × Contains before (asked h a q) × Came h q answer × IsOther (TellsOf a) answer
 
-  -- what a call of a round at this moment rests on, among the acts before it
+  -- the provenance of a call of a round at this moment, among the acts before it
   abbrev pub RestsOn : MayAnswer → ℕ → List (Act H) → Act H → Type 0
   RestsOn Came now before (OfEvent (call.Expire t), WithReply (reply.Expire r)) = t ≡ now
-  -- once a probe is begun, no other is begun or looked for
+  -- once a probe is started, no other is started or looked for
   RestsOn Came now before (OfEvent call.Probe, WithReply (reply.Probe r)) = NoneBegun before
   RestsOn Came now before (OfEvent call.Running, WithReply (reply.Running r)) = NoneBegun before
-  -- who is pinged or asked about is the target of the probe in hand; who is asked was named when the node was told last that it is lost
+  -- the target of a ping or of a question is that of the probe in hand; a helper that is asked was named by the last call that reported the
+  -- probe as lost
   RestsOn Came now before (OfEvent (call.PingTo a), WithReply (reply.PingTo r)) = (k : ℕ) × InHand (unasked k a) before
   RestsOn Came now before (OfEvent (call.PingReqTo h a), WithReply (reply.PingReqTo r)) = (k : ℕ) × InHand (unasked k a) before × WasNamed k h before
   RestsOn Came now before (OfEvent (call.Receive m t), WithReply (reply.Receive r)) = (t ≡ now) × CameIn Came m before
   RestsOn Came now before (OfEvent (call.Acked k), WithReply (reply.Acked r)) = (a : Address) × InHand (unasked k a) before × IsReached Came now a before
   RestsOn Came now before (OfEvent (call.Lost k t), WithReply (reply.Lost r)) =
       (t ≡ now) × (a : Address) × InHand (unasked k a) before × IsLost Came a before
-  -- a helper says what came from it; or it was found waited for, and failed
+  -- the report of a helper is the one that came from it; or it was found waited for, and failed
   RestsOn Came now before (OfEvent (call.HelperSaid k h s t), WithReply (reply.HelperSaid r)) =
       (t ≡ now) × (a : Address)
       × ((InHand (unasked k a) before × SaidBy Came h a s before)
@@ -172,7 +173,7 @@ module _ {H : Type 0} where
       (j ≡ k) × (t ≡ now) × (round ≡ Inconclusive a)
   EndedBy now k a round other = ⊥
 
-  -- How a round ended: its last call answered that nobody can be probed; or it ended the probe that was begun last, in that way.
+  -- How a round ended: its last call returned that no member can be probed; or it ended the probe that was started last, in that way.
   abbrev pub Ended : ℕ → Round → OfActs H
   Ended now round acts =
       ((round ≡ Idle) × (front : List (Act H)) × (acts ≡ front ++ did call.Probe (reply.Probe (Ok None)) ∷ []))
@@ -180,27 +181,27 @@ module _ {H : Type 0} where
       × (last_of begun_by front ≡ Some (record { number = k; target = a }))
       × EndedBy now k a round act)
 
-  -- the last call asked the node this, and it refused so
+  -- the last call of the node has this error
   abbrev pub LastRefused : NodeError → OfActs H
   LastRefused n acts = (event : Event) × (r : Reply) × (front : List (Act H)) × (acts ≡ front ++ did event r ∷ []) × (refusal_in r ≡ Some n)
 
-  -- the last call made a message for this address, and the link found no memory for it
+  -- the last call made a message for this address, and the link ran out of memory for it
   abbrev pub LastStarved : MayAnswer → OfActs H
   LastStarved Came acts =
       (a : Address) × (q : Message) × (act : Act H) × (front : List (Act H)) × (acts ≡ front ++ act ∷ [])
       × ((act ≡ pinged a q) ⊎ ((target : Address) × (act ≡ asked a target q)))
       × Came a q (Err fault.Memory)
 
-  -- why a round was refused: by the lock, by the node in its last reply, or for the want of memory of the link
+  -- the error of a round: of the lock, of the node in its last reply, or out of memory in the link
   abbrev pub IsWhy : MayAnswer → ClusterError → OfActs H
   IsWhy Came e acts =
       IsOfLock e ⊎ (((n : NodeError) × (e ≡ error_of_node n) × LastRefused n acts) ⊎ ((e ≡ error.Memory) × LastStarved Came acts))
 
-  -- the node made this message to ask a host to let it join
+  -- the node made this message to ask a host to admit it
   abbrev pub applied : Message → Act H
   applied q = did call.JoinMessage (reply.JoinMessage (Ok q))
 
-  -- how a host answered a join message of the node: by a Joined, which was taken at that moment, or by another answer
+  -- a host's answer to a join message of the node: a Joined, which was processed at that moment, or another answer
   abbrev pub HostAnswered : MayAnswer → ℕ → Address → Bool → OfActs H
   HostAnswered Came now h true acts =
       (q m : Message) × (r : Received) × Contains acts (applied q) × Came h q (Ok m) × IsJoined m × Contains acts (did (call.Receive m now) (reply.Receive r))
@@ -218,27 +219,27 @@ module _ {H : Type 0} where
   is_taking (OfEvent (call.Receive m t), answer) = true
   is_taking other = false
 
-  -- so many hosts answered by a Joined, and so many messages were taken
+  -- n hosts answered by a Joined, and n messages were processed
   abbrev pub CountedSo : MayAnswer → ℕ → List Address → ℕ → OfActs H
   CountedSo Came now hosts n acts =
       (joined : List Bool) × AllAnswered Came now hosts joined acts × (n ≡ count_by (λ j. j) joined) × (n ≡ count_by is_taking acts)
 
-  -- the last call made a message for one of the hosts, and the link found no memory for it
+  -- the last call made a message for one of the hosts, and the link ran out of memory for it
   abbrev pub LastHostStarved : MayAnswer → List Address → OfActs H
   LastHostStarved Came hosts acts =
       (h : Address) × (q : Message) × (front : List (Act H)) × (acts ≡ front ++ applied q ∷ []) × Contains hosts h × Came h q (Err fault.Memory)
 
-  -- why a join was refused: none joined, the lock refused it, or there was no memory: for the node's last reply, or of the link
+  -- the error of a join: none joined, the lock refused it, or out of memory: in the node's last reply, or in the link
   abbrev pub IsWhyNot : MayAnswer → ℕ → List Address → ClusterError → OfActs H
   IsWhyNot Came now hosts e acts =
       ((e ≡ error.NoneJoined) × CountedSo Came now hosts 0 acts)
       ⊎ (IsOfLock e ⊎ ((e ≡ error.Memory) × (LastRefused refusal.Memory acts ⊎ LastHostStarved Came hosts acts)))
 
-  -- the answer is what the node made of the message, which it took at that moment
+  -- the answer is the node's to the message, which it received at that moment
   abbrev pub IsMadeOf : Message → ℕ → Message → OfActs H
   IsMadeOf message now answer acts = (taken : Taken) × (acts ≡ did (call.Receive message now) (reply.Receive (received.Answer taken answer)) ∷ [])
 
-  -- a target is reached where it is the node itself, or where its Ack came for a ping and was taken; it is not where another answer came
+  -- a target is reached if it is the node itself, or its Ack came for a ping and was processed; it is not reached if another answer came
   abbrev pub IsFound : MayAnswer → ℕ → Address → Bool → OfActs H
   IsFound Came now target true acts =
       ((own : Change) × Contains acts (did call.Own (reply.Own own)) × (own.address ≡ target))
@@ -246,19 +247,20 @@ module _ {H : Type 0} where
       × Contains acts (did (call.Receive ack now) (reply.Receive r)))
   IsFound Came now target false acts = IsLost Came target acts
 
-  -- the answer is the node's last reply, which tells the requester what was found of the target before
+  -- the answer is the node's last reply, which reports to the requester what was found of the target before
   abbrev pub IsReport : MayAnswer → Address → ℕ → Address → Message → OfActs H
   IsReport Came requester now target answer acts =
       (reached : Bool) × (front : List (Act H))
       × (acts ≡ front ++ did (call.PingReqAckTo requester target reached) (reply.PingReqAckTo (Ok answer)) ∷ [])
       × IsFound Came now target reached front
 
-  -- a view that the node answered decides this answer to a request; or there was no memory for a view
+  -- a view of the node decides this answer to a request; or out of memory for a view
   abbrev pub IsDecidedSo : (H → List ℕ → ℕ) → MayHandle → List (List ℕ) → List ℕ → Content → OfActs H
   IsDecidedSo hash_of Handled keys body told acts =
-      (view : Result (Viewed H) NodeError) × Contains acts (looked view) × IsDecided hash_of Handled keys body view told
+      ((view : Viewed H) × Contains acts (looked (Ok view)) × IsDecided hash_of Handled keys body view told)
+      ⊎ (Contains acts (looked (Err refusal.Memory)) × (told ≡ content.Refused reason.Memory))
 
-  -- what an answer rests on, by the content of the message
+  -- the provenance of an answer, by the content of the message
   abbrev pub AnswersSo : (H → List ℕ → ℕ) → MayAnswer → MayHandle → Message → ℕ → Content → Message → OfActs H
   AnswersSo hash_of Came Handled message now (content.Join news) answer acts = IsRefusal answer ⊎ IsMadeOf message now answer acts
   AnswersSo hash_of Came Handled message now (content.Ping news) answer acts = IsRefusal answer ⊎ IsMadeOf message now answer acts
@@ -267,19 +269,21 @@ module _ {H : Type 0} where
   AnswersSo hash_of Came Handled message now (content.Forward keys body) answer acts = IsDecidedSo hash_of Handled keys body answer.content acts
   AnswersSo hash_of Came Handled message now other answer acts = answer.content ≡ content.Refused reason.Unexpected
 
--- each call of a round rests on those before it, also where the round is refused; a round that is not ended as its calls say, and one that is says why
+-- each call of a round has its provenance in those before it, also if the round fails; a round that succeeds ended as its calls show, and
+-- the error of one that fails has its cause
 abbrev pub RoundsRest : Type 0 → MayAnswer → Type 0
 RoundsRest H Came =
     (now : ℕ) (r : Result Round ClusterError) (acts : List (Act H)) → IsRound Came now r acts
     → AllRest Came now [] acts × IfOk r (λ round. Ended now round acts) × IfErr r (λ e. IsWhy Came e acts)
 
--- a join answers how many of its hosts answered by a Joined, which is how many messages it took, and more than none; and one that is refused says why
+-- a join returns how many of its hosts answered by a Joined, which is the number of messages that it processed, and more than none; and the
+-- error of one has its cause
 abbrev pub JoinsRest : Type 0 → MayAnswer → Type 0
 JoinsRest H Came =
     (now : ℕ) (hosts : List Address) (r : Result ℕ ClusterError) (acts : List (Act H)) → IsJoin Came now hosts r acts
     → IfOk r (λ n. (0 < n) × CountedSo Came now hosts n acts) × IfErr r (λ e. IsWhyNot Came now hosts e acts)
 
--- each answer to a message rests on what is said of its kind
+-- each answer to a message has the provenance of its kind
 abbrev pub ServingsRest : {H : Type 0} → (H → List ℕ → ℕ) → MayAnswer → MayHandle → Type 0
 ServingsRest {H} hash_of Came Handled =
     (message answer : Message) (now : ℕ) (acts : List (Act H)) → Serves hash_of Came Handled message now message.content (Ok answer) acts

@@ -1,5 +1,5 @@
--- What a node answers to a message, and by which of its calls: all of them, and each of them once, up to the answer or to the call that
--- the lock refused. The kinds of message are those of SWIM (ping, ping-req) and of ringpop-go's packages swim (join) and forward.
+-- The answer of a node to a message, and its calls: all of them, and each of them once, up to the answer or to the call that the lock
+-- refused. The kinds of message are those of SWIM (ping, ping-req) and of ringpop-go's packages swim (join) and forward.
 use Rattle.std.specs.Prelude.{◌≡◌, ◌≢◌, ◌⊎◌, ℕ, Bool, true, false, List, Option, Some, None, Result, Ok, Err}
 use Rattle.change_core.specs.declared.addresses.Address.{Address}
 use Rattle.change_core.specs.declared.changes.Change.{Change}
@@ -31,7 +31,7 @@ use Rattle.peer_core.specs.Handling.{MayHandle, handled_as}
 use Rattle.peer_core.specs.Links.{MayAnswer}
 use Rattle.peer_core.specs.Parts.{Part, IsOfLock, Calls, Asks, Gives, Next}
 
--- how a refusal names what stopped a taking
+-- the reason in a refusal for the cause that stopped a batch
 abbrev pub reason_of : StopCause → Reason
 reason_of cause.Exhausted = reason.Exhausted
 reason_of cause.Full = reason.Full
@@ -41,7 +41,12 @@ reason_of cause.Memory = reason.Memory
 abbrev pub message_by : Change → Content → Message
 message_by own told = record { source = own.address; source_incarnation = own.incarnation; content = told }
 
--- where a request goes is decided by what a view of the node names as the owner of its keys; where it is this node, the handler answers it
+-- the same, by a view of the node
+abbrev pub message_from : {H : Type 0} → Viewed H → Content → Message
+message_from view told = record { source = view.own; source_incarnation = view.incarnation; content = told }
+
+-- the route of a request is decided by the owner of its keys that a view of the node names; if that is this node, the handler has the
+-- answer
 abbrev pub IsRouted : MayHandle → List (List ℕ) → List ℕ → Result Route ForwardError → Content → Type 0
 IsRouted Handled keys body (Ok route.Here) told = (answer : Result (List ℕ) HandlerFault) × Handled keys body answer × (told ≡ handled_as answer)
 IsRouted Handled keys body (Ok (route.To owner)) told = told ≡ content.NotOwner
@@ -49,14 +54,12 @@ IsRouted Handled keys body (Ok route.Nobody) told = told ≡ content.Refused rea
 IsRouted Handled keys body (Err refusal.Diverged) told = told ≡ content.Refused reason.Diverged
 IsRouted Handled keys body (Err other) told = ⊥
 
--- the content of the answer to a request, by the view that the node gave; a refusal `memory` if it gave none
-abbrev pub IsDecided : {H : Type 0} → (H → List ℕ → ℕ) → MayHandle → List (List ℕ) → List ℕ → Result (Viewed H) NodeError → Content → Type 0
-IsDecided hash_of Handled keys body (Ok view) told =
-    (way : Result Route ForwardError) × IsRouteOf hash_of view keys way × IsRouted Handled keys body way told
-IsDecided hash_of Handled keys body (Err error) told = told ≡ content.Refused reason.Memory
+-- the content of the answer to a request, by a view of the node
+abbrev pub IsDecided : {H : Type 0} → (H → List ℕ → ℕ) → MayHandle → List (List ℕ) → List ℕ → Viewed H → Content → Type 0
+IsDecided hash_of Handled keys body view told = (way : Result Route ForwardError) × IsRouteOf hash_of view keys way × IsRouted Handled keys body way told
 
 module _ {H : Type 0} where
-  -- what never comes
+  -- no result and no acts are possible
   abbrev pub Never : {A : Type 0} → Part H A
   Never r acts = ⊥
 
@@ -64,15 +67,15 @@ module _ {H : Type 0} where
   abbrev pub Says : Content → Part H Message
   Says told = Next (Calls call.Own reply.Own) (λ own. Gives (message_by own told))
 
-  -- the node answers by a refusal for this reason
+  -- the node's answer is a refusal for this reason
   abbrev pub Refuses : Reason → Part H Message
   Refuses why = Says (content.Refused why)
 
-  -- the message is taken
+  -- the message is received
   abbrev pub Receives : Message → ℕ → Part H Received
   Receives message now = Calls (call.Receive message now) reply.Receive
 
-  -- what is answered to a message that the node answers, by what its taking came to
+  -- the answer to a message that the node answers, by the result of receiving it
   abbrev pub Answers : Received → Part H Message
   Answers (received.Answer taken made) = Gives made
   Answers (received.NoAnswer taken) = Refuses reason.Memory
@@ -84,7 +87,7 @@ module _ {H : Type 0} where
   abbrev pub Gossips : Message → ℕ → Part H Message
   Gossips message now = Next (Receives message now) Answers
 
-  -- whether a target was reached, by what was heard of it: its Ack is taken, whatever that comes to
+  -- whether a target was reached, by its answer: its Ack is processed, whatever the result
   abbrev pub Seeks : ℕ → Heard → Part H (Option Bool)
   Seeks now (heard.Answer ack) = Next (Receives ack now) (λ received. Gives (Some true))
   Seeks now heard.Other = Gives (Some false)
@@ -99,22 +102,22 @@ module _ {H : Type 0} where
   abbrev pub Finds : MayAnswer → ℕ → Address → Part H (Option Bool)
   Finds Came now target = Next (Calls call.Own reply.Own) (λ own. Reaches Came now target own.address)
 
-  -- the message that was made, or a refusal where there was no memory for it
+  -- the message that was made, or a refusal if out of memory for it
   abbrev pub GivesMade : Result Message NodeError → Part H Message
   GivesMade (Ok made) = Gives made
   GivesMade (Err node.Memory) = Refuses reason.Memory
   GivesMade (Err other) = Never
 
-  -- the requester is told what was found out about the target
+  -- the result for the target is reported to the requester
   abbrev pub TellsRequester : Address → Address → Option Bool → Part H Message
   TellsRequester requester target (Some reached) = Next (Calls (call.PingReqAckTo requester target reached) reply.PingReqAckTo) GivesMade
   TellsRequester requester target None = Refuses reason.Memory
 
-  -- it is found out whether the target is reached, and the requester is told
+  -- it is found out whether the target is reached, and that is reported to the requester
   abbrev pub Reports : MayAnswer → Address → ℕ → Address → Part H Message
   Reports Came requester now target = Next (Finds Came now target) (TellsRequester requester target)
 
-  -- what is answered to a PingReq, by what its taking came to
+  -- the answer to a PingReq, by the result of receiving it
   abbrev pub AnswersPingReq : MayAnswer → Address → ℕ → Address → Received → Part H Message
   AnswersPingReq Came requester now target (received.Done taken) = Reports Came requester now target
   AnswersPingReq Came requester now target (received.Stopped stopped) = Refuses (reason_of stopped.cause)
@@ -122,7 +125,7 @@ module _ {H : Type 0} where
   AnswersPingReq Came requester now target (received.NoAnswer taken) = Never
   AnswersPingReq Came requester now target received.NotGossip = Never
 
-  -- a PingReq is received, its target is pinged, and the requester is told whether that was reached
+  -- a PingReq is received, its target is pinged, and whether that was reached is reported to the requester
   abbrev pub PassesOn : MayAnswer → Message → ℕ → Address → Part H Message
   PassesOn Came message now target = Next (Receives message now) (AnswersPingReq Came message.source now target)
 
@@ -132,15 +135,17 @@ module _ {H : Type 0} where
   Views (Ok (Err n)) acts = Just (looked (Err n)) acts × (n ≡ node.Memory)
   Views (Err e) acts = Nothing acts × IsOfLock e
 
-  -- the node says what one view decides
+  -- the node answers what one view decides, at the incarnation of that view; a refusal `memory` if there is no view
   abbrev pub Decides : (H → List ℕ → ℕ) → MayHandle → List (List ℕ) → List ℕ → Result (Viewed H) NodeError → Part H Message
-  Decides hash_of Handled keys body view r acts = (told : Content) × IsDecided hash_of Handled keys body view told × Says told r acts
+  Decides hash_of Handled keys body (Ok view) r acts =
+      (told : Content) × IsDecided hash_of Handled keys body view told × Gives (message_from view told) r acts
+  Decides hash_of Handled keys body (Err n) r acts = Refuses reason.Memory r acts
 
-  -- one view decides what is answered to a request
+  -- one view decides the answer to a request
   abbrev pub Forwards : (H → List ℕ → ℕ) → MayHandle → List (List ℕ) → List ℕ → Part H Message
   Forwards hash_of Handled keys body = Next Views (Decides hash_of Handled keys body)
 
-  -- what is answered to a message received at this moment, by its content
+  -- the answer to a message received at this moment, by its content
   abbrev pub Serves : (H → List ℕ → ℕ) → MayAnswer → MayHandle → Message → ℕ → Content → Part H Message
   Serves hash_of Came Handled message now (content.Join news) = Gossips message now
   Serves hash_of Came Handled message now (content.Ping news) = Gossips message now

@@ -4,7 +4,7 @@ ghost use Rattle.locked_node.specs.Passes.{Fits, Refuses};
 ghost use Rattle.peer_core.specs.Acts.{Makes};
 ghost use Rattle.peer_core.specs.Asking.{Applied, Asked, Pinged};
 
-use crate::hearing::{Heard, ack_in, joined_in, word_in};
+use crate::hearing::{Heard, expect_ack, expect_joined, expect_verdict};
 use crate::links::Link;
 use change_core::Address;
 use hash_ring::PointHash;
@@ -13,7 +13,7 @@ use std::alloc::Global;
 use std::sync::Wait;
 use turn_lock::LockError;
 
-/// Pings a target. What is heard is its Ack, or not. Refused as the lock refuses the pass; nothing is sent then.
+/// Pings a target. Returns its Ack, or that there is none. If the lock refuses the pass, nothing is sent.
 pub(crate) fn ping<R: Wait, H: PointHash, L: Link>(
     rt: &R,
     alloc: Global,
@@ -31,11 +31,11 @@ pub(crate) fn ping<R: Wait, H: PointHash, L: Link>(
         return Ok(Heard::NoMemory);
     };
     let answer = link.call(rt, alloc, target, &message);
-    Ok(ack_in(answer, target))
+    Ok(expect_ack(answer, target))
 }
 
-/// Asks a helper to ping a target. What is heard is its word on the target, or not.
-pub(crate) fn ask<R: Wait, H: PointHash, L: Link>(
+/// Asks a helper to ping a target. Returns its report on the target, or that there is none.
+pub(crate) fn send_ping_req<R: Wait, H: PointHash, L: Link>(
     rt: &R,
     alloc: Global,
     node: &LockedNode<H>,
@@ -53,11 +53,11 @@ pub(crate) fn ask<R: Wait, H: PointHash, L: Link>(
         return Ok(Heard::NoMemory);
     };
     let answer = link.call(rt, alloc, helper, &message);
-    Ok(word_in(answer, target))
+    Ok(expect_verdict(answer, target))
 }
 
-/// Asks a host to let the node join. What is heard is its Joined, or not.
-pub(crate) fn apply_to<R: Wait, H: PointHash, L: Link>(
+/// Asks a host to admit the node. Returns its Joined, or that there is none.
+pub(crate) fn send_join<R: Wait, H: PointHash, L: Link>(
     rt: &R,
     alloc: Global,
     node: &LockedNode<H>,
@@ -74,5 +74,5 @@ pub(crate) fn apply_to<R: Wait, H: PointHash, L: Link>(
         return Ok(Heard::NoMemory);
     };
     let answer = link.call(rt, alloc, host, &message);
-    Ok(joined_in(answer))
+    Ok(expect_joined(answer))
 }

@@ -1,4 +1,4 @@
-//! Why a link, a handler or a call of this crate gave no answer.
+//! The errors of links, of handlers and of this crate's calls.
 ghost use Rattle.std.specs.Prelude.{◌≡◌};
 ghost use Rattle.peer_core.specs.Errors.{error_of_forward, error_of_lock, error_of_node};
 
@@ -9,18 +9,18 @@ use std::fmt;
 use thiserror::Error;
 use turn_lock::LockError;
 
-/// Why a link gave no message.
+/// The errors of a link.
 #[derive(Clone, Copy, Debug, PartialEq, Eq, Error)]
 pub enum LinkError {
     /// Connecting, sending or receiving failed.
     Io,
     /// The other side ended without an answer, or is no longer there.
     Closed,
-    /// What came is no message, or what was to be sent has no line.
+    /// The bytes received are not a message, or the message to send has no line.
     Wire(WireError),
     /// The link has counted as many failures as it can, and sends nothing more.
     Spent,
-    /// A growth was refused.
+    /// Out of memory.
     Memory,
 }
 
@@ -37,18 +37,18 @@ impl fmt::Display for LinkError {
     }
 }
 
-/// Why a handler gave no text.
+/// The errors of a handler.
 #[derive(Clone, Copy, Debug, PartialEq, Eq, Error)]
 pub enum HandlerFault {
     /// The request was not done.
     #[error("the handler failed")]
     Failed,
-    /// A growth was refused.
+    /// Out of memory.
     #[error("out of memory")]
     Memory,
 }
 
-/// Why a call of this crate was refused. What the call did before stays.
+/// The errors of this crate's calls. The effect of a call before its error stays.
 #[derive(Clone, Copy, Debug, PartialEq, Eq, Error)]
 pub enum ClusterError {
     /// No node of the cluster has the address.
@@ -67,13 +67,13 @@ pub enum ClusterError {
     NotInFlight,
     /// The handler failed.
     HandlerFault,
-    /// The pass bears the name of another node.
+    /// The pass has the name of another node.
     ForeignPass,
     /// The pass has made as many calls as it may.
     PassSpent,
     /// The first field of a configuration that is out of its range.
     BadConfig(ConfigField),
-    /// No incarnation is left for what the node would have to assert.
+    /// No incarnation is left for the entry that the node would have to assert.
     Exhausted,
     /// An address is unknown, and as many members are held as may be.
     Full,
@@ -89,7 +89,7 @@ pub enum ClusterError {
     StaleProbe,
     /// The helper was not asked, or has answered.
     NotAsked,
-    /// A growth was refused.
+    /// Out of memory.
     Memory,
 }
 

@@ -7,7 +7,7 @@ ghost use Rattle.peer_core.specs.Rounds.{Begins, BeginsAgain, Expires, FailsFrom
 
 use crate::errors::ClusterError;
 use crate::links::Link;
-use crate::probing::bring_to_end;
+use crate::probing::run_probe;
 use crate::rounds::Round;
 use crate::steps::{ask_for_probe, begin_probe, expire, find_running, tell_word};
 use change_core::{Address, Moment};
@@ -55,7 +55,8 @@ fn waited_for(number: u64, running: Option<Running>) -> Option<Address>
     }
 }
 
-/// Gives up a helper that a probe waits for. The one that it waits for then, if it has not ended.
+/// Reports a helper that a probe waits for as failed. Returns the next helper that it waits for, if the probe has not
+/// ended.
 fn fail_one<R: Wait, H: PointHash>(
     rt: &R,
     node: &LockedNode<H>,
@@ -79,7 +80,7 @@ fn fail_one<R: Wait, H: PointHash>(
     }
 }
 
-/// Gives up each helper that a probe still waits for, this one first, until the probe has ended.
+/// Reports each helper that a probe still waits for as failed, this one first, until the probe has ended.
 fn fail_waiting<R: Wait, H: PointHash>(
     rt: &R,
     node: &LockedNode<H>,
@@ -104,9 +105,9 @@ fn fail_waiting<R: Wait, H: PointHash>(
     unreachable!()
 }
 
-/// Brings the probe that was found running to its end: where no helper was asked its target is pinged anew, else the helpers
-/// that have not answered have failed.
-fn finish<R: Wait, H: PointHash, L: Link>(
+/// Completes the probe that was found running: if no helper was asked its target is pinged again, else the helpers that
+/// have not answered have failed.
+fn finish_stale_probe<R: Wait, H: PointHash, L: Link>(
     rt: &R,
     alloc: Global,
     node: &LockedNode<H>,
@@ -130,12 +131,12 @@ fn finish<R: Wait, H: PointHash, L: Link>(
         number: running.number,
         target: running.target,
     };
-    let _round = bring_to_end(rt, alloc, node, pass, link, now, &probe)?;
+    let _round = run_probe(rt, alloc, node, pass, link, now, &probe)?;
     Ok(())
 }
 
-/// Brings the probe that runs to its end, and begins another.
-fn begin_again<R: Wait, H: PointHash, L: Link>(
+/// Completes the probe that runs, and starts another.
+fn restart_probe<R: Wait, H: PointHash, L: Link>(
     rt: &R,
     alloc: Global,
     node: &LockedNode<H>,
@@ -149,12 +150,12 @@ fn begin_again<R: Wait, H: PointHash, L: Link>(
     ensures named { IfErr result IsRoundRefusal }
 {
     let running = find_running(rt, node, pass)?;
-    finish(rt, alloc, node, pass, link, now, running)?;
+    finish_stale_probe(rt, alloc, node, pass, link, now, running)?;
     begin_probe(rt, node, pass)
 }
 
-/// Begins a probe. One that runs is brought to its end first.
-fn begin<R: Wait, H: PointHash, L: Link>(
+/// Starts a probe. One that runs is completed first.
+fn start_probe<R: Wait, H: PointHash, L: Link>(
     rt: &R,
     alloc: Global,
     node: &LockedNode<H>,
@@ -170,19 +171,25 @@ fn begin<R: Wait, H: PointHash, L: Link>(
     let first = ask_for_probe(rt, node, pass)?;
     match first {
         Ok(probe) => Ok(probe),
-        Err(NodeError::Busy) => begin_again(rt, alloc, node, pass, link, now),
+        Err(NodeError::Busy) => restart_probe(rt, alloc, node, pass, link, now),
         Err(refused) => Err(ClusterError::from(refused)),
     }
 }
 
-/// One round of gossip at a moment: what is due expires, the next member in turn is pinged, and where it does not answer others
-/// are asked to ping it. A probe that an earlier round left running is brought to its end first. How the round ended. What
-/// a taking comes to changes nothing else of it.
+/// Makes one round of gossip at a moment: due entries expire, the next member in turn is pinged, and if it does not
+/// answer others are asked to ping it. A probe that an earlier round left running is completed first. Returns how the
+/// round ended. An error in processing a received message changes nothing else of the round.
 ///
-/// Errors, each with what the calls before did: `ForeignPass` where the pass bears another node's name, else `PassSpent`
-/// where it may make no call more; `Memory` where a growth was refused, the link's included; `Busy` where a probe runs still
-/// after the one that ran was brought to its end; `Spent` where no probe number is left; `StaleProbe` and `NotAsked` where
-/// another pass ended the probe meanwhile.
+/// # Errors
+///
+/// The effect of the calls before stays.
+///
+/// - `ForeignPass`: the pass has another node's name.
+/// - `PassSpent`: the pass has made all its calls.
+/// - `Memory`: out of memory, here or in the link.
+/// - `Busy`: a probe still runs after the one that ran was completed.
+/// - `Spent`: no probe number is left.
+/// - `StaleProbe`, `NotAsked`: another pass ended the probe, or answered for its helper, in the meantime.
 pub fn gossip_round<R: Wait, H: PointHash, L: Link>(
     rt: &R,
     alloc: Global,
@@ -197,9 +204,9 @@ pub fn gossip_round<R: Wait, H: PointHash, L: Link>(
     ensures named { IfErr result IsRoundRefusal }
 {
     expire_all(rt, node, pass, now)?;
-    let probe = begin(rt, alloc, node, pass, link, now)?;
+    let probe = start_probe(rt, alloc, node, pass, link, now)?;
     match probe {
         None => Ok(Round::Idle),
-        Some(probe) => bring_to_end(rt, alloc, node, pass, link, now, &probe),
+        Some(probe) => run_probe(rt, alloc, node, pass, link, now, &probe),
     }
 }

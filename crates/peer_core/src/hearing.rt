@@ -1,4 +1,4 @@
-//! What is heard in an answer that came over a link.
+//! Reading an answer that came over a link.
 ghost use Rattle.std.specs.Prelude.{◌≡◌};
 ghost use Rattle.peer_core.specs.Links.{IsAckOf, IsHeard, IsJoined, TellsOf, word_on};
 
@@ -6,19 +6,19 @@ use crate::errors::LinkError;
 use change_core::Address;
 use message_core::{Content, Kind, Message};
 
-/// What came of asking another node.
+/// The result of asking another node.
 #[derive(Drop)]
 pub(crate) enum Heard {
     /// The answer that was wanted.
     Answer(Message),
-    /// Another answer, a fault of the link included.
+    /// Another answer, an error of the link included.
     Other,
-    /// There was no memory for asking.
+    /// Out of memory for the request or for its answer.
     NoMemory,
 }
 
-/// The Ack of the target, where the answer is one.
-pub(crate) fn ack_in(answer: Result<Message, LinkError>, target: Address) -> Heard
+/// Returns the Ack of the target, if the answer is one.
+pub(crate) fn expect_ack(answer: Result<Message, LinkError>, target: Address) -> Heard
     ensures { IsHeard (IsAckOf target) answer result }
 {
     match answer {
@@ -35,8 +35,8 @@ pub(crate) fn ack_in(answer: Result<Message, LinkError>, target: Address) -> Hea
     }
 }
 
-/// The Joined, where the answer is one.
-pub(crate) fn joined_in(answer: Result<Message, LinkError>) -> Heard
+/// Returns the Joined, if the answer is one.
+pub(crate) fn expect_joined(answer: Result<Message, LinkError>) -> Heard
     ensures { IsHeard IsJoined answer result }
 {
     match answer {
@@ -52,7 +52,7 @@ pub(crate) fn joined_in(answer: Result<Message, LinkError>) -> Heard
     }
 }
 
-/// Whether the target was reached, where the content is a PingReqAck about it.
+/// Returns whether the target was reached, if the content is a PingReqAck about it.
 pub(crate) fn word_on_target(content: &Content, target: Address) -> Option<bool>
     ensures { result ≡ word_on target content.now }
 {
@@ -62,8 +62,8 @@ pub(crate) fn word_on_target(content: &Content, target: Address) -> Option<bool>
     }
 }
 
-/// The PingReqAck about the target, where the answer is one.
-pub(crate) fn word_in(answer: Result<Message, LinkError>, target: Address) -> Heard
+/// Returns the PingReqAck about the target, if the answer is one.
+pub(crate) fn expect_verdict(answer: Result<Message, LinkError>, target: Address) -> Heard
     ensures { IsHeard (TellsOf target) answer result }
 {
     match answer {

@@ -1,4 +1,4 @@
-//! How a node joins others.
+//! Joins of a node with others.
 ghost use Rattle.std.specs.Prelude.{◌≡◌, ◌+◌, ◌-◌, ◌<◌, ◌^◌, length, IfErr};
 ghost use Rattle.locked_node.specs.Passes.{Fits};
 ghost use Rattle.node_core.specs.Log.{one_if};
@@ -7,7 +7,7 @@ ghost use Rattle.peer_core.specs.Errors.{IsJoinRefusal};
 ghost use Rattle.peer_core.specs.Joining.{HearsHost, IsJoin, JoinsHost, JoinsHosts};
 ghost use Rattle.peer_core.specs.Parts.{Asks, Does};
 
-use crate::asking::apply_to;
+use crate::asking::send_join;
 use crate::errors::ClusterError;
 use crate::hearing::Heard;
 use crate::links::Link;
@@ -19,7 +19,7 @@ use std::alloc::Global;
 use std::sync::Wait;
 
 /// Sends a Join to a host, as a step of a join.
-fn apply<R: Wait, H: PointHash, L: Link>(
+fn ask_to_join<R: Wait, H: PointHash, L: Link>(
     rt: &R,
     alloc: Global,
     node: &LockedNode<H>,
@@ -32,12 +32,12 @@ fn apply<R: Wait, H: PointHash, L: Link>(
     ensures fits { Fits node.now pass.new }
     ensures named { IfErr result IsJoinRefusal }
 {
-    let heard = apply_to(rt, alloc, node, pass, link, host);
+    let heard = send_join(rt, alloc, node, pass, link, host);
     let_in(heard)
 }
 
-/// Takes what was heard of a host, if it is its Joined. Whether it is.
-fn take_joined<R: Wait, H: PointHash>(
+/// Processes the answer of a node, if it is the expected one. Returns whether it is.
+pub(crate) fn take_joined<R: Wait, H: PointHash>(
     rt: &R,
     node: &LockedNode<H>,
     pass: &mut NodePass<H>,
@@ -60,7 +60,7 @@ fn take_joined<R: Wait, H: PointHash>(
 }
 
 /// Sends a Join to one host and takes its Joined. Whether there was one.
-fn join_host<R: Wait, H: PointHash, L: Link>(
+pub(crate) fn join_host<R: Wait, H: PointHash, L: Link>(
     rt: &R,
     alloc: Global,
     node: &LockedNode<H>,
@@ -74,7 +74,7 @@ fn join_host<R: Wait, H: PointHash, L: Link>(
     ensures fits { Fits node.now pass.new }
     ensures named { IfErr result IsJoinRefusal }
 {
-    let heard = apply(rt, alloc, node, pass, link, host)?;
+    let heard = ask_to_join(rt, alloc, node, pass, link, host)?;
     take_joined(rt, node, pass, now, &heard)
 }
 
@@ -109,12 +109,17 @@ fn join_all<R: Wait, H: PointHash, L: Link>(
     Ok(count)
 }
 
-/// Sends a Join to each host, fewer than 2^32, in their order, and takes each Joined at a moment. How many hosts answered so;
-/// what a taking comes to changes nothing of it.
+/// Sends a Join to each host, fewer than 2^32, in their order, and processes each Joined at a moment. Returns how many
+/// hosts answered by a Joined; an error in processing one changes nothing of that.
 ///
-/// Errors, each with what the calls before did: `ForeignPass` where the pass bears another node's name, else `PassSpent`
-/// where it may make no call more; `Memory` where a growth was refused, the link's included; `NoneJoined` where no host
-/// answered by a Joined.
+/// # Errors
+///
+/// The effect of the calls before stays.
+///
+/// - `ForeignPass`: the pass has another node's name.
+/// - `PassSpent`: the pass has made all its calls.
+/// - `Memory`: out of memory, here or in the link.
+/// - `NoneJoined`: no host answered by a Joined.
 pub fn join<R: Wait, H: PointHash, L: Link>(
     rt: &R,
     alloc: Global,

@@ -1,5 +1,5 @@
-//! What a node says to its peers and what it answers them: rounds of gossip, joining, serving, and requests that find their
-//! owner, over any link, handler and clock.
+//! The talk of a node with its peers: rounds of gossip, joining, serving, and requests that find their owner, over any
+//! link, handler and clock.
 #![tactic(auto)]
 
 mod asking;
@@ -8,10 +8,12 @@ mod errors;
 mod forwarding;
 mod gossiping;
 mod handlers;
+mod healing;
 mod hearing;
 mod joining;
 pub mod laws;
 mod links;
+mod meeting;
 mod member_errors;
 mod members;
 mod probing;
@@ -24,6 +26,7 @@ pub use errors::{ClusterError, HandlerFault, LinkError};
 pub use forwarding::handle_or_forward;
 pub use gossiping::gossip_round;
 pub use handlers::Handler;
+pub use healing::{Healing, heal};
 pub use joining::join;
 pub use links::Link;
 pub use member_errors::{CallError, JoinError, LeaveError, RejoinError, RequestError, RoundError};

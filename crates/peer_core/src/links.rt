@@ -1,4 +1,4 @@
-//! How a node asks other nodes.
+//! The way in which a node asks other nodes.
 ghost use Rattle.std.specs.Prelude.{◌≡◌, ◌+◌, ◌-◌, ◌^◌, ◌↔◌, Err, IfErr};
 
 use crate::errors::LinkError;
@@ -7,33 +7,36 @@ use message_core::Message;
 use std::alloc::Global;
 use std::sync::Wait;
 
-/// A way to ask other nodes: over sockets, over channels, or as a test wants it. One caller uses it at a time. No two nodes
-/// that it reaches have one address: an answer would be taken for that of another node.
+/// A way to ask other nodes: over sockets, over channels, or as a test needs it. One caller uses it at a time. No two
+/// nodes that it reaches have one address: an answer would count as that of another node.
 pub trait Link {
     ghost use Rattle.std.specs.Prelude.{ℕ};
     ghost use Rattle.peer_core.specs.Links.{MayAnswer, failures_in, IsNamed};
 
-    /// What may be answered at an address to a message, faults included. Of a real peer nothing is known, so a real link
-    /// admits everything; code over any link can show it only by calling.
+    /// The answers that may come from an address to a message, errors included. The behaviour of a real peer is
+    /// unknown, so a real link admits everything; code over any link can show an answer only by calling.
     ghost may_answer: { MayAnswer };
 
     ghost failed: { Self → ℕ };
 
-    /// How often a call answered `Io` or `Closed`.
+    /// Returns how often a call returned `Io` or `Closed`.
     fn failures(&self) -> u64
         ensures { result ≡ failed self.now };
 
-    /// Sends a message to an address and waits for the answer. It may block, and its caller with it, but holds up no other
-    /// caller of the node: no turn of the node is held meanwhile. Let it end by itself, as by a limit of time: nobody else ends
-    /// it.
+    /// Sends a message to an address and waits for the answer. It may block, and its caller with it, but holds up no
+    /// other caller of the node: no turn of the node is held while it is called. An implementation must time out by
+    /// itself: the caller cannot cancel it.
     ///
-    /// It sends the message once at most and retries nothing: a Forward that was sent twice would be handled twice. This
-    /// crate calls it once for each message that a node made. What it asks anew is a new message, as where it forwards a
-    /// request, up to four times.
+    /// It sends the message at most once and retries nothing: a Forward that was sent twice would be handled twice.
+    /// This crate calls it once for each message that a node made. A retry is a new message, as when a request is
+    /// forwarded, up to four times.
     ///
-    /// Errors: `Spent` exactly where the failures are as many as a `u64` holds, and nothing is sent; `Io` and `Closed`, each
-    /// of which counts as a failure; `Wire` with the fault of a line, save that its `Io` is `Io` and its `Memory` is
-    /// `Memory`; `Memory` where a growth was refused.
+    /// # Errors
+    ///
+    /// - `Spent`: if and only if there have been as many failures as a `u64` holds. Nothing is sent.
+    /// - `Io`, `Closed`: the call failed. Each counts as a failure.
+    /// - `Wire`: the error of a line; but its `Io` is `Io` here, and its `Memory` is `Memory`.
+    /// - `Memory`: out of memory.
     fn call<R: Wait>(
         &mut self,
         rt: &R,

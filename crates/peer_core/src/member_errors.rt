@@ -1,6 +1,6 @@
-//! Why a call of a member was refused: for each call the errors that it can give, each also an error of `ClusterError`.
+//! The errors of a member's calls: for each call those that it can return, each also an error of `ClusterError`.
 ghost use Rattle.std.specs.Prelude.{◌≡◌, IfErr, IfOk};
-ghost use Rattle.peer_core.specs.Errors.{IsJoinRefusal, IsRoundRefusal};
+ghost use Rattle.peer_core.specs.Errors.{IsHealRefusal, IsJoinRefusal, IsRoundRefusal};
 ghost use Rattle.peer_core.specs.Forwarding.{IsRequestRefusal};
 ghost use Rattle.peer_core.specs.MemberErrors.{IsCallRefusal, IsLeaveRefusal, IsRejoinRefusal, answer_of_call, answer_of_leave, answer_of_rejoin, error_of_call, error_of_join, error_of_leave, error_of_rejoin, error_of_request, error_of_round};
 
@@ -9,7 +9,7 @@ use node_core::NodeError;
 use thiserror::Error;
 use turn_lock::LockError;
 
-/// Why a round of gossip was refused.
+/// The errors of a round of gossip.
 #[derive(Clone, Copy, Debug, PartialEq, Eq, Error)]
 pub enum RoundError {
     /// The pass has the name of another node.
@@ -24,10 +24,10 @@ pub enum RoundError {
     /// No probe number is left.
     #[error("no probe number is left")]
     Spent,
-    /// Another pass ended the probe meanwhile.
+    /// Another pass ended the probe in the meantime.
     #[error("the probe does not run")]
     StaleProbe,
-    /// Another pass answered for the helper meanwhile.
+    /// Another pass answered for the helper in the meantime.
     #[error("the helper was not asked")]
     NotAsked,
     /// Out of memory, the link included.
@@ -35,7 +35,7 @@ pub enum RoundError {
     Memory,
 }
 
-/// Why a join was refused.
+/// The errors of a join.
 #[derive(Clone, Copy, Debug, PartialEq, Eq, Error)]
 pub enum JoinError {
     /// No host answered that the node has joined.
@@ -52,7 +52,7 @@ pub enum JoinError {
     Memory,
 }
 
-/// Why a keyed request was refused.
+/// The errors of a keyed request.
 #[derive(Clone, Copy, Debug, PartialEq, Eq, Error)]
 pub enum RequestError {
     /// Two of the keys have different owners.
@@ -78,7 +78,7 @@ pub enum RequestError {
     Memory,
 }
 
-/// Why a call that copies from the node was refused.
+/// The errors of a call that copies from the node, and of healing.
 #[derive(Clone, Copy, Debug, PartialEq, Eq, Error)]
 pub enum CallError {
     /// The pass has the name of another node.
@@ -92,7 +92,7 @@ pub enum CallError {
     Memory,
 }
 
-/// Why a node did not leave.
+/// The errors of leaving.
 #[derive(Clone, Copy, Debug, PartialEq, Eq, Error)]
 pub enum LeaveError {
     /// The pass has the name of another node.
@@ -109,7 +109,7 @@ pub enum LeaveError {
     Memory,
 }
 
-/// Why a node did not come back after it left.
+/// The errors of coming back after leaving.
 #[derive(Clone, Copy, Debug, PartialEq, Eq, Error)]
 pub enum RejoinError {
     /// The pass has the name of another node.
@@ -261,6 +261,19 @@ pub(crate) fn request_error(refused: ClusterError) -> RequestError
     }
 }
 
+/// Returns the member's error for one of `heal`.
+pub(crate) fn heal_error(refused: ClusterError) -> CallError
+    requires { IsHealRefusal refused }
+    ensures { error_of_call result ≡ refused }
+{
+    match refused {
+        ClusterError::ForeignPass => CallError::ForeignPass,
+        ClusterError::PassSpent => CallError::PassSpent,
+        ClusterError::Memory => CallError::Memory,
+        _ => unreachable!(),
+    }
+}
+
 /// The answer of a locked node to a call that copies, in one result.
 pub(crate) fn copied<T>(answer: Result<Result<T, NodeError>, LockError>) -> Result<T, CallError>
     requires { IfOk answer (λ made. IfErr made IsCallRefusal) }
@@ -275,7 +288,7 @@ pub(crate) fn copied<T>(answer: Result<Result<T, NodeError>, LockError>) -> Resu
     }
 }
 
-/// The answer of a locked node that was told to leave, in one result.
+/// Returns the answer of a locked node to `leave`, in one result.
 pub(crate) fn left<T>(answer: Result<Result<T, NodeError>, LockError>) -> Result<T, LeaveError>
     requires { IfOk answer (λ made. IfErr made IsLeaveRefusal) }
     ensures { answer_of_leave result ≡ answer }
@@ -290,7 +303,7 @@ pub(crate) fn left<T>(answer: Result<Result<T, NodeError>, LockError>) -> Result
     }
 }
 
-/// The answer of a locked node that was told to rejoin, in one result.
+/// Returns the answer of a locked node to `rejoin`, in one result.
 pub(crate) fn rejoined<T>(answer: Result<Result<T, NodeError>, LockError>) -> Result<T, RejoinError>
     requires { IfOk answer (λ made. IfErr made IsRejoinRefusal) }
     ensures { answer_of_rejoin result ≡ answer }

@@ -1,12 +1,13 @@
-//! A member of a cluster: what a thread of a service calls.
+//! A member of a cluster, by which a thread of a service makes its calls.
 ghost use Rattle.std.specs.Prelude.{◌≡◌, ◌<◌, ◌^◌, length};
 ghost use Rattle.node_core.specs.Calls.{OfView, WithView};
 ghost use Rattle.node_core.specs.declared.events.Event.TheVariants as event;
 ghost use Rattle.node_core.specs.declared.events.Reply.TheVariants as reply;
 ghost use Rattle.locked_node.specs.Passes.{Fits};
 ghost use Rattle.peer_core.specs.Forwarding.{IsRequest};
+ghost use Rattle.peer_core.specs.Healing.{IsHealing, after_round};
 ghost use Rattle.peer_core.specs.Joining.{IsJoin};
-ghost use Rattle.peer_core.specs.MemberErrors.{answer_of_call, answer_of_leave, answer_of_rejoin, error_of_join, error_of_request, error_of_round, widened};
+ghost use Rattle.peer_core.specs.MemberErrors.{answer_of_call, answer_of_leave, answer_of_rejoin, error_of_call, error_of_join, error_of_request, error_of_round, widened};
 ghost use Rattle.peer_core.specs.Members.{Called, Done, Replied};
 ghost use Rattle.peer_core.specs.Parts.{let_in};
 ghost use Rattle.peer_core.specs.Rounds.{IsRound};
@@ -16,11 +17,12 @@ use crate::clocks::Clock;
 use crate::forwarding::handle_or_forward;
 use crate::gossiping::gossip_round;
 use crate::handlers::Handler;
+use crate::healing::{Healing, heal};
 use crate::joining::join;
 use crate::links::Link;
 use crate::member_errors::{
-    CallError, JoinError, LeaveError, RejoinError, RequestError, RoundError, copied, join_error,
-    left, rejoined, request_error, round_error,
+    CallError, JoinError, LeaveError, RejoinError, RequestError, RoundError, copied, heal_error,
+    join_error, left, rejoined, request_error, round_error,
 };
 use crate::rounds::Round;
 use crate::serving::{refuse, serve_one};
@@ -34,15 +36,15 @@ use std::marker::Model;
 use std::sync::Wait;
 use turn_lock::LockError;
 
-/// A member of a cluster as one thread calls it: a node, the thread's pass of it, the link by which it asks the other nodes,
-/// and where its memory comes from.
+/// A member of a cluster as one thread calls it: a node, the thread's pass of it, the link by which it asks the other
+/// nodes, and where its memory comes from.
 ///
-/// A node that several threads share has a member for each: they borrow one node, and each has a pass and a link of its own.
-/// While a member lives its pass and its link are used by it alone; `into_pass` ends it. Each call waits for the turns of the
-/// node that it takes, and holds none while the link, the handler or the clock is called.
+/// A node that several threads share has a member for each: they borrow one node, and each has its own pass and link.
+/// While a member lives its pass and its link are used by it alone; `into_pass` ends it. Each call waits for the turns
+/// of the node that it takes, and holds none while the link, the handler or the clock is called.
 ///
-/// A call that is refused by `ForeignPass` or `PassSpent` is refused by the node's lock: the pass has the name of another
-/// node, or else has made as many calls as it may. What the call did before stays.
+/// A call that is refused by `ForeignPass` or `PassSpent` is refused by the node's lock: the pass has the name of
+/// another node, or else has made as many calls as it may. What the call did before stays.
 #[derive(Drop)]
 pub struct Member<'m, H: PointHash, L: Link> {
     node: &'m LockedNode<H>,
@@ -82,7 +84,7 @@ impl<'m, H: PointHash, L: Link> Member<'m, H, L> {
         }
     }
 
-    /// The pass, which can be handed in again.
+    /// Returns the pass, which can be used again.
     pub fn into_pass(self) -> &'m mut NodePass<H>
         ensures pass { result ≡ self.entry.pass }
         ensures fits { Fits self.entry.node result.now }
@@ -91,14 +93,14 @@ impl<'m, H: PointHash, L: Link> Member<'m, H, L> {
         pass
     }
 
-    /// Sends a Join to each host, fewer than 2^32, in their order, and takes each Joined at a moment. The number of hosts that
-    /// answered by a Joined. It is [`join`].
+    /// Sends a Join to each host, fewer than 2^32, in their order, and processes each Joined at a moment. Returns the
+    /// number of hosts that answered by a Joined. It is [`join`].
     ///
     /// # Errors
     ///
-    /// - `NoneJoined` if no host answered by a Joined.
-    /// - `Memory` if the node or the link ran out of memory.
-    /// - `ForeignPass`, `PassSpent`.
+    /// - `NoneJoined`: no host answered by a Joined.
+    /// - `Memory`: the node or the link ran out of memory.
+    /// - `ForeignPass`, `PassSpent`: the lock refused the pass.
     pub fn join<R: Wait>(
         &mut self,
         rt: &R,
@@ -111,28 +113,52 @@ impl<'m, H: PointHash, L: Link> Member<'m, H, L> {
         join(rt, self.alloc, self.node, self.pass, self.link, hosts, now).map_err(join_error)
     }
 
-    /// One round of gossip at a moment: what is due expires, the next member in turn is pinged, and if it does not answer others
-    /// are asked to ping it. How the round ended. It is [`gossip_round`].
+    /// Makes one round of gossip at a moment: due entries expire, the next member in turn is pinged, and if it does not
+    /// answer others are asked to ping it. Returns how the round ended. It is [`gossip_round`].
     ///
     /// # Errors
     ///
-    /// - `Memory` if the node or the link ran out of memory.
-    /// - `Busy` if a probe still runs after the one that was found running has ended.
-    /// - `Spent` if no probe number is left.
-    /// - `StaleProbe` or `NotAsked` if another pass ended the probe, or answered for its helper, meanwhile.
-    /// - `ForeignPass`, `PassSpent`.
+    /// - `Memory`: the node or the link ran out of memory.
+    /// - `Busy`: a probe still runs after the one that was found running has ended.
+    /// - `Spent`: no probe number is left.
+    /// - `StaleProbe` or `NotAsked`: another pass ended the probe, or answered for its helper, in the meantime.
+    /// - `ForeignPass`, `PassSpent`: the lock refused the pass.
     pub fn round<R: Wait>(&mut self, rt: &R, now: Moment) -> Result<Round, RoundError>
         ensures { Done (IsRound L.may_answer now) (widened error_of_round result) self.old self.new }
     {
         gossip_round(rt, self.alloc, self.node, self.pass, self.link, now).map_err(round_error)
     }
 
-    /// Answers a message at a moment: what came from another node, or from a client. A Forward is answered by the handler if the
-    /// node owns all its keys. A refusal by the node is an answer too: `Refused` with its reason. It is [`serve_one`].
+    /// Heals a cluster whose members parted; to be called after each round, at its moment. After each tenth round the node
+    /// pings one member at random, also a faulty one, and sends a Join to one of the hosts of `healing`, at random, if it
+    /// does not hold that host as serving; after the others it does nothing. Returns whether a host answered by a Joined.
+    /// It is [`heal`].
     ///
     /// # Errors
     ///
-    /// - `ForeignPass`, `PassSpent`.
+    /// - `Memory`: the node or the link ran out of memory.
+    /// - `ForeignPass`, `PassSpent`: the lock refused the pass.
+    pub fn heal<R: Wait>(
+        &mut self,
+        rt: &R,
+        healing: &mut Healing<'_>,
+        now: Moment,
+    ) -> Result<bool, CallError>
+        ensures healed { Done (IsHealing L.may_answer now healing.old.hosts (after_round healing.old).0) (widened error_of_call result) self.old self.new }
+        ensures healing { healing.new ≡ (after_round healing.old).1 }
+    {
+        heal(
+            rt, self.alloc, self.node, self.pass, self.link, now, healing,
+        )
+        .map_err(heal_error)
+    }
+
+    /// Answers a message of another node, or of a client, at a moment. A Forward is answered by the handler if the node
+    /// owns all its keys. A refusal by the node is an answer too: `Refused` with its reason. It is [`serve_one`].
+    ///
+    /// # Errors
+    ///
+    /// - `ForeignPass`, `PassSpent`: the lock refused the pass.
     pub fn serve<R: Wait, A: Handler>(
         &mut self,
         rt: &R,
@@ -151,25 +177,26 @@ impl<'m, H: PointHash, L: Link> Member<'m, H, L> {
     ///
     /// # Errors
     ///
-    /// - `ForeignPass`, `PassSpent`.
+    /// - `ForeignPass`, `PassSpent`: the lock refused the pass.
     pub fn refuse<R: Wait>(&mut self, rt: &R, reason: Reason) -> Result<Message, LockError>
         ensures { Done (Refuses reason) (let_in result) self.old self.new }
     {
         refuse(rt, self.node, self.pass, reason)
     }
 
-    /// Answers a request of these keys, 1 to 256, with this body: by the handler if this node owns all of them, else by the
-    /// Reply of the node that does. A send that fails is tried again, at the owner of that time, 3,000, 6,000 and 12,000
-    /// milliseconds after the first, second and third failure; `clock` tells the time. It is [`handle_or_forward`].
+    /// Answers a request of these keys, 1 to 256, with this body: by the handler if this node owns all of them, else by
+    /// the Reply of the node that does. A send that fails is tried again, at the owner of that time, 3,000, 6,000 and
+    /// 12,000 milliseconds after the first, second and third failure; `clock` gives the time. It is
+    /// [`handle_or_forward`].
     ///
     /// # Errors
     ///
-    /// - `Diverged` if two of the keys have different owners.
-    /// - `Nobody` if no member serves.
-    /// - `RetriesSpent` if the fourth send failed too.
-    /// - `HandlerFault` if the handler failed.
-    /// - `Memory` if the node, the handler or the link ran out of memory.
-    /// - `ForeignPass`, `PassSpent`.
+    /// - `Diverged`: two of the keys have different owners.
+    /// - `Nobody`: no member serves.
+    /// - `RetriesSpent`: the fourth send failed too.
+    /// - `HandlerFault`: the handler failed.
+    /// - `Memory`: the node, the handler or the link ran out of memory.
+    /// - `ForeignPass`, `PassSpent`: the lock refused the pass.
     pub fn request<R: Wait, A: Handler, C: Clock>(
         &mut self,
         rt: &R,
@@ -194,8 +221,8 @@ impl<'m, H: PointHash, L: Link> Member<'m, H, L> {
     ///
     /// # Errors
     ///
-    /// - `Memory` if the copy ran out of memory.
-    /// - `ForeignPass`, `PassSpent`.
+    /// - `Memory`: the copy ran out of memory.
+    /// - `ForeignPass`, `PassSpent`: the lock refused the pass.
     pub fn view<R: Wait>(&mut self, rt: &R) -> Result<View<H>, CallError>
         ensures { Called H.hash_of OfView WithView (answer_of_call result) self.old self.new }
     {
@@ -206,7 +233,7 @@ impl<'m, H: PointHash, L: Link> Member<'m, H, L> {
     ///
     /// # Errors
     ///
-    /// - `ForeignPass`, `PassSpent`.
+    /// - `ForeignPass`, `PassSpent`: the lock refused the pass.
     pub fn own<R: Wait>(&mut self, rt: &R) -> Result<Change, LockError>
         ensures { Replied H.hash_of event.Own reply.Own result self.old self.new }
     {
@@ -217,8 +244,8 @@ impl<'m, H: PointHash, L: Link> Member<'m, H, L> {
     ///
     /// # Errors
     ///
-    /// - `Memory` if the list ran out of memory.
-    /// - `ForeignPass`, `PassSpent`.
+    /// - `Memory`: the list ran out of memory.
+    /// - `ForeignPass`, `PassSpent`: the lock refused the pass.
     pub fn members<R: Wait>(&mut self, rt: &R) -> Result<ChangeList, CallError>
         ensures { Replied H.hash_of event.Members reply.Members (answer_of_call result) self.old self.new }
     {
@@ -229,34 +256,35 @@ impl<'m, H: PointHash, L: Link> Member<'m, H, L> {
     ///
     /// # Errors
     ///
-    /// - `ForeignPass`, `PassSpent`.
+    /// - `ForeignPass`, `PassSpent`: the lock refused the pass.
     pub fn owner<R: Wait>(&mut self, rt: &R, key: &[u8]) -> Result<Option<Address>, LockError>
         ensures { Replied H.hash_of (event.Owner key.now) reply.Owner result self.old self.new }
     {
         self.node.owner(rt, self.pass, key)
     }
 
-    /// The node leaves: it asserts so, and rounds and answers tell the others. Its entry after that, as a change.
+    /// Leaves the cluster: the node asserts so, and rounds and answers pass it on. Returns its entry after that, as a
+    /// change.
     ///
     /// # Errors
     ///
-    /// - `AlreadyLeft` if the node has left.
-    /// - `Memory` if the node ran out of memory; it has not left then.
-    /// - `ForeignPass`, `PassSpent`.
+    /// - `AlreadyLeft`: the node has left.
+    /// - `Memory`: the node ran out of memory; it has not left then.
+    /// - `ForeignPass`, `PassSpent`: the lock refused the pass.
     pub fn leave<R: Wait>(&mut self, rt: &R) -> Result<Change, LeaveError>
         ensures { Replied H.hash_of event.Leave reply.Leave (answer_of_leave result) self.old self.new }
     {
         left(self.node.leave(rt, self.pass))
     }
 
-    /// The node is back after it left, at its next incarnation. Its entry after that, as a change.
+    /// Comes back after leaving, at the node's next incarnation. Returns its entry after that, as a change.
     ///
     /// # Errors
     ///
-    /// - `NotLeft` if the node has not left.
-    /// - `Exhausted` if no incarnation is left.
-    /// - `Memory` if the node ran out of memory; it has still left then.
-    /// - `ForeignPass`, `PassSpent`.
+    /// - `NotLeft`: the node has not left.
+    /// - `Exhausted`: no incarnation is left.
+    /// - `Memory`: the node ran out of memory; it has still left then.
+    /// - `ForeignPass`, `PassSpent`: the lock refused the pass.
     pub fn rejoin<R: Wait>(&mut self, rt: &R) -> Result<Change, RejoinError>
         ensures { Replied H.hash_of event.Rejoin reply.Rejoin (answer_of_rejoin result) self.old self.new }
     {

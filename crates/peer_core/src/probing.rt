@@ -1,5 +1,5 @@
-//! What becomes of a probe that runs: its target is pinged, and where it does not answer helpers are asked. Each step makes calls
-//! of the node, and at most one of the link.
+//! The steps of a probe that runs: its target is pinged, and if it does not answer helpers are asked. Each step makes
+//! calls of the node, and at most one of the link.
 ghost use Rattle.std.specs.Prelude.{◌≡◌, IfErr};
 ghost use Rattle.locked_node.specs.Passes.{Fits};
 ghost use Rattle.peer_core.specs.Asking.{Asked, Pinged};
@@ -7,7 +7,7 @@ ghost use Rattle.peer_core.specs.Errors.{IsRoundRefusal};
 ghost use Rattle.peer_core.specs.Parts.{Asks, Does};
 ghost use Rattle.peer_core.specs.Rounds.{Acknowledges, AsksHelper, AsksHelpers, GivesUp, HearsHelper, LosesOnce, Probes, end_by, said_by};
 
-use crate::asking::{ask, ping};
+use crate::asking::{ping, send_ping_req};
 use crate::errors::ClusterError;
 use crate::hearing::{Heard, word_on_target};
 use crate::links::Link;
@@ -22,7 +22,7 @@ use node_core::{NodeLost, NodeOutcome};
 use std::alloc::Global;
 use std::sync::Wait;
 
-/// What is said for a helper that told this of a target.
+/// Returns the report for a helper that answered this about a target.
 fn said_by(word: Option<bool>) -> Said
     ensures { result ≡ said_by word }
 {
@@ -33,7 +33,7 @@ fn said_by(word: Option<bool>) -> Said
     }
 }
 
-/// How a round ends by what a helper's word comes to, if that ends it.
+/// Returns how a round ends by the result of a helper's report, if that ends it.
 fn end_by(target: Address, outcome: NodeOutcome) -> Option<Round>
     ensures { result ≡ end_by target outcome }
 {
@@ -78,11 +78,11 @@ fn ask_about<R: Wait, H: PointHash, L: Link>(
     ensures fits { Fits node.now pass.new }
     ensures named { IfErr result IsRoundRefusal }
 {
-    let heard = ask(rt, alloc, node, pass, link, helper, target);
+    let heard = send_ping_req(rt, alloc, node, pass, link, helper, target);
     let_in(heard)
 }
 
-/// Takes a helper's answer, and tells the node its word.
+/// Processes a helper's answer, and passes its report to the node.
 fn take_word<R: Wait, H: PointHash>(
     rt: &R,
     node: &LockedNode<H>,
@@ -103,7 +103,7 @@ fn take_word<R: Wait, H: PointHash>(
     tell_word(rt, node, pass, now, probe.number, helper, said)
 }
 
-/// Asks one helper about the target, and tells the node what it said.
+/// Asks one helper about the target, and passes its report to the node.
 fn ask_helper<R: Wait, H: PointHash, L: Link>(
     rt: &R,
     alloc: Global,
@@ -127,7 +127,7 @@ fn ask_helper<R: Wait, H: PointHash, L: Link>(
     }
 }
 
-/// Asks the helpers in turn, until the probe has ended; None where it has not.
+/// Asks the helpers in turn, until the probe has ended; None if it has not.
 fn ask_helpers<R: Wait, H: PointHash, L: Link>(
     rt: &R,
     alloc: Global,
@@ -153,7 +153,7 @@ fn ask_helpers<R: Wait, H: PointHash, L: Link>(
     Ok(None)
 }
 
-/// Says that a probe was lost, and asks the helpers that the node names; None where the probe has not ended.
+/// Reports that a probe was lost, and asks the helpers that the node names; None if the probe has not ended.
 fn give_up_once<R: Wait, H: PointHash, L: Link>(
     rt: &R,
     alloc: Global,
@@ -178,8 +178,8 @@ fn give_up_once<R: Wait, H: PointHash, L: Link>(
     }
 }
 
-/// Gives up a probe whose target did not answer. Where its helpers have all been asked and it has not ended, the node says
-/// what becomes of it.
+/// Ends a probe whose target did not answer. If its helpers have all been asked and it has not ended, the node decides
+/// it.
 fn give_up<R: Wait, H: PointHash, L: Link>(
     rt: &R,
     alloc: Global,
@@ -222,8 +222,8 @@ fn acknowledge<R: Wait, H: PointHash>(
     Ok(Round::Reached(probe.target))
 }
 
-/// Pings the target of a running probe, and brings the probe to its end.
-pub(crate) fn bring_to_end<R: Wait, H: PointHash, L: Link>(
+/// Pings the target of a running probe, and completes the probe.
+pub(crate) fn run_probe<R: Wait, H: PointHash, L: Link>(
     rt: &R,
     alloc: Global,
     node: &LockedNode<H>,

@@ -1,10 +1,10 @@
-//! What a node answers to a message. No turn is held while the link or the handler is called.
+//! The answers of a node to messages. No turn is held while the link or the handler is called.
 ghost use Rattle.std.specs.Prelude.{◌≡◌, true, false, Ok, IfOk, IfErr};
 ghost use Rattle.node_core.specs.Receiving.{is_answered, is_gossip};
 ghost use Rattle.locked_node.specs.Passes.{Fits};
 ghost use Rattle.peer_core.specs.Asking.{Pinged};
 ghost use Rattle.peer_core.specs.Parts.{Asks, Does, Next, let_in};
-ghost use Rattle.peer_core.specs.Serving.{Finds, Forwards, Gossips, IsDecided, IsRouted, PassesOn, Refuses, Reports, Says, Seeks, Serves, TellsRequester, reason_of};
+ghost use Rattle.peer_core.specs.Serving.{message_from, Finds, Forwards, Gossips, IsDecided, IsRouted, PassesOn, Refuses, Reports, Says, Seeks, Serves, TellsRequester, reason_of};
 
 use crate::asking::ping;
 use crate::errors::HandlerFault;
@@ -16,13 +16,13 @@ use forward_core::{ForwardError, Route, route_keys};
 use hash_ring::PointHash;
 use locked_node::{LockedNode, NodePass};
 use message_core::{Content, Keys, Message, Reason, Text};
-use node_core::{NodeError, Received, StopCause, View};
+use node_core::{Received, StopCause, View};
 use std::alloc::Global;
 use std::sync::Wait;
 use turn_lock::LockError;
 
 /// A message of the node's own.
-pub(crate) fn say<R: Wait, H: PointHash>(
+pub(crate) fn message_from_self<R: Wait, H: PointHash>(
     rt: &R,
     node: &LockedNode<H>,
     pass: &mut NodePass<H>,
@@ -41,10 +41,26 @@ pub(crate) fn say<R: Wait, H: PointHash>(
     })
 }
 
-/// Refuses for a reason: a message of the node, at the incarnation of its own entry. Whoever reads messages answers what is no
-/// message so, by `Malformed`.
+/// Makes a message of the node whose view this is, at the incarnation of the view.
+pub(crate) fn message_from<H: PointHash>(view: &View<H>, content: Content) -> Message
+    ensures { result ≡ message_from view.now content }
+{
+    Message {
+        source: view.own(),
+        source_incarnation: view.incarnation(),
+        content,
+    }
+}
+
+/// Refuses for a reason: makes a message of the node, at the incarnation of its own entry. A reader of messages answers
+/// by it, with `Malformed`, to anything that is not a message.
 ///
-/// Errors: `ForeignPass` where the pass bears another node's name, else `PassSpent` where it may make no call more.
+/// # Errors
+///
+/// The call is not made, and the pass is unchanged.
+///
+/// - `ForeignPass`: the pass has another node's name. This is checked first.
+/// - `PassSpent`: the pass has made all its calls.
 pub fn refuse<R: Wait, H: PointHash>(
     rt: &R,
     node: &LockedNode<H>,
@@ -55,7 +71,7 @@ pub fn refuse<R: Wait, H: PointHash>(
     ensures did { Does node.now (Refuses reason) (let_in result) pass.old pass.new }
     ensures fits { Fits node.now pass.new }
 {
-    say(rt, node, pass, Content::Refused(reason))
+    message_from_self(rt, node, pass, Content::Refused(reason))
 }
 
 fn reason_for(cause: StopCause) -> Reason
@@ -68,7 +84,7 @@ fn reason_for(cause: StopCause) -> Reason
     }
 }
 
-/// Answers a Join or a Ping by what the node answers to it.
+/// Answers a Join or a Ping by the node's answer to it.
 fn serve_gossip<R: Wait, H: PointHash>(
     rt: &R,
     node: &LockedNode<H>,
@@ -93,8 +109,8 @@ fn serve_gossip<R: Wait, H: PointHash>(
     }
 }
 
-/// Whether a target was reached, by what was heard of it; its Ack is taken. None where there was no memory to find out.
-fn seek<R: Wait, H: PointHash>(
+/// Returns whether a target was reached, by its answer; its Ack is processed. None if out of memory.
+fn was_reached<R: Wait, H: PointHash>(
     rt: &R,
     node: &LockedNode<H>,
     pass: &mut NodePass<H>,
@@ -115,8 +131,8 @@ fn seek<R: Wait, H: PointHash>(
     }
 }
 
-/// Whether a target answers a ping. None where there was no memory to find out.
-fn reach<R: Wait, H: PointHash, L: Link>(
+/// Returns whether a target answers a ping. None if out of memory.
+fn ping_target<R: Wait, H: PointHash, L: Link>(
     rt: &R,
     alloc: Global,
     node: &LockedNode<H>,
@@ -130,11 +146,11 @@ fn reach<R: Wait, H: PointHash, L: Link>(
     ensures fits { Fits node.now pass.new }
 {
     let heard = ping(rt, alloc, node, pass, link, target)?;
-    seek(rt, node, pass, now, &heard)
+    was_reached(rt, node, pass, now, &heard)
 }
 
-/// Whether a target is the node itself or answers its ping. None where there was no memory to find out.
-fn find_out<R: Wait, H: PointHash, L: Link>(
+/// Returns whether a target is the node itself or answers its ping. None if out of memory.
+fn is_reachable<R: Wait, H: PointHash, L: Link>(
     rt: &R,
     alloc: Global,
     node: &LockedNode<H>,
@@ -151,11 +167,11 @@ fn find_out<R: Wait, H: PointHash, L: Link>(
     if own.address == target {
         return Ok(Some(true));
     }
-    reach(rt, alloc, node, pass, link, now, target)
+    ping_target(rt, alloc, node, pass, link, now, target)
 }
 
-/// Tells a requester what was found out about a target.
-fn tell<R: Wait, H: PointHash>(
+/// Reports the result for a target to a requester.
+fn tell_requester<R: Wait, H: PointHash>(
     rt: &R,
     node: &LockedNode<H>,
     pass: &mut NodePass<H>,
@@ -177,8 +193,8 @@ fn tell<R: Wait, H: PointHash>(
     }
 }
 
-/// Finds out about a target and tells the requester.
-fn report<R: Wait, H: PointHash, L: Link>(
+/// Finds out about a target and reports to the requester.
+fn report_target<R: Wait, H: PointHash, L: Link>(
     rt: &R,
     alloc: Global,
     node: &LockedNode<H>,
@@ -192,8 +208,8 @@ fn report<R: Wait, H: PointHash, L: Link>(
     ensures did { Does node.now (Reports L.may_answer requester now target) (let_in result) pass.old pass.new }
     ensures fits { Fits node.now pass.new }
 {
-    let found = find_out(rt, alloc, node, pass, link, now, target)?;
-    tell(rt, node, pass, requester, target, found)
+    let found = is_reachable(rt, alloc, node, pass, link, now, target)?;
+    tell_requester(rt, node, pass, requester, target, found)
 }
 
 /// Takes the changes of a PingReq and answers about its target.
@@ -215,7 +231,16 @@ fn serve_ping_req<R: Wait, H: PointHash, L: Link>(
 {
     let received = node.receive(rt, pass, message, now)?;
     match received {
-        Received::Done(_) => report(rt, alloc, node, pass, link, now, message.source, target),
+        Received::Done(_) => report_target(
+            rt,
+            alloc,
+            node,
+            pass,
+            link,
+            now,
+            message.source,
+            target,
+        ),
         Received::Stopped(stopped) => {
             let reason = reason_for(stopped.cause);
             refuse(rt, node, pass, reason)
@@ -224,8 +249,8 @@ fn serve_ping_req<R: Wait, H: PointHash, L: Link>(
     }
 }
 
-/// What is said of a handler's answer.
-fn handled<R: Wait, A: Handler>(
+/// Returns the content for a handler's answer.
+fn handler_reply<R: Wait, A: Handler>(
     rt: &R,
     alloc: Global,
     handler: &A,
@@ -242,8 +267,8 @@ fn handled<R: Wait, A: Handler>(
     }
 }
 
-/// What is answered to a request that goes there.
-fn routed<R: Wait, A: Handler>(
+/// Returns the content of the answer to a request with this route.
+fn reply_for_route<R: Wait, A: Handler>(
     rt: &R,
     alloc: Global,
     handler: &A,
@@ -255,32 +280,29 @@ fn routed<R: Wait, A: Handler>(
     ensures { IsRouted A.may_handle keys.now body.now route result }
 {
     match route {
-        Ok(Route::Here) => handled(rt, alloc, handler, keys, body),
+        Ok(Route::Here) => handler_reply(rt, alloc, handler, keys, body),
         Ok(Route::To(_)) => Content::NotOwner,
         Ok(Route::Nobody) => Content::Refused(Reason::Nobody),
         Err(_) => Content::Refused(Reason::Diverged),
     }
 }
 
-/// What is answered to a request, by one view of the node.
-fn decided<R: Wait, H: PointHash, A: Handler>(
+/// Returns the content of the answer to a request, by one view of the node.
+fn reply_by_view<R: Wait, H: PointHash, A: Handler>(
     rt: &R,
     alloc: Global,
     handler: &A,
-    view: &Result<View<H>, NodeError>,
+    view: &View<H>,
     keys: &Keys,
     body: &Text,
 ) -> Content
     ensures { IsDecided H.hash_of A.may_handle keys.now body.now view.now result }
 {
-    let Ok(view) = view else {
-        return Content::Refused(Reason::Memory);
-    };
     let route = route_keys(view, keys);
-    routed(rt, alloc, handler, keys, body, route)
+    reply_for_route(rt, alloc, handler, keys, body, route)
 }
 
-/// Answers a request by the handler, if one view says that the node owns all its keys.
+/// Answers a request by the handler, if one view shows that the node owns all its keys.
 fn serve_forward<R: Wait, H: PointHash, A: Handler>(
     rt: &R,
     alloc: Global,
@@ -295,18 +317,25 @@ fn serve_forward<R: Wait, H: PointHash, A: Handler>(
     ensures fits { Fits node.now pass.new }
 {
     let view = node.view(rt, pass)?;
-    let content = decided(rt, alloc, handler, &view, keys, body);
-    say(rt, node, pass, content)
+    let Ok(view) = view else {
+        return refuse(rt, node, pass, Reason::Memory);
+    };
+    let content = reply_by_view(rt, alloc, handler, &view, keys, body);
+    Ok(message_from(&view, content))
 }
 
-/// Answers a message at a moment. A Join, a Ping and a PingReq are taken, and answered by what the node makes of them; for a
-/// PingReq its target is pinged over the link, if it is another node. A Forward is answered by the handler where one view of
-/// the node says that it owns all keys. Any other kind is refused as unexpected, and nothing of it is taken. No turn is held
-/// while the link or the handler is called. A refusal of the node's, want of memory among them, is an answer too: `Refused`
-/// with its reason.
+/// Answers a message at a moment. A Join, a Ping and a PingReq are processed, and answered by the node; for a PingReq
+/// its target is pinged over the link, if it is another node. A Forward is answered by the handler if one view of the
+/// node shows that it owns all keys. Any other kind is refused as unexpected, and ignored. No turn is held while the
+/// link or the handler is called. An error of the node, out of memory among them, is an answer too: `Refused` with its
+/// reason.
 ///
-/// Errors: `ForeignPass` where the pass bears another node's name, else `PassSpent` where it may make no call more. The
-/// calls before the refused one are those of the answer, and what they did stays.
+/// # Errors
+///
+/// The calls before the refused one are those of the answer, and their effect stays.
+///
+/// - `ForeignPass`: the pass has another node's name.
+/// - `PassSpent`: the pass has made all its calls.
 pub fn serve_one<R: Wait, H: PointHash, L: Link, A: Handler>(
     rt: &R,
     alloc: Global,

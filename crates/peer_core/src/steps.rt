@@ -3,7 +3,7 @@ ghost use Rattle.std.specs.Prelude.{◌≡◌, IfOk, IfErr};
 ghost use Rattle.node_core.specs.declared.events.Event.TheVariants as call;
 ghost use Rattle.node_core.specs.declared.events.Reply.TheVariants as reply;
 ghost use Rattle.locked_node.specs.Passes.{Fits};
-ghost use Rattle.peer_core.specs.Errors.{IsJoinRefusal, IsRoundRefusal, error_of_node};
+ghost use Rattle.peer_core.specs.Errors.{IsHealRefusal, IsJoinRefusal, IsRoundRefusal, error_of_node};
 ghost use Rattle.peer_core.specs.Parts.{Calls, Does, Tries, allowed, let_in};
 ghost use Rattle.peer_core.specs.Rounds.{Takes, TellsWord};
 
@@ -13,11 +13,11 @@ use detector_core::{Probe, Running, Said};
 use hash_ring::PointHash;
 use locked_node::{LockedNode, NodePass};
 use message_core::Message;
-use node_core::{NodeError, NodeLost, NodeOutcome, Received};
+use node_core::{ChangeList, NodeError, NodeLost, NodeOutcome, Received};
 use std::sync::Wait;
 use turn_lock::LockError;
 
-/// The answer, or the refusal of the lock.
+/// Returns the answer, or the error of the lock.
 pub(crate) fn let_in<T>(answer: Result<T, LockError>) -> Result<T, ClusterError>
     ensures { result ≡ let_in answer }
 {
@@ -27,7 +27,7 @@ pub(crate) fn let_in<T>(answer: Result<T, LockError>) -> Result<T, ClusterError>
     }
 }
 
-/// The answer, or the refusal of the lock or of the node.
+/// Returns the answer, or the error of the lock or of the node.
 fn allowed<T>(answer: Result<Result<T, NodeError>, LockError>) -> Result<T, ClusterError>
     ensures { result ≡ allowed answer }
 {
@@ -38,7 +38,7 @@ fn allowed<T>(answer: Result<Result<T, NodeError>, LockError>) -> Result<T, Clus
     }
 }
 
-/// Takes a message at a moment, and answers what that comes to.
+/// Receives a message at a moment, and returns the result.
 fn receive<R: Wait, H: PointHash>(
     rt: &R,
     node: &LockedNode<H>,
@@ -56,7 +56,7 @@ fn receive<R: Wait, H: PointHash>(
     let_in(answer)
 }
 
-/// Takes a message at a moment, whatever that comes to.
+/// Receives a message at a moment, whatever the result.
 pub(crate) fn take<R: Wait, H: PointHash>(
     rt: &R,
     node: &LockedNode<H>,
@@ -90,7 +90,7 @@ pub(crate) fn expire<R: Wait, H: PointHash>(
     allowed(answer)
 }
 
-/// Asks for the next probe, and answers what the node answers.
+/// Asks for the next probe, and returns the node's reply.
 pub(crate) fn ask_for_probe<R: Wait, H: PointHash>(
     rt: &R,
     node: &LockedNode<H>,
@@ -106,7 +106,7 @@ pub(crate) fn ask_for_probe<R: Wait, H: PointHash>(
     let_in(answer)
 }
 
-/// Begins the next probe, if anybody can be probed.
+/// Starts the next probe, if a member can be probed.
 pub(crate) fn begin_probe<R: Wait, H: PointHash>(
     rt: &R,
     node: &LockedNode<H>,
@@ -152,7 +152,7 @@ pub(crate) fn acked<R: Wait, H: PointHash>(
     allowed(answer)
 }
 
-/// Gives up a probe whose target did not answer.
+/// Reports that the target of a probe did not answer.
 pub(crate) fn lose<R: Wait, H: PointHash>(
     rt: &R,
     node: &LockedNode<H>,
@@ -169,7 +169,7 @@ pub(crate) fn lose<R: Wait, H: PointHash>(
     allowed(answer)
 }
 
-/// Tells the node what a helper said.
+/// Passes a helper's report to the node.
 pub(crate) fn tell_word<R: Wait, H: PointHash>(
     rt: &R,
     node: &LockedNode<H>,
@@ -185,5 +185,35 @@ pub(crate) fn tell_word<R: Wait, H: PointHash>(
     ensures named { IfErr result IsRoundRefusal }
 {
     let answer = node.helper_said(rt, pass, number, helper, said, now);
+    allowed(answer)
+}
+
+/// The node's own entry.
+pub(crate) fn find_own<R: Wait, H: PointHash>(
+    rt: &R,
+    node: &LockedNode<H>,
+    pass: &mut NodePass<H>,
+) -> Result<Change, ClusterError>
+    requires { Fits node.now pass.old }
+    ensures did { Does node.now (Calls call.Own reply.Own) result pass.old pass.new }
+    ensures fits { Fits node.now pass.new }
+    ensures named { IfErr result IsHealRefusal }
+{
+    let answer = node.own(rt, pass);
+    let_in(answer)
+}
+
+/// The members that the node holds.
+pub(crate) fn list_members<R: Wait, H: PointHash>(
+    rt: &R,
+    node: &LockedNode<H>,
+    pass: &mut NodePass<H>,
+) -> Result<ChangeList, ClusterError>
+    requires { Fits node.now pass.old }
+    ensures did { Does node.now (Tries call.Members reply.Members) result pass.old pass.new }
+    ensures fits { Fits node.now pass.new }
+    ensures named { IfErr result IsHealRefusal }
+{
+    let answer = node.members(rt, pass);
     allowed(answer)
 }

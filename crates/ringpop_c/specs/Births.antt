@@ -1,4 +1,4 @@
--- How a node begins in an empty handle.
+-- The making of a node in an empty handle.
 use Rattle.std.specs.Prelude.{◌≡◌, ◌<◌, ◌≤◌, ◌⊎◌, ℕ, Option, Some, None}
 use Rattle.change_core.specs.Numbers.{greatest_number, IsWeight}
 use Rattle.detector_core.specs.Choices.{seeded}
@@ -15,7 +15,7 @@ use Rattle.ringpop_c.specs.Codes.{code_number, code_of_field}
 use Rattle.ringpop_c.specs.Owned.{HeldNode}
 use Rattle.ringpop_c.specs.Steps.{sha_hash}
 
--- the configuration that a caller's one stands for
+-- the configuration for a caller's one
 abbrev pub config_of : RingpopConfig → Config
 config_of c = record {
   replicas = c.replicas;
@@ -28,7 +28,7 @@ config_of c = record {
   weight = c.weight;
 }
 
--- what a handle holds of a node that is alone in its cluster
+-- the value in the handle of a node that is alone in its cluster
 abbrev pub alone : Config → ℕ → ℕ → ℕ → ℕ → HeldNode
 alone config own incarnation seed moment =
     let hash : Sha256Hash = record {} in record { inner = seen_of sha_hash (newborn hash config own incarnation moment (seeded seed)) }
@@ -37,13 +37,13 @@ alone config own incarnation seed moment =
 abbrev pub born : RingpopConfig → ℕ → ℕ → ℕ → ℕ → HeldNode
 born config own incarnation seed moment = alone (config_of config) own incarnation seed moment
 
--- why no node is made of a configuration: its first field that is out of its range, or out of memory where there is none
+-- the error of a configuration: its first field that is out of its range, or out of memory if there is none
 abbrev pub IsConfigFault : Config → Code → Type 0
 IsConfigFault config fault =
     ((field : ConfigField) × (bad_field config ≡ Some field) × (fault ≡ code_of_field field))
     ⊎ ((bad_field config ≡ None) × (fault ≡ code.Memory))
 
--- why no node is made: the first of these that is so
+-- the error of a node that is not made: the first of these that applies
 abbrev pub IsBirthFault : RingpopConfig → ℕ → ℕ → ℕ → Code → Type 0
 IsBirthFault config port incarnation moment fault =
     ((fault ≡ code.BadAddress) × (port ≡ 0))
@@ -51,7 +51,7 @@ IsBirthFault config port incarnation moment fault =
     ⊎ (((fault ≡ code.BadWeight) × (0 < port) × (incarnation ≤ greatest_number) × (moment ≤ greatest_number) × (IsWeight config.weight → ⊥))
     ⊎ ((0 < port) × (incarnation ≤ greatest_number) × (moment ≤ greatest_number) × IsWeight config.weight × IsConfigFault (config_of config) fault)))
 
--- what a node is made of: a port, numbers, a weight and a configuration, each in its range
+-- the arguments with which a node can be made: a port, numbers, a weight and a configuration, each in its range
 pub record CanBegin (config : RingpopConfig) (port incarnation moment : ℕ) : Type 0 where
   pub port_is : 0 < port
   pub incarnation_is : incarnation ≤ greatest_number
@@ -59,7 +59,8 @@ pub record CanBegin (config : RingpopConfig) (port incarnation moment : ℕ) : T
   pub weight_is : IsWeight config.weight
   pub config_is : IsConfig (config_of config)
 
--- a full handle answers that it is full, and is unchanged; an empty one holds the newborn node, each argument in its range, or stays empty and says why
+-- a full handle returns that it is full, and is unchanged; an empty one gets the new node, each argument in its range, or stays empty and
+-- returns the error
 abbrev pub Begins : RingpopConfig → ℕ → ℕ → ℕ → ℕ → ℕ → Option HeldNode → ℕ → Option HeldNode → Type 0
 Begins config own port incarnation seed moment (Some held) number new = (number ≡ code_number code.HasNode) × (new ≡ Some held)
 Begins config own port incarnation seed moment None number (Some held) =

@@ -61,7 +61,7 @@ code_of_field field.Helpers = code.BadHelpers
 code_of_field field.Piggyback = code.BadPiggyback
 code_of_field field.PerMessage = code.BadPerMessage
 
--- the code of a node's refusal
+-- the code of a node's error
 abbrev pub code_of_error : NodeError → Code
 code_of_error (error.BadConfig field) = code_of_field field
 code_of_error error.Exhausted = code.Exhausted
@@ -74,12 +74,12 @@ code_of_error error.StaleProbe = code.StaleProbe
 code_of_error error.NotAsked = code.NotAsked
 code_of_error error.Memory = code.Memory
 
--- the code of a call of the node: done, or that of its refusal
+-- the code of a call of the node: done, or that of its error
 abbrev pub code_of_result : {X : Type 0} → Result X NodeError → Code
 code_of_result (Ok x) = code.Done
 code_of_result (Err error) = code_of_error error
 
--- the code of a line's fault
+-- the code of an error of a line
 abbrev pub code_of_wire : WireError → Code
 code_of_wire wire.LineTooLong = code.LineTooLong
 code_of_wire wire.BadJson = code.BadJson
@@ -91,7 +91,7 @@ code_of_wire wire.TooMany = code.TooMany
 code_of_wire wire.Io = code.BadJson
 code_of_wire wire.Memory = code.Memory
 
--- the code of why a batch of changes stopped
+-- the code for the cause that stopped a batch of changes
 abbrev pub code_of_stop : StopCause → Code
 code_of_stop cause.Exhausted = code.Exhausted
 code_of_stop cause.Full = code.Full

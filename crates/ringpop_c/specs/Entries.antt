@@ -1,4 +1,4 @@
--- What an export tells of a member.
+-- The output of an export about a member.
 use Rattle.std.specs.Prelude.{◌≡◌, ℕ, Option, Some, None}
 use Rattle.change_core.specs.Address.{ip_of, port_of}
 use Rattle.change_core.specs.Change.{entry_of}
@@ -13,7 +13,7 @@ use Rattle.ringpop_c.specs.declared.entries.RingpopEntry.{RingpopEntry}
 abbrev pub entry_told : Entry → RingpopEntry
 entry_told e = record { incarnation = e.incarnation; status = rank e.status; weight = e.weight }
 
--- an entry is told, or that there is none
+-- an entry is written, or there is none
 abbrev pub TellsEntry : Option Entry → RingpopEntry → Code → Type 0
 TellsEntry None told answer = answer ≡ code.Nothing
 TellsEntry (Some e) told answer = (answer ≡ code.Done) × (told ≡ entry_told e)
@@ -23,11 +23,11 @@ pub record EntryPlace : Type 0 where
   pub before : RingpopEntry
   pub after : RingpopEntry
 
--- the target of a probe is suspect, and its entry is told where it was held as alive, else nothing
+-- the target of a probe is suspect, and its entry is written if it was alive, else nothing
 abbrev pub TellsSuspicion : Option Change → EntryPlace → Code → Type 0
 TellsSuspicion None place answer = (answer ≡ code.Suspected) × (place.after ≡ place.before)
 TellsSuspicion (Some change) place answer = (answer ≡ code.Suspected) × (place.after ≡ entry_told (entry_of change))
 
--- a change is told: its address and its entry
+-- a change is written: its address and its entry
 abbrev pub TellsChange : Change → ℕ → ℕ → RingpopEntry → Code → Type 0
 TellsChange change ip port told answer = (answer ≡ code.Done) × (ip ≡ ip_of change.address) × (port ≡ port_of change.address) × (told ≡ entry_told (entry_of change))

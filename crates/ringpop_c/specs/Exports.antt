@@ -28,7 +28,7 @@ use Rattle.ringpop_c.specs.Probing.{AcksBy, HearsHelper, LosesBy, ProbesBy, Tell
 use Rattle.ringpop_c.specs.Steps.{ExpiresBy, LeavesBy, RejoinsBy, TellsAddress, TellsCount, owner_by, sha_hash}
 use Rattle.ringpop_c.specs.Taking.{HearsChange}
 
--- an export with what it is handed and what it tells, addresses and words read
+-- an export with its arguments and its output, addresses and words read
 pub data Export : Type 0 where
   Leave : Export
   Rejoin : Export
@@ -53,7 +53,7 @@ pub data Export : Type 0 where
   Owner : List ℕ → ℕ → ℕ → Export
   Owners : List ℕ → ℕ → Place → Export
 
--- the step that its clauses allow; a look-up leaves the node as it is
+-- the step that its clauses allow; a lookup leaves the node unchanged
 abbrev pub ExportStep : Export → Node Sha256Hash → Code → Node Sha256Hash → Type 0
 ExportStep Leave old answer new = LeavesBy old answer new
 ExportStep Rejoin old answer new = RejoinsBy old answer new
@@ -114,7 +114,7 @@ StaysOrCalls export old new =
 abbrev pub ExportsAreCalls : Type 0
 ExportsAreCalls = (export : Export) (old new : Node Sha256Hash) (answer : Code) → ExportStep export old answer new → StaysOrCalls export old new
 
--- from old, these exports may answer these codes, one after another, and the node goes on to new
+-- from old, these exports may return these codes, one after another, and the node becomes new
 abbrev pub IsExportRun : Node Sha256Hash → List Export → List Code → Node Sha256Hash → Type 0
 IsExportRun old [] [] new = new ≡ old
 IsExportRun old [] (answer ∷ answers) new = ⊥
@@ -133,7 +133,7 @@ AreCallsOf (export ∷ exports) (event ∷ events) = AreCallsOf exports (event �
 abbrev pub GoesByCalls : List Export → Node Sha256Hash → Node Sha256Hash → Type 0
 GoesByCalls exports old new = (events : List Event) × (replies : List Reply) × AreCallsOf exports events × IsRun sha_hash old events replies new
 
--- whatever the exports do one after another is such a run
+-- any exports, one after another, are such a run
 abbrev pub ExportRunsAreRuns : Type 0
 ExportRunsAreRuns =
     (old new : Node Sha256Hash) (exports : List Export) (answers : List Code) → IsExportRun old exports answers new → GoesByCalls exports old new

@@ -1,4 +1,4 @@
--- What a handle holds.
+-- The value in a handle.
 use Rattle.std.specs.Prelude.{Option}
 use Rattle.ringpop_c.specs.declared.handles.RingpopNode.{RingpopNode}
 use Rattle.ringpop_c.specs.declared.handles.RingpopView.{RingpopView}

@@ -20,19 +20,19 @@ use Rattle.ringpop_c.specs.Codes.{code_of_stop, code_of_wire}
 abbrev pub line_of : Message → List ℕ
 line_of message = compact_text (message_data message)
 
--- a buffer of the caller's: what was in it, and what is in it and told of its length then
+-- a buffer of the caller's: the bytes before, and the bytes and the written length after
 pub record Buffer : Type 0 where
   pub before : List ℕ
   pub after : List ℕ
   pub count : ℕ
 
--- the text fits, it is a prefix of the buffer after, and its length is told
+-- the text fits, it is a prefix of the buffer after, and its length is written
 pub record Fills (text : List ℕ) (buffer : Buffer) : Type 0 where
   pub fits : length text ≤ length buffer.before
   pub count_is : buffer.count ≡ length text
   pub after_is : buffer.after ≡ text ++ drop (length text) buffer.before
 
--- the buffer is shorter than the longest line, nothing is written, and how long that line is is told
+-- the buffer is shorter than the longest line and is unchanged, and that line's length is written
 pub record IsShort (buffer : Buffer) : Type 0 where
   pub is_less : length buffer.before < max_line
   pub count_is : buffer.count ≡ max_line
@@ -53,13 +53,14 @@ pub record Sends (message : Message) (buffer : Buffer) : Type 0 where
 abbrev pub WritesLine : Message → Buffer → Code → Type 0
 WritesLine message buffer answer = ((answer ≡ code.Done) × Sends message buffer) ⊎ (answer ≡ code.Memory)
 
--- where the buffer has room the node makes a message and goes on, and its line is written; out of memory it is unchanged, or goes on with no line written; in too short a buffer nothing is written, and it is unchanged
+-- if the buffer has room the node makes a message and its line is written; out of memory the node is unchanged, or has made the message
+-- without its line; in too short a buffer node and buffer are unchanged
 abbrev pub SaysBy : (Node Sha256Hash → Message) → (Node Sha256Hash → Node Sha256Hash) → Buffer → Node Sha256Hash → Code → Node Sha256Hash → Type 0
 SaysBy message after buffer old answer new =
     (HasRoom buffer × (new ≡ after old) × WritesLine (message old) buffer answer)
     ⊎ ((HasRoom buffer × (new ≡ old) × (answer ≡ code.Memory)) ⊎ ((new ≡ old) × (answer ≡ code.ShortBuffer) × IsShort buffer))
 
--- what a message came to: its answer's line is written, or it ran out of memory for that
+-- the output for the result of a message: its answer's line is written, or out of memory for that
 abbrev pub TellsReceived : Received → Buffer → Code → Type 0
 TellsReceived (received.Done taken) buffer answer = answer ≡ code.Nothing
 TellsReceived (received.Answer taken message) buffer answer = ((answer ≡ code.Done) × Sends message buffer) ⊎ (answer ≡ code.Unanswered)
@@ -67,21 +68,22 @@ TellsReceived (received.NoAnswer taken) buffer answer = answer ≡ code.Unanswer
 TellsReceived (received.Stopped stopped) buffer answer = answer ≡ code_of_stop stopped.cause
 TellsReceived received.NotGossip buffer answer = answer ≡ code.NotGossip
 
--- the node receives the message at this moment, and what that came to is told
+-- the node receives the message at this moment, and this is the output for the result
 abbrev pub ReceivesBy : Message → ℕ → Buffer → Node Sha256Hash → Code → Node Sha256Hash → Type 0
 ReceivesBy message moment buffer old answer new = (outcome : Received) × ReceiveStep old message moment outcome new × TellsReceived outcome buffer answer
 
--- the code says what is wrong with a line, or that reading it ran out of memory
+-- the code is the error of a line, or out of memory for reading it
 abbrev pub IsUnread : List ℕ → Code → Type 0
 IsUnread line answer = (fault : WireError) × (answer ≡ code_of_wire fault) × (fault ≢ wire.Memory → Faults MessageFault line fault)
 
--- where the buffer has room the node receives the message of a line, or stays where it is none; in too short a buffer it stays
+-- if the buffer has room the node receives the message of a line, or is unchanged if the line is not a message; in too short a buffer it is
+-- unchanged
 abbrev pub HearsBy : List ℕ → ℕ → Buffer → Node Sha256Hash → Code → Node Sha256Hash → Type 0
 HearsBy line moment buffer old answer new =
     (HasRoom buffer × (message : Message) × IsLine (λ v. MessageForm v message) line × ReceivesBy message moment buffer old answer new)
     ⊎ ((HasRoom buffer × (new ≡ old) × IsUnread line answer) ⊎ ((new ≡ old) × (answer ≡ code.ShortBuffer) × IsShort buffer))
 
--- bytes are written, or the buffer is shorter and their length is told, or the code is that of out of memory
+-- bytes are written, or the buffer is shorter and their length is written, or the code is out of memory
 abbrev pub TellsText : List ℕ → Buffer → Code → Type 0
 TellsText text buffer answer =
     ((answer ≡ code.Done) × Fills text buffer)

@@ -1,4 +1,4 @@
--- What a slot owns, and what it holds.
+-- The memory that a slot owns, and the value that it holds.
 use base.Fml.{Fml, ftrue}
 use base.Stored.{Coded}
 use denote.RattleType.{RattleType}
@@ -16,23 +16,26 @@ abbrev pub slot_owns : (T : RattleType) → Global → Ptr → Option T.Denot �
 slot_owns T alloc p None = ftrue
 slot_owns T alloc p (Some x) = box_owns (ghosts.dealloc_token alloc) T p x
 
--- what lies in the box of a node, of a view
+-- the type of the value in the box of a node
 abbrev pub node_row : RattleType
 node_row = node
 
+-- the type of the value in the box of a view
 abbrev pub view_row : RattleType
 view_row = view
 
--- what contracts see of it
+-- the model of a node in a box
 abbrev pub HeldNode : Type 0
 HeldNode = node_row.Denot
 
+-- the model of a view in a box
 abbrev pub HeldView : Type 0
 HeldView = view_row.Denot
 
--- how a ghost field stores it, or that there is none
+-- how a ghost field stores a node, or that there is none
 abbrev pub node_coded : Coded (Option HeldNode)
 node_coded = coded_option node_row.coded
 
+-- how a ghost field stores a view, or that there is none
 abbrev pub view_coded : Coded (Option HeldView)
 view_coded = coded_option view_row.coded

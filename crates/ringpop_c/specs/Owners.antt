@@ -17,30 +17,30 @@ use Rattle.ringpop_c.specs.Steps.{sha_hash}
 abbrev pub address_told : ℕ → RingpopAddress
 address_told address = record { ip = ip_of address; port = port_of address }
 
--- a place of the caller's for addresses: what was in it, and what is in it and told of their count then
+-- a place of the caller's for addresses: those before, and those and the written count after
 pub record Place : Type 0 where
   pub before : List RingpopAddress
   pub after : List RingpopAddress
   pub count : ℕ
 
--- the addresses fit, they are a prefix of the place after, and their count is told
+-- the addresses fit, they are a prefix of the place after, and their count is written
 pub record Lists (addresses : List ℕ) (place : Place) : Type 0 where
   pub fits : length addresses ≤ length place.before
   pub count_is : place.count ≡ length addresses
   pub after_is : place.after ≡ map address_told addresses ++ drop (length addresses) place.before
 
--- addresses are listed, or the place is shorter, nothing is written, and their count is told
+-- addresses are listed, or the place is shorter and unchanged, and their count is written
 abbrev pub TellsAddresses : List ℕ → Place → Code → Type 0
 TellsAddresses addresses place answer =
     ((answer ≡ code.Done) × Lists addresses place)
     ⊎ ((answer ≡ code.ShortBuffer) × (length place.before < length addresses) × (place.count ≡ length addresses) × (place.after ≡ place.before))
 
--- the owners that were named are told, or why none were, and then nothing is written
+-- the named owners are written, or the code is the error and the place is unchanged
 abbrev pub TellsOwners : Result (List ℕ) NodeError → Place → Code → Type 0
 TellsOwners (Ok owners) place answer = TellsAddresses owners place answer
 TellsOwners (Err error) place answer = (answer ≡ code_of_error error) × (place.after ≡ place.before)
 
--- the first n owners of a key among the members of a node, by the first eight bytes of SHA-256, are told
+-- the first n owners of a key among the members of a node, by the first eight bytes of SHA-256, are written
 abbrev pub OwnersBy : List ℕ → ℕ → Place → Node Sha256Hash → Code → Type 0
 OwnersBy key n place node answer =
     (named : Result (List ℕ) NodeError) × NamesOwners (sha_hash node.hash) node.config.replicas (servers_of node.members) key n named × TellsOwners named place answer

@@ -1,4 +1,4 @@
--- What an export of a probe does, and what it answers.
+-- The exports of probes: the effect of each and its code.
 use Rattle.std.specs.Prelude.{◌≡◌, ◌==◌, ℕ, cond, Option, Some, None, Result, Ok, Err}
 use Rattle.change_core.specs.Address.{ip_of, port_of}
 use Rattle.detector_core.specs.declared.asked.Said.{Said}
@@ -20,33 +20,33 @@ use Rattle.ringpop_c.specs.Codes.{code_of_error, code_of_result}
 use Rattle.ringpop_c.specs.Entries.{EntryPlace, TellsSuspicion}
 use Rattle.ringpop_c.specs.Owned.{HeldNode}
 
--- a probe that began, with its number and its target; that there is no member to ping; or why none began
+-- the number and the target of a probe that started; `Nothing` if no member is pingable; or the code of the error
 abbrev pub TellsProbe : Result (Option Probe) NodeError → ℕ → ℕ → ℕ → Code → Type 0
 TellsProbe (Ok None) number ip port answer = answer ≡ code.Nothing
 TellsProbe (Ok (Some pick)) number ip port answer = (answer ≡ code.Done) × (number ≡ pick.number) × (ip ≡ ip_of pick.target) × (port ≡ port_of pick.target)
 TellsProbe (Err error) number ip port answer = answer ≡ code_of_error error
 
--- a probe begins, of whom the node's generator draws, or it is refused with the code of why
+-- a probe of the member that the node's generator draws starts, or the code is the error
 abbrev pub ProbesBy : ℕ → ℕ → ℕ → Node Sha256Hash → Code → Node Sha256Hash → Type 0
 ProbesBy number ip port old answer new =
     (begun : Result (Option Probe) NodeError) × TellsProbe begun number ip port answer × ProbeStep old begun new × ProbeDraw old begun new
 
--- the probe ends, its target reached, or it is refused with the code of why
+-- the probe ends, its target reached, or the code is the error
 abbrev pub AcksBy : ℕ → Node Sha256Hash → Code → Node Sha256Hash → Type 0
 AcksBy number old answer new = (acked : Result (Unit {0}) NodeError) × (answer ≡ code_of_result acked) × AckedStep old number acked new
 
--- what became of a probe that was lost: that helpers are to be asked, or that the target is suspect; or why it is none
+-- the output for a probe that was lost: that helpers have to be asked, or that the target is suspect; or the code of the error
 abbrev pub TellsLoss : Result NodeLost NodeError → EntryPlace → Code → Type 0
 TellsLoss (Ok (lost.Ask helpers)) place answer = answer ≡ code.Done
 TellsLoss (Ok (lost.Suspect change)) place answer = TellsSuspicion change place answer
 TellsLoss (Err error) place answer = answer ≡ code_of_error error
 
--- helpers are asked that the node's generator draws, or there are none and the target is suspect, or it is refused with the code of why
+-- helpers that the node's generator draws have to be asked, or there are none and the target is suspect, or the code is the error
 abbrev pub LosesBy : ℕ → ℕ → EntryPlace → Node Sha256Hash → Code → Node Sha256Hash → Type 0
 LosesBy number moment place old answer new =
     (loss : Result NodeLost NodeError) × TellsLoss loss place answer × LostStep old number moment loss new × LostDraw old number loss new
 
--- what a helper's word came to: the target's entry where the verdict makes it suspect; or why it is none
+-- the output for a helper's report: the target's entry if the verdict makes it suspect; or the code of the error
 abbrev pub TellsOutcome : Result NodeOutcome NodeError → EntryPlace → Code → Type 0
 TellsOutcome (Ok word.Waiting) place answer = answer ≡ code.Waiting
 TellsOutcome (Ok word.Reached) place answer = answer ≡ code.Done
@@ -54,12 +54,12 @@ TellsOutcome (Ok (word.Suspect change)) place answer = TellsSuspicion change pla
 TellsOutcome (Ok word.Inconclusive) place answer = answer ≡ code.Inconclusive
 TellsOutcome (Err error) place answer = answer ≡ code_of_error error
 
--- a helper's word is taken, or it is refused with the code of why
+-- a helper's report is processed, or the code is the error
 abbrev pub HearsHelper : ℕ → ℕ → Said → ℕ → EntryPlace → Node Sha256Hash → Code → Node Sha256Hash → Type 0
 HearsHelper number helper said moment place old answer new =
     (outcome : Result NodeOutcome NodeError) × TellsOutcome outcome place answer × HelperStep old number helper said moment outcome new
 
--- a helper that is waited for is told; that none is
+-- a helper that is waited for is written; or there is none
 abbrev pub TellsHelper : Option ℕ → ℕ → ℕ → Code → Type 0
 TellsHelper None ip port answer = answer ≡ code.Nothing
 TellsHelper (Some helper) ip port answer = (answer ≡ code.Done) × (ip ≡ ip_of helper) × (port ≡ port_of helper)
@@ -69,13 +69,13 @@ abbrev pub TellsWaiting : Option Running → ℕ → ℕ → ℕ → Code → Ty
 TellsWaiting None number ip port answer = answer ≡ code.Nothing
 TellsWaiting (Some running) number ip port answer = (number ≡ running.number) × TellsHelper running.waiting ip port answer
 
--- the running probe is told, its number and its target; that none runs
+-- the number and the target of the running probe are written; or none runs
 abbrev pub TellsRunning : Option Running → ℕ → ℕ → ℕ → Code → Type 0
 TellsRunning None number ip port answer = answer ≡ code.Nothing
 TellsRunning (Some running) number ip port answer =
     (answer ≡ code.Done) × (number ≡ running.number) × (ip ≡ ip_of running.target) × (port ≡ port_of running.target)
 
--- what a helper said, by its number: that it reached the target, that it did not, or that it failed
+-- a helper's report, by its number: that it reached the target, that it did not, or that it failed
 abbrev pub said_of : ℕ → Option Said
 said_of n = cond (n == 0) (Some said.Reached) (cond (n == 1) (Some said.NotReached) (cond (n == 2) (Some said.Failed) None))
 

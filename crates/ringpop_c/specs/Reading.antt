@@ -1,4 +1,4 @@
--- What a line says of itself: its kind, its source, and the target that it asks to ping or says was reached.
+-- The content of a line: its kind, its source, and the target that it asks to ping or reports on.
 use Rattle.std.specs.Prelude.{◌≡◌, ◌⊎◌, ℕ, Bool, List}
 use Rattle.change_core.specs.Address.{ip_of, port_of}
 use Rattle.message_core.specs.declared.messages.Content.{Content}
@@ -29,21 +29,21 @@ kind_number (Reply body) = 7
 kind_number NotOwner = 8
 kind_number (Refused reason) = 9
 
--- the kind of a message and its source are told
+-- the kind of a message and its source are written
 abbrev pub TellsSource : Message → ℕ → ℕ → ℕ → Code → Type 0
 TellsSource message kind ip port answer = (answer ≡ code.Done) × (kind ≡ kind_number message.content) × Told message.source ip port
 
--- the target that a message asks to ping is told; that it asks for no ping
+-- the target that a message asks to ping is written; `Nothing` for any other message
 abbrev pub TellsTarget : Content → ℕ → ℕ → Code → Type 0
 TellsTarget (PingReq news target) ip port answer = (answer ≡ code.Done) × Told target ip port
 TellsTarget other ip port answer = answer ≡ code.Nothing
 
--- of which target a message says whether it was reached, and what it says; that it says nothing of that
+-- the target of a message's report, and whether it was reached; `Nothing` for any other message
 abbrev pub TellsReached : Content → ℕ → ℕ → Bool → Code → Type 0
 TellsReached (PingReqAck news target reached) ip port told answer = (answer ≡ code.Done) × Told target ip port × (told ≡ reached)
 TellsReached other ip port told answer = answer ≡ code.Nothing
 
--- a line is that of a message of which this is told, or it is none and the code says why
+-- the output of a reader for the message of a line, or the code of the line's error
 abbrev pub IsRead : (Message → Code → Type 0) → List ℕ → Code → Type 0
 IsRead tells line answer = ((message : Message) × IsLine (λ v. MessageForm v message) line × tells message answer) ⊎ IsUnread line answer
 

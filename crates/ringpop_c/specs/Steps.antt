@@ -1,4 +1,4 @@
--- What an export does with the node in its handle.
+-- The effect of an export on the node in its handle.
 use Rattle.std.specs.Prelude.{◌≡◌, ℕ, List, Option, Some, None, Result, Ok, Err, take, slice_get}
 use Rattle.std.specs.Int.{w64, from_be_bytes}
 use Rattle.sha2.specs.Sha256.{sha256}
@@ -21,27 +21,27 @@ use Rattle.ringpop_c.specs.Owned.{HeldNode}
 abbrev pub sha_hash : Sha256Hash → List ℕ → ℕ
 sha_hash hash bytes = from_be_bytes w64 (take 8 (sha256 bytes))
 
--- an empty handle answers that it is empty, and stays so; a full one answers a code and goes on to a node that the step allows
+-- an empty handle returns that it is empty, and stays so; a full one returns a code and gets a node that the step allows
 abbrev pub Does : (Node Sha256Hash → Code → Node Sha256Hash → Type 0) → Option HeldNode → ℕ → Option HeldNode → Type 0
 Does step None number new = (number ≡ code_number code.NoNode) × (new ≡ None)
 Does step (Some held) number None = ⊥
 Does step (Some held) number (Some after) = (answer : Code) × (number ≡ code_number answer) × step held.inner.node answer after.inner.node
 
--- the node leaves, or is refused with the code of why
+-- the node leaves, or the code is the error
 abbrev pub LeavesBy : Node Sha256Hash → Code → Node Sha256Hash → Type 0
 LeavesBy old answer new = (left : Result Change NodeError) × (answer ≡ code_of_result left) × LeaveStep old left new
 
--- the node is back, or is refused with the code of why
+-- the node is back, or the code is the error
 abbrev pub RejoinsBy : Node Sha256Hash → Code → Node Sha256Hash → Type 0
 RejoinsBy old answer new = (back : Result Change NodeError) × (answer ≡ code_of_result back) × RejoinStep old back new
 
--- an entry that expired is told, its address and what it became; that none was due; or why none did
+-- the address of an entry that expired and its new entry are written; or none was due; or the code of the error
 abbrev pub TellsExpiry : Result (Option Change) NodeError → ℕ → ℕ → RingpopEntry → Code → Type 0
 TellsExpiry (Ok None) ip port told answer = answer ≡ code.Nothing
 TellsExpiry (Ok (Some change)) ip port told answer = TellsChange change ip port told answer
 TellsExpiry (Err error) ip port told answer = answer ≡ code_of_error error
 
--- the first entry that is due becomes what it does at its deadline, and is told, or none is due, or it is refused
+-- the first entry that is due gets its next status, and is written, or none is due, or the code is the error
 abbrev pub ExpiresBy : ℕ → ℕ → ℕ → RingpopEntry → Node Sha256Hash → Code → Node Sha256Hash → Type 0
 ExpiresBy moment ip port told old answer new =
     (expired : Result (Option Change) NodeError) × TellsExpiry expired ip port told answer × ExpireStep old moment expired new
@@ -50,16 +50,16 @@ ExpiresBy moment ip port told old answer new =
 abbrev pub owner_by : Node Sha256Hash → List ℕ → Option ℕ
 owner_by node key = slice_get (owners_by sha_hash node key) 0
 
--- an address that is told, or that there is none
+-- an address is written, or there is none
 abbrev pub TellsAddress : Option ℕ → ℕ → ℕ → Code → Type 0
 TellsAddress None ip port answer = answer ≡ code.Nothing
 TellsAddress (Some address) ip port answer = (answer ≡ code.Done) × (ip ≡ ip_of address) × (port ≡ port_of address)
 
--- a count is told
+-- a count is written
 abbrev pub TellsCount : ℕ → ℕ → Code → Type 0
 TellsCount count told answer = (answer ≡ code.Done) × (told ≡ count)
 
--- an empty handle answers that it is empty; what a look at a full one answers
+-- an empty handle returns that it is empty; a full one returns a code that the lookup allows
 abbrev pub Looks : (Node Sha256Hash → Code → Type 0) → Option HeldNode → ℕ → Type 0
 Looks look None number = number ≡ code_number code.NoNode
 Looks look (Some held) number = (answer : Code) × (number ≡ code_number answer) × look held.inner.node answer

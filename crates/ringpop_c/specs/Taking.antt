@@ -1,4 +1,4 @@
--- What an export does with the line of a change.
+-- The effect of an export with the line of a change.
 use Rattle.std.specs.Prelude.{◌≡◌, ◌≢◌, ◌==◌, ◌⊎◌, ℕ, cond, Result, Ok, Err, List, [], ◌∷◌}
 use Rattle.change_core.specs.declared.changes.Sourced.{Sourced}
 use Rattle.hash_ring.specs.declared.hash.Sha256Hash.{Sha256Hash}
@@ -14,7 +14,7 @@ use Rattle.ringpop_c.specs.declared.codes.Code.{Code}
 use Rattle.ringpop_c.specs.declared.codes.Code.TheVariants as code
 use Rattle.ringpop_c.specs.Codes.{code_of_stop, code_of_wire}
 
--- what a batch that was taken, or stopped, answers: nothing to tell where no entry was altered
+-- the code of a batch that was processed, or stopped: `Nothing` if no entry was altered
 abbrev pub code_of_batch : Result Taken Stopped → Code
 code_of_batch (Ok taken) = cond (taken.applied == 0) code.Nothing code.Done
 code_of_batch (Err stopped) = code_of_stop stopped.cause
@@ -23,11 +23,11 @@ code_of_batch (Err stopped) = code_of_stop stopped.cause
 abbrev pub TakesBy : List Sourced → ℕ → Node Sha256Hash → Code → Node Sha256Hash → Type 0
 TakesBy given moment old answer new = (taken : Result Taken Stopped) × (answer ≡ code_of_batch taken) × TakeStep old given moment taken new
 
--- the code says what is wrong with the line of a change, or that reading it ran out of memory
+-- the code is the error of the line of a change, or out of memory for reading it
 abbrev pub IsUnreadChange : List ℕ → Code → Type 0
 IsUnreadChange line answer = (fault : WireError) × (answer ≡ code_of_wire fault) × (fault ≢ wire.Memory → Faults ChangeFault line fault)
 
--- the node takes the change of a line, or stays where it is none
+-- the node processes the change of a line, or is unchanged if the line is not a change
 abbrev pub HearsChange : List ℕ → ℕ → Node Sha256Hash → Code → Node Sha256Hash → Type 0
 HearsChange line moment old answer new =
     ((change : Sourced) × IsLine (λ v. ChangeForm v change) line × TakesBy (change ∷ []) moment old answer new)

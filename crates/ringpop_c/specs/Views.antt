@@ -1,4 +1,4 @@
--- How a view is made into an empty handle, and what is looked up in it.
+-- The making of a view in an empty handle, and its lookups.
 use Rattle.std.specs.Prelude.{◌≡◌, ℕ, List, Option, Some, None}
 use Rattle.hash_ring.specs.declared.hash.Sha256Hash.{Sha256Hash}
 use Rattle.hash_ring.specs.Points.{owner}
@@ -11,14 +11,15 @@ use Rattle.ringpop_c.specs.Owned.{HeldNode, HeldView}
 use Rattle.ringpop_c.specs.Owners.{OwnersBy, Place, ViewOwnersBy}
 use Rattle.ringpop_c.specs.Steps.{owner_by, sha_hash}
 
--- a full handle answers that it is full, and is unchanged; an empty one answers that the node's is empty, or holds the view of the node, or is out of memory for it
+-- a full handle returns that it is full, and is unchanged; an empty one returns that the node's is empty, or gets the view of the node, or
+-- is out of memory for it
 abbrev pub Views : Option HeldNode → Option HeldView → ℕ → Option HeldView → Type 0
 Views _ (Some held) number new = (number ≡ code_number code.HasNode) × (new ≡ Some held)
 Views None None number new = (number ≡ code_number code.NoNode) × (new ≡ None)
 Views (Some held) None number None = number ≡ code_number code.Memory
 Views (Some held) None number (Some seen) = (number ≡ code_number code.Done) × (seen.inner ≡ view_of held.inner.node)
 
--- an empty handle answers that it is empty; what a look at a full one answers
+-- an empty handle returns that it is empty; a full one returns a code that the lookup allows
 abbrev pub LooksView : (Viewed Sha256Hash → Code → Type 0) → Option HeldView → ℕ → Type 0
 LooksView look None number = number ≡ code_number code.NoNode
 LooksView look (Some held) number = (answer : Code) × (number ≡ code_number answer) × look held.inner answer

@@ -1,4 +1,5 @@
-//! What a node asserts unasked: that it leaves, that it is back, and what becomes of an entry at its deadline.
+//! The entries that a node asserts by itself: that it leaves, that it is back, and the next status of an entry at its
+//! deadline.
 ghost use Rattle.std.specs.Prelude.{◌≡◌, ◌≢◌, ◌≤◌, ◌<◌};
 ghost use Rattle.change_core.specs.Numbers.{greatest_number};
 ghost use Rattle.ringpop_c.specs.Codes.{code_number};
@@ -12,7 +13,7 @@ use change_core::{Change, Moment};
 use node_core::NodeError;
 use std::alloc::Global;
 
-/// The node leaves its cluster: it says so in its messages, and owns no key.
+/// Leaves the cluster: the node passes that on in its messages, and owns no key.
 ///
 /// # Errors
 ///
@@ -41,7 +42,7 @@ pub extern "C" fn ringpop_node_rejoin(alloc: Global, node: &mut RingpopNode) -> 
     with_handle!(alloc, node, |n| Code::of_result(n.rejoin()))
 }
 
-/// Tells the entry that expired, if one did, or why none could.
+/// Writes the entry that expired, if one did, or returns the code of the error.
 fn tell_expiry(
     expired: Result<Option<Change>, NodeError>,
     ip: &mut u32,
@@ -58,8 +59,8 @@ fn tell_expiry(
     }
 }
 
-/// The first entry whose deadline has come at this moment, in milliseconds, becomes what it does then: `Done`, with its address
-/// and what it became; call again. `Nothing`: none is due.
+/// Gives the first entry whose deadline has come at this moment, in milliseconds, its next status: `Done`, with its
+/// address and the new entry; call again. `Nothing`: none is due.
 ///
 /// # Errors
 ///

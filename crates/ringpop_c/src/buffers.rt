@@ -31,7 +31,7 @@ pub(crate) fn write(out: &mut [u8], count: &mut usize, bytes: &[u8]) -> Code
     Code::Done
 }
 
-/// Whether a buffer is too short for the longest line; if so, tells the length of that.
+/// Returns whether a buffer is too short for the longest line; if so, writes the length of that.
 pub(crate) fn is_short(out: &[u8], count: &mut usize) -> bool
     ensures short { result ≡ true → IsShort (record { before = out.now; after = out.now; count = count.new }) }
     ensures room { result ≡ false → max_line ≤ length out.now }

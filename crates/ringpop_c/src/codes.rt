@@ -72,15 +72,15 @@ pub enum Code {
     TooMany = 30,
     /// The message is a request, or an answer to one, and none of the membership.
     NotGossip = 31,
-    /// The changes of the message are taken; out of memory for its answer.
+    /// The changes of the message are processed; out of memory for its answer.
     Unanswered = 32,
     /// The target of the probe is suspect: no helper could be asked, or one did not reach it.
     Suspected = 33,
     /// Another helper has not answered.
     Waiting = 34,
-    /// Every helper failed, and nothing is known of the target.
+    /// Every helper failed, and the target's state is unknown.
     Inconclusive = 35,
-    /// A helper's word is not one of 0 to 2.
+    /// A helper's report is not one of 0 to 2.
     BadWord = 36,
 }
 
@@ -107,7 +107,7 @@ impl Code {
         }
     }
 
-    /// The code of a node's refusal.
+    /// Returns the code of a node's error.
     pub(crate) fn of_error(error: NodeError) -> Code
         ensures { result ≡ code_of_error error }
     {
@@ -125,7 +125,7 @@ impl Code {
         }
     }
 
-    /// `Done`, or the code of a node's refusal.
+    /// Returns `Done`, or the code of a node's error.
     pub(crate) fn of_result<T: Drop>(outcome: Result<T, NodeError>) -> Code
         ensures { result ≡ code_of_result outcome }
     {
@@ -135,7 +135,7 @@ impl Code {
         }
     }
 
-    /// The code of a line's fault. A line in memory is never `Io`, which counts as no JSON.
+    /// Returns the code of an error of a line. A line in memory is never `Io`, which counts as bad JSON.
     pub(crate) fn of_wire(error: WireError) -> Code
         ensures { result ≡ code_of_wire error }
     {
@@ -151,7 +151,7 @@ impl Code {
         }
     }
 
-    /// The code of why a batch of changes stopped.
+    /// Returns the code for the cause that stopped a batch of changes.
     pub(crate) fn of_stop(cause: StopCause) -> Code
         ensures { result ≡ code_of_stop cause }
     {

@@ -28,7 +28,7 @@ pub struct RingpopConfig {
     pub weight: u8,
 }
 
-/// Fills a configuration with what serves most clusters, as `Config::standard`.
+/// Fills a configuration with that of `Config::standard`, which suits most clusters.
 #[unsafe(no_mangle)]
 pub extern "C" fn ringpop_config_standard(config: &mut RingpopConfig)
     ensures { config_of config.new ≡ standard }
@@ -46,7 +46,7 @@ pub extern "C" fn ringpop_config_standard(config: &mut RingpopConfig)
     };
 }
 
-/// The configuration that a caller's one stands for; its weight is read already.
+/// Returns the configuration for a caller's one; its weight is read already.
 pub(crate) fn read_config(config: &RingpopConfig, weight: Weight) -> Config
     requires { weight ≡ config.now.weight }
     ensures { result ≡ config_of config.now }

@@ -39,7 +39,7 @@ impl RingpopEntry {
     }
 }
 
-/// Tells an entry, if there is one.
+/// Writes an entry, if there is one.
 fn tell_entry(held: Option<Entry>, entry: &mut RingpopEntry) -> Code
     ensures told { TellsEntry held entry.new result }
     ensures untouched { result ≢ Code.Done → entry.new ≡ entry.old }
@@ -76,7 +76,7 @@ pub extern "C" fn ringpop_node_member(
     with_handle!(alloc, node, |n| tell_entry(n.member(address), entry))
 }
 
-/// Tells a change.
+/// Writes a change.
 pub(crate) fn tell_change(
     change: &Change,
     ip: &mut u32,
@@ -90,7 +90,7 @@ pub(crate) fn tell_change(
     tell_entry(Some(change.entry()), entry)
 }
 
-/// Tells the entry of a target that became suspect, if it was held as alive.
+/// Writes the entry of a target that became suspect, if it was alive.
 pub(crate) fn tell_suspicion(change: &Option<Change>, entry: &mut RingpopEntry) -> Code
     ensures told { TellsSuspicion change.now (record { before = entry.old; after = entry.new }) result }
 {

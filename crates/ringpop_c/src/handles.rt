@@ -1,4 +1,4 @@
-//! The handles that C holds, and the one way in which an export reaches what a handle holds.
+//! The handles that C holds, and the one way in which an export reaches the value in a handle.
 ghost use Rattle.std.specs.Prelude.{◌≡◌, is_some, false};
 
 use crate::slots::{BoxedNode, BoxedView, NodeSlot, ViewSlot};
@@ -17,7 +17,7 @@ impl RingpopNode {
     ghost use Rattle.std.specs.Prelude.{Some, None, IfSome, IsNone};
     ghost use Rattle.ringpop_c.specs.Handles.{node_in};
 
-    /// Whether it holds a node.
+    /// Returns whether it holds a node.
     pub(crate) fn is_full(&self) -> bool
         ensures { result ≡ is_some (node_in self.now) }
     {
@@ -66,7 +66,7 @@ impl RingpopView {
     ghost use Rattle.std.specs.Prelude.{Some, None, IfSome, IsNone};
     ghost use Rattle.ringpop_c.specs.Handles.{view_in};
 
-    /// Whether it holds a view.
+    /// Returns whether it holds a view.
     pub(crate) fn is_full(&self) -> bool
         ensures { result ≡ is_some (view_in self.now) }
     {
@@ -102,8 +102,9 @@ impl RingpopView {
     }
 }
 
-/// The number of the code that an expression over what a handle holds comes to; `NoNode` where the handle is empty. The handle
-/// holds the same value after it.
+/// Takes out the value in a handle, evaluates an expression over it, puts it back, and returns the number of the code of
+/// the expression; `NoNode` if the handle is empty. It is a macro, since a closure that is not called would leave nothing
+/// known of the out pointers that it captures.
 macro_rules! with_handle {
     ($alloc:ident, $handle:ident, |$value:ident| $code:expr) => {
         match $handle.take($alloc) {

@@ -1,8 +1,8 @@
-//! Laws over the definitions, each the contract of a function that does nothing.
+//! Theorems about the definitions, each the contract of a function that does nothing.
 ghost use Rattle.ringpop_c.specs.Exports.{ExportRunsAreRuns, ExportRunsKeepIt, ExportsAreCalls};
 ghost use Rattle.ringpop_c.specs.Views.{ViewsNameOwners};
 
-/// What an export does with the node in its handle, a look-up too, is one call of the node, or leaves it as it is.
+/// An export, a lookup too, makes one call of the node in its handle, or leaves it unchanged.
 pub fn export_call()
     ensures { ExportsAreCalls }
 {}

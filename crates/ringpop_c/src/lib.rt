@@ -1,5 +1,5 @@
-//! The node of one thread for C: a handle that the caller holds, numbers and buffers in, numbers and buffers out. An export
-//! makes at most one call of the node in its handle, and answers the number of a `Code`.
+//! The node of one thread for C: a handle that the caller holds, numbers and buffers in, numbers and buffers out. An
+//! export makes at most one call of the node in its handle, and returns the number of a `Code`.
 #![tactic(auto)]
 
 mod asserting;

@@ -15,7 +15,7 @@ use hash_ring::Sha256Hash;
 use node_core::NodeState;
 use std::alloc::Global;
 
-/// Tells an address, if there is one.
+/// Writes an address, if there is one.
 pub(crate) fn tell_address(address: Option<Address>, ip: &mut u32, port: &mut u16) -> Code
     ensures told { TellsAddress address ip.new port.new result }
     ensures untouched { result ≢ Code.Done → (ip.new ≡ ip.old) × (port.new ≡ port.old) }

@@ -18,7 +18,7 @@ use std::alloc::Global;
 /// # Errors
 ///
 /// - `NoNode`: the handle is empty.
-/// - `ShortBuffer`: the buffer has fewer than 1,048,576 bytes, which `count` then says.
+/// - `ShortBuffer`: the buffer has fewer than 1,048,576 bytes, which is then written to `count`.
 /// - `Memory`: out of memory.
 #[unsafe(no_mangle)]
 pub extern "C" fn ringpop_node_join(
@@ -42,7 +42,7 @@ pub extern "C" fn ringpop_node_join(
 ///
 /// - `BadAddress`: the port is 0.
 /// - `NoNode`: the handle is empty.
-/// - `ShortBuffer`: the buffer has fewer than 1,048,576 bytes, which `count` then says.
+/// - `ShortBuffer`: the buffer has fewer than 1,048,576 bytes, which is then written to `count`.
 /// - `Memory`: out of memory; the changes of the line may count as passed on.
 #[unsafe(no_mangle)]
 pub extern "C" fn ringpop_node_ping(
@@ -73,7 +73,7 @@ pub extern "C" fn ringpop_node_ping(
 ///
 /// - `BadAddress`: the port of the helper or of the target is 0.
 /// - `NoNode`: the handle is empty.
-/// - `ShortBuffer`: the buffer has fewer than 1,048,576 bytes, which `count` then says.
+/// - `ShortBuffer`: the buffer has fewer than 1,048,576 bytes, which is then written to `count`.
 /// - `Memory`: out of memory; the changes of the line may count as passed on.
 #[unsafe(no_mangle)]
 pub extern "C" fn ringpop_node_ping_req(
@@ -106,13 +106,13 @@ pub extern "C" fn ringpop_node_ping_req(
     })
 }
 
-/// Writes the line by which a helper tells a requester whether a target was reached.
+/// Writes the line of a helper's report to a requester on whether a target was reached.
 ///
 /// # Errors
 ///
 /// - `BadAddress`: the port of the requester or of the target is 0.
 /// - `NoNode`: the handle is empty.
-/// - `ShortBuffer`: the buffer has fewer than 1,048,576 bytes, which `count` then says.
+/// - `ShortBuffer`: the buffer has fewer than 1,048,576 bytes, which is then written to `count`.
 /// - `Memory`: out of memory; the changes of the line may count as passed on.
 #[unsafe(no_mangle)]
 pub extern "C" fn ringpop_node_ping_req_ack(

@@ -58,7 +58,7 @@ fn list(out: &mut [RingpopAddress], count: &mut usize, addresses: &[Address]) ->
     Code::Done
 }
 
-/// Tells the owners that were named, or why none were.
+/// Writes the owners that were named, or returns the code of the error.
 pub(crate) fn tell_owners(
     named: Result<Addresses, NodeError>,
     out: &mut [RingpopAddress],
@@ -73,12 +73,12 @@ pub(crate) fn tell_owners(
     }
 }
 
-/// The first `wanted` owners of a key, the owner first, or all serving members where there are fewer.
+/// Writes the first `wanted` owners of a key, the owner first, or all serving members if there are fewer.
 ///
 /// # Errors
 ///
 /// - `NoNode`: the handle is empty.
-/// - `Memory`: out of memory; never where no owner is to be named.
+/// - `Memory`: out of memory; never if `wanted` is 0 or no member serves.
 /// - `ShortBuffer`: the array is shorter than the list; `count` is the number of owners.
 #[unsafe(no_mangle)]
 pub extern "C" fn ringpop_node_owners(

@@ -17,7 +17,7 @@ use detector_core::{Probe, Running, Said};
 use node_core::{NodeError, NodeLost, NodeOutcome};
 use std::alloc::Global;
 
-/// Tells the number and the target of a probe that began, or why none did.
+/// Writes the number and the target of a probe that started, or returns the code of the error.
 fn tell_probe(
     begun: Result<Option<Probe>, NodeError>,
     number: &mut u64,
@@ -39,8 +39,8 @@ fn tell_probe(
     }
 }
 
-/// Begins a probe of the next member in turn: its number, and the address to ping (SWIM, DSN 2002, section 4.3). `Nothing`: no
-/// member can be pinged.
+/// Starts a probe of the next member in turn: writes its number, and the address to ping (SWIM, DSN 2002, section 4.3).
+/// `Nothing`: no member is pingable.
 ///
 /// # Errors
 ///
@@ -76,7 +76,7 @@ pub extern "C" fn ringpop_node_acked(alloc: Global, node: &mut RingpopNode, numb
     with_handle!(alloc, node, |n| Code::of_result(n.acked(number)))
 }
 
-/// Tells the entry of the target of a probe that was lost, if it is suspect by that, or why the probe is none.
+/// Writes the entry of the target of a probe that was lost, if it is suspect by that, or returns the code of the error.
 fn tell_loss(loss: Result<NodeLost, NodeError>, entry: &mut RingpopEntry) -> Code
     ensures told { TellsLoss loss (record { before = entry.old; after = entry.new }) result }
     ensures untouched { result ≢ Code.Suspected → entry.new ≡ entry.old }
@@ -88,9 +88,9 @@ fn tell_loss(loss: Result<NodeLost, NodeError>, entry: &mut RingpopEntry) -> Cod
     }
 }
 
-/// The target of the running probe did not answer by this moment, in milliseconds (SWIM, DSN 2002, section 3.1). `Done`: helpers
-/// are to be asked, one after another, as `ringpop_node_waiting` names them. `Suspected`: there are none; the target's entry is
-/// told if it was held as alive.
+/// Reports that the target of the running probe did not answer by this moment, in milliseconds (SWIM, DSN 2002, section
+/// 3.1). `Done`: helpers have to be asked, one after another, as `ringpop_node_waiting` names them. `Suspected`: there
+/// are none; the target's entry is written if it was alive.
 ///
 /// # Errors
 ///
@@ -118,7 +118,7 @@ pub extern "C" fn ringpop_node_lost(
     with_handle!(alloc, node, |n| tell_loss(n.lost(number, moment), entry))
 }
 
-/// Tells the number and the target of a probe that runs.
+/// Writes the number and the target of a probe that runs.
 fn tell_running(running: Option<Running>, number: &mut u64, ip: &mut u32, port: &mut u16) -> Code
     ensures told { TellsRunning running number.new ip.new port.new result }
     ensures untouched { result ≢ Code.Done → (number.new ≡ number.old) × (ip.new ≡ ip.old) × (port.new ≡ port.old) }
@@ -155,7 +155,7 @@ pub extern "C" fn ringpop_node_running(
     with_handle!(alloc, node, |n| tell_running(n.running(), number, ip, port))
 }
 
-/// Tells the number of a probe that runs, and the helper that it waits for.
+/// Writes the number of a probe that runs, and the helper that it waits for.
 fn tell_waiting(running: Option<Running>, number: &mut u64, ip: &mut u32, port: &mut u16) -> Code
     ensures told { TellsWaiting running number.new ip.new port.new result }
     ensures untouched { result ≢ Code.Done → (ip.new ≡ ip.old) × (port.new ≡ port.old) }
@@ -175,8 +175,8 @@ fn tell_waiting(running: Option<Running>, number: &mut u64, ip: &mut u32, port: 
     }
 }
 
-/// The number of the running probe, and the helper of least address that was asked and has not answered. `Nothing`: no probe
-/// runs, or it waits for no helper; in the second case its number is told.
+/// Writes the number of the running probe, and the helper of least address that was asked and has not answered.
+/// `Nothing`: no probe runs, or it waits for no helper; in the second case its number is written.
 ///
 /// # Errors
 ///
@@ -212,7 +212,8 @@ fn read_word(word: u8) -> Option<Said>
     }
 }
 
-/// Tells the outcome of a helper's word: the target's entry, if it is suspect by that, or why the word is refused.
+/// Writes the outcome of a helper's report: the target's entry, if it is suspect by that, or returns the code of the
+/// error.
 fn tell_outcome(outcome: Result<NodeOutcome, NodeError>, entry: &mut RingpopEntry) -> Code
     ensures told { TellsOutcome outcome (record { before = entry.old; after = entry.new }) result }
     ensures untouched { result ≢ Code.Suspected → entry.new ≡ entry.old }
@@ -226,9 +227,10 @@ fn tell_outcome(outcome: Result<NodeOutcome, NodeError>, entry: &mut RingpopEntr
     }
 }
 
-/// Takes a helper's word on the target of the running probe at this moment, in milliseconds: 0, the helper reached it; 1, it did
-/// not; 2, the helper failed. `Done`: the target was reached. `Suspected`: every helper has answered, and one did not reach it;
-/// its entry is told if it was held as alive. `Waiting`: another helper has not answered. `Inconclusive`: every helper failed.
+/// Processes a helper's report on the target of the running probe at this moment, in milliseconds: 0, the helper
+/// reached it; 1, it did not; 2, the helper failed. `Done`: the target was reached. `Suspected`: every helper has
+/// answered, and one did not reach it; its entry is written if it was alive. `Waiting`: another helper has not
+/// answered. `Inconclusive`: every helper failed.
 ///
 /// # Errors
 ///

@@ -1,4 +1,5 @@
-//! What a line says, without a node: its kind and its source, the target that it asks to ping, and what a helper says of one.
+//! Readers of a line, without a node: its kind and its source, the target that it asks to ping, and a helper's report
+//! on one.
 ghost use Rattle.std.specs.Prelude.{◌≡◌, ◌≢◌};
 ghost use Rattle.ringpop_c.specs.Codes.{code_number};
 ghost use Rattle.ringpop_c.specs.Reading.{ReadsLine, TellsReached, TellsSource, TellsTarget, kind_number};
@@ -26,7 +27,7 @@ fn number_of(content: &Content) -> u8
     }
 }
 
-/// Tells the kind of a message, and its source.
+/// Writes the kind of a message, and its source.
 fn tell_source(message: &Message, kind: &mut u8, ip: &mut u32, port: &mut u16) -> Code
     ensures told { TellsSource message.now kind.new ip.new port.new result }
     ensures untouched { result ≢ Code.Done → (kind.new ≡ kind.old) × (ip.new ≡ ip.old) × (port.new ≡ port.old) }
@@ -37,11 +38,12 @@ fn tell_source(message: &Message, kind: &mut u8, ip: &mut u32, port: &mut u16) -
     Code::Done
 }
 
-/// The kind of the message of a line, without a newline, and the address that it says it is from.
+/// Writes the kind of the message of a line, without a newline, and the address of its source.
 ///
 /// # Errors
 ///
-/// - `LineTooLong`, `BadJson`, `NotObject`, `UnknownKind`, `MissingField`, `BadField`, `TooMany`: the line is not that of a message.
+/// - `LineTooLong`, `BadJson`, `NotObject`, `UnknownKind`, `MissingField`, `BadField`, `TooMany`: the line is not that
+///   of a message.
 /// - `Memory`: out of memory.
 #[unsafe(no_mangle)]
 pub extern "C" fn ringpop_line_source(
@@ -60,7 +62,7 @@ pub extern "C" fn ringpop_line_source(
     }
 }
 
-/// Tells the target that a message asks to ping.
+/// Writes the target that a message asks to ping.
 fn tell_target(message: &Message, ip: &mut u32, port: &mut u16) -> Code
     ensures told { TellsTarget message.now.content ip.new port.new result }
     ensures untouched { result ≢ Code.Done → (ip.new ≡ ip.old) × (port.new ≡ port.old) }
@@ -97,7 +99,7 @@ pub extern "C" fn ringpop_line_target(
     }
 }
 
-/// Tells the target of a helper's message, and whether it was reached.
+/// Writes the target of a helper's report, and whether it was reached.
 fn tell_reached(message: &Message, ip: &mut u32, port: &mut u16, reached: &mut bool) -> Code
     ensures told { TellsReached message.now.content ip.new port.new reached.new result }
     ensures untouched { result ≢ Code.Done → (ip.new ≡ ip.old) × (port.new ≡ port.old) × (reached.new ≡ reached.old) }

@@ -73,19 +73,20 @@ fn hear(
     }
 }
 
-/// Receives a line, without a newline, that came at this moment, in milliseconds (ringpop-go, package swim). `Done`: its answer
-/// is written. `Nothing`: it needs none.
+/// Receives a line, without a newline, that came at this moment, in milliseconds (ringpop-go, package swim). `Done`:
+/// its answer is written. `Nothing`: it needs none.
 ///
 /// # Errors
 ///
 /// - `BadNumber`: the moment is over 2^53 - 1.
 /// - `NoNode`: the handle is empty.
-/// - `ShortBuffer`: the buffer has fewer than 1,048,576 bytes, which `count` then says.
-/// - `LineTooLong`, `BadJson`, `NotObject`, `UnknownKind`, `MissingField`, `BadField`, `TooMany`: the line is not that of a message.
+/// - `ShortBuffer`: the buffer has fewer than 1,048,576 bytes, which is then written to `count`.
+/// - `LineTooLong`, `BadJson`, `NotObject`, `UnknownKind`, `MissingField`, `BadField`, `TooMany`: the line is not that
+///   of a message.
 /// - `NotGossip`: the message is a request, or an answer to one.
-/// - `Exhausted`, `Full`: a change is refused; those before it are taken, and the moment has passed.
-/// - `Memory`: out of memory, for the line or for a change; the changes before it are taken.
-/// - `Unanswered`: out of memory for the answer; all changes are taken.
+/// - `Exhausted`, `Full`: a change is refused; those before it are processed, and the moment has passed.
+/// - `Memory`: out of memory, for the line or for a change; the changes before it are processed.
+/// - `Unanswered`: out of memory for the answer; all changes are processed.
 #[unsafe(no_mangle)]
 pub extern "C" fn ringpop_node_receive(
     alloc: Global,

@@ -1,5 +1,5 @@
-//! What lies behind the one pointer of a handle: a box, or nothing. Nodes and views have a slot each, since a type that crosses
-//! to C may have no type parameter.
+//! The value behind the one pointer of a handle: a box, or nothing. Nodes and views have a slot each, since a type that
+//! crosses to C may have no type parameter.
 ghost use Rattle.std.specs.Prelude.{◌≡◌, Option, Some, None, IsSome};
 ghost use Rattle.ringpop_c.specs.Owned.{HeldNode, HeldView, node_coded, view_coded};
 

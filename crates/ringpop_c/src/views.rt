@@ -31,7 +31,7 @@ fn make(alloc: Global, node: &mut NodeState<Sha256Hash>) -> Result<Box<BoxedView
     }
 }
 
-/// Makes the view of a node into an empty handle. It names the owners of keys as the node does now, whatever the node takes
+/// Makes the view of a node into an empty handle. It names the owners of keys as the node does now, whatever changes
 /// afterwards. Views between two changes of the ring share one copy of it.
 ///
 /// # Errors
@@ -120,12 +120,12 @@ pub extern "C" fn ringpop_view_owner(
     with_handle!(alloc, view, |v| tell_address(v.owner(key), ip, port))
 }
 
-/// The first `wanted` owners of a key, the owner first, or all servers where there are fewer.
+/// Writes the first `wanted` owners of a key, the owner first, or all servers if there are fewer.
 ///
 /// # Errors
 ///
 /// - `NoNode`: the handle is empty.
-/// - `Memory`: out of memory; never where no owner is to be named.
+/// - `Memory`: out of memory; never if `wanted` is 0 or the view has no server.
 /// - `ShortBuffer`: the array is shorter than the list; `count` is the number of owners.
 #[unsafe(no_mangle)]
 pub extern "C" fn ringpop_view_owners(

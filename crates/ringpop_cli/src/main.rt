@@ -1,20 +1,24 @@
 //! The members of a cluster and the owners of its keys, from a command line.
 #![tactic(auto)]
 
-use cli_net::{Fault, Runtime, words_run};
-use cli_words::{WordsFault, read_words, words_not_text};
+use cli_net::{Fault, words_run};
+use cli_words::{WordsError, read_words, words_not_text};
 use std::alloc::{Alloc, Global};
 use std::env::Env;
 use std::io::{BufReader, BufWriter, ErrorKind};
 use std::net::{Net, TcpListener, TcpStream};
 use std::process::ExitCode;
+use std::random::RandomSource;
+use std::sync::Wait;
+use std::thread::Threads;
+use std::time::Clock;
 use std::{env, io};
 
-/// The words that the program was given, its name first.
-fn given_words(rt: &(impl Env + Alloc<A = Global>)) -> Result<Vec<String>, WordsFault> {
+/// Returns the arguments of the program, its name first.
+fn given_words(rt: &(impl Env + Alloc<A = Global>)) -> Result<Vec<String>, WordsError> {
     let given = match env::args(rt) {
         Ok(given) => given,
-        Err(error) if error.kind() == ErrorKind::OutOfMemory => return Err(WordsFault::NoMemory),
+        Err(error) if error.kind() == ErrorKind::OutOfMemory => return Err(WordsError::NoMemory),
         Err(_) => return Err(words_not_text(rt.alloc())),
     };
     let mut words = Vec::with_capacity(rt.alloc(), given.len())?;
@@ -24,20 +28,28 @@ fn given_words(rt: &(impl Env + Alloc<A = Global>)) -> Result<Vec<String>, Words
     Ok(words)
 }
 
-/// Reads the words, and runs what they ask for over standard input, standard output and sockets.
+/// Reads the arguments, and runs the command over standard input, standard output and sockets.
 fn run<
     R: Input
         + Print
+        + Eprint
         + Env
         + Net<Listener = TcpListener, Stream = TcpStream>
-        + Runtime
+        + Threads
+        + Wait
+        + Clock
+        + RandomSource
+        + Copy
+        + Send
+        + Sync
+        + 'static
         + Alloc<A = Global>,
 >(rt: &R) -> Result<(), Fault> {
     let alloc = rt.alloc();
     let given = given_words(rt)?;
     let words = read_words(alloc, given.as_slice())?;
-    let mut reader = BufReader::new(alloc, rt.reader()).map_err(|_| WordsFault::NoMemory)?;
-    let mut writer = BufWriter::new(alloc, io::writer(rt)).map_err(|_| WordsFault::NoMemory)?;
+    let mut reader = BufReader::new(alloc, rt.reader()).map_err(|_| WordsError::NoMemory)?;
+    let mut writer = BufWriter::new(alloc, io::writer(rt)).map_err(|_| WordsError::NoMemory)?;
     words_run(rt, alloc, &words, &mut reader, &mut writer)
 }
 

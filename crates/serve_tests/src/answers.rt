@@ -1,15 +1,17 @@
 //! What `ask`, `ask --any`, `members` and `tell` make of answers, and `tell` of change lines.
 use crate::peers::{Answer, Lines, Page, Peers};
-use change_core::{Address, MOST_MEMBERS};
-use cli_core::LineFault;
-use cli_net::{AskAnyWords, AskFault, TellFault, ask_any_over, ask_over, members_over, tell_over};
+use crate::shared::check_refused;
+use change_core::{Address, MAX_MEMBERS};
+use cli_core::LineError;
+use cli_net::{AskAnyWords, AskError, TellError, ask_any_over, ask_over, members_over, tell_over};
 use std::alloc::Global;
+use std::env::Env;
 use std::io::Write;
 use std::process::Abort;
 use std::sync::Wait;
 use wire_json::{Reason, WireError};
 
-/// What is asked.
+/// A question.
 #[derive(Clone, Copy)]
 enum Question {
     Ask,
@@ -17,38 +19,38 @@ enum Question {
     AskAny(&'static str),
     /// Whether as change lines.
     Members(bool),
-    /// So many change lines of 10.0.0.1:1, and then this, by a reader that fails after so many bytes.
+    /// This many change lines of 10.0.0.1:1, and then this, by a reader that fails after this many bytes.
     Tell(usize, &'static str, usize),
 }
 
 /// How it ends.
-type Ended = Result<(), TellFault>;
+type Ended = Result<(), TellError>;
 
-/// What is asked, what is answered to each call, how it ends, and what is written.
+/// A question, the answer to each call, how it ends, and what is written.
 type Row = (Question, &'static [Answer], Ended, &'static str);
 
-const UNEXPECTED: Ended = Err(TellFault::Asked(AskFault::Unexpected));
+const UNEXPECTED: Ended = Err(TellError::Asked(AskError::Unexpected));
 
-const NO_ANSWER: Ended = Err(TellFault::Asked(AskFault::NoAnswer));
+const NO_ANSWER: Ended = Err(TellError::Asked(AskError::NoAnswer));
 
-const NO_MEMORY: Ended = Err(TellFault::Asked(AskFault::NoMemory));
+const NO_MEMORY: Ended = Err(TellError::Asked(AskError::NoMemory));
 
-const CANNOT_WRITE: Ended = Err(TellFault::Asked(AskFault::CannotWrite));
+const CANNOT_WRITE: Ended = Err(TellError::Asked(AskError::CannotWrite));
 
-const NOT_OWNED: Ended = Err(TellFault::Asked(AskFault::NotOwner));
+const NOT_OWNED: Ended = Err(TellError::Asked(AskError::NotOwner));
 
-const REFUSED_NOBODY: Ended = Err(TellFault::Asked(AskFault::Refused(Reason::Nobody)));
+const REFUSED_NOBODY: Ended = Err(TellError::Asked(AskError::Refused(Reason::Nobody)));
 
-const REFUSED_MALFORMED: Ended = Err(TellFault::Asked(AskFault::Refused(Reason::Malformed)));
+const REFUSED_MALFORMED: Ended = Err(TellError::Asked(AskError::Refused(Reason::Malformed)));
 
-const REFUSED_FAILED: Ended = Err(TellFault::Asked(AskFault::Refused(Reason::Failed)));
+const REFUSED_FAILED: Ended = Err(TellError::Asked(AskError::Refused(Reason::Failed)));
 
-const REFUSED_FULL: Ended = Err(TellFault::Asked(AskFault::Refused(Reason::Full)));
+const REFUSED_FULL: Ended = Err(TellError::Asked(AskError::Refused(Reason::Full)));
 
 /// A reader that does not fail.
 const ALL: usize = usize::MAX;
 
-/// Asks peers, and writes what their answers come to.
+/// Asks peers, and writes the result of their answers.
 fn ask_peers<R: Wait, W: Write>(
     rt: &R,
     alloc: Global,
@@ -91,8 +93,8 @@ fn ask_once<R: Wait>(rt: &R, alloc: Global, row: &Row, wanted: &str) -> (Ended, 
     (ended, page.left.is_empty(), peers.calls)
 }
 
-/// The same, and once more where a growth was refused, so that it did not end so.
-fn ask<R: Wait>(
+/// The same, and again if an allocation failed, so that it did not end so.
+fn ask<R: Wait + Env + Abort>(
     rt: &R,
     alloc: Global,
     row: &Row,
@@ -102,16 +104,17 @@ fn ask<R: Wait>(
     let asked = ask_once(rt, alloc, row, wanted);
     let (outcome, _, _) = asked;
     match outcome {
-        Err(TellFault::AtLine(_, LineFault::OutOfMemory)) => {}
-        Err(TellFault::Asked(AskFault::NoMemory)) if ended != NO_MEMORY => {}
+        Err(TellError::AtLine(_, LineError::OutOfMemory)) => {}
+        Err(TellError::Asked(AskError::NoMemory)) if ended != NO_MEMORY => {}
         _ => return asked,
     }
+    check_refused(rt);
     ask_once(rt, alloc, row, wanted)
 }
 
-/// That a row ends so over a writer that takes what is wanted, with that written and all calls made; a request that has no memory may
-/// make none.
-fn check<R: Wait + Abort>(rt: &R, alloc: Global, row: &Row, ended: Ended, wanted: &str) {
+/// That an entry ends so over a writer that takes the expected text, with that written and all calls made; a request
+/// that has no memory may make none.
+fn check<R: Wait + Env + Abort>(rt: &R, alloc: Global, row: &Row, ended: Ended, wanted: &str) {
     let (question, answers, _, _) = row;
     let (outcome, is_written, calls) = ask(rt, alloc, row, ended, wanted);
     assert!(rt; outcome == ended && is_written);
@@ -119,16 +122,16 @@ fn check<R: Wait + Abort>(rt: &R, alloc: Global, row: &Row, ended: Ended, wanted
     assert!(rt; calls == answers.len() || may_ask_nobody && calls == 0);
 }
 
-/// The same of each row.
-fn check_all<R: Wait + Abort>(rt: &R, alloc: Global, rows: &[Row]) {
+/// The same of each entry.
+fn check_all<R: Wait + Env + Abort>(rt: &R, alloc: Global, rows: &[Row]) {
     for row in rows {
         let (_, _, ended, written) = row;
         check(rt, alloc, row, *ended, *written);
     }
 }
 
-/// The same with each front of what a row writes, where it fails behind that.
-fn check_fronts<R: Wait + Abort>(rt: &R, alloc: Global, rows: &[Row]) {
+/// The same with each prefix of the text of an entry, after which it fails.
+fn check_fronts<R: Wait + Env + Abort>(rt: &R, alloc: Global, rows: &[Row]) {
     for row in rows {
         let (_, _, _, written) = row;
         for room in 0..written.len() {
@@ -138,7 +141,7 @@ fn check_fronts<R: Wait + Abort>(rt: &R, alloc: Global, rows: &[Row]) {
     }
 }
 
-/// What is written of nobody.
+/// The output for no members.
 const NOBODY_TEXT: &str = "\ne3b0c44298fc1c149afbf4c8996fb92427ae41e4649b934ca495991b7852b855\n";
 
 /// Of 10.0.0.1:1.
@@ -181,6 +184,8 @@ const ASKS: [Row; 8] = [
     (Question::Ask, &[Answer::Starved], NO_MEMORY, ""),
 ];
 
+/// `ask` of a peer that replies `hi`, or an empty text: that and a newline. That is not the owner, refuses, says another thing, or can't
+/// be reached; a link without memory: that fault, and nothing is written; it is asked once at most.
 #[test]
 fn ask_writes_the_reply_alone(rt: HostRuntime) {
     check_all(&rt, rt.alloc(), &ASKS);
@@ -215,6 +220,9 @@ const MEMBERS: [Row; 11] = [
     (Question::Members(true), &[Answer::Starved], NO_MEMORY, ""),
 ];
 
+/// `members` of a peer that tells of no member, of itself, or of (A,7,alive) and (B,3,suspect) with weight 2: what `fold` writes; their
+/// change lines with `lines`; nothing of no member with `lines`. With another digest, or a `not-owner`: unexpected answer; that refuses:
+/// that reason; that can't be reached, or without memory: that; and nothing is written.
 #[test]
 fn members_are_written_where_their_digest_fits(rt: HostRuntime) {
     check_all(&rt, rt.alloc(), &MEMBERS);
@@ -276,6 +284,10 @@ const OWNERS: [Row; 10] = [
     ),
 ];
 
+/// `ask --any` over these two: the key `k` is asked of B, `b` of A. Of a peer that is not the owner once: asked once more; twice: not
+/// owner, after four questions. Of one that is alone at first, and then one of two: the request is declined, and goes to B, whom the
+/// second membership names. Where no member serves: refused as `nobody`; with another digest: unexpected answer; after one question. An
+/// owner that can't be reached, or refuses: no answer, that reason; after two questions.
 #[test]
 fn the_owner_is_asked_twice_at_most(rt: HostRuntime) {
     check_all(&rt, rt.alloc(), &OWNERS);
@@ -297,18 +309,22 @@ const TELLS: [Row; 5] = [
         "1\n",
     ),
     (
-        Question::Tell(MOST_MEMBERS, "", ALL),
+        Question::Tell(MAX_MEMBERS, "", ALL),
         &[Answer::ToldAlone],
         Ok(()),
         "1\n",
     ),
 ];
 
+/// `tell` without a line: 1 of a peer that tells of itself, 0 of no member. The lines of A and B, the last without its newline: 2. A at 7
+/// three times, the last suspect, and A 4,096 times: 1. Asked once each.
 #[test]
 fn tell_writes_how_many_members_there_are(rt: HostRuntime) {
     check_all(&rt, rt.alloc(), &TELLS);
 }
 
+/// `ask`, `ask --any`, `members` with and without `lines`, and `tell` (not of 4,096 lines), each time that something is written, over a
+/// writer that stops after each number of bytes: exactly these are written, and cannot write.
 #[test]
 fn a_writer_that_fails_has_a_front(rt: HostRuntime) {
     check_fronts(&rt, rt.alloc(), &ASKS);
@@ -319,50 +335,52 @@ fn a_writer_that_fails_has_a_front(rt: HostRuntime) {
     check_fronts(&rt, rt.alloc(), tells);
 }
 
-const NO_OBJECT: LineFault = LineFault::Wire(WireError::NotObject);
+const NO_OBJECT: LineError = LineError::Wire(WireError::NotObject);
 
-const NO_JSON: LineFault = LineFault::Wire(WireError::BadJson);
+const NO_JSON: LineError = LineError::Wire(WireError::BadJson);
 
 const FAULTS: [Row; 6] = [
     (
         Question::Tell(1, "[]\n{", ALL),
         &[],
-        Err(TellFault::AtLine(2, NO_OBJECT)),
+        Err(TellError::AtLine(2, NO_OBJECT)),
         "",
     ),
     (
         Question::Tell(2, "{", ALL),
         &[],
-        Err(TellFault::AtLine(3, NO_JSON)),
+        Err(TellError::AtLine(3, NO_JSON)),
         "",
     ),
     (
         Question::Tell(0, "\n[]", ALL),
         &[],
-        Err(TellFault::AtLine(1, NO_JSON)),
+        Err(TellError::AtLine(1, NO_JSON)),
         "",
     ),
     (
         // the first byte of the second line
         Question::Tell(2, "", FIRST.len() + 1),
         &[],
-        Err(TellFault::AtLine(2, LineFault::ReadFailed)),
+        Err(TellError::AtLine(2, LineError::ReadFailed)),
         "",
     ),
     (
-        Question::Tell(MOST_MEMBERS, SECOND, ALL),
+        Question::Tell(MAX_MEMBERS, SECOND, ALL),
         &[],
-        Err(TellFault::TooManyChanges),
+        Err(TellError::TooManyChanges),
         "",
     ),
     (
-        Question::Tell(MOST_MEMBERS, "[]", ALL),
+        Question::Tell(MAX_MEMBERS, "[]", ALL),
         &[],
-        Err(TellFault::AtLine(4097, NO_OBJECT)),
+        Err(TellError::AtLine(4097, NO_OBJECT)),
         "",
     ),
 ];
 
+/// `tell` of a line and `[]`, half a line at the end, an empty line, a reader that fails in the second line: that line and why. 4,096
+/// changes and one more: too many changes, and `[]` in its place: line 4097. No node is asked, nothing is written.
 #[test]
 fn nobody_is_asked_where_a_line_is_at_fault(rt: HostRuntime) {
     check_all(&rt, rt.alloc(), &FAULTS);
@@ -407,6 +425,7 @@ const TOLD: [Row; 6] = [
     ),
 ];
 
+/// `tell` of a peer that tells of others than its digest, replies, refuses, can't be reached, or without memory: as of `members`.
 #[test]
 fn what_a_node_answers_to_changes_is_told(rt: HostRuntime) {
     check_all(&rt, rt.alloc(), &TOLD);

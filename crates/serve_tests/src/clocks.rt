@@ -10,20 +10,20 @@ use std::time::{Clock, Duration};
 /// Longer than anything is waited for.
 pub(crate) const NEVER: u64 = 1_000_000_000;
 
-/// How a peer hears and speaks. Times are in milliseconds.
+/// How a peer receives and sends. Times are in milliseconds.
 #[derive(Clone, Copy)]
 pub(crate) struct Manner {
     /// How long it takes to be connected to.
     pub(crate) connects: u64,
     /// How long it takes to take each byte.
     pub(crate) takes: u64,
-    /// What it says. It is silent then.
+    /// What it says. It is unresponsive then.
     pub(crate) says: &'static str,
     /// When it has said that; its bytes come at equal distances.
     pub(crate) by: u64,
 }
 
-/// A peer that is connected to at once, takes all at once, and is silent.
+/// A peer that is connected to immediately, takes all immediately, and is unresponsive.
 pub(crate) const SILENT: Manner = Manner {
     connects: 0,
     takes: 0,
@@ -47,7 +47,7 @@ pub(crate) struct Peer {
 }
 
 impl Peer {
-    /// A peer at the beginning of its time.
+    /// A peer at the start of its time.
     pub(crate) fn new(manner: Manner) -> Peer {
         Peer {
             manner,
@@ -131,7 +131,7 @@ impl<'a> OpenStream for Wire<'a> {
     }
 }
 
-/// Where nobody comes.
+/// A listener without connections.
 impl<'a> OpenListener for Wire<'a> {
     type Stream = Wire<'a>;
 

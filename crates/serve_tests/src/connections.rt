@@ -4,21 +4,23 @@ ghost use Rattle.locked_node.specs.Passes.{Fits};
 
 use crate::clocks::{Manner, NEVER, Peer, SILENT, Town, Wire};
 use crate::plans::local;
-use crate::talks::{MALFORMED, NOT_REACHED, PING_REQ};
+use crate::shared::again;
+use crate::talks::{ECHO, MALFORMED, NOT_REACHED, PING_REQ};
 use change_core::{Address, Change, Incarnation, Moment, Sourced, Status, Weight};
 use cli_net::Echo;
-use cluster_core::{Limits, TcpLink, share};
+use cluster_core::{Handler, HandlerFault, Limits, TcpLink, share};
 use hash_ring::SumHash;
 use locked_node::{LockedNode, NodePass};
+use message_core::{Keys, Text};
 use node_core::{Config, NodeState};
-use server::{Server, Stopwatch, Timeouts, serve_connection};
+use server::{Server, Stopwatch, Timeouts, hear, respond, serve_connection};
 use std::alloc::Global;
 use std::net::{Net, TcpListener, TcpStream};
 use std::sync::Wait;
 use std::time::Clock;
 
-/// 127.0.0.1:29177 at 1, born at 0, which holds a suspect as faulty so many milliseconds later, and was told at 0 that 127.0.0.1:29170
-/// is this at 1, if it was told so; none where there is no memory for it.
+/// 127.0.0.1:29177 at 1, made at 0, which holds a suspect as faulty this many milliseconds later, and was given at 0
+/// that 127.0.0.1:29170 is this at 1, if anything; None if out of memory.
 fn node(alloc: Global, suspect_ms: u64, told: Option<Status>) -> Option<NodeState<SumHash>> {
     let (own, other, now) = (local(29_177)?, local(29_170)?, Moment::new(0)?);
     let (incarnation, weight) = (Incarnation::new(1)?, Weight::new(1)?);
@@ -62,7 +64,7 @@ pub(crate) fn shared_node(
     }
 }
 
-/// A server of a node with the standard timeouts, which begins now by this clock.
+/// A server of a node with the standard timeouts, which starts now by this clock.
 pub(crate) fn server_of<C: Clock>(
     clock: &C,
     own: Address,
@@ -73,11 +75,11 @@ pub(crate) fn server_of<C: Clock>(
 {
     let (stopwatch, timeouts) = (Stopwatch::start(clock), Timeouts::standard());
     let echo = Echo { address: own };
-    Server::new(node, echo, stopwatch, timeouts, listener, 1)
+    Server::new(node, echo, stopwatch, timeouts, None, listener, 1)
 }
 
-/// Whether a node of a server has an entry that is due at this moment, or at the last one at which it was called, where that is later;
-/// none where there was no memory.
+/// Whether a node of a server has an entry that is due at this moment, or at the last one at which it was called, if
+/// that is later; None if out of memory.
 pub(crate) fn is_due<R: Wait>(
     rt: &R,
     server: &Server<SumHash, Echo>,
@@ -109,8 +111,9 @@ fn serve_peer<R: Net + Wait>(
     serve_connection(server, pass, &town, alloc, &mut link, Wire { peer });
 }
 
-/// The millisecond at which a server with the standard timeouts has served a peer of this manner, how many bytes of its answer that has
-/// taken, and whether its node, which was told so at 0, then has an entry that is due; none where there was no memory.
+/// The millisecond at which a server with the standard timeouts has served a peer of this manner, how many bytes of its
+/// answer that has taken, and whether its node, which was given this at 0, then has an entry that is due; None if out
+/// of memory.
 fn serve<R: Net<Listener = TcpListener, Stream = TcpStream> + Wait>(
     rt: &R,
     alloc: Global,
@@ -130,7 +133,7 @@ fn serve<R: Net<Listener = TcpListener, Stream = TcpStream> + Wait>(
     Some((peer.now.get(), peer.taken.get(), is_due))
 }
 
-/// A line of 64 letters that is no message.
+/// A line of 64 letters that is not a message.
 const LINE: &str = "aaaaaaaaaaaaaaaaaaaaaaaaaaaaaaaaaaaaaaaaaaaaaaaaaaaaaaaaaaaaaaaa\n";
 
 /// A peer that has said that line by a moment, and takes each byte of the answer in so long.
@@ -143,6 +146,10 @@ fn speaking_by(by: u64, takes: u64) -> Manner {
     }
 }
 
+/// One connection of a server with the standard timeouts. A line that is whole at 499 is refused as malformed; where it is whole at 500
+/// or 5,000, and at silence, the connection is left at 500 without an answer. An answer whose bytes are taken each 5 is taken whole; one
+/// of which a byte each 10 is taken is left at 500, and one of which nothing is taken 500 after it stands, be that at 0 or at 499. A
+/// ping-req that is whole at 499, for a peer that is never connected to: the answer's 500 begin when that is given up, at 999.
 #[test]
 fn a_line_and_its_answer_have_a_limit_each(rt: HostRuntime) {
     let alloc: Global = rt.alloc();
@@ -168,14 +175,13 @@ fn a_line_and_its_answer_have_a_limit_each(rt: HostRuntime) {
     ];
     for &(manner, over, taken) in &rows {
         let wanted = Some((over, taken, Some(false)));
-        let is_so = serve(&rt, alloc, 5_000, None, manner) == wanted
-            || serve(&rt, alloc, 5_000, None, manner) == wanted;
+        let is_so = again!(&rt, serve(&rt, alloc, 5_000, None, manner) == wanted);
         assert!(&rt; is_so, "over at {over}, {taken} bytes taken");
     }
 }
 
-/// Whether a node that was told of a suspect at 0, to be faulty at 400, has that due once it has served a line that was whole by this
-/// moment; none where there was no memory.
+/// Whether a node that was given a suspect at 0, to be faulty at 400, has that due once it has served a line that was
+/// whole by this moment; None if out of memory.
 fn is_due_behind<R: Net<Listener = TcpListener, Stream = TcpStream> + Wait>(
     rt: &R,
     alloc: Global,
@@ -190,6 +196,8 @@ fn is_due_behind<R: Net<Listener = TcpListener, Stream = TcpStream> + Wait>(
     is_due
 }
 
+/// A node that was told of a suspect at 0, to be faulty at 400, and serves a ping-req that is whole at 0, 300 or 399: nothing is due
+/// behind it; at 400 or 499: the suspect is.
 #[test]
 fn a_line_is_served_at_the_moment_at_which_it_is_there(rt: HostRuntime) {
     let alloc: Global = rt.alloc();
@@ -202,8 +210,73 @@ fn a_line_is_served_at_the_moment_at_which_it_is_there(rt: HostRuntime) {
     ];
     for &(by, is_due) in &rows {
         let wanted = Some(is_due);
-        let is_so = is_due_behind(&rt, alloc, by) == wanted
-            || is_due_behind(&rt, alloc, by) == wanted;
+        let is_so = again!(&rt, is_due_behind(&rt, alloc, by) == wanted);
         assert!(&rt; is_so, "by {by}");
     }
+}
+
+/// A handler whose answer is this many letters.
+#[derive(Drop)]
+struct Wordy {
+    letters: usize,
+}
+
+impl Handler for Wordy {
+    ghost may_handle = { λ _ _ _. Unit {0} };
+
+    fn handle<R: Wait>(
+        &self,
+        _rt: &R,
+        alloc: Global,
+        _keys: &Keys,
+        _body: &Text,
+    ) -> Result<Text, HandlerFault> {
+        let mut letters = Vec::new(alloc);
+        if letters.resize(self.letters, b'a').is_err() {
+            return Err(HandlerFault::Memory);
+        }
+        match String::from_utf8(letters) {
+            Ok(letters) => Ok(Text::from_string(letters)),
+            Err(_) => Err(HandlerFault::Failed),
+        }
+    }
+}
+
+/// The line that goes back for a request whose handler answers by this many letters; None if an allocation failed.
+fn line_for<R: Wait>(rt: &R, alloc: Global, letters: usize) -> Option<Vec<u8>> {
+    let (node, mut pass) = shared_node(alloc, 5_000, None)?;
+    let peer = Peer::new(SILENT);
+    let mut link = TcpLink::new(Town { rt, peer: &peer });
+    let input = hear(alloc, ECHO.text.as_bytes());
+    let (handler, now) = (Wordy { letters }, Moment::new(0)?);
+    let line = respond(
+        rt, alloc, &node, &mut pass, &mut link, &handler, now, &input,
+    );
+    drop(input);
+    drop(node);
+    drop(pass);
+    line
+}
+
+/// How many letters a reply has whose line is as long as it may be.
+const MOST: usize = 1_048_495;
+
+/// The refusal of an answer that is too long.
+const FAILED: &str =
+    "{\"kind\":\"refused\",\"reason\":\"failed\",\"source\":\"127.0.0.1:29177\",\"sourceIncarnationNumber\":1}";
+
+/// Whether a reply of this many letters goes back in a line of 1,048,576 bytes, and one of a letter more is refused as failed.
+fn refuses_a_letter_more<R: Wait>(rt: &R, alloc: Global) -> Option<bool> {
+    let (line, refusal) = (line_for(rt, alloc, MOST)?, line_for(rt, alloc, MOST + 1)?);
+    let is_so = line.len() == 1_048_576 && refusal.as_slice() == FAILED.as_bytes();
+    drop(line);
+    drop(refusal);
+    Some(is_so)
+}
+
+/// A handler whose answer makes a line of 1,048,576 bytes: that line goes back. Of a letter more: refused as failed.
+#[test]
+fn an_answer_too_long_is_refused_as_failed(rt: HostRuntime) {
+    let alloc: Global = rt.alloc();
+    assert!(&rt; again!(&rt, refuses_a_letter_more(&rt, alloc) == Some(true)));
 }

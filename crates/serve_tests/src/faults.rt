@@ -1,137 +1,149 @@
-//! What is said of each fault, and how it ends the program.
+//! The text of each error, and how it ends the program.
 
-use cli_core::{LineFault, RunFault, ScriptFault, SimFault, SubcommandFault};
-use cli_net::{AskFault, ClusterFault, Fault, ServeFault, TellFault};
-use cli_words::WordsFault;
+use crate::shared::check_refused;
+use cli_core::{LineError, RunError, ScriptError, SimError, SubcommandError};
+use cli_net::{AskError, ClusterCommandError, Fault, ServeError, TellError};
+use cli_words::WordsError;
 use std::alloc::Global;
+use std::env::Env;
 use std::process::Abort;
 use wire_json::{Reason, WireError};
 
-/// Whether a fault is told by this text, or by what begins with it where words are refused, and ends the program with this status.
-/// After a refused growth it is told again.
-pub fn is_told(alloc: Global, fault: &Fault, text: &str, status: u8) -> bool {
-    for _ in 0..2 {
-        if let Ok(said) = format!(in alloc; "{fault}") {
-            let is_front = said.as_str().starts_with(text);
-            let is_said = is_front && (status == 2 || said.len() == text.len());
-            drop(said);
-            return is_said && fault.status() == status;
+/// Whether an error has this text, or one that starts with it if arguments are refused, and ends the program with this
+/// status. After a failed allocation it is made again.
+pub fn is_told(
+    rt: &(impl Env + Abort),
+    alloc: Global,
+    fault: &Fault,
+    text: &str,
+    status: u8,
+) -> bool {
+    let said = match format!(in alloc; "{fault}") {
+        Err(_) => {
+            check_refused(rt);
+            format!(in alloc; "{fault}")
         }
-    }
-    false
+        said => said,
+    };
+    let said = said.ok().expect(rt, "a text");
+    let is_front = said.as_str().starts_with(text);
+    let is_said = is_front && (status == 2 || said.len() == text.len());
+    drop(said);
+    is_said && fault.status() == status
 }
 
-/// That a fault is told by this text, and ends the program with status 1.
-fn tells(rt: &impl Abort, alloc: Global, fault: Fault, text: &str) {
-    let is_so = is_told(alloc, &fault, text, 1);
+/// That an error has this text, and ends the program with status 1.
+fn tells(rt: &(impl Env + Abort), alloc: Global, fault: Fault, text: &str) {
+    let is_so = is_told(rt, alloc, &fault, text, 1);
     drop(fault);
     assert!(rt; is_so, "{text}");
 }
 
-/// Faults of subcommands, and what is said of them.
-const FAULTS: [(SubcommandFault, &str); 8] = [
+/// Errors of subcommands, and the error text.
+const FAULTS: [(SubcommandError, &str); 8] = [
     (
-        SubcommandFault::Run(RunFault::NoMemory),
+        SubcommandError::Run(RunError::NoMemory),
         "ringpop: out of memory\n",
     ),
     (
-        SubcommandFault::Run(RunFault::AtLine(7, LineFault::OutOfMemory)),
+        SubcommandError::Run(RunError::AtLine(7, LineError::OutOfMemory)),
         "ringpop: line 7: out of memory\n",
     ),
     (
-        SubcommandFault::Run(RunFault::AtLine(7, LineFault::ReadFailed)),
+        SubcommandError::Run(RunError::AtLine(7, LineError::ReadFailed)),
         "ringpop: line 7: read failed\n",
     ),
     (
-        SubcommandFault::Run(RunFault::AtLine(4097, LineFault::TooManyMembers)),
+        SubcommandError::Run(RunError::AtLine(4097, LineError::TooManyMembers)),
         "ringpop: line 4097: too many members\n",
     ),
     (
-        SubcommandFault::Run(RunFault::CannotWrite),
+        SubcommandError::Run(RunError::CannotWrite),
         "ringpop: cannot write\n",
     ),
     (
-        SubcommandFault::Sim(SimFault::AtLine(7, ScriptFault::OutOfMemory)),
+        SubcommandError::Sim(SimError::AtLine(7, ScriptError::OutOfMemory)),
         "ringpop: line 7: out of memory\n",
     ),
     (
-        SubcommandFault::Sim(SimFault::AtLine(7, ScriptFault::ReadFailed)),
+        SubcommandError::Sim(SimError::AtLine(7, ScriptError::ReadFailed)),
         "ringpop: line 7: read failed\n",
     ),
     (
-        SubcommandFault::Sim(SimFault::CannotWrite),
+        SubcommandError::Sim(SimError::CannotWrite),
         "ringpop: cannot write\n",
     ),
 ];
 
-/// Faults of commands that speak to nodes, and what is said of them.
-const CLUSTER_FAULTS: [(ClusterFault, &str); 16] = [
+/// Errors of commands that speak to nodes, and the error text.
+const CLUSTER_FAULTS: [(ClusterCommandError, &str); 16] = [
     (
-        ClusterFault::Serve(ServeFault::NoneJoined),
+        ClusterCommandError::Serve(ServeError::NoneJoined),
         "ringpop: no host joined\n",
     ),
     (
-        ClusterFault::Serve(ServeFault::CannotListen),
+        ClusterCommandError::Serve(ServeError::CannotListen),
         "ringpop: cannot listen\n",
     ),
     (
-        ClusterFault::Serve(ServeFault::NoThread),
+        ClusterCommandError::Serve(ServeError::NoThread),
         "ringpop: no thread\n",
     ),
     (
-        ClusterFault::Serve(ServeFault::CannotWrite),
+        ClusterCommandError::Serve(ServeError::CannotWrite),
         "ringpop: cannot write\n",
     ),
     (
-        ClusterFault::Serve(ServeFault::NoMemory),
+        ClusterCommandError::Serve(ServeError::NoMemory),
         "ringpop: out of memory\n",
     ),
     (
-        ClusterFault::Ask(AskFault::NoAnswer),
+        ClusterCommandError::Ask(AskError::NoAnswer),
         "ringpop: no answer\n",
     ),
     (
-        ClusterFault::Ask(AskFault::NotOwner),
+        ClusterCommandError::Ask(AskError::NotOwner),
         "ringpop: not owner\n",
     ),
     (
-        ClusterFault::Ask(AskFault::Refused(Reason::Nobody)),
+        ClusterCommandError::Ask(AskError::Refused(Reason::Nobody)),
         "ringpop: refused nobody\n",
     ),
     (
-        ClusterFault::Ask(AskFault::Refused(Reason::Malformed)),
+        ClusterCommandError::Ask(AskError::Refused(Reason::Malformed)),
         "ringpop: refused malformed\n",
     ),
     (
-        ClusterFault::Ask(AskFault::Unexpected),
+        ClusterCommandError::Ask(AskError::Unexpected),
         "ringpop: unexpected answer\n",
     ),
     (
-        ClusterFault::Ask(AskFault::CannotWrite),
+        ClusterCommandError::Ask(AskError::CannotWrite),
         "ringpop: cannot write\n",
     ),
     (
-        ClusterFault::Ask(AskFault::NoMemory),
+        ClusterCommandError::Ask(AskError::NoMemory),
         "ringpop: out of memory\n",
     ),
     (
-        ClusterFault::Tell(TellFault::AtLine(3, LineFault::Wire(WireError::BadJson))),
+        ClusterCommandError::Tell(TellError::AtLine(3, LineError::Wire(WireError::BadJson))),
         "ringpop: line 3: not JSON\n",
     ),
     (
-        ClusterFault::Tell(TellFault::AtLine(3, LineFault::ReadFailed)),
+        ClusterCommandError::Tell(TellError::AtLine(3, LineError::ReadFailed)),
         "ringpop: line 3: read failed\n",
     ),
     (
-        ClusterFault::Tell(TellFault::TooManyChanges),
+        ClusterCommandError::Tell(TellError::TooManyChanges),
         "ringpop: line 4097: too many changes\n",
     ),
     (
-        ClusterFault::Tell(TellFault::Asked(AskFault::NoAnswer)),
+        ClusterCommandError::Tell(TellError::Asked(AskError::NoAnswer)),
         "ringpop: no answer\n",
     ),
 ];
 
+/// The text of each fault, with its status.
 #[test]
 fn tells_why_a_node_did_not_answer(rt: HostRuntime) {
     for (fault, text) in &CLUSTER_FAULTS {
@@ -139,14 +151,20 @@ fn tells_why_a_node_did_not_answer(rt: HostRuntime) {
     }
 }
 
+/// A good line, then `[]`: nothing on standard output, `ringpop: line 2: not an object`, status 1. An empty line: `not JSON`. 4,097 lines
+/// with distinct addresses: `ringpop: line 4097: too many members`; of `owner` too. The text of each fault, with its status. The texts of
+/// a failed read, a failed write and out of memory.
 #[test]
 fn tells_what_the_machine_refused(rt: HostRuntime) {
     tells(
         &rt,
         rt.alloc(),
-        Fault::from(WordsFault::NoMemory),
+        Fault::from(WordsError::NoMemory),
         "ringpop: out of memory\n",
     );
+    let refused = Fault::from(WordsError::BadAddress);
+    assert!(&rt; is_told(&rt, rt.alloc(), &refused, "ringpop: bad address\n", 2));
+    drop(refused);
     for (fault, text) in &FAULTS {
         tells(&rt, rt.alloc(), Fault::from(*fault), *text);
     }

@@ -1,4 +1,4 @@
-//! The tests of `server`, `cli_words` and `cli_net`.
+//! The tests of `server` and `cli_net`.
 #![tactic(auto)]
 
 #[cfg(test)]
@@ -19,10 +19,6 @@ mod pairs;
 mod peers;
 #[cfg(test)]
 mod plans;
-#[cfg(test)]
-mod reads;
-#[cfg(test)]
-mod refusals;
 #[cfg(test)]
 mod rounds;
 #[cfg(test)]

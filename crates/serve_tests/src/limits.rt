@@ -1,21 +1,24 @@
 //! How long a call of a link may take, to the millisecond.
 use crate::clocks::{Manner, NEVER, Peer, SILENT, Town};
+use crate::shared::check_refused;
 use crate::talks::PING_REQ;
 use change_core::Address;
 use cluster_core::{Link, LinkError, TcpLink};
 use std::alloc::Global;
+use std::env::Env;
 use std::process::Abort;
 use std::sync::Wait;
 use wire_json::decode;
 
-/// What a peer answers that answers.
+/// The answer of a peer.
 const ANSWER: &str =
     "{\"kind\":\"not-owner\",\"source\":\"10.0.0.1:1\",\"sourceIncarnationNumber\":1}\n";
 
-/// What comes of a call: the fault, how often the link has failed, and the millisecond at which it was over.
+/// The result of a call: the error, how often the link has failed, and the millisecond at which it was over.
 type Called = (Option<LinkError>, u64, u64);
 
-/// Calls a peer of this manner with the message of this line over a link with the standard limits; none where there was no memory.
+/// Calls a peer of this manner with the message of this line over a link with the standard limits; None if out of
+/// memory.
 fn call<R: Wait>(rt: &R, alloc: Global, line: &str, manner: Manner) -> Option<Called> {
     let to = Address::new(0x0a00_0001, 1)?;
     let message = decode(alloc, line.as_bytes()).ok()?;
@@ -28,10 +31,13 @@ fn call<R: Wait>(rt: &R, alloc: Global, line: &str, manner: Manner) -> Option<Ca
     Some(called)
 }
 
-/// Checks what comes of a call, once more where there was no memory.
-fn check<R: Wait + Abort>(rt: &R, alloc: Global, line: &str, manner: Manner, wanted: Called) {
+/// Checks the result of a call, again if out of memory.
+fn check<R: Wait + Env + Abort>(rt: &R, alloc: Global, line: &str, manner: Manner, wanted: Called) {
     let called = match call(rt, alloc, line, manner) {
-        None | Some((Some(LinkError::Memory), _, _)) => call(rt, alloc, line, manner),
+        None | Some((Some(LinkError::Memory), _, _)) => {
+            check_refused(rt);
+            call(rt, alloc, line, manner)
+        }
         called => called,
     };
     let Manner {
@@ -47,9 +53,10 @@ fn check<R: Wait + Abort>(rt: &R, alloc: Global, line: &str, manner: Manner, wan
     );
 }
 
-/// Checks that a peer is heard whose answer is whole a millisecond before the limit, and that those are left at the limit that are never
-/// connected to, take nothing, are silent, slow in one way or another, and done just then.
-fn check_limit<R: Wait + Abort>(rt: &R, alloc: Global, line: &str, limit: u64) {
+/// Checks that the answer of a peer counts if it is whole a millisecond before the limit, and that those peers are left
+/// at the limit that are never connected to, take nothing, are unresponsive, slow in one way or another, and done just
+/// then.
+fn check_limit<R: Wait + Env + Abort>(rt: &R, alloc: Global, line: &str, limit: u64) {
     let answering = Manner {
         says: ANSWER,
         by: limit.saturating_sub(1),
@@ -93,6 +100,9 @@ const PING: &str =
 const JOIN: &str =
     "{\"changes\":[],\"checksum\":\"e3b0c44298fc1c149afbf4c8996fb92427ae41e4649b934ca495991b7852b855\",\"kind\":\"join\",\"source\":\"10.0.0.9:1\",\"sourceIncarnationNumber\":1}";
 
+/// A link with the standard limits, and a ping (500), a ping-req (1,250) and a join (5,000). A peer whose answer is whole a millisecond
+/// before the limit is heard at that moment. One whose answer is whole at the limit, that is never connected to, takes nothing, takes a
+/// byte each fiftieth of the limit, says nothing, or sends slowly for twice the limit, is left at the limit, with one failure.
 #[test]
 fn a_call_has_one_limit_for_all_that_it_waits_for(rt: HostRuntime) {
     let alloc: Global = rt.alloc();

@@ -1,7 +1,7 @@
 //! What a server makes of peers that do not ask as they should.
 use crate::plans::{Plan, plan_at};
 use crate::shared::turn;
-use crate::talks::{Close, ECHO, MALFORMED, NOT_REACHED, PING_REQ, Talk, serves};
+use crate::talks::{Close, ECHO, MALFORMED, Talk, serves};
 use std::alloc::Global;
 
 /// Says no message.
@@ -11,7 +11,7 @@ const NONSENSE: Talk = Talk {
     ..ECHO
 };
 
-/// What is no message, between two requests.
+/// What is not a message, between two requests.
 const TALKS: [Talk; 11] = [
     ECHO,
     NONSENSE,
@@ -61,6 +61,9 @@ const TALKS: [Talk; 11] = [
     ECHO,
 ];
 
+/// `[]`, an empty line, half a line and the end, 1,048,577 bytes, a letter each 10 ms and a newline after 40 of them: refused as
+/// malformed, and the server hangs up. Two lines: the first is answered. The end at once, and one that hangs up, also after half a line:
+/// nothing. Each is one request, and the next one is served.
 #[test]
 fn what_is_no_message_is_refused(rt: HostRuntime) {
     let alloc: Global = rt.alloc();
@@ -82,7 +85,7 @@ const SPARE: u64 = 40;
 /// A request whose line may miss the limit.
 const SPARED: Talk = Talk { looks: 20, ..ECHO };
 
-/// Is silent, and left, after most of the limit, and more than the standard one.
+/// Is unresponsive, and left, after most of the limit, and more than the standard one.
 const SILENT: Talk = Talk {
     text: "",
     wanted: "",
@@ -106,6 +109,9 @@ const SLOW: [Talk; 5] = [
     SPARED,
 ];
 
+/// Silence, half a line and silence, and a letter each 10 ms without end, where a line is waited for one second: the server hangs up
+/// without an answer, not before nine tenths of it, and serves the next one. All connections, with knocks at the end, are its 40
+/// requests.
 #[test]
 fn a_slow_peer_is_left_at_the_limit(rt: HostRuntime) {
     let alloc: Global = rt.alloc();
@@ -116,30 +122,5 @@ fn a_slow_peer_is_left_at_the_limit(rt: HostRuntime) {
         ..plan_at(29_177, SPARE)
     };
     assert!(&rt; serves(&rt, alloc, &plan, &SLOW, Ok(())));
-    drop(turn);
-}
-
-/// A request, and a ping-req that is answered after the limit of a line.
-const LATE: [Talk; 2] = [
-    SPARED,
-    Talk {
-        text: PING_REQ,
-        wanted: NOT_REACHED,
-        least: 1_001,
-        ..SPARED
-    },
-];
-
-#[test]
-fn an_answer_has_a_limit_of_its_own(rt: HostRuntime) {
-    let alloc: Global = rt.alloc();
-    let turn = turn(&rt).expect(&rt, "a turn");
-    let plan = Plan {
-        workers: 1,
-        line: Some(LIMIT),
-        ping: LIMIT + LIMIT / 2,
-        ..plan_at(29_177, SPARE)
-    };
-    assert!(&rt; serves(&rt, alloc, &plan, &LATE, Ok(())));
     drop(turn);
 }

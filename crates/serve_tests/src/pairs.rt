@@ -1,8 +1,8 @@
-//! Two servers, of which the second joins the first.
+//! Two servers, whose second joins the first.
 use crate::peers::Page;
 use crate::plans::{Plan, plan_at};
-use crate::shared::{Running, TRIES, ends, ends_so, patient, start, stop, stops_so, turn};
-use cli_net::{AskFault, Runtime, members_over};
+use crate::shared::{Running, TRIES, again, ends, ends_so, patient, start, stop, stops_so, turn};
+use cli_net::{AskError, Runtime, members_over};
 use cluster_core::TcpLink;
 use std::alloc::Global;
 use std::net::{Net, TcpListener, TcpStream};
@@ -14,7 +14,7 @@ use std::time::Duration;
 enum Told {
     /// The text.
     Text,
-    /// What begins with it, and goes on.
+    /// A longer text that starts with it.
     Longer,
     /// That it refuses.
     Refusal,
@@ -22,7 +22,7 @@ enum Told {
     Other,
 }
 
-/// What a server tells of its members once, compared with this text.
+/// The members that a server reports once, compared with this text.
 fn asked<R: Net<Listener = TcpListener, Stream = TcpStream> + Runtime>(
     rt: &R,
     alloc: Global,
@@ -35,14 +35,14 @@ fn asked<R: Net<Listener = TcpListener, Stream = TcpStream> + Runtime>(
     };
     match members_over(rt, alloc, &mut link, server.address, false, &mut page) {
         Ok(()) if page.left.is_empty() => Told::Text,
-        Err(AskFault::CannotWrite) if page.left.is_empty() => Told::Longer,
-        Err(AskFault::Refused(_)) => Told::Refusal,
+        Err(AskError::CannotWrite) if page.left.is_empty() => Told::Longer,
+        Err(AskError::Refused(_)) => Told::Refusal,
         _ => Told::Other,
     }
 }
 
-/// Whether a server comes to tell of its members one of these texts so, asked for each so often, so many milliseconds apart; not where it
-/// refuses, ends before, or tells one otherwise.
+/// Whether a server comes to report one of these texts of its members, asked for each this often, this many
+/// milliseconds apart; not if it refuses, ends before, or reports another.
 fn tells<R: Net<Listener = TcpListener, Stream = TcpStream> + Runtime>(
     rt: &R,
     alloc: Global,
@@ -75,7 +75,7 @@ const FIRST: &str =
 const BOTH: &str =
     "127.0.0.1:29175alive1;127.0.0.1:29176alive1\n295769b65fb5829d674a7faee3163ad6b656e691f463c7b32f5617dfc6d83924\n";
 
-/// Starts two servers, so planned, the second once the first tells its members; none where one was not started.
+/// Starts two servers by these plans, the second once the first reports its members; None if one was not started.
 fn start_both<R: Net<Listener = TcpListener, Stream = TcpStream> + Runtime>(
     rt: &R,
     alloc: Global,
@@ -92,7 +92,7 @@ fn start_both<R: Net<Listener = TcpListener, Stream = TcpStream> + Runtime>(
     None
 }
 
-/// Plans of two servers with so many requests, of which the second joins the first.
+/// Plans of two servers with this many requests, whose second joins the first.
 fn plans(one: u64, other: u64) -> (Plan, Plan) {
     let first = Plan {
         page: "serving 127.0.0.1:29175\ndone\n",
@@ -123,16 +123,18 @@ fn joins<R: Net<Listener = TcpListener, Stream = TcpStream> + Runtime>(
     has_first_ended && has_second_ended
 }
 
+/// Two servers without rounds, of which the second joins the first: both tell the same two members, alive at 1, and their digest; with
+/// these requests both end.
 #[test]
 fn a_server_joins_its_host(rt: HostRuntime) {
     let alloc: Global = rt.alloc();
     let turn = turn(&rt).expect(&rt, "a turn");
-    assert!(&rt; joins(&rt, alloc) || joins(&rt, alloc));
+    assert!(&rt; again!(&rt, joins(&rt, alloc)));
     drop(turn);
 }
 
-/// The beginnings of what is told where the first is suspect, or then faulty. The second may have been pinged before it listened, and
-/// then has a greater incarnation.
+/// The starts of the texts if the first is suspect, or then faulty. The second may have been pinged before it listened,
+/// and then has a greater incarnation.
 const LOST_FIRST: [&str; 2] = [
     "127.0.0.1:29175suspect1;127.0.0.1:29176alive",
     "127.0.0.1:29175faulty1;127.0.0.1:29176alive",
@@ -168,8 +170,8 @@ fn loses<R: Net<Listener = TcpListener, Stream = TcpStream> + Runtime>(
     stops_so(rt, staying, Ok(())) && is_lost
 }
 
-/// Whether of two servers, of which the first or the second has few requests and seldom makes a round, and the other one often, the one
-/// that stays loses the other one.
+/// Whether the server that stays loses the other one, if the first or the second has few requests and seldom makes a
+/// round, and the other one makes rounds often.
 fn meet<R: Net<Listener = TcpListener, Stream = TcpStream> + Runtime>(
     rt: &R,
     alloc: Global,
@@ -191,12 +193,14 @@ fn meet<R: Net<Listener = TcpListener, Stream = TcpStream> + Runtime>(
     }
 }
 
+/// Two servers, of which the second joins the first, one with a round each 5 ms and one with 20 requests: the rounds use these up, and
+/// the server that is left tells the other one as suspect, or then faulty. First the one joined ends, then the one that joins.
 #[test]
 fn each_of_two_servers_makes_rounds(rt: HostRuntime) {
     let alloc: Global = rt.alloc();
     let turn = turn(&rt).expect(&rt, "a turn");
     for &ends_first in &[true, false] {
-        assert!(&rt; meet(&rt, alloc, ends_first) || meet(&rt, alloc, ends_first));
+        assert!(&rt; again!(&rt, meet(&rt, alloc, ends_first)));
     }
     drop(turn);
 }

@@ -1,4 +1,4 @@
-//! A peer that answers as a test wants it, lines to read, and what is written to.
+//! A peer that answers as a test needs, lines to read, and a writer.
 use change_core::{Address, Digest, Incarnation};
 use cluster_core::{Link, LinkError};
 use std::alloc::Global;
@@ -23,23 +23,24 @@ pub(crate) enum Answer {
     RefusesMalformed,
     RefusesFailed,
     RefusesFull,
-    /// A membership of nobody.
+    /// A membership without members.
     Nobody,
     /// Of 10.0.0.1:1, alive at 7.
     Alone,
-    /// The same with the digest of nobody.
+    /// The same with the digest of no members.
     AloneAmiss,
     /// Of 10.0.0.1:1, alive at 7, and 10.0.0.2:1, suspect at 3, with weight 2.
     Two,
     /// The same with the digest of 10.0.0.1:1 alone.
     TwoAmiss,
-    /// A membership of all whom it was told of, with the digest of 10.0.0.1:1, alive at 7; with that of it as a suspect; with that of two.
+    /// A membership of all that it was given, with the digest of 10.0.0.1:1, alive at 7; with that of it as a suspect;
+    /// with that of two.
     ToldAlone,
     ToldSuspect,
     ToldTwo,
     /// It can't be reached.
     Broken,
-    /// There is no memory.
+    /// Out of memory.
     Starved,
 }
 
@@ -78,7 +79,7 @@ fn line_of(answer: Answer) -> Option<&'static str> {
     })
 }
 
-/// The digest that goes with all whom a peer was told of, if it answers by that.
+/// The digest of all that a peer was given, if its answer has that.
 fn digest_of(answer: Answer) -> Option<Digest> {
     let digits = match answer {
         Answer::ToldAlone => "114cdd273aed4efee25e37eb2d6f8902516de89bfb099e3deb7cd6f372fa39df",
@@ -89,7 +90,8 @@ fn digest_of(answer: Answer) -> Option<Digest> {
     Digest::parse(digits)
 }
 
-/// Peers that answer one call after the other. None of another address is reached, and none by a further call.
+/// Peers that answer one call after the other. None of another address is reached, none by a further call, and none by a message whose
+/// source is not `0.0.0.0:1` at 0.
 #[derive(Drop)]
 pub(crate) struct Peers {
     answers: &'static [Answer],
@@ -108,8 +110,8 @@ impl Peers {
     }
 }
 
-/// The message by which a host answers; none where there is no memory for it, or it does not go with what is asked: a membership of
-/// members goes with a join, and `mine` with what is none.
+/// The message of a host's answer; None if out of memory for it, or it does not fit the request: a membership of
+/// members goes with a join, and `mine` with anything else.
 fn message_of(alloc: Global, answer: Answer, host: Address, content: &Content) -> Option<Message> {
     let is_join = matches!(content, Content::Join(_));
     match answer {
@@ -164,7 +166,11 @@ impl Link for Peers {
             Answer::Theirs => 0x0a00_0002,
             _ => 0x0a00_0001,
         };
-        if Address::new(host, 1) != Some(to) {
+        // the source of a question is `0.0.0.0:1` at 0
+        let is_question = message.source.ip() == 0
+            && message.source.port() == 1
+            && message.source_incarnation.number() == 0;
+        if !is_question || Address::new(host, 1) != Some(to) {
             self.failures += 1;
             return Err(LinkError::Io);
         }
@@ -172,7 +178,7 @@ impl Link for Peers {
     }
 }
 
-/// A text, so many times, and then another. The reader fails after so many bytes.
+/// A text, this many times, and then another. The reader fails after this many bytes.
 #[derive(Drop)]
 pub(crate) struct Lines<'a> {
     text: &'a [u8],

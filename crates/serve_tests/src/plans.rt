@@ -1,6 +1,6 @@
 //! How servers of tests are to be.
 use change_core::{Address, Incarnation, Weight};
-use cli_net::{MOST_REQUESTS, ServeWords};
+use cli_net::{MAX_REQUESTS, ServeWords};
 use std::alloc::Global;
 
 /// More milliseconds than anything takes here on a busy machine, which are waited where the limit is not what is tested.
@@ -19,8 +19,6 @@ pub(crate) struct Plan {
     pub(crate) host: Option<u16>,
     /// How long it waits for a line, in milliseconds; none for the standard waits.
     pub(crate) line: Option<u64>,
-    /// How long it waits for the answer to a ping, in milliseconds, where its waits are not the standard ones.
-    pub(crate) ping: u64,
     /// What its writer takes, and nothing else.
     pub(crate) page: &'static str,
     /// How often it tries to listen.
@@ -40,22 +38,21 @@ pub(crate) fn plan_at(port: u16, requests: u64) -> Plan {
         sum: false,
         host: None,
         line: Some(PATIENCE),
-        ping: PATIENCE,
         page: WRITTEN,
         tries: 1,
     }
 }
 
-/// A port of 127.0.0.1; none where it is 0.
+/// A port of 127.0.0.1; None if it is 0.
 pub(crate) fn local(port: u16) -> Option<Address> {
     Address::new(0x7f00_0001, port)
 }
 
-/// The words of a plan; none where there was no memory, or there are no such words.
+/// The arguments of a plan; None if out of memory, or there are no such words.
 pub(crate) fn words_of(alloc: Global, plan: &Plan) -> Option<ServeWords> {
     let (address, incarnation, weight) = (local(plan.port)?, Incarnation::new(1)?, Weight::new(1)?);
     let (requests, workers, period) = (plan.requests, plan.workers, plan.period);
-    let are_words = requests >= 1 && requests <= MOST_REQUESTS && workers >= 1 && workers <= 16;
+    let are_words = requests >= 1 && requests <= MAX_REQUESTS && workers >= 1 && workers <= 16;
     if !are_words || period > 3_600_000 {
         return None;
     }
@@ -75,6 +72,9 @@ pub(crate) fn words_of(alloc: Global, plan: &Plan) -> Option<ServeWords> {
         period,
         replicas: 100,
         weight,
+        per_message: 64,
+        piggyback: 15,
+        heal: plan.host.is_some(),
         sum: plan.sum,
         hosts,
     })

@@ -5,6 +5,7 @@ ghost use Rattle.locked_node.specs.Passes.{Fits};
 
 use crate::connections::{is_due, server_of, shared_node};
 use crate::plans::local;
+use crate::shared::again;
 use change_core::Status;
 use cli_net::Echo;
 use hash_ring::SumHash;
@@ -24,7 +25,7 @@ const PERIOD: u64 = 8;
 /// After how many rounds they are ended.
 const ROUNDS: u32 = 3;
 
-/// A clock that goes on by a millisecond with each look.
+/// A clock that continues by a millisecond with each look.
 #[derive(Drop)]
 struct Looks {
     seen: Cell<u64>,
@@ -41,13 +42,13 @@ impl Clock for Looks {
     }
 }
 
-/// A network where nobody is reached, and what a server does there.
+/// A network in which no peer is reached, and the rounds of a server there.
 #[derive(Drop)]
 struct Desert<'a, R> {
     rt: &'a R,
     looks: &'a Looks,
     server: &'a Server<SumHash, Echo>,
-    /// When the last round was made, or else the beginning.
+    /// The moment of the last round, or else the start.
     last: Cell<u64>,
     /// How many were made.
     rounds: Cell<u32>,
@@ -127,8 +128,9 @@ fn rounds_of<R: Wait>(
     (desert.rounds.get(), desert.early.get())
 }
 
-/// How many rounds a server makes until they are ended, how many of them too early, and whether the node that it suspects since the first
-/// of them is due as faulty so long after the last millisecond of the first period, and after now; none where there was no memory.
+/// How many rounds a server makes until they are ended, how many of them too early, and whether the node that it
+/// suspects since the first of them is due as faulty so long after the last millisecond of the first period, and after
+/// now; None if out of memory.
 fn rounds<R: Net<Listener = TcpListener, Stream = TcpStream> + Wait>(
     rt: &R,
     alloc: Global,
@@ -147,9 +149,13 @@ fn rounds<R: Net<Listener = TcpListener, Stream = TcpStream> + Wait>(
     Some((made, early, is_early, is_due))
 }
 
+/// Three rounds with 8 milliseconds between them, by a clock that each look at it moves by one, so that a rest by the system's clock is
+/// over before it is by this one: none is made before its 8 have passed; ended in the third one, there is no fourth. A suspicion of the
+/// first of those rounds, to be faulty 1,000 later, is not due 1,000 after the last millisecond of the first period, and is due 1,000
+/// after the last round.
 #[test]
 fn no_round_comes_before_its_period_is_over(rt: HostRuntime) {
     let alloc: Global = rt.alloc();
     let wanted = Some((ROUNDS, 0, Some(false), Some(true)));
-    assert!(&rt; rounds(&rt, alloc) == wanted || rounds(&rt, alloc) == wanted);
+    assert!(&rt; again!(&rt, rounds(&rt, alloc) == wanted));
 }

@@ -1,24 +1,45 @@
-//! A server in a thread of its own, how it is connected to, and how it is let end.
+//! A server in its own thread, how it is connected to, and how it is let end.
 use crate::peers::Page;
 use crate::plans::{PATIENCE, Plan, local, words_of};
 use change_core::Address;
-use cli_net::{Runtime, ServeFault, ServeWords, serve_run, serve_within};
+use cli_net::{Runtime, ServeError, ServeWords, serve_run, serve_within};
 use cluster_core::{Limits, socket_address};
 use server::Timeouts;
 use std::alloc::Global;
 use std::cell::Cell;
+use std::env::Env;
 use std::io::Read;
 use std::net::{Net, Shutdown, TcpListener, TcpStream};
+use std::process::Abort;
 use std::sync::Arc;
 use std::sync::atomic::{AtomicBool, Ordering};
 use std::thread;
 use std::thread::JoinHandle;
 use std::time::{Clock, Duration};
 
-/// How often is tried again what may come to be, a millisecond apart.
+/// Checks that an allocation is to fail, as the environment says if `scripts/fail-alloc` runs a test: else something went wrong though
+/// there was enough memory. It takes no memory.
+pub(crate) fn check_refused(rt: &(impl Env + Abort)) {
+    let mut number = [0u8; 32];
+    assert!(rt; rt.var("FAIL_ALLOC", &mut number).is_ok());
+}
+
+/// Whether an attempt comes out as it is to: the first, or another if an allocation failed.
+macro_rules! again {
+    ($rt:expr, $attempt:expr) => {
+        $attempt || {
+            crate::shared::check_refused($rt);
+            $attempt
+        }
+    };
+}
+
+pub(crate) use again;
+
+/// How often a test tries again what may still happen, a millisecond apart.
 pub(crate) const TRIES: u32 = 1_000_000;
 
-/// More time for each call of a link than it wants on a busy machine.
+/// More time for each call of a link than it needs on a busy machine.
 pub(crate) fn patient() -> Limits {
     let patience = Duration::from_millis(PATIENCE);
     Limits {
@@ -29,7 +50,7 @@ pub(crate) fn patient() -> Limits {
 }
 
 /// How a server ended, and how much of its page was not written.
-pub(crate) type Ended = (Result<(), ServeFault>, usize);
+pub(crate) type Ended = (Result<(), ServeError>, usize);
 
 /// Serves once.
 fn serve_once<R: Net<Listener = TcpListener, Stream = TcpStream> + Runtime>(
@@ -44,13 +65,9 @@ fn serve_once<R: Net<Listener = TcpListener, Stream = TcpStream> + Runtime>(
     let outcome = match plan.line {
         None => serve_run(rt, alloc, words, &mut page),
         Some(millis) => {
-            let (line, ping) = (
-                Duration::from_millis(millis),
-                Duration::from_millis(plan.ping),
-            );
             let timeouts = Timeouts {
-                line,
-                links: Limits { ping, ..patient() },
+                line: Duration::from_millis(millis),
+                links: patient(),
             };
             serve_within(rt, alloc, timeouts, words, &mut page)
         }
@@ -58,7 +75,7 @@ fn serve_once<R: Net<Listener = TcpListener, Stream = TcpStream> + Runtime>(
     (outcome, page.left.len())
 }
 
-/// Serves, and rings then. Where the port is taken, it is tried again a millisecond later, as often as the plan says.
+/// Serves, and rings then. If the port is in use, it is tried again a millisecond later, as often as the plan allows.
 fn serve<R: Net<Listener = TcpListener, Stream = TcpStream> + Runtime>(
     rt: &R,
     alloc: Global,
@@ -69,7 +86,7 @@ fn serve<R: Net<Listener = TcpListener, Stream = TcpStream> + Runtime>(
     let mut ended = serve_once(rt, alloc, plan, words);
     for _ in 1..plan.tries {
         let (outcome, _) = ended;
-        if outcome != Err(ServeFault::CannotListen) {
+        if outcome != Err(ServeError::CannotListen) {
             break;
         }
         thread::sleep(rt, Duration::from_millis(1));
@@ -96,7 +113,7 @@ impl Running {
     }
 }
 
-/// The thread of a server that rings this bell; none where a growth or the thread was refused.
+/// The thread of a server that rings this bell; None if an allocation failed or the thread was not made.
 fn start_thread<R: Net<Listener = TcpListener, Stream = TcpStream> + Runtime>(
     rt: &R,
     alloc: Global,
@@ -109,7 +126,7 @@ fn start_thread<R: Net<Listener = TcpListener, Stream = TcpStream> + Runtime>(
     thread::spawn(rt, move || serve(&host, alloc, &plan, &words, &*bell)).ok()
 }
 
-/// Starts a server; none where a growth or the thread was refused.
+/// Starts a server; None if an allocation failed or the thread was not made.
 pub(crate) fn start<R: Net<Listener = TcpListener, Stream = TcpStream> + Runtime>(
     rt: &R,
     alloc: Global,
@@ -126,7 +143,7 @@ pub(crate) fn start<R: Net<Listener = TcpListener, Stream = TcpStream> + Runtime
     })
 }
 
-/// Waits until a server has ended by itself; whether it has. It is not waited for once the other one has ended.
+/// Waits until a server has ended without help; whether it has. It is not waited for once the other one has ended.
 pub(crate) fn ends<C: Clock>(clock: &C, server: &Running, other: &Running) -> bool {
     for _ in 0..TRIES {
         if server.has_ended() {
@@ -140,7 +157,8 @@ pub(crate) fn ends<C: Clock>(clock: &C, server: &Running, other: &Running) -> bo
     false
 }
 
-/// A connection to a server, once it listens, on which nothing is waited for longer than patience lasts; none where it has ended.
+/// A connection to a server, once it listens, on which nothing is waited for longer than patience lasts; None if it has
+/// ended.
 pub(crate) fn connect<R: Net<Listener = TcpListener, Stream = TcpStream> + Clock>(
     rt: &R,
     server: &Running,
@@ -164,8 +182,8 @@ pub(crate) fn connect<R: Net<Listener = TcpListener, Stream = TcpStream> + Clock
     None
 }
 
-/// Connects to a server, says nothing, and waits until it hangs up; whether it did so by itself, as a server does and the system for
-/// one that has ended does not.
+/// Connects to a server, sends nothing, and waits until it hangs up; whether it did so by itself, as a server does and
+/// the system for one that has ended does not.
 fn knock<R: Net<Listener = TcpListener, Stream = TcpStream> + Clock>(
     rt: &R,
     server: &Running,
@@ -206,7 +224,7 @@ fn drain<R: Net<Listener = TcpListener, Stream = TcpStream> + Clock>(
     false
 }
 
-/// How a server ends that is knocked at until it does; none where it does not.
+/// How a server ends that is knocked at until it does; None if it does not.
 pub(crate) fn stop<R: Net<Listener = TcpListener, Stream = TcpStream> + Runtime>(
     rt: &R,
     server: Running,
@@ -222,7 +240,7 @@ pub(crate) fn stop<R: Net<Listener = TcpListener, Stream = TcpStream> + Runtime>
 pub(crate) fn stops_so<R: Net<Listener = TcpListener, Stream = TcpStream> + Runtime>(
     rt: &R,
     server: Running,
-    outcome: Result<(), ServeFault>,
+    outcome: Result<(), ServeError>,
 ) -> bool {
     stop(rt, server) == Some((outcome, 0))
 }
@@ -233,7 +251,7 @@ pub(crate) fn ends_so<R: Net<Listener = TcpListener, Stream = TcpStream> + Runti
     rt: &R,
     server: Running,
     is_served: bool,
-    outcome: Result<(), ServeFault>,
+    outcome: Result<(), ServeError>,
 ) -> bool {
     let has_ended = is_served && ends(rt, &server, &server);
     stops_so(rt, server, outcome) && has_ended

@@ -1,10 +1,12 @@
 //! What peers say to a server, line by line, and what it makes of that.
 use crate::plans::Plan;
-use crate::shared::{Running, connect, ends_so, spend, start};
-use cli_net::{Runtime, ServeFault};
+use crate::shared::{Running, again, connect, ends_so, spend, start};
+use cli_net::{Runtime, ServeError};
 use std::alloc::Global;
+use std::env::Env;
 use std::io::{ErrorKind, Read, Write};
 use std::net::{Net, Shutdown, TcpListener, TcpStream};
+use std::process::Abort;
 use std::time::{Clock, Duration, Instant};
 use std::{io, thread};
 
@@ -15,27 +17,27 @@ pub(crate) enum Close {
     Waits,
     /// It will say no more, and waits.
     Ends,
-    /// It hangs up, and wants nothing.
+    /// It hangs up, and needs nothing.
     HangsUp,
 }
 
-/// What a peer says, and what it is to hear.
+/// What a peer sends, and what it has to receive.
 #[derive(Clone, Copy)]
 pub(crate) struct Talk {
-    /// So many peers are silent meanwhile.
+    /// This many peers are unresponsive in the meantime.
     pub(crate) beside: u32,
-    /// It says so many times 1,024 letters.
+    /// It says this many times 1,024 letters.
     pub(crate) blocks: u32,
-    /// Then so many letters, each after ten milliseconds.
+    /// Then this many letters, each after ten milliseconds.
     pub(crate) drips: u32,
     /// Then this.
     pub(crate) text: &'static str,
     pub(crate) close: Close,
-    /// What it is to hear until the server hangs up.
+    /// What it has to receive until the server hangs up.
     pub(crate) wanted: &'static str,
     /// After how many milliseconds that is to be at the earliest.
     pub(crate) least: u64,
-    /// How often it talks at most where it hears nothing.
+    /// How often it talks at most if it receives nothing.
     pub(crate) looks: u32,
 }
 
@@ -51,19 +53,19 @@ pub(crate) const ECHO: Talk = Talk {
     looks: 1,
 };
 
-/// What it answers to what is no message.
+/// What it answers to what is not a message.
 pub(crate) const MALFORMED: &str =
     "{\"kind\":\"refused\",\"reason\":\"malformed\",\"source\":\"127.0.0.1:29177\",\"sourceIncarnationNumber\":1}\n";
 
-/// Asks for a ping of 127.0.0.1:29170, which says nothing.
+/// Asks for a ping of 127.0.0.1:29170, which does not answer.
 pub(crate) const PING_REQ: &str =
     "{\"changes\":[],\"checksum\":\"e3b0c44298fc1c149afbf4c8996fb92427ae41e4649b934ca495991b7852b855\",\"kind\":\"ping-req\",\"source\":\"127.0.0.1:1\",\"sourceIncarnationNumber\":1,\"target\":\"127.0.0.1:29170\"}\n";
 
-/// What is answered once that was waited for.
+/// The answer once that was waited for.
 pub(crate) const NOT_REACHED: &str =
     "{\"changes\":[{\"address\":\"127.0.0.1:29177\",\"incarnationNumber\":1,\"source\":\"127.0.0.1:29177\",\"sourceIncarnationNumber\":1,\"status\":\"alive\"}],\"checksum\":\"22662f650744ac3c189b2bd07ecd19225637eb14a4c9e73dd2e46356ac7660b9\",\"kind\":\"ping-req-ack\",\"reached\":false,\"source\":\"127.0.0.1:29177\",\"sourceIncarnationNumber\":1,\"target\":\"127.0.0.1:29170\"}\n";
 
-/// Says what is to be said, as far as the other side takes it.
+/// Sends the text, as far as the other side takes it.
 fn say<C: Clock, W: Write>(clock: &C, stream: &mut W, talk: &Talk) -> io::Result<()> {
     for _ in 0..talk.blocks {
         stream.write_all(&[b'a'; 1024])?;
@@ -75,7 +77,7 @@ fn say<C: Clock, W: Write>(clock: &C, stream: &mut W, talk: &Talk) -> io::Result
     stream.write_all(talk.text.as_bytes())
 }
 
-/// What a peer hears.
+/// What a peer receives.
 #[derive(Clone, Copy, PartialEq, Eq)]
 enum Rest {
     /// What is wanted.
@@ -121,7 +123,7 @@ fn rest_of<S: Read>(stream: &mut S, wanted: &str) -> Rest {
     }
 }
 
-/// What a peer that talks so hears on a stream.
+/// What a peer that talks so receives on a stream.
 fn hears<C: Clock>(clock: &C, stream: &mut TcpStream, talk: &Talk) -> Rest {
     let _said = say(clock, stream, talk);
     match talk.close {
@@ -132,7 +134,7 @@ fn hears<C: Clock>(clock: &C, stream: &mut TcpStream, talk: &Talk) -> Rest {
     }
 }
 
-/// Whether a peer hears what it is to hear, and no earlier. One that hears nothing talks again, as often as it may.
+/// Whether a peer receives what it has to, and no earlier. One that receives nothing talks again, as often as it may.
 pub(crate) fn is_heard<R: Net<Listener = TcpListener, Stream = TcpStream> + Clock>(
     rt: &R,
     server: &Running,
@@ -157,7 +159,7 @@ pub(crate) fn is_heard<R: Net<Listener = TcpListener, Stream = TcpStream> + Cloc
     false
 }
 
-/// Connects so many peers that are silent; none where one was not connected or there was no memory.
+/// Connects this many peers that are unresponsive; None if one was not connected or out of memory.
 fn connect_silent<R: Net<Listener = TcpListener, Stream = TcpStream> + Clock>(
     rt: &R,
     silent: &mut Vec<TcpStream>,
@@ -206,7 +208,7 @@ fn serves_once<R: Net<Listener = TcpListener, Stream = TcpStream> + Runtime>(
     alloc: Global,
     plan: &Plan,
     talks: &[Talk],
-    outcome: Result<(), ServeFault>,
+    outcome: Result<(), ServeError>,
 ) -> bool {
     let Some(server) = start(rt, alloc, plan) else {
         return false;
@@ -215,13 +217,13 @@ fn serves_once<R: Net<Listener = TcpListener, Stream = TcpStream> + Runtime>(
     ends_so(rt, server, is_served, outcome)
 }
 
-/// The same, once more where a growth or a thread may have been refused.
-pub(crate) fn serves<R: Net<Listener = TcpListener, Stream = TcpStream> + Runtime>(
+/// The same, and another server if an allocation failed.
+pub(crate) fn serves<R: Net<Listener = TcpListener, Stream = TcpStream> + Runtime + Env + Abort>(
     rt: &R,
     alloc: Global,
     plan: &Plan,
     talks: &[Talk],
-    outcome: Result<(), ServeFault>,
+    outcome: Result<(), ServeError>,
 ) -> bool {
-    serves_once(rt, alloc, plan, talks, outcome) || serves_once(rt, alloc, plan, talks, outcome)
+    again!(rt, serves_once(rt, alloc, plan, talks, outcome))
 }

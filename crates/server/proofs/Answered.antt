@@ -1,10 +1,9 @@
 -- What is answered to a line, and what is sent for an answer.
-use Rattle.std.proofs.Common.{◌≡◌, ◌≢◌, ◌≤◌, ℕ, inl, inr, length, subst, sym, List, Option, Some, None, Result, Ok, Err, Vec}
-use Rattle.std.specs.Prelude.{IfOk, IfNone, IfSome}
+use Rattle.std.proofs.Common.{◌≢◌, ℕ, inl, inr, List, Option, Some, None, Result, Ok, Err, Vec}
+use Rattle.std.specs.Prelude.{IfNone, IfSome}
 use Rattle.std.specs.Global.{Global}
-use Rattle.std.specs.Result.{result_ok}
 use Rattle.turn_lock.specs.declared.errors.LockError.{LockError}
-use Rattle.wire_json.specs.Lines.{Faults, IsLine, max_line}
+use Rattle.wire_json.specs.Lines.{Faults, IsLine}
 use Rattle.wire_json.specs.MessageFaults.{MessageFault}
 use Rattle.wire_json.specs.Messages.{MessageForm}
 use Rattle.message_core.specs.declared.errors.WireError.{WireError}
@@ -16,12 +15,12 @@ use Rattle.locked_node.specs.Passes.{NodePass}
 use Rattle.peer_core.specs.Acts.{Makes}
 use Rattle.peer_core.specs.Errors.{error_of_lock}
 use Rattle.peer_core.specs.Links.{MayAnswer}
-use Rattle.peer_core.specs.Parts.{Part, Does, Gives, let_in}
+use Rattle.peer_core.specs.Parts.{Does, Gives, let_in}
 use Rattle.peer_core.specs.Serving.{Refuses}
-use Rattle.peer_core.proofs.Acts.{makes_as, makes_none, makes_then}
+use Rattle.peer_core.proofs.Acts.{makes_as, makes_then}
 use Rattle.peer_core.proofs.Parts.{does_give, does_next, does_part, does_stop}
 use Rattle.peer_core.specs.Handling.{MayHandle}
-use Rattle.server.specs.Answering.{AnswersInput, AnswersLine, AnswersMessage, IsNotAnswered, IsRefusalLine, IsSentAs, IsSilent, IsTried, IsUnread, IsUnsent, Responds, SendsNothing, line_text, unread_as}
+use Rattle.server.specs.Answering.{AnswersInput, AnswersLine, AnswersMessage, IsNotAnswered, IsSentAs, IsSilent, IsTried, IsUnread, IsUnsent, Responds, SendsNothing, unread_as}
 use Rattle.server.specs.declared.inputs.Input.{Input}
 use Rattle.server.specs.declared.inputs.Input.TheVariants as input
 
@@ -46,33 +45,6 @@ unread_by line Io h = unread_other line Io (λ q. cc) h
 unread_by line Memory h = tt
 
 module _ {H : Type 0} where
-  -- what an answer that the lock let in has done
-  pub made_by : {A : Type 0} (locked : LockedNode H) (P : Part H A) (r : Result A LockError) (p q : NodePass H)
-      → Does locked P (let_in r) p q → IfOk r (λ a. Makes locked (P (Ok a)) p q)
-  made_by locked P (Ok a) p q d = d.makes
-  made_by locked P (Err l) p q d = tt
-
-  -- the same of the answer alone
-  pub made_some : {A : Type 0} (locked : LockedNode H) (P : Part H A) (r : Result A LockError) (o : Option A) (p q : NodePass H)
-      → o ≡ result_ok r → Does locked P (let_in r) p q → IfSome o (λ a. Makes locked (P (Ok a)) p q)
-  made_some locked P (Ok a) o p q e d = subst (λ (x : Option _). IfSome x (λ a. Makes locked (P (Ok a)) p q)) (sym e) d.makes
-  made_some locked P (Err l) o p q e d = subst (λ (x : Option _). IfSome x (λ a. Makes locked (P (Ok a)) p q)) (sym e) tt
-
-  -- a refusal's line
-  pub refusal_made : (locked : LockedNode H) (why : Reason) (refusal : Message) (line : List ℕ) (p q : NodePass H)
-      → line ≡ line_text refusal → Makes locked (Refuses why (Ok refusal)) p q → Makes locked (IsRefusalLine why line) p q
-  refusal_made locked why refusal line p q e m = makes_as (IsRefusalLine why line) (λ acts h. (refusal, h, e)) m
-
-  -- an answer's own line is sent, or that of a refusal
-  pub sent_own : (locked : LockedNode H) (answer : Message) (line : List ℕ) (p : NodePass H)
-      → length line ≤ max_line → line ≡ line_text answer → Makes locked (IsSentAs answer line) p p
-  sent_own locked answer line p short e = makes_as (IsSentAs answer line) (λ acts n. inl (n, short, e)) (makes_none locked p)
-
-  pub sent_refusal : (locked : LockedNode H) (answer : Message) (why : Reason) (o : Option (Vec ℕ Global)) (p q : NodePass H)
-      → IsUnsent answer why → IfSome o (λ v. Makes locked (IsRefusalLine why v.items) p q) → IfSome o (λ v. Makes locked (IsSentAs answer v.items) p q)
-  sent_refusal locked answer why (Some v) p q unsent m = makes_as (IsSentAs answer v.items) (λ acts h. inr (why, unsent, h)) m
-  sent_refusal locked answer why None p q unsent m = tt
-
   -- or neither is
   sends_nothing : (locked : LockedNode H) (answer : Message) (why : Reason) (r : Result Message LockError) (p q : NodePass H)
       → IsUnsent answer why → Does locked (Refuses why) (let_in r) p q → IsTried (SendsNothing answer) locked p q

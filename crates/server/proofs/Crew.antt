@@ -1,5 +1,5 @@
 -- The workers of a server, taken and put back one by one from the end.
-use Rattle.std.proofs.Common.{◌≡◌, ◌≢◌, ◌∙◌, refl, sym, ap, subst, append_assoc, append-nil, ℕ, List, [], ◌∷◌, ◌++◌, true, false, All}
+use Rattle.std.proofs.Common.{◌≡◌, ◌≢◌, ◌∙◌, refl, sym, ap, subst, append_assoc, append-nil, ℕ, List, [], ◌∷◌, ◌++◌, true, false, All, Option}
 use Rattle.std.specs.Prelude.{map, reverse}
 use Rattle.std.specs.List.{AllZip}
 use Rattle.std.specs.declared.thread.PromisedHandle.{PromisedHandle}
@@ -10,11 +10,12 @@ use Rattle.indexmap.proofs.SetLemmas.{AllZip-push}
 use Rattle.locked_node.specs.declared.node.LockedNode.{LockedNode}
 use Rattle.locked_node.specs.Passes.{NodePass}
 use Rattle.peer_core.specs.Acts.{Makes}
-use Rattle.cluster_core.proofs.Worked.{none_yet}
+use Rattle.server.proofs.Worked.{no_rounds}
 use Rattle.peer_core.specs.Handling.{MayHandle}
 use Rattle.server.specs.Running.{AreWorkersOf, IsTimerOf, makes_rounds, rounds_pass, worker_passes}
 use Rattle.server.specs.Threads.{AreBack, IsTimer, IsTimerBack, IsWorker, IsWorkerBack, ServeAlone}
-use Rattle.server.specs.Working.{IsConnection, IsOneRound, Repeats}
+use Rattle.server.specs.Working.{AreRounds, IsConnection, Repeats}
+use Rattle.server.specs.declared.healing.HealingPlan.{HealingPlan}
 use Rattle.server.specs.declared.promises.WorkerPromise.{WorkerPromise}
 use Rattle.server.specs.declared.promises.Timer.{Timer}
 use Rattle.server.specs.declared.promises.Timer.TheVariants.{Resting, Running}
@@ -80,18 +81,21 @@ all_reversed P (x ∷ xs) h =
 
 module _ {H : Type 0} where
   -- what is known of a timer that was started
-  pub timer_is : (node : LockedNode H) (period : ℕ) (pass : NodePass H) (timer : Timer H) → IsTimer node period pass timer
-      → IsTimerOf node timer × ((rounds_pass timer ≡ pass) × ((period ≡ 0 → makes_rounds timer ≡ false) × (period ≢ 0 → makes_rounds timer ≡ true)))
-  timer_is node period pass (Resting kept) is = (tt, (is.1, ((λ _. refl), λ some. absurd (some is.0))))
-  timer_is node period pass (Running thread) is = (is.1, (is.2, ((λ none. absurd (is.0 none)), λ _. refl)))
+  pub timer_is : (node : LockedNode H) (healing : Option HealingPlan) (period : ℕ) (pass : NodePass H) (timer : Timer H) → IsTimer node healing period pass timer
+      → IsTimerOf node healing timer × ((rounds_pass timer ≡ pass) × ((period ≡ 0 → makes_rounds timer ≡ false) × (period ≢ 0 → makes_rounds timer ≡ true)))
+  timer_is node healing period pass (Resting kept) is = (tt, (is.1, ((λ _. refl), λ some. absurd (some is.0))))
+  timer_is node healing period pass (Running thread) is = ((is.1, is.2), (is.3, ((λ none. absurd (is.0 none)), λ _. refl)))
 
   -- what came back from the thread of the rounds, or was kept
-  pub timer_back : (node : LockedNode H) (timer : Timer H) (back : NodePass H) → IsTimerOf node timer → IsTimerBack timer back
-      → Makes node (Repeats IsOneRound) (rounds_pass timer) back × (makes_rounds timer ≡ false → back ≡ rounds_pass timer)
-  timer_back node (Resting kept) back of same =
-      (subst (λ (p : NodePass H). Makes node (Repeats IsOneRound) kept p) (sym same) (none_yet node IsOneRound kept), λ _. same)
-  timer_back node (Running thread) back of made =
-      (subst (λ (n : LockedNode H). Makes n (Repeats IsOneRound) thread.promise.pass.value back) of made, λ no. absurd (true≢false no))
+  pub timer_back : (node : LockedNode H) (healing : Option HealingPlan) (timer : Timer H) (back : NodePass H) → IsTimerOf node healing timer → IsTimerBack timer back
+      → Makes node (AreRounds healing) (rounds_pass timer) back × (makes_rounds timer ≡ false → back ≡ rounds_pass timer)
+  timer_back node healing (Resting kept) back of same =
+      (subst (λ (p : NodePass H). Makes node (AreRounds healing) kept p) (sym same) (no_rounds node healing kept), λ _. same)
+  timer_back node healing (Running thread) back of made = (
+    subst (λ (n : LockedNode H). Makes n (AreRounds healing) thread.promise.pass.value back) of.0
+        (subst (λ (x : Option HealingPlan). Makes thread.promise.node.value (AreRounds x) thread.promise.pass.value back) of.1 made),
+    λ no. absurd (true≢false no),
+  )
 
 module _ {H A : Type 0} where
   values_are : (node : LockedNode H) (passes : List (NodePass H)) (workers : List (PromisedHandle (NodePass H) (WorkerPromise H A))) → AllZip (IsWorker node) passes workers

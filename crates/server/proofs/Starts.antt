@@ -2,6 +2,7 @@
 use Rattle.std.proofs.Common.{◌≡◌, ◌≢◌, ◌≤◌, ◌+◌, ◌-◌, ◌↔◌, ◌∙◌, ℕ, Bool, true, false, ap, sym, subst, arith, All, List, [], ◌∷◌, ◌++◌, take, drop, length, Option, Some, None, Result, Ok, Err}
 use Rattle.std.proofs.lemmas.List.Elements.{All-drop, All-take}
 use Rattle.std.proofs.lemmas.List.{length-drop, length-take-le, take-append-drop}
+use Rattle.change_core.specs.declared.addresses.Address.{Address}
 use Rattle.node_core.specs.Configs.{bad_field}
 use Rattle.node_core.specs.Node.{Seen}
 use Rattle.node_core.specs.declared.configs.ConfigField.{ConfigField}
@@ -11,7 +12,8 @@ use Rattle.locked_node.specs.declared.node.LockedNode.{LockedNode}
 use Rattle.locked_node.specs.Passes.{Fits, NodePass, opening_of}
 use Rattle.cluster_core.specs.Clusters.{AreAll}
 use Rattle.server.specs.Running.{Started}
-use Rattle.server.specs.Starting.{IsBorn, IsNotBorn, IsStarted, start_error}
+use Rattle.server.specs.Starting.{IsBorn, IsHealedAs, IsNotBorn, IsStarted, start_error}
+use Rattle.server.specs.declared.healing.HealingPlan.{HealingPlan}
 use Rattle.server.specs.declared.servers.Server.{Server}
 use Rattle.server.specs.declared.starting.Settings.{Settings}
 
@@ -48,18 +50,24 @@ module _ {H : Type 0} (locked : LockedNode H) (n handles : ℕ) (given : List (N
   pub rest_count : (rest : List (NodePass H)) → rest ≡ drop n given → length given ≡ n + handles → length rest ≡ handles
   rest_count rest is count = let left : length given - n ≡ handles = omega (arith, count) in ap length is ∙ length-drop n given ∙ left
 
+-- what was made of this plan heals so, too
+pub healed_by : (heals : Bool) (own : Address) (hosts : List Address) (plan given : Option HealingPlan) → given ≡ plan → IsHealedAs heals own hosts plan → IsHealedAs heals own hosts given
+healed_by heals own hosts plan given e h = subst (λ (x : Option HealingPlan). IsHealedAs heals own hosts x) (sym e) h
+
 module _ {H A : Type 0} (hash_of : H → List ℕ → ℕ) (hash : H) (answers : A) (settings : Settings) (born : Seen H) (locked : LockedNode H) (server : Server H A)
     (workers handles : List (NodePass H)) (rounds : NodePass H) (running : Started H A) where
   -- what was started is what the settings ask for
   pub started_by : IsBorn hash_of hash settings born → opening_of locked ≡ born → server.node ≡ locked → server.handler ≡ answers → server.timeouts ≡ settings.timeouts
+      → IsHealedAs settings.heals settings.address [] server.healing
       → length workers ≡ settings.workers → length handles ≡ settings.handles → AreAll locked (workers ++ handles ++ rounds ∷ []) → All (Fits locked) handles
       → (running.server ≡ server) × (running.rounds ≡ rounds) × (running.workers ≡ workers)
       → (settings.period ≡ 0 → running.has_rounds ≡ false) → (settings.period ≢ 0 → running.has_rounds ≡ true) → IsStarted hash_of hash answers settings running handles
-  started_by is opened its answered waits count left all fits same resting timed =
+  started_by is opened its answered waits heals count left all fits same resting timed =
       let node : running.server.node ≡ locked = ap (λ (s : Server H A). s.node) same.0 ∙ its in record {
         born = subst (λ (x : Seen H). IsBorn hash_of hash settings x) (sym (ap opening_of node ∙ opened)) is;
         handler = ap (λ (s : Server H A). s.handler) same.0 ∙ answered;
         timeouts = ap (λ (s : Server H A). s.timeouts) same.0 ∙ waits;
+        healing = subst (λ (s : Server H A). IsHealedAs settings.heals settings.address [] s.healing) (sym same.0) heals;
         workers = ap length same.2 ∙ count;
         count = left;
         resting = resting;

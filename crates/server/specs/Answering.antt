@@ -1,4 +1,4 @@
--- What a server answers to what comes over a connection.
+-- The answers of a server to the inputs of connections.
 use Rattle.std.specs.Prelude.{◌≡◌, ◌≢◌, ◌⊎◌, ℕ, ◌<◌, ◌≤◌, List, length, Option, Some, None, Result, Ok, Err, Vec}
 use Rattle.std.specs.Global.{Global}
 use Rattle.serde_json.specs.Written.{compact_text}
@@ -23,7 +23,7 @@ use Rattle.peer_core.specs.Handling.{MayHandle}
 use Rattle.server.specs.declared.inputs.Input.{Input}
 use Rattle.server.specs.declared.inputs.Input.TheVariants as input
 
--- what the reading of one line comes to: the line; a refusal, where it is too long or found no memory; else nothing that is answered
+-- the input for the result of reading one line: the line; a refusal, if it is too long or out of memory; else one that needs no answer
 abbrev pub input_of : Result (Option (Vec ℕ Global)) WireError → Input
 input_of (Ok (Some line)) = input.Line line
 input_of (Ok None) = input.Nothing
@@ -31,18 +31,18 @@ input_of (Err wire.LineTooLong) = input.Refused reason.Malformed
 input_of (Err wire.Memory) = input.Refused reason.Memory
 input_of (Err other) = input.Nothing
 
--- one line of the bytes was read, and this comes of it; or there was no memory to read by
+-- one line of the bytes was read, and this is the input; or out of memory to read by
 abbrev pub Hears : Option (List ℕ) → Input → Type 0
 Hears known heard =
     ((read : Result (Option (Vec ℕ Global)) WireError) × (left : Option (List ℕ)) × TakesLine known read left × (heard ≡ input_of read))
     ⊎ (heard ≡ input.Refused reason.Memory)
 
--- how a refusal names what is wrong with a line
+-- the reason of a refusal for an error of a line
 abbrev pub unread_as : WireError → Reason
 unread_as wire.Memory = reason.Memory
 unread_as other = reason.Malformed
 
--- why a line is not read as a message: it is none, by its first fault, or there was no memory to read it
+-- the reason of a line that is not read as a message: it is not one, by its first error, or out of memory for reading it
 abbrev pub IsUnread : List ℕ → Reason → Type 0
 IsUnread line reason.Malformed = (e : WireError) × (e ≢ wire.Memory) × Faults MessageFault line e
 IsUnread line reason.Memory = Unit {0}
@@ -52,7 +52,7 @@ IsUnread line other = ⊥
 abbrev pub line_text : Message → List ℕ
 line_text message = compact_text (message_data message)
 
--- why an answer's own line is not sent: it is too long, or there was no memory for it
+-- the reason of an answer whose own line is not sent: it is too long, or out of memory for it
 abbrev pub IsUnsent : Message → Reason → Type 0
 IsUnsent answer reason.Failed = max_line < length (line_text answer)
 IsUnsent answer reason.Memory = Unit {0}
@@ -63,8 +63,8 @@ module _ {H : Type 0} where
   abbrev pub IsRefusalLine : Reason → List ℕ → OfActs H
   IsRefusalLine why line acts = (refusal : Message) × Refuses why (Ok refusal) acts × (line ≡ line_text refusal)
 
-  -- what is sent for an answer: its own line, which is not too long, with no call; or, where it has none, the line of the refusal that
-  -- stands for it
+  -- the line that is sent for an answer: its own line, which is not too long, with no call; or, if it has none, the line of the refusal in
+  -- its stead
   abbrev pub IsSentAs : Message → List ℕ → OfActs H
   IsSentAs answer line acts =
       (Nothing acts × (length line ≤ max_line) × (line ≡ line_text answer)) ⊎ ((why : Reason) × IsUnsent answer why × IsRefusalLine why line acts)
@@ -73,28 +73,28 @@ module _ {H : Type 0} where
   abbrev pub IsTried : {A : Type 0} → Part H A → LockedNode H → NodePass H → NodePass H → Type 0
   IsTried {A} Tried locked old new = (r : Result A LockError) × Does locked Tried (let_in r) old new
 
-  -- nothing is sent for an answer: it has no line, and neither has the refusal that stands for it, which the node was asked for once
+  -- no line is sent for an answer: it has none, and neither has the refusal in its stead, which the node was asked for once
   abbrev pub SendsNothing : Message → Part H (Unit {0})
   SendsNothing answer r acts = (why : Reason) × IsUnsent answer why × Next (Refuses why) (λ refusal. Gives tt) r acts
 
 module _ {H : Type 0} (hash_of : H → List ℕ → ℕ) (Came : MayAnswer) (Handles : MayHandle) (now : ℕ) where
-  -- what is answered to a message at this moment: what a node answers, requests by the handler
+  -- the answer to a message at this moment: that of a node, requests by the handler
   abbrev pub AnswersMessage : Message → Part H Message
   AnswersMessage message = Serves hash_of Came Handles message now message.content
 
-  -- what is answered to a line: to the message that it is, or a refusal that says why it is none
+  -- the answer to a line: to its message, or a refusal with the reason why it has none
   abbrev pub AnswersLine : List ℕ → Part H Message
   AnswersLine line r acts =
       ((message : Message) × IsLine (λ v. MessageForm v message) line × AnswersMessage message r acts)
       ⊎ ((why : Reason) × IsUnread line why × Refuses why r acts)
 
-  -- what is answered to what came
+  -- the answer to an input
   abbrev pub AnswersInput : Input → Part H Message
   AnswersInput (input.Line line) = AnswersLine line.items
   AnswersInput (input.Refused why) = Refuses why
   AnswersInput input.Nothing = Never
 
-  -- the line that goes back for what came
+  -- the line that goes back for an input
   abbrev pub Responds : Input → List ℕ → OfActs H
   Responds heard line acts = (answer : Message) × Then (AnswersInput heard (Ok answer)) (IsSentAs answer line) acts
 
@@ -102,12 +102,12 @@ module _ {H : Type 0} (hash_of : H → List ℕ → ℕ) (Came : MayAnswer) (Han
   abbrev pub StaysSilent : Input → Part H (Unit {0})
   StaysSilent heard = Next (AnswersInput heard) SendsNothing
 
-  -- no answer is made to what came: no call is made, or the lock refuses one of the answer's
+  -- no answer is made to an input: no call is made, or the lock refuses one of the answer's
   abbrev pub IsNotAnswered : Input → LockedNode H → NodePass H → NodePass H → Type 0
   IsNotAnswered input.Nothing locked old new = new ≡ old
   IsNotAnswered heard locked old new = (l : LockError) × Does locked (AnswersInput heard) (Err (error_of_lock l)) old new
 
-  -- what was done where no line goes back: no call where nothing that is answered came; else those of the silence
+  -- the calls if no line goes back: none if the input needs no answer; else those of the silence
   abbrev pub IsSilent : Input → LockedNode H → NodePass H → NodePass H → Type 0
   IsSilent input.Nothing locked old new = new ≡ old
   IsSilent heard locked old new = IsTried (StaysSilent heard) locked old new

@@ -1,11 +1,12 @@
 -- A server whose threads run, and what comes back when they have ended.
-use Rattle.std.specs.Prelude.{◌≡◌, ◌≤◌, Bool, true, false, List, [], map, reverse, vec_len, Vec}
+use Rattle.std.specs.Prelude.{◌≡◌, ◌≤◌, Bool, true, false, List, [], Option, map, reverse, vec_len, Vec}
 use Rattle.std.specs.Global.{Global}
 use Rattle.std.specs.Vec.{vec_capacity}
 use Rattle.std.specs.List.{All}
 use Rattle.std.specs.declared.thread.PromisedHandle.{PromisedHandle}
 use Rattle.locked_node.specs.declared.node.LockedNode.{LockedNode}
 use Rattle.locked_node.specs.Passes.{NodePass}
+use Rattle.server.specs.declared.healing.HealingPlan.{HealingPlan}
 use Rattle.server.specs.declared.servers.Server.{Server}
 use Rattle.server.specs.declared.errors.ServerError.{ServerError}
 use Rattle.server.specs.declared.promises.WorkerPromise.{WorkerPromise}
@@ -25,18 +26,18 @@ module _ {H : Type 0} where
   makes_rounds (Resting pass) = false
   makes_rounds (Running thread) = true
 
-  -- the pass for the rounds, as it was given
+  -- the pass for the rounds, as given
   abbrev pub rounds_pass : Timer H → NodePass H
   rounds_pass (Resting pass) = pass
   rounds_pass (Running thread) = thread.promise.pass.value
 
-  -- the thread of the rounds, if there is one, is the node's
-  abbrev pub IsTimerOf : LockedNode H → Timer H → Type 0
-  IsTimerOf node (Resting pass) = Unit {0}
-  IsTimerOf node (Running thread) = thread.promise.node.value ≡ node
+  -- the thread of the rounds, if there is one, is the node's, and heals so
+  abbrev pub IsTimerOf : LockedNode H → Option HealingPlan → Timer H → Type 0
+  IsTimerOf node healing (Resting pass) = Unit {0}
+  IsTimerOf node healing (Running thread) = (thread.promise.node.value ≡ node) × (thread.promise.healing.value ≡ healing)
 
 module _ {H A : Type 0} where
-  -- the passes of workers that were started from the last one on, as they were given
+  -- the passes of workers that were started from the last one on, as given
   abbrev pub worker_passes : List (PromisedHandle (NodePass H) (WorkerPromise H A)) → List (NodePass H)
   worker_passes workers = map (λ (w : PromisedHandle (NodePass H) (WorkerPromise H A)). w.promise.pass.value) (reverse workers)
 

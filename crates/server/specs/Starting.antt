@@ -1,5 +1,5 @@
--- What a node and its server are started with, and what is started.
-use Rattle.std.specs.Prelude.{◌≡◌, ◌≢◌, true, false, ℕ, ◌+◌, ◌*◌, ◌^◌, ◌≤◌, ◌<◌, List, ◌∷◌, [], ◌++◌, Option, Some, None, length, All}
+-- The settings of a start of a node and its server, and its result.
+use Rattle.std.specs.Prelude.{◌≡◌, ◌≢◌, Bool, true, false, ℕ, ◌+◌, ◌*◌, ◌^◌, ◌≤◌, ◌<◌, List, ◌∷◌, [], ◌++◌, Option, Some, None, length, All}
 use Rattle.change_core.specs.declared.addresses.Address.{Address}
 use Rattle.detector_core.specs.Choices.{seeded}
 use Rattle.node_core.specs.Configs.{bad_field, standard}
@@ -15,6 +15,7 @@ use Rattle.server.specs.Running.{Started}
 use Rattle.server.specs.Timeouts.{AreStandardTimeouts}
 use Rattle.server.specs.declared.errors.ServerError.{ServerError}
 use Rattle.server.specs.declared.errors.ServerError.TheVariants as server
+use Rattle.server.specs.declared.healing.HealingPlan.{HealingPlan}
 use Rattle.server.specs.declared.starting.Settings.{Settings}
 use Rattle.server.specs.declared.starting.StartError.{StartError}
 use Rattle.server.specs.declared.starting.StartError.TheVariants as error
@@ -26,7 +27,14 @@ pub record AreStandardFor (a i : ℕ) (settings : Settings) : Type 0 where
   pub config : settings.config ≡ record standard { per_message = 256 }
   pub counts : (settings.workers ≡ 4) × (settings.handles ≡ 1)
   pub period : settings.period ≡ 200
+  pub heals : settings.heals ≡ true
   pub timeouts : AreStandardTimeouts settings.timeouts
+
+-- a node of this address heals so, with these hosts, or does not heal
+abbrev pub IsHealedAs : Bool → Address → List Address → Option HealingPlan → Type 0
+IsHealedAs false own hosts None = Unit {0}
+IsHealedAs true own hosts (Some plan) = (plan.own ≡ own) × (plan.hosts.items ≡ hosts)
+IsHealedAs heals own hosts other = ⊥
 
 -- the seed of the random choices of a node
 abbrev pub seed_of : Address → ℕ → ℕ
@@ -36,23 +44,23 @@ seed_of address incarnation = address * 2 ^ 15 + incarnation
 abbrev pub AreCountsInRange : Settings → Type 0
 AreCountsInRange settings = IsCrew settings.workers × (settings.handles ≤ 1000)
 
--- the node that the settings ask for, alone and newborn at moment 0
+-- the new node that the settings ask for, alone at moment 0
 abbrev pub IsBorn : {H : Type 0} → (H → List ℕ → ℕ) → H → Settings → Seen H → Type 0
 IsBorn hash_of hash settings node =
     node ≡ seen_of hash_of (newborn hash settings.config settings.address settings.incarnation 0 (seeded (seed_of settings.address settings.incarnation)))
 
--- why there is no such node
+-- the error if there is no such node
 abbrev pub IsNotBorn : Settings → StartError → Type 0
 IsNotBorn settings (error.BadConfig field) = bad_field settings.config ≡ Some field
 IsNotBorn settings error.Memory = bad_field settings.config ≡ None
 IsNotBorn settings other = ⊥
 
--- why there is no node, as a start answers it
+-- a start's error for an error of the node
 abbrev pub start_error : NodeError → StartError
 start_error (node.BadConfig field) = error.BadConfig field
 start_error other = error.Memory
 
--- why nothing was started: the first reason, in this order, but for memory
+-- the error of a start: the first that applies, in this order, apart from out of memory
 abbrev pub IsNotStarted : Settings → StartError → Type 0
 IsNotStarted settings (error.BadConfig field) = bad_field settings.config ≡ Some field
 IsNotStarted settings error.BadCount = (bad_field settings.config ≡ None) × ¬ AreCountsInRange settings
@@ -60,17 +68,18 @@ IsNotStarted settings error.CannotListen = (bad_field settings.config ≡ None) 
 IsNotStarted settings error.NoThread = (bad_field settings.config ≡ None) × AreCountsInRange settings
 IsNotStarted settings error.Memory = bad_field settings.config ≡ None
 
--- why a server's threads do not run, as a start answers it
+-- a start's error for an error of a server
 abbrev pub error_of_server : ServerError → StartError
 error_of_server server.NoThread = error.NoThread
 error_of_server server.Memory = error.Memory
 
--- The server's node was born as the settings ask for; it answers by the handler and waits as long as they say. The passes of its workers, the handles and the
--- pass of its rounds are all that the node has.
+-- The server's node was made by the settings; its handler answers, and it waits and heals as they say. The passes of its workers, the
+-- handles and the pass of its rounds are all that the node has.
 pub record IsStarted {H A : Type 0} (hash_of : H → List ℕ → ℕ) (hash : H) (answers : A) (settings : Settings) (running : Started H A) (handles : List (NodePass H)) : Type 0 where
   pub born : IsBorn hash_of hash settings (opening_of running.server.node)
   pub handler : running.server.handler ≡ answers
   pub timeouts : running.server.timeouts ≡ settings.timeouts
+  pub healing : IsHealedAs settings.heals settings.address [] running.server.healing
   pub workers : length running.workers ≡ settings.workers
   pub count : length handles ≡ settings.handles
   pub resting : settings.period ≡ 0 → running.has_rounds ≡ false

@@ -1,12 +1,13 @@
 -- The threads of a server, by the passes that they were given and give back.
-use Rattle.std.specs.Prelude.{◌≡◌, ◌≢◌, ℕ, List, ◌++◌}
+use Rattle.std.specs.Prelude.{◌≡◌, ◌≢◌, ℕ, List, ◌++◌, Option}
 use Rattle.std.specs.List.{AllZip}
 use Rattle.std.specs.declared.thread.PromisedHandle.{PromisedHandle}
 use Rattle.locked_node.specs.declared.node.LockedNode.{LockedNode}
 use Rattle.locked_node.specs.Passes.{NodePass}
 use Rattle.peer_core.specs.Handling.{MayHandle}
 use Rattle.peer_core.specs.Acts.{Makes}
-use Rattle.server.specs.Working.{IsConnection, IsOneRound, Repeats}
+use Rattle.server.specs.Working.{AreRounds, IsConnection, Repeats}
+use Rattle.server.specs.declared.healing.HealingPlan.{HealingPlan}
 use Rattle.server.specs.declared.promises.WorkerPromise.{WorkerPromise}
 use Rattle.server.specs.declared.promises.Timer.{Timer}
 use Rattle.server.specs.declared.promises.Timer.TheVariants.{Resting, Running}
@@ -20,7 +21,7 @@ module _ {H A : Type 0} where
   abbrev pub IsWorkerBack : (H → List ℕ → ℕ) → MayHandle → PromisedHandle (NodePass H) (WorkerPromise H A) → NodePass H → Type 0
   IsWorkerBack hash_of Handles worker back = Makes worker.promise.node.value (Repeats (IsConnection hash_of Handles)) worker.promise.pass.value back
 
-  -- the passes that came back from these workers stand after the others
+  -- the passes that came back from these workers come after the others
   abbrev pub AreBack : (H → List ℕ → ℕ) → MayHandle → List (NodePass H) → List (PromisedHandle (NodePass H) (WorkerPromise H A)) → List (NodePass H) → Type 0
   AreBack hash_of Handles before workers passes = (back : List (NodePass H)) × (passes ≡ before ++ back) × AllZip (IsWorkerBack hash_of Handles) workers back
 
@@ -29,12 +30,13 @@ module _ {H : Type 0} where
   abbrev pub ServeAlone : (H → List ℕ → ℕ) → MayHandle → LockedNode H → List (NodePass H) → List (NodePass H) → Type 0
   ServeAlone hash_of Handles node old new = AllZip (Makes node (Repeats (IsConnection hash_of Handles))) old new
 
-  -- where the period is 0 nobody makes rounds, and the pass for them is kept; else a thread of the node was given it
-  abbrev pub IsTimer : LockedNode H → ℕ → NodePass H → Timer H → Type 0
-  IsTimer node period pass (Resting kept) = (period ≡ 0) × (kept ≡ pass)
-  IsTimer node period pass (Running rounds) = (period ≢ 0) × (rounds.promise.node.value ≡ node) × (rounds.promise.pass.value ≡ pass)
+  -- if the period is 0 no thread makes rounds, and the pass for them is kept; else a thread of the node was given it, to heal so
+  abbrev pub IsTimer : LockedNode H → Option HealingPlan → ℕ → NodePass H → Timer H → Type 0
+  IsTimer node healing period pass (Resting kept) = (period ≡ 0) × (kept ≡ pass)
+  IsTimer node healing period pass (Running rounds) =
+      (period ≢ 0) × (rounds.promise.node.value ≡ node) × (rounds.promise.healing.value ≡ healing) × (rounds.promise.pass.value ≡ pass)
 
-  -- by the pass that came back rounds were made alone
+  -- by the pass that came back rounds were made alone, and what heals after them
   abbrev pub IsTimerBack : Timer H → NodePass H → Type 0
   IsTimerBack (Resting kept) back = back ≡ kept
-  IsTimerBack (Running rounds) back = Makes rounds.promise.node.value (Repeats IsOneRound) rounds.promise.pass.value back
+  IsTimerBack (Running rounds) back = Makes rounds.promise.node.value (AreRounds rounds.promise.healing.value) rounds.promise.pass.value back

@@ -1,4 +1,4 @@
--- How long a server waits for others.
+-- The time limits for which a server waits for others.
 use Rattle.std.specs.Prelude.{◌≡◌, ◌*◌, ◌^◌}
 use Rattle.std.specs.Duration.{as_nanos}
 use Rattle.cluster_core.specs.Limits.{IsStandard}

@@ -1,4 +1,4 @@
-//! What a server answers to what came.
+//! The answers of a server to inputs.
 ghost use Rattle.std.specs.Prelude.{◌≡◌, ◌≤◌, Ok, IfOk, IfErr, IfNone, IfSome, length};
 ghost use Rattle.wire_json.specs.Lines.{IsLine, max_line};
 ghost use Rattle.wire_json.specs.Messages.{MessageForm};
@@ -6,7 +6,7 @@ ghost use Rattle.locked_node.specs.Passes.{Fits};
 ghost use Rattle.peer_core.specs.Acts.{Makes};
 ghost use Rattle.peer_core.specs.Parts.{Does, let_in};
 ghost use Rattle.peer_core.specs.Serving.{Refuses};
-ghost use Rattle.server.specs.Answering.{AnswersInput, AnswersLine, AnswersMessage, IsNotAnswered, IsRefusalLine, IsSentAs, IsSilent, IsTried, IsUnread, IsUnsent, Responds, SendsNothing, line_text, unread_as};
+ghost use Rattle.server.specs.Answering.{AnswersInput, AnswersLine, IsNotAnswered, IsRefusalLine, IsSentAs, IsSilent, IsTried, IsUnread, IsUnsent, Responds, SendsNothing, line_text, unread_as};
 
 use crate::inputs::Input;
 use change_core::Moment;
@@ -19,7 +19,7 @@ use std::sync::Wait;
 use turn_lock::LockError;
 use wire_json::{decode, encode};
 
-/// How a refusal names what is wrong with a line.
+/// Returns the reason of a refusal for an error of a line.
 fn reason_of(fault: WireError) -> Reason
     ensures { result ≡ unread_as fault }
 {
@@ -29,7 +29,8 @@ fn reason_of(fault: WireError) -> Reason
     }
 }
 
-/// The message that a line is, or why it is refused: `Malformed` where it is none, `Memory` where there was none to read it.
+/// Reads the message of a line, or returns the reason of its refusal: `Malformed` if it is not a message, `Memory` if
+/// out of memory for reading it.
 fn read_message(alloc: Global, line: &[u8]) -> Result<Message, Reason>
     ensures message { IfOk result (λ m. IsLine (λ v. MessageForm v m) line.now) }
     ensures reason { IfErr result (IsUnread line.now) }
@@ -40,25 +41,7 @@ fn read_message(alloc: Global, line: &[u8]) -> Result<Message, Reason>
     }
 }
 
-/// What is answered to a message.
-fn answer_message<R: Wait, H: PointHash, L: Link, A: Handler>(
-    rt: &R,
-    alloc: Global,
-    node: &LockedNode<H>,
-    pass: &mut NodePass<H>,
-    link: &mut L,
-    handler: &A,
-    now: Moment,
-    message: &Message,
-) -> Result<Message, LockError>
-    requires { Fits node.now pass.old }
-    ensures did { Does node.now (AnswersMessage H.hash_of L.may_answer A.may_handle now message.now) (let_in result) pass.old pass.new }
-    ensures fits { Fits node.now pass.new }
-{
-    serve_one(rt, alloc, node, pass, link, handler, now, message)
-}
-
-/// What is answered to a line.
+/// Returns the answer to a line.
 fn answer_line<R: Wait, H: PointHash, L: Link, A: Handler>(
     rt: &R,
     alloc: Global,
@@ -74,12 +57,12 @@ fn answer_line<R: Wait, H: PointHash, L: Link, A: Handler>(
     ensures fits { Fits node.now pass.new }
 {
     match read_message(alloc, line) {
-        Ok(message) => answer_message(rt, alloc, node, pass, link, handler, now, &message),
+        Ok(message) => serve_one(rt, alloc, node, pass, link, handler, now, &message),
         Err(reason) => refuse(rt, node, pass, reason),
     }
 }
 
-/// What is answered to what came; none where nothing is answered, or the lock refused a call of the answer.
+/// Returns the answer to an input; None if it needs none, or the lock refused a call of the answer.
 fn answer<R: Wait, H: PointHash, L: Link, A: Handler>(
     rt: &R,
     alloc: Global,
@@ -104,7 +87,7 @@ fn answer<R: Wait, H: PointHash, L: Link, A: Handler>(
     }
 }
 
-/// The line of an answer, or the reason why it has none: `Failed` where it is too long, else `Memory`.
+/// Returns the line of an answer, or the reason why it has none: `Failed` if it is too long, else `Memory`.
 fn own_line(alloc: Global, answer: &Message) -> Result<Vec<u8>, Reason>
     ensures line { IfOk result (λ v. v.items ≡ line_text answer.now) }
     ensures short { IfOk result (λ v. length v.items ≤ max_line) }
@@ -117,7 +100,7 @@ fn own_line(alloc: Global, answer: &Message) -> Result<Vec<u8>, Reason>
     }
 }
 
-/// The line of a refusal; none where the lock refuses the call for it, or there is no memory for its line.
+/// Returns the line of a refusal; None if the lock refuses the call for it, or out of memory for its line.
 fn refusal_line<R: Wait, H: PointHash>(
     rt: &R,
     alloc: Global,
@@ -139,7 +122,7 @@ fn refusal_line<R: Wait, H: PointHash>(
     }
 }
 
-/// The line of an answer, or of the refusal that stands for it where it has none.
+/// Returns the line of an answer, or of the refusal in its stead if it has none.
 fn line_of<R: Wait, H: PointHash>(
     rt: &R,
     alloc: Global,
@@ -158,13 +141,14 @@ fn line_of<R: Wait, H: PointHash>(
     }
 }
 
-/// The line, without its newline, that goes back for what came at a moment. To a line that is a message it is that of what
-/// `serve_one` answers, requests by the handler; to any other line, and to one that was too long, a refusal `malformed`; and `memory` where
-/// there was none to read a line. Where the answer's line would have more than 1,048,576 bytes it is that of a refusal `failed`, where
-/// there was no memory for it that of a refusal `memory`, by one call of the node more.
+/// Returns the line, without its newline, that goes back for an input at a moment. To a line that is a message it is
+/// that of the answer of `serve_one`, requests by the handler; to any other line, and to one that was too long, a
+/// refusal `malformed`; and `memory` if out of memory for reading a line. If the answer's line would have more than
+/// 1,048,576 bytes it is that of a refusal `failed`, if out of memory for it that of a refusal `memory`, by another
+/// call of the node.
 ///
-/// None where the connection is to be closed without an answer: where nothing that is answered came, where the lock refused a call, and
-/// where there was no memory even for a refusal.
+/// None if the connection has to be closed without an answer: if the input needs none, if the lock refused a call, and
+/// if out of memory even for a refusal.
 pub fn respond<R: Wait, H: PointHash, L: Link, A: Handler>(
     rt: &R,
     alloc: Global,

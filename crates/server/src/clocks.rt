@@ -6,7 +6,8 @@ use std::sync::Wait;
 use std::time::Duration;
 use std::{thread, time};
 
-/// A server's clock: it counts the milliseconds since the server's beginning by the system's monotonic clock, and waits by sleeping.
+/// A server's clock: it counts the milliseconds since the server's start by the system's monotonic clock, and waits by
+/// sleeping.
 #[derive(Clone, Copy)]
 pub struct ServerClock<R> {
     rt: R,
@@ -21,7 +22,7 @@ impl<R> ServerClock<R> {
 }
 
 impl<R: time::Clock> Clock for ServerClock<R> {
-    // Nothing is known of the system's clock.
+    // The behaviour of the system's clock is unknown.
     ghost time = { record { told = λ _. Unit {0}; waited = λ _. Unit {0} } };
 
     fn now(&self) -> Moment {

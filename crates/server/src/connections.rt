@@ -16,8 +16,8 @@ use std::net::{Net, OpenStream};
 use std::sync::Wait;
 use std::time::Clock;
 
-/// Serves one connection: its line is to be there within the limit, and its answer's line to be taken within it, from when it
-/// stands. What the other side does not take is lost.
+/// Serves one connection: its line has to arrive within the limit, and its answer's line has to be taken within it,
+/// from the start of each. Any part that the other side does not take is lost.
 pub fn serve_connection<
     R: Net + Wait + Clock,
     H: PointHash,

@@ -1,11 +1,11 @@
-//! Why a server did not start.
+//! The errors of a server's start.
 ghost use Rattle.std.specs.Prelude.{◌≡◌};
 ghost use Rattle.server.specs.declared.errors.ServerError.TheVariants.{Memory};
 
 use std::alloc::AllocError;
 use thiserror::Error;
 
-/// Why a server did not start. None of its threads is left.
+/// The errors of a server's start. None of its threads is left.
 #[derive(Clone, Copy, Debug, PartialEq, Eq, Error)]
 pub enum ServerError {
     /// The system gave no thread.

@@ -1,4 +1,4 @@
-//! What comes over a connection.
+//! The inputs of connections.
 ghost use Rattle.std.specs.Prelude.{◌≡◌};
 ghost use Rattle.server.specs.Answering.{Hears, input_of};
 
@@ -7,18 +7,18 @@ use std::alloc::Global;
 use std::io::{BufReader, Read};
 use wire_json::read_line;
 
-/// What came over a connection.
+/// The input of a connection.
 #[derive(Debug, Drop)]
 pub enum Input {
     /// A line.
     Line(Vec<u8>),
-    /// What is refused for this reason, whatever it says.
+    /// It is refused for this reason, whatever its content.
     Refused(Reason),
-    /// Nothing that is answered.
+    /// It needs no answer.
     Nothing,
 }
 
-/// What the reading of one line comes to.
+/// Returns the input for the result of reading one line.
 fn input_of(read: Result<Option<Vec<u8>>, WireError>) -> Input
     ensures { result ≡ input_of read }
 {
@@ -31,8 +31,8 @@ fn input_of(read: Result<Option<Vec<u8>>, WireError>) -> Input
     }
 }
 
-/// Reads one line; what stands before the end of the stream is one too. A line that is too long is refused as malformed, and
-/// one for which there was no memory as that. Where nothing came, or the stream failed, nothing is answered.
+/// Reads one line; the bytes before the end of the stream are one too. A line that is too long is refused as malformed,
+/// and one that ran out of memory as that. If no line came, or the stream failed, no answer is needed.
 pub fn hear<S: Read + Drop>(alloc: Global, stream: S) -> Input
     ensures { Hears (S.remaining stream) result }
 {

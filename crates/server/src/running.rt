@@ -5,7 +5,7 @@ ghost use Rattle.std.specs.Arc.{arc_value};
 ghost use Rattle.locked_node.specs.Passes.{Fits};
 ghost use Rattle.peer_core.specs.Acts.{Makes};
 ghost use Rattle.server.specs.Threads.{ServeAlone};
-ghost use Rattle.server.specs.Working.{IsOneRound, Repeats};
+ghost use Rattle.server.specs.Working.{AreRounds};
 
 use crate::errors::ServerError;
 use crate::promises::{Timer, WorkerPromise};
@@ -42,11 +42,11 @@ impl<H: PointHash, A: Handler> Model for Running<H, A> {
 
     ghost view = { λ r. record { server = arc_value r.server; has_rounds = makes_rounds r.timer; rounds = rounds_pass r.timer; workers = worker_passes r.workers.items } };
 
-    ghost invariant = { λ r. AreWorkersOf (arc_value r.server).node r.workers.items × (IsTimerOf (arc_value r.server).node r.timer
+    ghost invariant = { λ r. AreWorkersOf (arc_value r.server).node r.workers.items × (IsTimerOf (arc_value r.server).node (arc_value r.server).healing r.timer
         × ((r.returned.items ≡ []) × (vec_len r.workers ≤ vec_capacity r.returned))) };
 }
 
-/// What is left of a server whose threads have ended: the server, and the passes that they gave back.
+/// The parts of a server whose threads have ended: the server, and the passes that they gave back.
 #[derive(Drop)]
 pub struct Ended<H: PointHash, A> {
     /// The server.
@@ -65,6 +65,7 @@ impl<H: PointHash + Send + Sync + 'static, A: Handler + Drop + Send + Sync + 'st
     /// after the one before has ended; none if the period is 0. No worker serves before all threads run.
     ///
     /// # Errors
+    ///
     /// - `NoThread`: the system gave no thread. Those that were started have ended, and none has served.
     /// - `Memory`: an allocation failed; so, too.
     pub fn start<R: Net<Listener = TcpListener, Stream = TcpStream> + Runtime>(
@@ -108,7 +109,7 @@ impl<H: PointHash + Send + Sync + 'static, A: Handler + Drop + Send + Sync + 'st
         }
     }
 
-    /// What its threads share: the node, the handler, the time.
+    /// Returns the part that its threads share: the node, the handler, the time.
     pub fn server(&self) -> &Server<H, A>
         ensures { result.now ≡ self.now.server }
     {
@@ -122,7 +123,7 @@ impl<H: PointHash + Send + Sync + 'static, A: Handler + Drop + Send + Sync + 'st
         rt: &R,
     ) -> Ended<H, A>
         ensures server { arc_value result.server ≡ self.server }
-        ensures rounds { Makes self.server.node (Repeats IsOneRound) self.rounds result.rounds }
+        ensures rounds { Makes self.server.node (AreRounds self.server.healing) self.rounds result.rounds }
         ensures resting { self.has_rounds ≡ false → result.rounds ≡ self.rounds }
         ensures connections { ServeAlone H.hash_of A.may_handle self.server.node self.workers result.workers.items }
     {
@@ -142,14 +143,14 @@ impl<H: PointHash + Send + Sync + 'static, A: Handler + Drop + Send + Sync + 'st
         }
     }
 
-    /// Stops the server: no further connection is taken and no further round made. Connections that are being served, and a round
-    /// that is under way, are waited for; connections that wait are closed with the server.
+    /// Stops the server: no further connection is accepted and no further round made. Connections that are being
+    /// served, and a round that is under way, are waited for; connections that wait are closed with the server.
     pub fn stop<R: Net<Listener = TcpListener, Stream = TcpStream> + Runtime>(
         self,
         rt: &R,
     ) -> Ended<H, A>
         ensures server { arc_value result.server ≡ self.server }
-        ensures rounds { Makes self.server.node (Repeats IsOneRound) self.rounds result.rounds }
+        ensures rounds { Makes self.server.node (AreRounds self.server.healing) self.rounds result.rounds }
         ensures resting { self.has_rounds ≡ false → result.rounds ≡ self.rounds }
         ensures connections { ServeAlone H.hash_of A.may_handle self.server.node self.workers result.workers.items }
     {

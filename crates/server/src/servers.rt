@@ -1,18 +1,19 @@
-//! What the threads of a server share, and what each of them does.
-ghost use Rattle.std.specs.Prelude.{◌≡◌};
+//! The part of a server that its threads share, and the work of each of them.
+ghost use Rattle.std.specs.Prelude.{◌≡◌, Some};
 ghost use Rattle.locked_node.specs.Passes.{Fits};
 ghost use Rattle.cluster_core.specs.Sockets.{limits_of};
 ghost use Rattle.peer_core.specs.Acts.{Makes};
-ghost use Rattle.server.specs.Working.{IsConnection, IsOneRound, Repeats};
+ghost use Rattle.server.specs.Working.{AreRounds, IsConnection, IsOneRound, Repeats};
 
 use crate::connections::serve_connection;
+use crate::healing::HealingPlan;
 use crate::runtimes::Runtime;
 use crate::stopwatches::Stopwatch;
 use crate::timeouts::Timeouts;
 use cluster_core::{Deadline, TcpLink};
 use hash_ring::PointHash;
 use locked_node::{LockedNode, NodePass};
-use peer_core::{Handler, gossip_round};
+use peer_core::{Handler, Healing, gossip_round, heal};
 use std::alloc::Global;
 use std::net::{IpAddr, Ipv4Addr, Net, SocketAddr, TcpListener, TcpStream};
 use std::sync::atomic::{AtomicBool, AtomicU64, Ordering};
@@ -21,24 +22,26 @@ use std::thread;
 use std::thread::Parker;
 use std::time::{Clock, Duration};
 
-/// For how many milliseconds a thread rests before it tries again.
+/// The milliseconds for which a thread rests before it tries again.
 const REST: u64 = 10;
 
-/// What the threads of a server share.
+/// The part of a server that its threads share.
 #[derive(Drop)]
 pub struct Server<H: PointHash, A> {
     /// The node.
     pub node: LockedNode<H>,
-    /// What answers its requests.
+    /// The handler of its requests.
     pub handler: A,
     /// Its time.
     pub stopwatch: Stopwatch,
-    /// How long it waits for others.
+    /// The time limits for which it waits for others.
     pub timeouts: Timeouts,
+    /// How it heals a cluster whose members parted; `None`: it does not.
+    pub healing: Option<HealingPlan>,
     listener: TcpListener,
-    /// How many connections are left to be served.
+    /// The number of connections that are left to be served.
     connections_left: AtomicU64,
-    /// How many workers wait for a connection, or are about to.
+    /// The number of workers that wait for a connection, or are about to.
     waiting: AtomicU64,
     /// Held while threads are started; no worker serves before.
     starting: Mutex<()>,
@@ -47,12 +50,13 @@ pub struct Server<H: PointHash, A> {
 }
 
 impl<H: PointHash, A> Server<H, A> {
-    /// A server of so many connections, of which none has been served yet.
+    /// Makes a server of this number of connections; none has been served yet.
     pub fn new(
         node: LockedNode<H>,
         handler: A,
         stopwatch: Stopwatch,
         timeouts: Timeouts,
+        healing: Option<HealingPlan>,
         listener: TcpListener,
         connections: u64,
     ) -> Self
@@ -60,12 +64,14 @@ impl<H: PointHash, A> Server<H, A> {
         ensures handler { result.handler ≡ handler }
         ensures stopwatch { result.stopwatch ≡ stopwatch }
         ensures timeouts { result.timeouts ≡ timeouts }
+        ensures healing { result.healing ≡ healing }
     {
         Server {
             node,
             handler,
             stopwatch,
             timeouts,
+            healing,
             listener,
             connections_left: AtomicU64::new(connections),
             waiting: AtomicU64::new(0),
@@ -85,7 +91,7 @@ impl<H: PointHash, A> Server<H, A> {
         drop(self.starting.lock(rt));
     }
 
-    /// Ends the server: no further connection is taken, and no further round made.
+    /// Ends the server: no further connection is accepted, and no further round made.
     pub fn end(&self) {
         let order = Ordering::SeqCst;
         self.connections_left.store(0, order);
@@ -93,7 +99,8 @@ impl<H: PointHash, A> Server<H, A> {
         self.wake.unpark();
     }
 
-    /// Whether a connection was left to be served, which the caller then has to serve.
+    /// Takes one of the connections that are left to be served, which the caller then has to serve; returns whether
+    /// there was one.
     fn take_turn(&self) -> bool {
         let order = Ordering::SeqCst;
         self.connections_left
@@ -115,7 +122,7 @@ impl<H: PointHash, A> Server<H, A> {
         unreachable!()
     }
 
-    /// The next connection that is to be served; none where none is left, or the server ends.
+    /// Returns the next connection to serve; None if none is left, or the server ends.
     fn next_connection<R: Wait + Clock>(&self, rt: &R) -> Option<TcpStream> {
         self.waiting.fetch_add(1, Ordering::SeqCst);
         let stream = if self.take_turn() {
@@ -182,7 +189,8 @@ impl<H: PointHash, A> Server<H, A> {
     }
 }
 
-/// Serves connections until none is left, once the threads may begin. PingReqs are relayed over a link with the server's timeouts.
+/// Serves connections until none is left, once the threads may start. PingReqs are relayed over a link with the
+/// server's timeouts.
 fn work_over<R: Net + Wait + Clock, H: PointHash, A: Handler>(
     server: &Server<H, A>,
     pass: &mut NodePass<H>,
@@ -204,7 +212,7 @@ fn work_over<R: Net + Wait + Clock, H: PointHash, A: Handler>(
     }
 }
 
-/// Serves connections until none is left, once the threads may begin.
+/// Serves connections until none is left, once the threads may start.
 pub fn work<R: Net + Wait + Clock + Copy, H: PointHash, A: Handler>(
     server: &Server<H, A>,
     pass: &mut NodePass<H>,
@@ -219,7 +227,7 @@ pub fn work<R: Net + Wait + Clock + Copy, H: PointHash, A: Handler>(
     work_over(server, pass, rt, alloc, &mut link);
 }
 
-/// Makes rounds until the server ends, over a link with its own limits.
+/// Makes rounds alone until the server ends, over a link with its own limits.
 fn make_rounds_over<R: Net + Wait + Clock, H: PointHash, A>(
     server: &Server<H, A>,
     pass: &mut NodePass<H>,
@@ -242,8 +250,34 @@ fn make_rounds_over<R: Net + Wait + Clock, H: PointHash, A>(
     }
 }
 
-/// Makes rounds until the server ends, each `period` milliseconds after the one before has ended, never sooner by the clock. A
-/// round that fails does not end them.
+/// Makes rounds until the server ends, and heals after each as the plan says, over a link with its own limits.
+fn make_healing_rounds_over<R: Net + Wait + Clock, H: PointHash, A>(
+    server: &Server<H, A>,
+    plan: &HealingPlan,
+    pass: &mut NodePass<H>,
+    rt: &R,
+    alloc: Global,
+    link: &mut TcpLink<R>,
+    period: Duration,
+)
+    requires fits { Fits server.now.node pass.old }
+    requires limits { limits_of link.old ≡ server.now.timeouts.links }
+    ensures made { Makes server.now.node (AreRounds (Some plan.now)) pass.old pass.new }
+    ensures fits { Fits server.now.node pass.new }
+{
+    let mut healing = Healing::new(plan.own, plan.hosts.as_slice());
+    for _ in rt.forever() {
+        if !server.rest(rt, period) {
+            return;
+        }
+        let now = server.stopwatch.moment(rt);
+        let _made = gossip_round(rt, alloc, &server.node, pass, link, now);
+        let _healed = heal(rt, alloc, &server.node, pass, link, now, &mut healing);
+    }
+}
+
+/// Makes rounds until the server ends, each `period` milliseconds after the one before has ended, and never sooner. After
+/// each it heals, if the server has a plan for that. A round that fails does not end them.
 pub fn make_rounds<R: Net + Wait + Clock + Copy, H: PointHash, A>(
     server: &Server<H, A>,
     pass: &mut NodePass<H>,
@@ -252,10 +286,15 @@ pub fn make_rounds<R: Net + Wait + Clock + Copy, H: PointHash, A>(
     period: u64,
 )
     requires { Fits server.now.node pass.old }
-    ensures made { Makes server.now.node (Repeats IsOneRound) pass.old pass.new }
+    ensures made { Makes server.now.node (AreRounds server.now.healing) pass.old pass.new }
     ensures fits { Fits server.now.node pass.new }
 {
     let mut link = TcpLink::with_limits(*rt, server.timeouts.links);
     let period = Duration::from_millis(period);
-    make_rounds_over(server, pass, rt, alloc, &mut link, period);
+    match &server.healing {
+        Some(plan) => {
+            make_healing_rounds_over(server, plan, pass, rt, alloc, &mut link, period);
+        }
+        None => make_rounds_over(server, pass, rt, alloc, &mut link, period),
+    }
 }

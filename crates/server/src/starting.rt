@@ -3,9 +3,10 @@ ghost use Rattle.std.specs.Prelude.{◌≡◌, ◌↔◌, ◌++◌, ◌∷◌, [
 ghost use Rattle.std.specs.List.{All};
 ghost use Rattle.cluster_core.specs.Clusters.{AreAll};
 ghost use Rattle.locked_node.specs.Passes.{Fits, opening_of};
-ghost use Rattle.server.specs.Starting.{AreCountsInRange, AreStandardFor, IsBorn, IsNotBorn, IsNotStarted, IsStarted, seed_of, start_error};
+ghost use Rattle.server.specs.Starting.{AreCountsInRange, AreStandardFor, IsBorn, IsHealedAs, IsNotBorn, IsNotStarted, IsStarted, seed_of, start_error};
 
 use crate::errors::ServerError;
+use crate::healing::HealingPlan;
 use crate::running::Running;
 use crate::runtimes::Runtime;
 use crate::servers::Server;
@@ -15,37 +16,40 @@ use change_core::{Address, Incarnation, Moment};
 use cluster_core::{share, socket_address};
 use hash_ring::PointHash;
 use locked_node::{LockedNode, NodePass};
-use node_core::{Config, ConfigField, MOST_WORKERS, NodeError, NodeState};
+use node_core::{Config, ConfigField, MAX_WORKERS, NodeError, NodeState};
 use peer_core::Handler;
 use std::alloc::Global;
 use std::net::{Net, TcpListener, TcpStream};
 use thiserror::Error;
 
-/// How many handles of a node the threads of a service have at most.
+/// The greatest number of handles of a node for the threads of a service.
 pub const MAX_HANDLES: u32 = 1_000;
 
-/// What a node and its server are started with.
+/// The settings with which a node and its server are started.
 #[derive(Clone, Copy, Debug)]
 pub struct Settings {
-    /// Where the server listens, and what other nodes call the node.
+    /// The address at which the server listens, and by which other nodes name the node.
     pub address: Address,
     /// The version of the node's own state, greater than at any earlier start at this address: as the milliseconds since 1970 are.
     pub incarnation: Incarnation,
-    /// How the node is configured.
+    /// The node's configuration.
     pub config: Config,
-    /// How many threads serve connections, from 1 to 16.
+    /// The number of threads that serve connections, from 1 to 16.
     pub workers: u32,
-    /// How many handles of the node the service's own threads get, from 0 to 1,000.
+    /// The number of handles of the node for the service's own threads, from 0 to 1,000.
     pub handles: u32,
-    /// How many milliseconds lie between two rounds; 0: no rounds are made.
+    /// The milliseconds between two rounds; 0: no rounds are made.
     pub period: u64,
-    /// How long others are waited for.
+    /// The time limits for which others are waited for.
     pub timeouts: Timeouts,
+    /// Whether members that parted are met again: after each tenth round the node pings one member at random, whatever it
+    /// holds it as.
+    pub heals: bool,
 }
 
 impl Settings {
-    /// The standard configuration, but up to 256 changes a message; 4 workers, one handle, a round each 200 milliseconds, and the
-    /// standard timeouts. More changes a message let a cluster whose nodes start together agree sooner.
+    /// The standard configuration, but up to 256 changes a message; 4 workers, one handle, a round each 200 milliseconds, the
+    /// standard timeouts, and healing. More changes a message let a cluster whose nodes start together agree sooner.
     pub fn new(address: Address, incarnation: Incarnation) -> Self
         ensures { AreStandardFor address incarnation result }
     {
@@ -60,18 +64,19 @@ impl Settings {
             handles: 1,
             period: 200,
             timeouts: Timeouts::standard(),
+            heals: true,
         }
     }
 
-    /// Whether the numbers of threads and handles are in their ranges.
+    /// Returns whether the numbers of threads and handles are in their ranges.
     fn are_counts_in_range(&self) -> bool
         ensures { result ≡ true ↔ AreCountsInRange self.now }
     {
-        self.workers >= 1 && self.workers <= MOST_WORKERS && self.handles <= MAX_HANDLES
+        self.workers >= 1 && self.workers <= MAX_WORKERS && self.handles <= MAX_HANDLES
     }
 }
 
-/// Why a node and its server were not started. None of its threads is left.
+/// The errors of a start of a node and its server. None of its threads is left.
 #[derive(Clone, Copy, Debug, PartialEq, Eq, Error)]
 pub enum StartError {
     /// The first field of the configuration that is out of its range.
@@ -111,7 +116,7 @@ fn seed_of(address: Address, incarnation: Incarnation) -> u64
     address.number() * 32_768 + incarnation.number()
 }
 
-/// Why there is no node, as a start answers it.
+/// Returns a start's error for an error of the node.
 fn start_error(error: NodeError) -> StartError
     ensures { result ≡ start_error error }
 {
@@ -137,7 +142,7 @@ fn node_of<H: PointHash>(
         settings.address,
         settings.incarnation,
         seed_of(settings.address, settings.incarnation),
-        Stopwatch::beginning(),
+        Moment::beginning(),
     );
     match made {
         Ok(node) => Ok(node),
@@ -145,10 +150,18 @@ fn node_of<H: PointHash>(
     }
 }
 
-/// The node, shared as the settings say, with the pass of its rounds, those of its workers, and the handles.
+/// How the server heals, with no hosts, if the settings ask for it.
+fn plan_of(alloc: Global, settings: &Settings) -> Option<HealingPlan>
+    ensures { IsHealedAs settings.now.heals settings.now.address [] result }
+{
+    HealingPlan::of(settings.heals, settings.address, Vec::new(alloc))
+}
+
+/// Shares the node by the settings: returns it with the pass of its rounds, those of its workers, and the handles.
 ///
 /// # Errors
-/// - `Memory`: an allocation failed, and the node is given up.
+///
+/// - `Memory`: out of memory. The node is dropped.
 fn share_out<H: PointHash>(
     alloc: Global,
     node: NodeState<H>,
@@ -187,6 +200,7 @@ fn share_out<H: PointHash>(
 /// its calls of the node by one, as a [`Member`](peer_core::Member) does. To be known to others the node has to join one of them.
 ///
 /// # Errors
+///
 /// - `BadConfig`: a field of the configuration is out of its range.
 /// - `BadCount`: the workers or the handles are.
 /// - `CannotListen`: the address can't be listened at.
@@ -220,6 +234,7 @@ pub fn start<
         handler,
         stopwatch,
         settings.timeouts,
+        plan_of(alloc, settings),
         listener,
         u64::MAX,
     );

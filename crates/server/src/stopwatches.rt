@@ -3,7 +3,7 @@ ghost use Rattle.std.specs.Prelude.{◌≡◌, ◌≤◌, ◌/◌, ◌^◌, min}
 ghost use Rattle.std.specs.Duration.{as_nanos};
 ghost use Rattle.change_core.specs.Numbers.{greatest_number};
 
-use change_core::{GREATEST_NUMBER, Moment};
+use change_core::{MAX_NUMBER, Moment};
 use std::time::{Clock, Duration, Instant};
 
 /// The whole milliseconds of a time, 2^53 - 1 at most.
@@ -11,34 +11,24 @@ fn millis_of(spent: Duration) -> u64
     ensures millis { result ≡ min (as_nanos spent / 10 ^ 6) greatest_number }
     ensures few { result ≤ greatest_number }
 {
-    spent.as_millis().min(GREATEST_NUMBER as u128) as u64
+    spent.as_millis().min(MAX_NUMBER as u128) as u64
 }
 
-/// The beginning of a server's time, from which its moments count. If the clock fails, time stands still.
+/// The start of a server's time, from which its moments count. If the clock fails, time does not pass.
 #[derive(Clone, Copy, Debug)]
 pub struct Stopwatch {
     start: Option<Instant>,
 }
 
 impl Stopwatch {
-    /// The moment at which time begins: 0.
-    pub fn beginning() -> Moment
-        ensures { result ≡ 0 }
-    {
-        let Some(moment) = Moment::new(0) else {
-            unreachable!()
-        };
-        moment
-    }
-
-    /// Time begins now.
+    /// Starts the time now.
     pub fn start<C: Clock>(clock: &C) -> Self {
         Stopwatch {
             start: Instant::now(clock).ok(),
         }
     }
 
-    /// The milliseconds since the beginning, 2^53 - 1 at most.
+    /// Returns the milliseconds since the start, 2^53 - 1 at most.
     fn millis<C: Clock>(&self, clock: &C) -> u64
         ensures { result ≤ greatest_number }
     {

@@ -6,7 +6,7 @@ ghost use Rattle.std.specs.Vec.{vec_capacity};
 ghost use Rattle.locked_node.specs.Passes.{Fits};
 ghost use Rattle.peer_core.specs.Acts.{Makes};
 ghost use Rattle.server.specs.Threads.{AreBack, IsTimer, IsTimerBack, IsWorker, ServeAlone};
-ghost use Rattle.server.specs.Working.{IsConnection, IsOneRound, Repeats};
+ghost use Rattle.server.specs.Working.{AreRounds, IsConnection, Repeats};
 
 use crate::errors::ServerError;
 use crate::promises::{RoundsPromise, Timer, WorkerPromise};
@@ -38,7 +38,7 @@ fn work_by<R: Net + Wait + Clock + Copy, H: PointHash, A: Handler + Drop>(
     pass
 }
 
-/// Makes rounds by a pass, and gives it back.
+/// Makes rounds by a pass, and what heals after them, and gives it back.
 fn make_rounds_by<R: Net + Wait + Clock + Copy, H: PointHash, A: Drop>(
     rt: R,
     alloc: Global,
@@ -47,7 +47,7 @@ fn make_rounds_by<R: Net + Wait + Clock + Copy, H: PointHash, A: Drop>(
     period: u64,
 ) -> NodePass<H>
     requires { Fits (arc_value server).node pass }
-    ensures { Makes (arc_value server).node (Repeats IsOneRound) pass result }
+    ensures { Makes (arc_value server).node (AreRounds (arc_value server).healing) pass result }
 {
     make_rounds(&*server, &mut pass, &rt, alloc, period);
     pass
@@ -94,7 +94,7 @@ fn start_rounds<
     period: u64,
 ) -> Result<Timer<H>, ServerError>
     requires { Fits (arc_value server.now).node pass }
-    ensures started { IfOk result (IsTimer (arc_value server.now).node period pass) }
+    ensures started { IfOk result (IsTimer (arc_value server.now).node (arc_value server.now).healing period pass) }
 {
     if period == 0 {
         return Ok(Timer::Resting(pass));
@@ -103,6 +103,7 @@ fn start_rounds<
     let host = *rt;
     let promise = RoundsPromise {
         node: Snapshot::of(&server.node),
+        healing: Snapshot::of(&server.healing),
         pass: Snapshot::of(&pass),
     };
     let started = thread::spawn_with(rt, promise, move || {
@@ -170,7 +171,7 @@ pub(crate) fn start_all<
     requires passes { All (Fits (arc_value server.now).node) passes.old.items }
     requires none { workers.old.items ≡ [] }
     requires room { vec_len passes.old ≤ vec_capacity workers.old }
-    ensures timer { IfOk result (IsTimer (arc_value server.now).node period timer) }
+    ensures timer { IfOk result (IsTimer (arc_value server.now).node (arc_value server.now).healing period timer) }
     ensures workers { OnOk result (AllZip (IsWorker (arc_value server.now).node) (reverse passes.old.items) workers.new.items) }
     ensures all { OnOk result (passes.new.items ≡ []) }
     ensures back { vec_len passes.new + vec_len workers.new ≤ vec_capacity passes.new }

@@ -1,13 +1,13 @@
-//! How long a server waits for others.
+//! The time limits for which a server waits for others.
 ghost use Rattle.server.specs.Timeouts.{AreStandardTimeouts};
 
 use cluster_core::Limits;
 use std::time::Duration;
 
-/// How long a server waits for others.
+/// The time limits for which a server waits for others.
 #[derive(Clone, Copy, Debug, PartialEq, Eq)]
 pub struct Timeouts {
-    /// For a whole line to arrive, and for its answer's line to be taken, each from its beginning.
+    /// For a whole line to arrive, and for its answer's line to be taken, each from its start.
     pub line: Duration,
     /// For the answers of other nodes.
     pub links: Limits,

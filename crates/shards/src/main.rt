@@ -22,7 +22,7 @@ use std::env::Env;
 use std::net::{Net, TcpListener, TcpStream};
 use trips::Trips;
 
-/// Where the three nodes of one process are.
+/// The addresses of the three nodes of one process.
 const ADDRESSES: [&str; 3] = ["127.0.0.1:29301", "127.0.0.1:29302", "127.0.0.1:29303"];
 
 /// A node of the service as this thread calls it.
@@ -132,7 +132,7 @@ fn run_three<R: Net<Listener = TcpListener, Stream = TcpStream> + Runtime + Inpu
     Ok(())
 }
 
-/// Runs what the words ask for.
+/// Runs the command of the arguments.
 fn run<
     R: Net<Listener = TcpListener, Stream = TcpStream>
         + Runtime

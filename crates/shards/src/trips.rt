@@ -1,10 +1,10 @@
-//! What the service does with a request: the node that owns a rider counts the trips.
+//! The handler of the service: the node that owns a rider counts the trips.
 use ringpop::{Address, Handler, HandlerFault, Keys, Text};
 use std::alloc::{AllocError, Global};
 use std::collections::BTreeMap;
 use std::sync::{Mutex, Wait};
 
-/// How many trips each rider made, as the node at an address counted them.
+/// The number of trips of each rider, as the node at an address counted them.
 #[derive(Drop)]
 pub struct Trips {
     address: Address,
@@ -12,6 +12,7 @@ pub struct Trips {
 }
 
 impl Trips {
+    /// Makes a handler that has counted no trip yet.
     pub fn new(alloc: Global, address: Address) -> Trips {
         Trips {
             address,
@@ -19,7 +20,7 @@ impl Trips {
         }
     }
 
-    /// Counts one trip more of a rider, and says how many there are, and where they are counted.
+    /// Counts another trip of a rider, and returns the number of trips and the address at which they are counted.
     fn count<R: Wait>(&self, rt: &R, alloc: Global, rider: &str) -> Result<Text, AllocError> {
         let mut counts = self.counts.lock(rt);
         let count = counts.entry(String::from_str(alloc, rider)?)?.or_insert(0);
@@ -30,7 +31,7 @@ impl Trips {
 }
 
 impl Handler for Trips {
-    // Whatever is answered is admitted: this handler promises nothing of its texts.
+    // Any answer is allowed: this handler promises nothing of its texts.
     ghost may_handle = { λ _ _ _. Unit {0} };
 
     fn handle<R: Wait>(

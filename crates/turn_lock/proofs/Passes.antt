@@ -2,13 +2,9 @@
 use Rattle.std.proofs.Common.{◌≡◌}
 use Rattle.turn_lock.specs.declared.lock.TurnLock.{TurnLock}
 use Rattle.turn_lock.specs.declared.pass.Pass.{Pass}
-use Rattle.turn_lock.specs.Passes.{lock_name, name_of, IsOutside, IsInside}
+use Rattle.turn_lock.specs.Passes.{lock_name, name_of, IsOutside}
 
 module _ {S E : Type 0} where
   pub outside_name : (lock : TurnLock S E) (p : Pass S E) → IsOutside lock p → lock_name p ≡ name_of lock
   unfolding IsOutside
   outside_name lock p h = h.0.0
-
-  pub inside_name : (lock : TurnLock S E) (p : Pass S E) → IsInside lock p → lock_name p ≡ name_of lock
-  unfolding IsInside
-  inside_name lock p h = h.0.0

@@ -1,4 +1,4 @@
-//! How a lock is closed.
+//! The end of a lock.
 ghost use Rattle.std.specs.Prelude.{◌≡◌, ◌<◌, ◌≤◌, ◌↔◌, ℕ, List, [], ◌∷◌, length, map, IfOk, IfErr, IsTrue, All, IsPermutation};
 ghost use Rattle.std.specs.List.{range_with_len};
 ghost use Rattle.turn_lock.specs.Rule.{outside, times};
@@ -18,7 +18,7 @@ fn are_own<S: Kept>(name: u64, passes: &[Pass<S>]) -> bool
     passes.iter().all(|pass| pass.name == name)
 }
 
-/// The first pass's seat, which then stands for all.
+/// Returns the first pass's seat, which then represents all.
 fn gather<S: Kept>(board: &Board<S>, first: Pass<S>, rest: Vec<Pass<S>>) -> Place<S>
     requires board { board.now.shared.table_id.words ≡ 2 }
     requires first { IsReady board.now.shared.table_id board.now.shared.key.opening.value first }
@@ -44,7 +44,7 @@ fn gather<S: Kept>(board: &Board<S>, first: Pass<S>, rest: Vec<Pass<S>>) -> Plac
     root
 }
 
-/// Takes the state out, once the root stands for all passes.
+/// Takes the state out, once the root represents all passes.
 fn take_out<S: Kept>(board: Board<S>, root: Place<S>) -> S
     requires board { board.shared.table_id.slots ≡ 1 }
     requires root { IsLastSeat board.shared.table_id board.shared.key.opening.value board.shared.key.passes root }
@@ -61,13 +61,14 @@ fn take_out<S: Kept>(board: Board<S>, root: Place<S>) -> S
 impl<S: Kept> TurnLock<S> {
     ghost use Rattle.turn_lock.specs.Passes.{passes_of, opening_of, number_of, AreOwn, Fits, IsWhole, RefusesToClose};
 
-    /// Takes the state back. It stands for one history: each pass had seen a beginning of it, and it has the entries
-    /// of each pass, once and in their order, and no other. The passes are all that were made, each once, in whatever
-    /// order. Nothing grows here.
+    /// Takes the state back. It represents one history: each pass had seen a prefix of it, and it has the entries of
+    /// each pass, once and in their order, and no other. The passes are all that were made, each once, in any order.
+    /// Nothing is allocated here.
     ///
     /// # Errors
-    /// `ForeignPass` where some pass bears another lock's name, else `MissingPass` where there are fewer passes than
-    /// were made, both with the very lock and passes.
+    ///
+    /// - `ForeignPass`: some pass has another lock's name. This is checked first. The lock and the passes are returned.
+    /// - `MissingPass`: there are fewer passes than were made. The lock and the passes are returned.
     #[tactic(auto, unfolding(crate::specs::Passes::IsOutside))]
     pub fn close(self, mut passes: Vec<Pass<S>>) -> Result<S, CloseRefused<S>>
         requires { All (Fits self) passes.items }

@@ -1,14 +1,14 @@
-//! How a lock refuses.
+//! The errors of a lock.
 use crate::kept::Kept;
 use crate::lock::TurnLock;
 use crate::pass::Pass;
 use std::alloc::AllocError;
 use thiserror::Error;
 
-/// Why a pass was not let in.
+/// The errors of entering a lock.
 #[derive(Clone, Copy, Debug, PartialEq, Eq, Error)]
 pub enum LockError {
-    /// The pass bears the name of another lock.
+    /// The pass has the name of another lock.
     #[error("foreign pass")]
     ForeignPass,
     /// The pass has entered as often as it may.
@@ -16,13 +16,13 @@ pub enum LockError {
     PassSpent,
 }
 
-/// Why a lock was not made.
+/// The errors of making a lock.
 #[derive(Debug, Drop, Error)]
 pub enum NewError<S> {
-    /// The passes are none or more than `MOST_PASSES`, or the turns are none. The state comes back.
+    /// There is no pass, or more than `MAX_PASSES`, or no turn. The state is returned.
     #[error("bad count")]
     BadCount(S),
-    /// A growth was refused. The state is given up.
+    /// Out of memory. The state is dropped.
     #[error("out of memory")]
     Memory,
 }
@@ -38,10 +38,10 @@ impl<S> From<AllocError> for NewError<S> {
     }
 }
 
-/// Why a lock was not closed.
+/// The errors of closing a lock.
 #[derive(Clone, Copy, Debug, PartialEq, Eq, Error)]
 pub enum CloseError {
-    /// Some pass bears the name of another lock.
+    /// Some pass has the name of another lock.
     #[error("foreign pass")]
     ForeignPass,
     /// There are fewer passes than were made.
@@ -49,7 +49,7 @@ pub enum CloseError {
     MissingPass,
 }
 
-/// A lock that was not closed, with the passes that were handed in.
+/// A lock that was not closed, with the passes that were given.
 #[derive(Debug, Drop, Error)]
 #[error("{cause}")]
 pub struct CloseRefused<S: Kept> {

@@ -22,12 +22,13 @@ const YIELDS: u32 = 4_096;
 /// The same for the thread whose turn is the next one, since a turn that waits for a nap to end keeps all waiting.
 const NEXT_YIELDS: u32 = 65_536;
 
-/// How long it naps at most, in microseconds. At worst it sees its turn so much later.
+/// The longest nap, in microseconds. At worst the thread sees its turn that much later.
 const NAP: u64 = 100;
 
-/// Hands the state that it guards to one pass at a time, in the order in which the passes drew their tickets.
+/// A lock that gives the state that it guards to one pass at a time, in the order in which the passes drew their
+/// tickets.
 ///
-/// A ticket lock (Reed and Kanodia, CACM 1979; Mellor-Crummey and Scott, TOCS 1991). That the state stands for a
+/// A ticket lock (Reed and Kanodia, CACM 1979; Mellor-Crummey and Scott, TOCS 1991). That the state represents a
 /// history, which passes have seen in part, is this project's own.
 #[derive(Drop)]
 pub struct TurnLock<S: Kept> {
@@ -77,7 +78,8 @@ impl<S: Kept> TurnLock<S> {
         self.board.shared.load::<Look>(&mut pass.seat, SERVING)
     }
 
-    /// What a thread that waits with this ticket does after so many looks, the last of which found that one served.
+    /// Spins, yields or sleeps, by the number of looks: a thread that waits with this ticket calls it after each look
+    /// that found `serving`.
     fn pause<R: Wait>(&self, rt: &R, looks: u32, serving: u64, ticket: u64) {
         let is_next = serving.checked_add(1) == Some(ticket);
         let yields = if is_next { NEXT_YIELDS } else { YIELDS };
@@ -86,7 +88,8 @@ impl<S: Kept> TurnLock<S> {
         } else if looks < yields {
             thread::yield_now();
         } else {
-            // It does not fall asleep if another ticket is served by now. Nobody wakes it: each `leave` would pay.
+            // It does not fall asleep if another ticket is served by now. No thread wakes it: each `leave` would pay
+            // for that.
             let low = (serving % (1 << 32)) as u32;
             self.board
                 .shared
@@ -124,14 +127,17 @@ impl<S: Kept> TurnLock<S> {
         state.unwrap()
     }
 
-    /// Waits for a turn, and hands out the state. The pass is inside from then on and has one turn less, and the state
-    /// stands for the history that it has now seen: all that it had seen, and since then no entry of its own.
+    /// Waits for a turn, and returns the state. The pass is inside from then on and has one turn less, and the state
+    /// represents the history that the pass has now seen: all that it had seen, and since then no entry by this pass.
     ///
-    /// A pass that is let in has to leave before another can enter. No clause says that a turn ever comes.
+    /// A pass that is inside has to leave before another can enter. No contract promises that a turn ever comes.
     ///
     /// # Errors
-    /// `ForeignPass` where the pass bears another lock's name, else `PassSpent` where it has no turn left.
-    /// The pass is then as it was.
+    ///
+    /// The pass is then unchanged.
+    ///
+    /// - `ForeignPass`: the pass has another lock's name. This is checked first.
+    /// - `PassSpent`: the pass has no turn left.
     pub fn enter<R: Wait>(&self, rt: &R, pass: &mut Pass<S>) -> Result<S, LockError>
         requires { Fits self.now pass.old }
         ensures entered { IfOk result (λ s. IsInside self.now pass.new × IsSamePass pass.old pass.new × (left_of pass.new + 1 ≡ left_of pass.old)) }
@@ -151,7 +157,7 @@ impl<S: Kept> TurnLock<S> {
         Ok(self.take(pass))
     }
 
-    /// Gives the turn back. The state has to stand for the history that the pass has seen and one entry more, of this
+    /// Gives the turn back. The state has to represent the history that the pass has seen with one entry added, by this
     /// pass, which is named in contracts alone. The pass has then seen that entry too, and is outside.
     #[tactic(auto, unfolding(crate::specs::Passes::IsInside))]
     pub fn leave(&self, pass: &mut Pass<S>, state: S)

@@ -1,4 +1,4 @@
-//! How a lock is made.
+//! The making of a lock.
 ghost use Rattle.std.specs.Prelude.{◌≡◌, ◌<◌, ◌≤◌, ◌*◌, ◌^◌, [], map, IfOk, IfErr};
 ghost use Rattle.std.specs.List.{All, range_with_len};
 ghost use Rattle.turn_lock.specs.Seats.{IsDealt, IsFirstSeat};
@@ -14,9 +14,9 @@ use std::alloc::{AllocError, Global};
 use std::snapshot::Snapshot;
 
 /// The most passes that a lock may have.
-pub const MOST_PASSES: u32 = 1024;
+pub const MAX_PASSES: u32 = 1024;
 
-/// The table with the state in its slot, and its first seat, which stands for all passes.
+/// Makes the table with the state in its slot, and its first seat, which represents all passes.
 fn open<S: Kept + Drop>(
     alloc: Global,
     terms: &Terms<S>,
@@ -73,12 +73,13 @@ fn deal<S: Kept>(
 impl<S: Kept + Drop> TurnLock<S> {
     ghost use Rattle.turn_lock.specs.Passes.{name_of, passes_of, opening_of, number_of, IsNew, IsInRange, IsNewError};
 
-    /// A lock round the state, with so many passes (1 to `MOST_PASSES`), each for so many turns (at least 1). The
-    /// state stands for the empty history. The passes come in the order of their numbers, from 0 on.
+    /// Makes a lock round the state, with `passes` passes (1 to `MAX_PASSES`), each for `turns` turns (at least 1).
+    /// The state represents the empty history. The passes come in the order of their numbers, from 0 on.
     ///
     /// # Errors
-    /// `BadCount`, with the very state, where the passes or the turns are out of range, else `Memory` where a growth
-    /// was refused. At `Memory` the state is given up.
+    ///
+    /// - `BadCount`: the passes or the turns are out of range. This is checked first. The state is returned.
+    /// - `Memory`: out of memory. The state is dropped.
     #[tactic(auto, unfolding(crate::specs::Passes::IsOutside))]
     pub fn new(
         alloc: Global,
@@ -93,7 +94,7 @@ impl<S: Kept + Drop> TurnLock<S> {
         ensures counts { IfOk result (λ r. IsInRange passes turns) }
         ensures refused { IfErr result (IsNewError state passes turns) }
     {
-        if passes == 0 || passes > MOST_PASSES || turns == 0 {
+        if passes == 0 || passes > MAX_PASSES || turns == 0 {
             return Err(NewError::BadCount(state));
         }
         let terms = Terms {

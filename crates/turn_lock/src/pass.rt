@@ -3,8 +3,8 @@ use crate::kept::Kept;
 use crate::table::Place;
 use std::fmt;
 
-/// It may enter the lock that it was made with, for so many turns, and is with one thread at a time.
-/// A pass that is dropped cannot be handed in at `close`; one that is dropped inside stops every other.
+/// A pass of one lock, for a number of turns, used by one thread at a time. If it is dropped the lock cannot be closed;
+/// if it is dropped inside it stops every other.
 #[derive(Drop)]
 pub struct Pass<S: Kept> {
     pub(crate) name: u64,

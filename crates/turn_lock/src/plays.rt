@@ -1,4 +1,4 @@
-//! What each step on the table tells.
+//! The knowledge that each step on the table gives.
 use crate::kept::{Kept, Told};
 use crate::table::View;
 use atomic_table::{Join, Play, Split};
@@ -22,7 +22,7 @@ impl<S: Kept> Play<Option<S>, View<S, S::Entry>> for Look {
     ghost then = { saw S.stands_for };
 }
 
-/// The turn is given to the next ticket, and what `J` names is told as the entry of this one.
+/// The turn is given to the next ticket, and the value that `J` names is the entry of this one.
 pub(crate) struct Give<J> {
     told: PhantomData<J>,
 }
@@ -33,7 +33,7 @@ impl<S, E, J: Told<E>> Play<Option<S>, View<S, E>> for Give<J> {
     ghost then = { gave J.entry };
 }
 
-/// A seat for one pass is split from the one that stands for all.
+/// A seat for one pass is split from the one that represents all.
 pub(crate) struct Part;
 
 impl<S, E> Split<View<S, E>> for Part {
@@ -44,7 +44,7 @@ impl<S, E> Split<View<S, E>> for Part {
     ghost right = { cut_part };
 }
 
-/// A seat is joined to another, which then stands for the passes of both.
+/// A seat is joined to another, which then represents the passes of both.
 pub(crate) struct Gather;
 
 impl<S, E> Join<View<S, E>> for Gather {

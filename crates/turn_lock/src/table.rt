@@ -5,8 +5,8 @@
 //!
 //! | Step | In | What the seat knows after it |
 //! |---|---|---|
-//! | split a seat | `new` | the new seat stands for one pass, which has seen nothing |
-//! | join a seat | `close` | the one that stays stands for the passes of both |
+//! | split a seat | `new` | the new seat represents one pass, which has seen nothing |
+//! | join a seat | `close` | the one that stays represents the passes of both |
 //! | add 1 to word 1 | `enter` | it holds that ticket |
 //! | load word 0 | `enter` | it has seen the history so far; it has the slot if its ticket is served |
 //! | take the state from the slot | `enter` | it has the state |
@@ -24,7 +24,7 @@ pub(crate) const TICKET: usize = 1;
 
 pub(crate) const STATE: usize = 0;
 
-/// Where a pass is in its turn.
+/// The stage of a pass in its turn.
 pub enum Stage {
     /// It holds no ticket.
     Outside,
@@ -34,24 +34,24 @@ pub enum Stage {
     Inside(u64),
 }
 
-/// A pass that a seat stands for, and the history that it has seen.
+/// A pass that a seat represents, and the history that it has seen.
 pub struct Known<E> {
     pub number: u64,
     pub seen: LinkedList<Turn<E>>,
 }
 
-/// What one seat knows. No value of it is made.
+/// The knowledge of one seat. No value of it is made.
 pub struct View<S, E> {
     /// The state that the lock was made with.
     pub opening: Option<S>,
-    /// The passes that it stands for.
+    /// The passes that it represents.
     pub parts: LinkedList<Known<E>>,
-    /// How many tickets it drew.
+    /// The number of tickets that it drew.
     pub used: u64,
     pub stage: Stage,
 }
 
-/// What a lock is made with.
+/// The terms with which a lock is made.
 #[derive(Drop)]
 pub struct Terms<S> {
     pub passes: u64,
@@ -59,7 +59,7 @@ pub struct Terms<S> {
     pub opening: Snapshot<S>,
 }
 
-/// The rule of the table: the state is handed out by the order of the tickets. No value of it is made.
+/// The rule of the table: the state is passed on in the order of the tickets. No value of it is made.
 pub struct InTurn;
 
 impl<S: Kept> TableRule<Option<S>, View<S, S::Entry>, Terms<S>> for InTurn {

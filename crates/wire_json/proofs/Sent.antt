@@ -39,9 +39,6 @@ truth_sent a b c f t p q = member_sent a b c f (boolean t) p q
 
 -- ---- several
 
-pub none_sent : (a : Log) → Sends [] a a
-none_sent a = record { each = refl }
-
 pub joined : (xs ys : List (Field × Data)) (a b c : Log) → Sends xs a b → Sends ys b c → Sends (xs ++ ys) a c
 joined [] ys a b c p q = subst (λ l. Sends ys l c) (sym p.each) q
 joined (x ∷ xs) ys a b c p q =

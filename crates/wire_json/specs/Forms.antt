@@ -1,4 +1,4 @@
--- Which change a JSON value stands for, what is written for a change, and the first fault of a value that stands for none.
+-- The change that a JSON value represents, the text that is written for a change, and the first error of a value that represents none.
 use Rattle.std.specs.Prelude.{ℕ, ◌≤◌, ◌++◌, nat_lt, if◌then◌else◌, List, [], ◌∷◌}
 use Rattle.serde_json.specs.Data.{Data, number, string, object, unsigned, Members, no_members, put}
 use Rattle.change_core.specs.Address.{IsAddress, address_text}
@@ -13,7 +13,7 @@ use Rattle.wire_json.specs.Fields.{HasAddress, HasNumber, HasStatus, HasWeight, 
 
 -- ---- a change
 
--- the value stands for the change; the names are those of a change in ringpop-go's package swim
+-- the value represents the change; the names are those of a change in ringpop-go's package swim
 pub record ChangeForm (v : Data) (c : Sourced) : Type 0 where
   pub address : HasAddress field.Address v c.change.address
   pub incarnation : HasNumber field.IncarnationNumber v c.change.incarnation
@@ -32,7 +32,7 @@ pub record IsChange (c : Sourced) : Type 0 where
 
 -- ---- what is written for a change
 
--- these fields put in one after another; an object keeps its fields ascending by name
+-- these fields written one after another; an object keeps its fields ascending by name
 abbrev pub with_fields : List (Field × Data) → Members → Members
 with_fields [] ms = ms
 with_fields (x ∷ xs) ms = with_fields xs (put (name x.0) x.1 ms)
@@ -41,29 +41,29 @@ with_fields (x ∷ xs) ms = with_fields xs (put (name x.0) x.1 ms)
 abbrev pub written : List (Field × Data) → Data
 written xs = object (with_fields xs no_members)
 
--- what is written for each change; a tombstone is written by its own word
+-- the fields that are written for each change; a tombstone is written by its own word
 abbrev pub plain_fields : Sourced → List (Field × Data)
 plain_fields c =
     (field.Address, string (address_text c.change.address)) ∷ (field.IncarnationNumber, number (unsigned c.change.incarnation))
     ∷ (field.Source, string (address_text c.source)) ∷ (field.SourceIncarnationNumber, number (unsigned c.source_incarnation))
     ∷ (field.Status, string (status_word c.change.status)) ∷ []
 
--- a weight is written where it is over 1
+-- a weight is written if it is over 1
 abbrev pub weight_fields : ℕ → List (Field × Data)
 weight_fields w = if nat_lt 1 w then (field.Weight, number (unsigned w)) ∷ [] else []
 
--- what is written for the change
+-- the value that is written for the change
 abbrev pub change_data : Sourced → Data
 change_data c = written (plain_fields c ++ weight_fields c.change.weight)
 
--- ---- the first fault of a change
+-- ---- the first error of a change
 
--- what a change is asked to have, in the order of checks
+-- the fields that a change has to have, in the order of checks
 abbrev pub change_fields : List (Form × Field)
 change_fields =
     (address, field.Address) ∷ (whole, field.IncarnationNumber) ∷ (address, field.Source) ∷ (whole, field.SourceIncarnationNumber)
     ∷ (status_fields ++ (weight, field.Weight) ∷ [])
 
--- the first fault of a value that stands for no change
+-- the first error of a value that represents no change
 abbrev pub ChangeFault : Data → WireError → Type 0
 ChangeFault = FirstFault change_fields

@@ -1,4 +1,4 @@
--- The first fault of a JSON value that stands for no message, in the order of checks.
+-- The first error of a JSON value that represents no message, in the order of checks.
 use Rattle.std.specs.Prelude.{◌≡◌, ◌≢◌, ℕ, ◌<◌, ◌≤◌, ◌⊎◌, List, [], ◌∷◌, ◌++◌, length, Some, None}
 use Rattle.serde_json.specs.Data.{Data, string, array}
 use Rattle.serde_json.specs.Find.{get, as_array}
@@ -19,16 +19,16 @@ use Rattle.wire_json.specs.Lines.{IsObject}
 use Rattle.message_core.specs.Limits.{max_keys}
 use Rattle.wire_json.specs.Messages.{HasChanges, HasKeys}
 
--- the first element at fault; those before it are good
+-- the first element with an error; those before it are good
 abbrev pub FirstElement : (Data → Type 0) → (Data → WireError → Type 0) → List Data → WireError → Type 0
 FirstElement Good Fault [] e = ⊥
 FirstElement Good Fault (d ∷ ds) e = Fault d e ⊎ (Good d × FirstElement Good Fault ds e)
 
--- the element stands for some change
+-- the element represents some change
 abbrev pub StandsForChange : Data → Type 0
 StandsForChange d = (c : Sourced) × ChangeForm d c
 
--- an element of `changes` is no object, or has the fault of a change
+-- an element of `changes` is not an object, or has the error of a change
 abbrev pub ElementFault : Data → WireError → Type 0
 ElementFault d e = ((e ≡ BadField field.Changes) × ¬ IsObject d) ⊎ (IsObject d × ChangeFault d e)
 
@@ -40,18 +40,18 @@ IsText d = (t : List ℕ) × (d ≡ string t)
 abbrev pub KeyFault : Data → WireError → Type 0
 KeyFault d e = (e ≡ BadField field.Keys) × ¬ IsText d
 
--- a field that is to be an array of at most so many elements is absent, no array, or too long; no element is looked at
+-- a field that has to be an array of at most this number of elements is absent, not an array, or too long; no element is looked at
 abbrev pub ListFault : Field → ℕ → Data → WireError → Type 0
 ListFault f most v e =
     ((e ≡ MissingField f) × (get (name f) v ≡ None))
     ⊎ (((e ≡ BadField f) × (d : Data) × (get (name f) v ≡ Some d) × (as_array d ≡ None))
     ⊎ ((e ≡ TooMany) × (ds : List Data) × (get (name f) v ≡ Some (array (items_of ds))) × (most < length ds)))
 
--- the field is an array of these elements, at most so many
+-- the field is an array of these elements, at most this number
 abbrev pub IsList : Field → ℕ → Data → List Data → Type 0
 IsList f most v ds = (get (name f) v ≡ Some (array (items_of ds))) × (length ds ≤ most)
 
--- what a message is asked to have: a field of a form, `changes`, or `keys`
+-- a part that a message has to have: a field of a form, `changes`, or `keys`
 pub data Part : Type 0 where
   plain : Form → Field → Part
   changes : Part
@@ -63,7 +63,7 @@ IsMet (plain form f) v = IsGood form f v
 IsMet changes v = (cs : List Sourced) × HasChanges v cs
 IsMet keys v = (ks : List (List ℕ)) × HasKeys v ks
 
--- what is wrong with it: first with the array as a whole, then with its first bad element
+-- the error of a part: first of the array as a whole, then of its first bad element
 abbrev pub IsUnmet : Part → Data → WireError → Type 0
 IsUnmet (plain form f) v e = IsBad form f v e
 IsUnmet changes v e =
@@ -78,11 +78,11 @@ abbrev pub FirstUnmet : List Part → Data → WireError → Type 0
 FirstUnmet [] v e = ⊥
 FirstUnmet (p ∷ ps) v e = IsUnmet p v e ⊎ (IsMet p v × FirstUnmet ps v e)
 
--- what the six kinds of membership ask for
+-- the parts that the six kinds of membership require
 abbrev pub news_parts : List Part
 news_parts = plain digest field.Checksum ∷ changes ∷ []
 
--- what each kind asks for beside kind and source, in the order of checks
+-- the fields that each kind requires in addition to kind and source, in the order of checks
 abbrev pub parts_of : Kind → List Part
 parts_of kind.Join = news_parts
 parts_of kind.Joined = news_parts
@@ -95,10 +95,10 @@ parts_of kind.Reply = plain text field.Body ∷ []
 parts_of kind.NotOwner = []
 parts_of kind.Refused = plain reason field.Reason ∷ []
 
--- what a message of the kind is asked to have, in the order of checks
+-- the parts that a message of the kind has to have, in the order of checks
 abbrev pub message_parts : Kind → List Part
 message_parts k = plain address field.Source ∷ plain whole field.SourceIncarnationNumber ∷ parts_of k
 
--- the first fault of a value that stands for no message: that of its kind, or of what the kind asks for
+-- the first error of a value that represents no message: that of its kind, or of the fields that the kind requires
 abbrev pub MessageFault : Data → WireError → Type 0
 MessageFault v e = KindFault v e ⊎ ((k : Kind) × HasText field.Kind v (kind_word k) × FirstUnmet (message_parts k) v e)

@@ -1,4 +1,4 @@
--- Which message a JSON value stands for, and what is written for a message.
+-- The message that a JSON value represents, and the text that is written for a message.
 use Rattle.std.specs.Prelude.{◌≡◌, ℕ, ◌<◌, ◌≤◌, List, [], ◌∷◌, ◌++◌, length, map, Some}
 use Rattle.std.specs.List.{AllZip, AllByRecursion}
 use Rattle.serde_json.specs.Data.{Data, boolean, number, string, array, unsigned}
@@ -23,7 +23,7 @@ use Rattle.message_core.specs.Limits.{max_keys}
 
 -- ---- the form
 
--- the field `changes` is an array whose elements stand for these changes, one by one
+-- the field `changes` is an array whose elements represent these changes, one by one
 pub record HasChanges (v : Data) (cs : List Sourced) : Type 0 where
   pub elements : List Data
   pub are : get (name field.Changes) v ≡ Some (array (items_of elements))
@@ -41,7 +41,7 @@ pub record HasNews (v : Data) (g : News) : Type 0 where
   pub checksum : HasDigest field.Checksum v g.checksum
   pub changes : HasChanges v g.changes
 
--- the fields beside kind and source, for each kind its own
+-- the fields in addition to kind and source, for each kind
 abbrev pub ContentForm : Data → Content → Type 0
 ContentForm v (Join g) = HasNews v g
 ContentForm v (Joined g) = HasNews v g
@@ -54,7 +54,7 @@ ContentForm v (Reply t) = HasText field.Body v t
 ContentForm v NotOwner = Unit {0}
 ContentForm v (Refused r) = HasReason v r
 
--- the value stands for the message
+-- the value represents the message
 pub record MessageForm (v : Data) (m : Message) : Type 0 where
   pub kind : HasText field.Kind v (kind_word (kind_of m.content))
   pub source : HasAddress field.Source v m.source
@@ -63,11 +63,11 @@ pub record MessageForm (v : Data) (m : Message) : Type 0 where
 
 -- ---- what is written
 
--- the fields of the news
+-- the fields of the changes and their checksum
 abbrev pub news_fields : News → List (Field × Data)
 news_fields g = (field.Checksum, string (digest_digits g.checksum.bytes)) ∷ (field.Changes, array (items_of (map change_data g.changes))) ∷ []
 
--- the fields beside kind and source
+-- the fields in addition to kind and source
 abbrev pub content_fields : Content → List (Field × Data)
 content_fields (Join g) = news_fields g
 content_fields (Joined g) = news_fields g
@@ -80,7 +80,7 @@ content_fields (Reply t) = (field.Body, string t) ∷ []
 content_fields NotOwner = []
 content_fields (Refused r) = (field.Reason, string (reason_word r)) ∷ []
 
--- what is written for the message
+-- the value that is written for the message
 abbrev pub message_data : Message → Data
 message_data m =
     written ((field.Kind, string (kind_word (kind_of m.content))) ∷ (field.Source, string (address_text m.source))
@@ -88,7 +88,7 @@ message_data m =
 
 -- ---- messages of the code
 
--- the parts of the news are in range
+-- the changes and their checksum are in range
 pub record IsNewsRecord (g : News) : Type 0 where
   pub checksum : IsDigest g.checksum.bytes
   pub few : length g.changes ≤ most_members

@@ -1,4 +1,4 @@
--- A change of which some fields were read.
+-- A change with some of its fields read.
 use Rattle.std.specs.Prelude.{◌≡◌, None, IfSome}
 use Rattle.serde_json.specs.Data.{object, Members}
 use Rattle.serde_json.specs.Find.{get}
@@ -7,7 +7,7 @@ use Rattle.wire_json.specs.Fields.{HasAddress, HasNumber, HasWord, HasWeight}
 use Rattle.message_core.specs.declared.fields.Field.TheVariants as field
 use Rattle.wire_json.specs.declared.partial.PartialChange.{PartialChange}
 
--- what is there of the change is what these fields say, of which none is `tombstone`
+-- the parts of the change that are there are what these fields give; none of the fields is `tombstone`
 pub record IsReadOf (ms : Members) (c : PartialChange) : Type 0 where
   pub address : IfSome c.address (λ a. HasAddress field.Address (object ms) a)
   pub incarnation : IfSome c.incarnation (λ n. HasNumber field.IncarnationNumber (object ms) n)

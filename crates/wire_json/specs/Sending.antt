@@ -1,4 +1,4 @@
--- What changes and messages send to serde's writer, which is what serde_json writes the text of.
+-- The calls by which changes and messages are sent to serde's writer; serde_json writes their text.
 use Rattle.std.specs.Prelude.{◌≡◌, ℕ, List, [], ◌∷◌, ◌++◌, map, IsUtf8}
 use Rattle.std.specs.List.{AllByRecursion}
 use Rattle.serde.specs.Event as event
@@ -42,7 +42,7 @@ source_sent a i = (field.Source, string (address_text a)) ∷ (field.SourceIncar
 abbrev pub head_sent : Content → ℕ → ℕ → List (Field × Data)
 head_sent x a i = (field.Kind, string (kind_word (kind_of x))) ∷ source_sent a i
 
--- the fields of the news
+-- the fields of the changes and their checksum
 abbrev pub news_sent : News → List (Field × Data)
 news_sent g = (field.Changes, array (items_of (map change_data g.changes))) ∷ (field.Checksum, string (digest_digits g.checksum.bytes)) ∷ []
 

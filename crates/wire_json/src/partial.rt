@@ -1,4 +1,4 @@
-//! A change read in one pass over the fields of an object.
+//! A change, read by iterating once over the fields of an object.
 ghost use Rattle.std.specs.Prelude.{◌≡◌, ◌≤◌, IfSome, OnSome};
 ghost use Rattle.serde_json.specs.Data.{string, number, unsigned, Members, no_members, put, object};
 ghost use Rattle.serde_json.specs.View.{view, members_view};
@@ -37,7 +37,7 @@ impl PartialChange {
         }
     }
 
-    /// Reads one field more. `None` where it is `tombstone`, which is read beside the status alone.
+    /// Reads another field. `None` if it is `tombstone`, which is read together with the status alone.
     fn read(&mut self, name: &str, value: &Value) -> Option<()>
         ensures { (ms : Members) → IsReadOf ms self.old
             → OnSome result (IsReadOf (put name.now (view value.now) ms) self.new) }
@@ -55,7 +55,7 @@ impl PartialChange {
         Some(())
     }
 
-    /// The change, where each part of it was read.
+    /// Returns the change, if each part of it was read.
     fn change(self) -> Option<Sourced>
         ensures { (ms : Members) → IsReadOf ms self → IfSome result (λ c. ChangeForm (object ms) c) }
     {
@@ -72,8 +72,8 @@ impl PartialChange {
     }
 }
 
-/// The change that the fields of an object say, read in one pass. `None` where they say none, and where one of them
-/// is `tombstone`.
+/// Returns the change that the fields of an object give, read in one iteration. `None` if they give none, or one of
+/// them is `tombstone`.
 pub(crate) fn read_at_once(fields: &Map<String, Value>) -> Option<Sourced>
     ensures { IfSome result (λ c. ChangeForm (object (members_view fields.now.entries)) c) }
 {

@@ -1,28 +1,32 @@
-//! What one node is asked, and what it answers.
+//! Calls of one node, and its answers.
 ghost use Rattle.std.specs.Prelude.{IfErr, IfOk, IsOkUnless};
 ghost use Rattle.cli_core.specs.Simulated.{NodeAnswers, NodeLacks};
 
 use crate::scripts::answers::Answer;
-use crate::scripts::faults::ScriptFault;
+use crate::scripts::faults::ScriptError;
 use crate::scripts::lines::Question;
 use change_core::{Change, Moment, Sourced};
 use hash_ring::PointHash;
 use node_core::{NodeError, NodeState};
 
-/// Asks a node, at a moment.
+/// Makes a call of a node, at a moment.
+///
+/// # Errors
+///
+/// - `OutOfMemory`: out of memory.
 pub fn ask<H: PointHash>(
     node: &mut NodeState<H>,
     moment: Moment,
     question: &Question<'_>,
-) -> Result<Answer, ScriptFault>
+) -> Result<Answer, ScriptError>
     ensures answer { IfOk result (λ answer. NodeAnswers H.hash_of moment node.old.node question.now answer node.new.node) }
-    ensures refusal { IsOkUnless result ScriptFault.OutOfMemory }
+    ensures refusal { IsOkUnless result ScriptError.OutOfMemory }
     ensures memory { IfErr result (λ _. NodeLacks H.hash_of moment node.old.node question.now node.new.node) }
 {
-    answer_of(node, moment, question).map_err(|_| ScriptFault::OutOfMemory)
+    answer_of(node, moment, question).map_err(|_| ScriptError::OutOfMemory)
 }
 
-/// What a node answers; refused for want of memory alone.
+/// Returns a node's answer. The only error is out of memory.
 fn answer_of<H: PointHash>(
     node: &mut NodeState<H>,
     moment: Moment,
@@ -52,7 +56,7 @@ fn answer_of<H: PointHash>(
     }
 }
 
-/// The node takes a change that its subject says of itself.
+/// Passes a change to the node with the change's subject as its source.
 fn take<H: PointHash>(node: &mut NodeState<H>, moment: Moment, change: &Change) -> Answer
     ensures { NodeAnswers H.hash_of moment node.old.node (Question.Take change.now) result node.new.node }
 {

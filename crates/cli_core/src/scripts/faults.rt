@@ -1,20 +1,20 @@
-//! Why a script ends before its end.
+//! The errors of a script.
 ghost use Rattle.std.specs.Prelude.{◌≡◌};
-ghost use Rattle.cli_core.specs.declared.scripts.faults.ScriptFault.TheVariants.{OutOfMemory};
+ghost use Rattle.cli_core.specs.declared.scripts.faults.ScriptError.TheVariants.{OutOfMemory};
 
 use std::alloc::{AllocError, AllocFailed};
 use thiserror::Error;
 
-/// What is wrong with a line of a script.
+/// An error of a line of a script.
 #[derive(Clone, Copy, Debug, PartialEq, Eq, Error)]
-pub enum ScriptFault {
+pub enum ScriptError {
     /// The reader failed.
     #[error("read failed")]
     ReadFailed,
     /// It has more than 1,048,576 bytes.
     #[error("line too long")]
     LineTooLong,
-    /// A growth was refused while it was read or its command was done.
+    /// Out of memory, for the line or for its command.
     #[error("out of memory")]
     OutOfMemory,
     /// It is no command.
@@ -40,29 +40,29 @@ pub enum ScriptFault {
     IncarnationNotGreater,
 }
 
-/// Why a script ended before its end.
+/// The errors of a script.
 #[derive(Clone, Copy, Debug, PartialEq, Eq, Error)]
-pub enum SimFault {
-    /// The line with this number, from 1, is at fault.
+pub enum SimError {
+    /// The line with this number, from 1, has this error.
     #[error("line {0}: {1}")]
-    AtLine(u64, ScriptFault),
+    AtLine(u64, ScriptError),
     /// The writer failed.
     #[error("cannot write")]
     CannotWrite,
 }
 
-impl From<AllocError> for ScriptFault {
+impl From<AllocError> for ScriptError {
     ghost from_gives = { λ _ f. f ≡ OutOfMemory };
 
-    fn from(_refused: AllocError) -> ScriptFault {
-        ScriptFault::OutOfMemory
+    fn from(_refused: AllocError) -> ScriptError {
+        ScriptError::OutOfMemory
     }
 }
 
-impl<T: Drop> From<AllocFailed<T>> for ScriptFault {
+impl<T: Drop> From<AllocFailed<T>> for ScriptError {
     ghost from_gives = { λ _ f. f ≡ OutOfMemory };
 
-    fn from(_refused: AllocFailed<T>) -> ScriptFault {
-        ScriptFault::OutOfMemory
+    fn from(_refused: AllocFailed<T>) -> ScriptError {
+        ScriptError::OutOfMemory
     }
 }

@@ -1,4 +1,4 @@
-//! What a line of a script asks for.
+//! The commands of a script's lines.
 ghost use Rattle.std.specs.Prelude.{◌≡◌, ◌↔◌, ℕ, List, Some, None, IfSome};
 ghost use Rattle.change_core.specs.declared.changes.Change.{Change};
 ghost use Rattle.change_core.specs.Numbers.{greatest_number};
@@ -8,9 +8,9 @@ ghost use Rattle.cli_core.specs.declared.scripts.lines.Verb.{Verb};
 ghost use Rattle.cli_core.specs.ScriptLines.{Addresses, CountsOwners, HasArguments, IsAddressed, IsBirth, IsChange, IsCommand, IsNumber, verb_of, verb_word};
 
 use crate::scripts::readers::{LineRest, read_address, read_number, read_text};
-use change_core::{Address, Change, Incarnation, MOST_MEMBERS, Moment, Weight};
+use change_core::{Address, Change, Incarnation, MAX_MEMBERS, Moment, Weight};
 
-/// What a node is made with.
+/// The arguments with which a node is made.
 #[derive(Clone, Copy)]
 pub struct Birth {
     pub address: Address,
@@ -18,22 +18,22 @@ pub struct Birth {
     pub weight: Weight,
 }
 
-/// What a node is asked.
+/// A call of a node.
 #[derive(Clone, Copy)]
 pub enum Question<'a> {
-    /// To take a change that its subject says of itself.
+    /// To process a change with its subject as its source.
     Take(Change),
     Leave,
     Rejoin,
-    /// To put in one change that is due.
+    /// To apply one change that is due.
     Expire,
     Members,
     Digest,
-    /// So many owners of a key.
+    /// The first owners of a key: their number, and the key.
     Owners(usize, &'a [u8]),
 }
 
-/// What a line asks for.
+/// The command of a line.
 #[derive(Clone, Copy)]
 pub enum Command<'a> {
     /// A node is made.
@@ -46,7 +46,7 @@ pub enum Command<'a> {
     Send(Address, Address),
     /// The message of this number is received.
     Deliver(u64),
-    /// A node is made anew.
+    /// A node starts again.
     Restart(Birth),
 }
 
@@ -90,8 +90,8 @@ impl Verb {
     }
 }
 
-/// The command that a line is. None where it is none: another first word, or other words or more or fewer than behind it
-/// stand in the forms that it wants.
+/// Reads the command of a line. None if the line is not a command: it has another first word, or its arguments are not
+/// those of the command.
 pub fn read_command(line: &[u8]) -> Option<Command<'_>>
     ensures read { IfSome result (λ c. IsCommand c line.now) }
     ensures none { result ≡ None → (c : Command) → IsCommand c line.now → ⊥ }
@@ -103,7 +103,7 @@ pub fn read_command(line: &[u8]) -> Option<Command<'_>>
     read_arguments(verb, words)
 }
 
-/// What stands behind a first word.
+/// Reads the arguments after a first word.
 fn read_arguments(verb: Verb, mut words: LineRest<'_>) -> Option<Command<'_>>
     ensures read { IfSome result (λ c. (verb_of c ≡ verb) × HasArguments c words.entry.rest.now) }
     ensures none { result ≡ None → (c : Command) → verb_of c ≡ verb → HasArguments c words.entry.rest.now → ⊥ }
@@ -181,20 +181,20 @@ fn read_change(words: &mut LineRest<'_>) -> Option<Change>
     })
 }
 
-/// A node, and how many owners; the key is all that is left.
+/// Reads a node, and how many owners; the key is the rest.
 fn read_owners(words: &mut LineRest<'_>) -> Option<(Address, usize)>
     ensures read { IfSome result (λ p. CountsOwners p.0 p.1 words.new.rest.now words.old.rest.now) }
     ensures none { result ≡ None → (a count : ℕ) (key : List ℕ) → CountsOwners a count key words.old.rest.now → ⊥ }
 {
     let node = words.address()?;
     let count = words.number()?;
-    if count > MOST_MEMBERS as u64 {
+    if count > MAX_MEMBERS as u64 {
         return None;
     }
     Some((node, count as usize))
 }
 
-/// A node, and whom it pings.
+/// Reads a node, and its ping's target.
 fn read_send(words: &mut LineRest<'_>) -> Option<(Address, Address)>
     ensures read { IfSome result (λ p. Addresses p.0 (IsAddressed p.1) words.old.rest.now) }
     ensures none { result ≡ None → (a b : ℕ) → Addresses a (IsAddressed b) words.old.rest.now → ⊥ }

@@ -3,7 +3,7 @@
 use change_core::Address;
 use message_core::Message;
 
-/// A message, and whom it is for.
+/// A message, and its receiver.
 #[derive(Drop)]
 pub struct Sent {
     pub to: Address,

@@ -6,7 +6,7 @@ ghost use Rattle.cli_core.specs.Simulated.{GoesOn, IsPlace, NodeAnswers, NodeLac
 
 use crate::scripts::answers::Answer;
 use crate::scripts::asked::ask;
-use crate::scripts::faults::ScriptFault;
+use crate::scripts::faults::ScriptError;
 use crate::scripts::lines::{Birth, Question};
 use change_core::{Address, Incarnation, Moment};
 use hash_ring::PointHash;
@@ -14,7 +14,7 @@ use message_core::Message;
 use node_core::{Config, NodeState, Received};
 use std::alloc::Global;
 
-/// Where the node of an address stands.
+/// Returns the place of the node of an address.
 pub fn place_of<H: PointHash>(nodes: &[NodeState<H>], address: Address) -> Option<usize>
     ensures place { IfSome result (λ i. IsPlace nodes.now address i) }
     ensures none { result ≡ None → node_at (nodes_in nodes.now) address ≡ None }
@@ -28,41 +28,50 @@ pub fn place_of<H: PointHash>(nodes: &[NodeState<H>], address: Address) -> Optio
     None
 }
 
-/// Asks the node of an address.
+/// Makes a call of the node of an address, at a moment.
+///
+/// # Errors
+///
+/// - `UnknownNode`: there is no node of this address.
+/// - `OutOfMemory`: out of memory.
 pub fn ask_at<H: PointHash>(
     nodes: &mut Vec<NodeState<H>>,
     address: Address,
     moment: Moment,
     question: &Question<'_>,
-) -> Result<Answer, ScriptFault>
+) -> Result<Answer, ScriptError>
     ensures answer { IfOk result (λ answer. GoesOn (nodes_in nodes.old.items) address
         (λ before after. NodeAnswers H.hash_of moment before question.now answer after) (nodes_in nodes.new.items)) }
-    ensures fault { IfErr result (λ f. (f ≡ ScriptFault.OutOfMemory)
-        ⊎ ((f ≡ ScriptFault.UnknownNode) × (node_at (nodes_in nodes.old.items) address ≡ None))) }
-    ensures memory { IfErr result (λ f. f ≡ ScriptFault.OutOfMemory → GoesOn (nodes_in nodes.old.items) address
+    ensures fault { IfErr result (λ f. (f ≡ ScriptError.OutOfMemory)
+        ⊎ ((f ≡ ScriptError.UnknownNode) × (node_at (nodes_in nodes.old.items) address ≡ None))) }
+    ensures memory { IfErr result (λ f. f ≡ ScriptError.OutOfMemory → GoesOn (nodes_in nodes.old.items) address
         (λ before after. NodeLacks H.hash_of moment before question.now after) (nodes_in nodes.new.items)) }
 {
     let Some(place) = place_of(nodes.as_slice(), address) else {
-        return Err(ScriptFault::UnknownNode);
+        return Err(ScriptError::UnknownNode);
     };
     ask(&mut nodes[place], moment, question)
 }
 
-/// The ping of the node at a place.
+/// Makes the ping of the node at a place.
+///
+/// # Errors
+///
+/// - `OutOfMemory`: out of memory.
 pub fn ping_at<H: PointHash>(
     nodes: &mut Vec<NodeState<H>>,
     place: usize,
     address: Address,
     target: Address,
-) -> Result<Message, ScriptFault>
+) -> Result<Message, ScriptError>
     requires { IsPlace nodes.old.items address place }
     ensures message { IfOk result (λ message. GoesOn (nodes_in nodes.old.items) address
         (Pings H.hash_of target message) (nodes_in nodes.new.items)) }
-    ensures fault { IfErr result (λ f. f ≡ ScriptFault.OutOfMemory) }
+    ensures fault { IfErr result (λ f. f ≡ ScriptError.OutOfMemory) }
 {
     match nodes[place].ping_to(target) {
         Ok(message) => Ok(message),
-        Err(_) => Err(ScriptFault::OutOfMemory),
+        Err(_) => Err(ScriptError::OutOfMemory),
     }
 }
 
@@ -93,7 +102,7 @@ pub fn incarnation_at<H: PointHash>(
     nodes[place].own().incarnation
 }
 
-/// Puts a node in place of another.
+/// Replaces a node by another.
 pub fn put_at<H: PointHash>(
     nodes: &mut Vec<NodeState<H>>,
     place: usize,
@@ -106,17 +115,21 @@ pub fn put_at<H: PointHash>(
     nodes[place] = node;
 }
 
-/// A node alone in its cluster, at a moment.
+/// Makes a node alone in its cluster, at a moment.
+///
+/// # Errors
+///
+/// - `OutOfMemory`: out of memory.
 pub fn newborn<H: PointHash>(
     alloc: Global,
     hash: H,
     replicas: u32,
     moment: Moment,
     birth: &Birth,
-) -> Result<NodeState<H>, ScriptFault>
+) -> Result<NodeState<H>, ScriptError>
     requires { IsReplicas replicas }
     ensures born { IfOk result (λ n. n.node ≡ born hash replicas moment birth.now) }
-    ensures fault { IfErr result (λ f. f ≡ ScriptFault.OutOfMemory) }
+    ensures fault { IfErr result (λ f. f ≡ ScriptError.OutOfMemory) }
 {
     let mut config = Config::standard();
     config.replicas = replicas;
@@ -131,6 +144,6 @@ pub fn newborn<H: PointHash>(
         moment,
     ) {
         Ok(node) => Ok(node),
-        Err(_) => Err(ScriptFault::OutOfMemory),
+        Err(_) => Err(ScriptError::OutOfMemory),
     }
 }

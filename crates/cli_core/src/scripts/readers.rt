@@ -1,4 +1,4 @@
-//! The words of a line, one after another.
+//! Readers of a line, word by word.
 ghost use Rattle.std.specs.Prelude.{◌≡◌, ℕ, ◌≤◌, ◌++◌, ◌∷◌, List, Some, None, IfSome, IsSomeAnd, Option, option_copied, ◌==◌};
 ghost use Rattle.std.specs.List.{position};
 ghost use Rattle.change_core.specs.declared.statuses.Status.{Status};
@@ -10,14 +10,14 @@ ghost use Rattle.cli_core.specs.ScriptLines.{IsLast, IsVisible, IsWeightWord, Is
 
 use change_core::{Address, Incarnation, Status, Weight};
 
-/// Where the first space stands.
+/// Returns the place of the first space.
 fn space_in(line: &[u8]) -> Option<usize>
     ensures { result ≡ position (λ x. x == 32) line.now }
 {
     line.iter().position(|byte| *byte == b' ')
 }
 
-/// What stands before the first space, and what stands behind it.
+/// Returns the bytes before the first space, and those after it.
 fn split_space(line: &[u8]) -> Option<(&[u8], &[u8])>
     ensures read { IfSome result (λ p. line.now ≡ p.0.now ++ 32 ∷ p.1.now) }
     ensures exact { (word rest : List ℕ) → IsVisible word → line.now ≡ word ++ 32 ∷ rest
@@ -53,7 +53,7 @@ pub fn read_address(word: &[u8]) -> Option<Address>
     Address::parse(text).ok()
 }
 
-/// Reads a weight, which is 1 where no word is left for it.
+/// Reads a weight; without a word it is 1.
 fn read_weight(word: Option<&[u8]>) -> Option<Weight>
     ensures read { IfSome result (λ w. IsWeightWord w (option_copied word.entry)) }
     ensures exact { (w : ℕ) → IsWeightWord w (option_copied word.entry) → result ≡ Some w }
@@ -65,14 +65,14 @@ fn read_weight(word: Option<&[u8]>) -> Option<Weight>
     Weight::new(u8::try_from(number).ok()?)
 }
 
-/// What is left of a line.
+/// The rest of a line.
 #[derive(Clone, Copy)]
 pub struct LineRest<'a> {
     pub rest: &'a [u8],
 }
 
 impl<'a> LineRest<'a> {
-    /// Takes a word and the space behind it.
+    /// Takes a word and the space after it.
     pub fn word(&mut self) -> Option<&'a [u8]>
         ensures read { IfSome result (λ word. self.old.rest.now ≡ word.now ++ 32 ∷ self.new.rest.now) }
         ensures exact { (word rest : List ℕ) → IsVisible word → self.old.rest.now ≡ word ++ 32 ∷ rest
@@ -83,7 +83,7 @@ impl<'a> LineRest<'a> {
         Some(word)
     }
 
-    /// Takes an address and the space behind it.
+    /// Takes an address and the space after it.
     pub fn address(&mut self) -> Option<Address>
         ensures read { IfSome result (λ a. IsAddress a × (self.old.rest.now ≡ address_text a ++ 32 ∷ self.new.rest.now)) }
         ensures exact { (a : ℕ) (rest : List ℕ) → IsAddress a → self.old.rest.now ≡ address_text a ++ 32 ∷ rest
@@ -93,7 +93,7 @@ impl<'a> LineRest<'a> {
         read_address(word)
     }
 
-    /// Takes a number and the space behind it.
+    /// Takes a number and the space after it.
     pub fn number(&mut self) -> Option<u64>
         ensures read { IfSome result (λ n. (n ≤ greatest_number) × (self.old.rest.now ≡ number_text n ++ 32 ∷ self.new.rest.now)) }
         ensures exact { (n : ℕ) (rest : List ℕ) → n ≤ greatest_number → self.old.rest.now ≡ number_text n ++ 32 ∷ rest
@@ -103,7 +103,7 @@ impl<'a> LineRest<'a> {
         read_number(word)
     }
 
-    /// The last word, and the weight that may stand behind it.
+    /// Returns the last word, and the weight after it if there is one.
     fn last(&self) -> (&'a [u8], Option<&'a [u8]>)
         ensures read { IsLast result.0.now (option_copied result.1) self.now.rest.now }
         ensures exact { (word : List ℕ) (weight : Option (List ℕ)) → IsVisible word → IsLast word weight self.now.rest.now
@@ -115,7 +115,7 @@ impl<'a> LineRest<'a> {
         }
     }
 
-    /// The incarnation that is left, and the weight that may stand behind it.
+    /// Reads the incarnation at the end of the line, and the weight after it if there is one.
     pub fn incarnation(&self) -> Option<(Incarnation, Weight)>
         ensures read { IfSome result (λ p. (p.0 ≤ greatest_number) × IsWeighted (number_text p.0) p.1 self.now.rest.now) }
         ensures exact { (i w : ℕ) → i ≤ greatest_number → IsWeighted (number_text i) w self.now.rest.now → result ≡ Some (i, w) }
@@ -126,7 +126,7 @@ impl<'a> LineRest<'a> {
         Some((Incarnation::new(number)?, weight))
     }
 
-    /// The status that is left, and the weight that may stand behind it.
+    /// Reads the status at the end of the line, and the weight after it if there is one.
     pub fn status(&self) -> Option<(Status, Weight)>
         ensures read { IfSome result (λ p. IsWeighted (status_word p.0) p.1 self.now.rest.now) }
         ensures exact { (s : Status) (w : ℕ) → IsWeighted (status_word s) w self.now.rest.now → result ≡ Some (s, w) }

@@ -8,7 +8,7 @@ ghost use Rattle.cli_core.specs.ScriptRuns.{AnswersLine, Completes, CompletesBy,
 
 use crate::counted::next_line;
 use crate::outputs::write_text;
-use crate::scripts::faults::{ScriptFault, SimFault};
+use crate::scripts::faults::{ScriptError, SimError};
 use crate::scripts::lines::read_command;
 use crate::scripts::simulation::Simulation;
 use crate::words::SimWords;
@@ -17,14 +17,14 @@ use message_core::WireError;
 use std::alloc::Global;
 use std::io::{Read, Write};
 
-/// What a fault of reading a line is to a script.
-fn fault_of_read(fault: WireError) -> ScriptFault
+/// Returns a script's error for an error of reading a line.
+fn fault_of_read(fault: WireError) -> ScriptError
     ensures { result ≡ fault_of_read fault }
 {
     match fault {
-        WireError::LineTooLong => ScriptFault::LineTooLong,
-        WireError::Memory => ScriptFault::OutOfMemory,
-        _ => ScriptFault::ReadFailed,
+        WireError::LineTooLong => ScriptError::LineTooLong,
+        WireError::Memory => ScriptError::OutOfMemory,
+        _ => ScriptError::ReadFailed,
     }
 }
 
@@ -33,13 +33,13 @@ fn answer_line<H: PointHash>(
     alloc: Global,
     simulation: &mut Simulation<H>,
     line: &[u8],
-) -> Result<String, ScriptFault>
+) -> Result<String, ScriptError>
     requires { length line.now ≤ max_line }
     ensures answer { IfOk result (λ text. AnswersLine H.hash_of simulation.old line.now (string_bytes text) simulation.new) }
     ensures fault { IfErr result (λ f. IsLineRefused H.hash_of simulation.old line.now f) }
 {
     let Some(command) = read_command(line) else {
-        return Err(ScriptFault::BadCommand);
+        return Err(ScriptError::BadCommand);
     };
     let answer = simulation.obey(&command)?;
     answer.text(alloc)
@@ -52,7 +52,7 @@ fn turn<H: PointHash, R: Read, W: Write>(
     reader: &mut R,
     writer: &mut W,
     number: u64,
-) -> Result<bool, SimFault>
+) -> Result<bool, SimError>
     ensures turn { IfSome (R.remaining reader.old) (λ xs. Turns H.hash_of simulation.old xs (W.contents writer.old) number result
         simulation.new (R.remaining reader.new) (W.contents writer.new)) }
     ensures counted { IfOk result (λ more. more ≡ true → number ≤ greatest_number) }
@@ -60,15 +60,15 @@ fn turn<H: PointHash, R: Read, W: Write>(
     let line = match next_line(alloc, reader, number) {
         Ok(Some(line)) => line,
         Ok(None) => return Ok(false),
-        Err(fault) => return Err(SimFault::AtLine(number, fault_of_read(fault))),
+        Err(fault) => return Err(SimError::AtLine(number, fault_of_read(fault))),
     };
     let text = match answer_line(alloc, simulation, line.as_slice()) {
         Ok(text) => text,
-        Err(fault) => return Err(SimFault::AtLine(number, fault)),
+        Err(fault) => return Err(SimError::AtLine(number, fault)),
     };
     match write_text(writer, text.as_str()) {
         Ok(()) => Ok(true),
-        Err(_) => Err(SimFault::CannotWrite),
+        Err(_) => Err(SimError::CannotWrite),
     }
 }
 
@@ -79,7 +79,7 @@ fn sim_run_by<H: PointHash, R: Read, W: Write>(
     replicas: u32,
     reader: &mut R,
     writer: &mut W,
-) -> Result<(), SimFault>
+) -> Result<(), SimError>
     requires { IsReplicas replicas }
     ensures output { IfOk result (λ _. Completes H.hash_of (beginning hash replicas)
         (R.remaining reader.old) (W.contents writer.old) (W.contents writer.new)) }
@@ -97,17 +97,20 @@ fn sim_run_by<H: PointHash, R: Read, W: Write>(
     }
 }
 
-/// Reads the commands of a script to the end, one a line, and answers each with a line, at once.
+/// Reads the commands of a script to the end, one a line, and answers each with a line, before it reads the next. Lines
+/// are counted from 1 to 9007199254740991.
 ///
-/// Errors: the first line at fault, once the lines before it are answered; `CannotWrite` where the writer failed, and then the
-/// answers before the one that it failed at are written, and a front of that one. Lines are counted from 1 to
-/// 9007199254740991; one more is `ReadFailed`, or `OutOfMemory` where a growth is refused in reading it.
+/// # Errors
+///
+/// - `AtLine`: a line has an error; the first one is named, and the lines before it are answered. A line past the last
+///   number is `ReadFailed`, or `OutOfMemory` if reading it runs out of memory.
+/// - `CannotWrite`: the writer failed. The answers before that one are written, and a prefix of it.
 pub fn sim_run<R: Read, W: Write>(
     alloc: Global,
     words: &SimWords,
     reader: &mut R,
     writer: &mut W,
-) -> Result<(), SimFault>
+) -> Result<(), SimError>
     ensures output { IfOk result (λ _. CompletesBy words.now.sum words.now.replicas
         (R.remaining reader.old) (W.contents writer.old) (W.contents writer.new)) }
     ensures fault { IfErr result (λ e. StopsBy words.now.sum words.now.replicas e

@@ -4,7 +4,7 @@ ghost use Rattle.hash_ring.specs.Points.{IsReplicas};
 ghost use Rattle.cli_core.specs.Simulated.{IsRefusedFor, Obeys, beginning, message_of, most_messages, with_message};
 
 use crate::scripts::answers::Answer;
-use crate::scripts::faults::ScriptFault;
+use crate::scripts::faults::ScriptError;
 use crate::scripts::lines::{Birth, Command, Question};
 use crate::scripts::messages::Sent;
 use crate::scripts::nodes::{
@@ -17,11 +17,11 @@ use node_core::{NodeState, Received};
 use std::alloc::Global;
 use std::marker::Model;
 
-/// How many nodes a script has at most.
-pub const MOST_NODES: usize = 64;
+/// The greatest number of nodes of a script.
+pub const MAX_NODES: usize = 64;
 
-/// How many messages a script keeps at most.
-pub const MOST_MESSAGES: usize = 65_536;
+/// The greatest number of messages that a script keeps.
+pub const MAX_MESSAGES: usize = 65_536;
 
 /// The nodes of a script in the order of their making, its messages by their numbers, and its moment. Contracts see the
 /// script.
@@ -58,25 +58,26 @@ impl<H: PointHash> Simulation<H> {
         requires { IsReplicas replicas }
         ensures { result ≡ beginning hash replicas }
     {
-        let Some(moment) = Moment::new(0) else {
-            unreachable!()
-        };
         Simulation {
             hash,
             replicas,
-            moment,
+            moment: Moment::beginning(),
             nodes: Vec::new(alloc),
             messages: Vec::new(alloc),
             alloc,
         }
     }
 
-    /// Does what a command says, and answers.
+    /// Runs a command, and returns its answer.
     ///
-    /// Errors: of unknown node, node exists, too many nodes, unknown message, too many messages and incarnation not
-    /// greater the first that the command has; `OutOfMemory` where a growth was refused, and then the call of the node may
-    /// have been made. A script ends at either.
-    pub fn obey(&mut self, command: &Command<'_>) -> Result<Answer, ScriptFault>
+    /// # Errors
+    ///
+    /// A script ends at any error. The first that applies is returned.
+    ///
+    /// - `UnknownNode`, `NodeExists`, `TooManyNodes`, `UnknownMessage`, `TooManyMessages`, `IncarnationNotGreater`: the
+    ///   command does not fit the nodes and messages of the script.
+    /// - `OutOfMemory`: out of memory. The call of the node may have been made.
+    pub fn obey(&mut self, command: &Command<'_>) -> Result<Answer, ScriptError>
         ensures answer { IfOk result (λ answer. Obeys H.hash_of self.old command.now answer self.new) }
         ensures fault { IfErr result (λ f. IsRefusedFor H.hash_of self.old command.now f) }
     {
@@ -94,32 +95,32 @@ impl<H: PointHash> Simulation<H> {
     }
 
     /// Makes a node.
-    fn make(&mut self, birth: &Birth) -> Result<Answer, ScriptFault>
+    fn make(&mut self, birth: &Birth) -> Result<Answer, ScriptError>
         ensures answer { IfOk result (λ answer. Obeys H.hash_of self.old (Command.Node birth.now) answer self.new) }
         ensures fault { IfErr result (λ f. IsRefusedFor H.hash_of self.old (Command.Node birth.now) f) }
     {
         if place_of(self.nodes.as_slice(), birth.address).is_some() {
-            return Err(ScriptFault::NodeExists);
+            return Err(ScriptError::NodeExists);
         }
-        if self.nodes.len() >= MOST_NODES {
-            return Err(ScriptFault::TooManyNodes);
+        if self.nodes.len() >= MAX_NODES {
+            return Err(ScriptError::TooManyNodes);
         }
         let node = newborn(self.alloc, self.hash, self.replicas, self.moment, birth)?;
         self.nodes.push(node)?;
         Ok(Answer::Done)
     }
 
-    /// Makes a node anew, at a greater incarnation.
-    fn restart(&mut self, birth: &Birth) -> Result<Answer, ScriptFault>
+    /// Starts a node again, at a greater incarnation.
+    fn restart(&mut self, birth: &Birth) -> Result<Answer, ScriptError>
         ensures answer { IfOk result (λ answer. Obeys H.hash_of self.old (Command.Restart birth.now) answer self.new) }
         ensures fault { IfErr result (λ f. IsRefusedFor H.hash_of self.old (Command.Restart birth.now) f) }
     {
         let Some(place) = place_of(self.nodes.as_slice(), birth.address) else {
-            return Err(ScriptFault::UnknownNode);
+            return Err(ScriptError::UnknownNode);
         };
         let held = incarnation_at(self.nodes.as_slice(), place, birth.address);
         if birth.incarnation.number() <= held.number() {
-            return Err(ScriptFault::IncarnationNotGreater);
+            return Err(ScriptError::IncarnationNotGreater);
         }
         let node = newborn(self.alloc, self.hash, self.replicas, self.moment, birth)?;
         put_at(&mut self.nodes, place, birth.address, node);
@@ -127,7 +128,7 @@ impl<H: PointHash> Simulation<H> {
     }
 
     /// Asks the node of an address.
-    fn ask(&mut self, address: Address, question: &Question<'_>) -> Result<Answer, ScriptFault>
+    fn ask(&mut self, address: Address, question: &Question<'_>) -> Result<Answer, ScriptError>
         ensures answer { IfOk result (λ answer. Obeys H.hash_of self.old (Command.Ask address question.now) answer self.new) }
         ensures fault { IfErr result (λ f. IsRefusedFor H.hash_of self.old (Command.Ask address question.now) f) }
     {
@@ -135,15 +136,15 @@ impl<H: PointHash> Simulation<H> {
     }
 
     /// Keeps the ping of one address to another.
-    fn send(&mut self, address: Address, target: Address) -> Result<Answer, ScriptFault>
+    fn send(&mut self, address: Address, target: Address) -> Result<Answer, ScriptError>
         ensures answer { IfOk result (λ answer. Obeys H.hash_of self.old (Command.Send address target) answer self.new) }
         ensures fault { IfErr result (λ f. IsRefusedFor H.hash_of self.old (Command.Send address target) f) }
     {
         let Some(place) = place_of(self.nodes.as_slice(), address) else {
-            return Err(ScriptFault::UnknownNode);
+            return Err(ScriptError::UnknownNode);
         };
-        if self.messages.len() >= MOST_MESSAGES {
-            return Err(ScriptFault::TooManyMessages);
+        if self.messages.len() >= MAX_MESSAGES {
+            return Err(ScriptError::TooManyMessages);
         }
         let message = ping_at(&mut self.nodes, place, address, target)?;
         let number = keep(&mut self.messages, target, message)?;
@@ -151,12 +152,12 @@ impl<H: PointHash> Simulation<H> {
     }
 
     /// Has the message of a number received, and keeps the answer to it.
-    fn deliver(&mut self, number: u64) -> Result<Answer, ScriptFault>
+    fn deliver(&mut self, number: u64) -> Result<Answer, ScriptError>
         ensures answer { IfOk result (λ answer. Obeys H.hash_of self.old (Command.Deliver number) answer self.new) }
         ensures fault { IfErr result (λ f. IsRefusedFor H.hash_of self.old (Command.Deliver number) f) }
     {
         let Some(sent) = message_at(self.messages.as_slice(), number) else {
-            return Err(ScriptFault::UnknownMessage);
+            return Err(ScriptError::UnknownMessage);
         };
         let to = sent.to;
         let sender = sent.message.source;
@@ -169,7 +170,7 @@ impl<H: PointHash> Simulation<H> {
                 let number = keep(&mut self.messages, sender, message)?;
                 Ok(Answer::Answered(taken, number))
             }
-            Received::NoAnswer(_) => Err(ScriptFault::OutOfMemory),
+            Received::NoAnswer(_) => Err(ScriptError::OutOfMemory),
             Received::Stopped(stopped) => Ok(Answer::Stopped(stopped)),
             Received::NotGossip => Ok(Answer::Nothing),
         }
@@ -185,15 +186,15 @@ fn message_at(messages: &[Sent], number: u64) -> Option<&Sent>
 }
 
 /// Keeps a message under the next number.
-fn keep(messages: &mut Vec<Sent>, to: Address, message: Message) -> Result<u64, ScriptFault>
+fn keep(messages: &mut Vec<Sent>, to: Address, message: Message) -> Result<u64, ScriptError>
     ensures number { IfOk result (λ n. (length messages.old.items < most_messages) × (n ≡ length messages.old.items + 1)
         × (messages.new.items ≡ with_message messages.old.items to message)) }
-    ensures fault { IfErr result (λ f. ((f ≡ ScriptFault.OutOfMemory) × (length messages.old.items < most_messages))
-        ⊎ ((f ≡ ScriptFault.TooManyMessages) × (most_messages ≤ length messages.old.items))) }
+    ensures fault { IfErr result (λ f. ((f ≡ ScriptError.OutOfMemory) × (length messages.old.items < most_messages))
+        ⊎ ((f ≡ ScriptError.TooManyMessages) × (most_messages ≤ length messages.old.items))) }
 {
     let kept = messages.len();
-    if kept >= MOST_MESSAGES {
-        return Err(ScriptFault::TooManyMessages);
+    if kept >= MAX_MESSAGES {
+        return Err(ScriptError::TooManyMessages);
     }
     messages.push(Sent { to, message })?;
     Ok(kept as u64 + 1)

@@ -9,7 +9,7 @@ pub const ALL: usize = usize::MAX;
 /// How many bytes a page holds.
 const PAGE: usize = 1024;
 
-/// A writer that fails once it has so many bytes.
+/// A writer that fails once it has this many bytes.
 #[derive(Clone, Copy)]
 pub struct Page<'a> {
     bytes: [u8; PAGE],
@@ -21,7 +21,7 @@ pub struct Page<'a> {
     pub can_flush: bool,
     /// Whether it keeps more than its last line.
     pub keeps_all: bool,
-    /// Whether a line was written, though it may not be kept, that ends with a want of memory.
+    /// Whether a line was written, though it may not be kept, that ends with `out of memory`.
     pub found_no_memory: bool,
     /// Where it counts at each flush the lines that are on it by then: those are shown.
     pub shown: Option<&'a AtomicU64>,
@@ -84,7 +84,7 @@ impl<'a> Write for Page<'a> {
     }
 }
 
-/// What each of many lines says.
+/// The text of each of many lines.
 #[derive(Clone, Copy)]
 pub enum Form {
     /// A change, each of another address.
@@ -101,18 +101,19 @@ pub enum Form {
     Take,
 }
 
-/// What a reader gives.
+/// The input of a reader.
 #[derive(Clone, Copy)]
 pub enum Source<'a> {
     /// Lines, each with its newline.
     Lines(&'a [&'a str]),
-    /// So many lines of one form.
+    /// This many lines of one form.
     Many(Form, usize),
-    /// One line of so many spaces, without a newline.
+    /// One line of this many spaces, without a newline.
     Long(usize),
 }
 
-/// What a line of a form says before the two numbers of its address and behind them, or all of it; so many come after it.
+/// What a line of a form says before the two numbers of its address and behind them, or all of it; this many come after
+/// it.
 fn parts(form: Form, is_first: bool, left: usize) -> (&'static str, Option<&'static str>) {
     match form {
         Form::Change => (
@@ -131,7 +132,7 @@ fn parts(form: Form, is_first: bool, left: usize) -> (&'static str, Option<&'sta
     }
 }
 
-/// A reader that fails after so many bytes.
+/// A reader that fails after this many bytes.
 #[derive(Clone, Copy)]
 pub struct Reader<'a> {
     source: Source<'a>,
@@ -140,8 +141,8 @@ pub struct Reader<'a> {
     left: usize,
     /// The line of many that is read.
     text: Page<'a>,
-    /// Where the lines are counted that are shown. Each line is begun once all before it are answered and shown, and the reader fails
-    /// where it is asked for one before that.
+    /// The counter of the lines that are shown. Each line starts once all before it are answered and shown, and the
+    /// reader fails if it is asked for one before that.
     pub shown: Option<&'a AtomicU64>,
 }
 
@@ -157,7 +158,7 @@ impl<'a> Reader<'a> {
         }
     }
 
-    /// How many lines it has begun.
+    /// Returns the number of lines that it has started.
     pub fn begun(&self) -> u64 {
         let whole = self.line as u64;
         if self.place > 0 {
@@ -187,7 +188,7 @@ impl<'a> Reader<'a> {
         }
     }
 
-    /// Begins a line.
+    /// Starts a line.
     fn begin(&mut self) -> io::Result<()> {
         if let Some(shown) = self.shown {
             if shown.load(Ordering::SeqCst) != self.line as u64 {

@@ -5,7 +5,7 @@ use crate::cli::changes::{
 };
 use crate::cli::fakes::{ALL, Form, Page, Reader, Source};
 use crate::cli::runs::{OWNER, TWO_OWNERS, check, check_lines, run};
-use cli_core::{OwnerWords, RunFault, Subcommand, SubcommandFault};
+use cli_core::{OwnerWords, RunError, Subcommand, SubcommandError};
 
 pub const LATER_FOLDED: &str =
     "10.0.0.2:1alive6\n71f2e2fce762716835393b50a95728bc73ddc10927921dee7639cf34388c0cf7\n";
@@ -18,7 +18,7 @@ const HEAVIER_FOLDED: &str =
 
 const NOTHING_FOLDED: &str = "\ne3b0c44298fc1c149afbf4c8996fb92427ae41e4649b934ca495991b7852b855\n";
 
-/// A second line, and what is said of it.
+/// A second line, and the error text.
 const AT_FAULT: [(&str, &str); 20] = [
     (r#"[]"#, "line 2: not an object"),
     (r#"7"#, "line 2: not an object"),
@@ -128,6 +128,10 @@ const FOLDED: [(&[&str], &str); 13] = [
     (&[LATER, HEAVIER], LATER_FOLDED),
 ];
 
+/// `fold` of (B,5,alive), (B,5,suspect), (B,6,alive) in all six orders, each line twice: `10.0.0.2:1alive6` and the digest of that.
+/// `fold` of nothing: an empty line, and the digest of the empty text. `fold` of (B,5,tombstone), (B,5,leave), with and without
+/// (B,6,alive): alive at 6, tombstone at 5. `fold` of (B,5,alive) with weight 2 and with 1, in both orders, and with (B,6,alive):
+/// `10.0.0.2:1alive5*2`, `10.0.0.2:1alive6`.
 #[test]
 fn folds_in_any_order_and_number(rt: HostRuntime) {
     for (lines, text) in &FOLDED {
@@ -135,6 +139,8 @@ fn folds_in_any_order_and_number(rt: HostRuntime) {
     }
 }
 
+/// A good line, then `[]`: nothing on standard output, `ringpop: line 2: not an object`, status 1. An empty line: `not JSON`. The text of
+/// each fault, with its status.
 #[test]
 fn refuses_a_line_at_fault(rt: HostRuntime) {
     for (line, text) in &AT_FAULT {
@@ -150,7 +156,7 @@ fn refuses_a_line_at_fault(rt: HostRuntime) {
     );
 }
 
-/// Subcommands, what they read, and what is said of that.
+/// Subcommands, what they read, and the error text.
 const TOO_MUCH: [(Subcommand<'static>, Source<'static>, &str); 4] = [
     (
         Subcommand::Fold,
@@ -174,6 +180,7 @@ const TOO_MUCH: [(Subcommand<'static>, Source<'static>, &str); 4] = [
     ),
 ];
 
+/// 4,097 lines with distinct addresses: `ringpop: line 4097: too many members`; of `owner` too. The text of each fault, with its status.
 #[test]
 fn refuses_too_many_and_too_long(rt: HostRuntime) {
     for (subcommand, source, text) in &TOO_MUCH {
@@ -190,12 +197,13 @@ fn refuses_too_many_and_too_long(rt: HostRuntime) {
 }
 
 /// The output is longer than a page, so 4,096 members are folded up to the failing write.
+/// 4,096 of them are folded.
 #[test]
 fn holds_as_many_as_may_be(rt: HostRuntime) {
     let mut page = Page::new(ALL);
     let reader = Reader::new(Source::Many(Form::Change, 4096), ALL);
     let ended = run(&rt, rt.alloc(), &Subcommand::Fold, reader, &mut page);
-    assert!(rt; ended == Err(SubcommandFault::Run(RunFault::CannotWrite)));
+    assert!(rt; ended == Err(SubcommandError::Run(RunError::CannotWrite)));
     assert!(rt;
         page.text()
             .starts_with("10.0.0.0:1alive1;10.0.0.1:1alive1;")
@@ -205,7 +213,7 @@ fn holds_as_many_as_may_be(rt: HostRuntime) {
 /// How many bytes the lines `ALIVE` and `LATER` have, with their newlines.
 const TWO_LINES: usize = ALIVE.len() + LATER.len() + 2;
 
-/// What is told of a reader of these two lines that fails after so many bytes.
+/// The error text of a reader of these two lines that fails after this many bytes.
 fn read_failed(left: usize) -> &'static str {
     if left <= ALIVE.len() {
         "line 1: read failed"
@@ -261,7 +269,7 @@ const OWNERS: [(&[&str], u8, &str, &str); 13] = [
     ),
 ];
 
-/// So many owners of a key, by sum.
+/// This many owners of a key, by sum.
 fn owners(count: u8, key: &str) -> Subcommand<'_> {
     Subcommand::Owner(OwnerWords {
         count: usize::from(count),
@@ -272,6 +280,9 @@ fn owners(count: u8, key: &str) -> Subcommand<'_> {
 }
 
 /// By SHA-256 the first point of one server is the last key's own hash, and so is the eleventh of the other.
+/// `owner --sum --replicas 2 --n 3 zzzz1` over C, A and B: B, C, A, one on a line. `--n 0` prints nothing. The same and two other keys
+/// with B of weight 3, and of weight 1 at its next incarnation. `owner --n 2 10.0.0.1:110` over `10.0.0.1:1` and `10.0.0.1:11`: these
+/// two, in this order.
 #[test]
 fn names_the_owners_of_a_key(rt: HostRuntime) {
     for (lines, count, key, text) in &OWNERS {

@@ -1,11 +1,13 @@
 //! A subcommand that is run, and what it is to write and to end with.
 
 use crate::cli::fakes::{ALL, Page, Reader, Source};
+use crate::shared::check_refused;
 use cli_core::{
-    LineFault, OwnerWords, RunFault, ScriptFault, SimFault, SimWords, Subcommand, SubcommandFault,
+    LineError, OwnerWords, RunError, ScriptError, SimError, SimWords, Subcommand, SubcommandError,
     subcommand_run,
 };
 use std::alloc::Global;
+use std::env::Env;
 use std::io::Write;
 use std::process::Abort;
 
@@ -31,40 +33,46 @@ pub const TWO_OWNERS: Subcommand<'static> = Subcommand::Owner(OwnerWords {
     key: "10.0.0.1:110",
 });
 
-/// Whether a growth was refused. That is told of the line that the reader had begun, or of none once it has given all; a script has
-/// answered all lines before that one, and nothing else has written anything.
+/// Whether an allocation failed. The error names the line that the reader had started, or none once it has given all; a
+/// script has answered all lines before that one, and nothing else has written anything.
 fn is_refused_memory(
-    rt: &impl Abort,
+    rt: &(impl Env + Abort),
     subcommand: &Subcommand<'_>,
-    ended: Result<(), SubcommandFault>,
+    ended: Result<(), SubcommandError>,
     reader: &Reader<'_>,
     page: &Page<'_>,
 ) -> bool {
     let is_placed = match ended {
-        Err(SubcommandFault::Run(RunFault::NoMemory)) => {
+        Err(SubcommandError::Run(RunError::NoMemory)) => {
             let reads = !matches!(subcommand, Subcommand::Hash(_));
             page.text() == "" && (!reads || reader.byte().is_none())
         }
-        Err(SubcommandFault::Run(RunFault::AtLine(number, LineFault::OutOfMemory))) => {
+        Err(SubcommandError::Run(RunError::AtLine(number, LineError::OutOfMemory))) => {
             page.text() == "" && number == reader.begun()
         }
-        Err(SubcommandFault::Sim(SimFault::AtLine(number, ScriptFault::OutOfMemory))) => {
+        Err(SubcommandError::Sim(SimError::AtLine(number, ScriptError::OutOfMemory))) => {
             page.lines.saturating_add(1) == number && number == reader.begun()
         }
-        _ => return page.found_no_memory,
+        _ if !page.found_no_memory => return false,
+        _ => true,
     };
     assert!(rt; is_placed);
+    check_refused(rt);
     true
 }
 
-/// Runs a subcommand. After a refused growth it is run again, on a page as it was.
+/// Runs a subcommand. After a failed allocation it is run again, on an unchanged page.
+///
+/// # Errors
+///
+/// - The error of the subcommand, but not that of a failed allocation.
 pub fn run<'a>(
-    rt: &impl Abort,
+    rt: &(impl Env + Abort),
     alloc: Global,
     subcommand: &Subcommand<'_>,
     reader: Reader<'_>,
     page: &mut Page<'a>,
-) -> Result<(), SubcommandFault> {
+) -> Result<(), SubcommandError> {
     let (mut first, mut second) = (reader, reader);
     let before = *page;
     let ended = subcommand_run(alloc, subcommand, &mut first, page);
@@ -77,9 +85,9 @@ pub fn run<'a>(
     subcommand_run(alloc, subcommand, &mut second, page)
 }
 
-/// Checks what a subcommand writes to a page, and the text of the fault that it ends with, or of none where that is empty.
+/// Checks what a subcommand writes to a page, and the text of the error that it ends with, or of none if that is empty.
 pub fn check(
-    rt: &impl Abort,
+    rt: &(impl Env + Abort),
     alloc: Global,
     subcommand: &Subcommand<'_>,
     reader: Reader<'_>,
@@ -103,7 +111,7 @@ pub fn check(
 
 /// Checks what a subcommand does with lines.
 pub fn check_lines(
-    rt: &impl Abort,
+    rt: &(impl Env + Abort),
     alloc: Global,
     subcommand: &Subcommand<'_>,
     lines: &[&str],

@@ -2,9 +2,12 @@
 
 use crate::cli::fakes::{ALL, Form, Page, Reader, Source};
 use crate::cli::runs::{SIM, check, check_lines};
+use hash_ring::SumHash;
 use std::alloc::Global;
+use std::env::Env;
 use std::process::Abort;
 use std::sync::atomic::AtomicU64;
+use system_laws::laws::script_agreement;
 
 const SUSPICION: [&str; 11] = [
     "node 10.0.0.1:1 7",
@@ -92,6 +95,9 @@ const OTHERS: [&str; 25] = [
 const OTHERS_ANSWERED: &str =
     "ok\nok\nok\ntaken 1 0\nok\nnone\n10.0.0.1:1 10.0.0.2:1\n10.0.0.2:1\nok\n10.0.0.2:1faulty1*8\n10.0.0.1:1leave7\nAlreadyLeft\nnone\n10.0.0.1:1alive8\nNotLeft\nok\n10.0.0.3:1alive1*2\n102d23bd842cbc64e2c06fd4e2afab809640e435c3010d50384240bb7d8b754a\nok\n10.0.0.3:1alive2*3\nok\nnone\n10.0.0.3:1\nmessage 1\nlost\n";
 
+/// Eleven commands, in which a suspicion of A is refuted and one of B runs out, with their answers. Fourteen commands, in which messages
+/// are sent, delivered twice, and B is restarted, with their answers. A message to an address without a node: lost. A key that is empty
+/// or has spaces; weights as last words of `node`, `take` and `restart`.
 #[test]
 fn answers_scripts(rt: HostRuntime) {
     check_lines(&rt, rt.alloc(), &SIM, &SUSPICION, (SUSPICION_ANSWERED, ""));
@@ -100,8 +106,8 @@ fn answers_scripts(rt: HostRuntime) {
     check_lines(&rt, rt.alloc(), &SIM, &OTHERS, (OTHERS_ANSWERED, ""));
 }
 
-/// Lines of which the last is at fault, and what is said of it.
-const AT_FAULT: [(&[&str], &str, &str); 9] = [
+/// Lines whose last is wrong, and the error text.
+const AT_FAULT: [(&[&str], &str, &str); 11] = [
     (&["node 10.0.0.1:1 07"], "", "line 1: bad command"),
     (
         &["at 5", "leave 10.0.0.1:1"],
@@ -129,6 +135,22 @@ const AT_FAULT: [(&[&str], &str, &str); 9] = [
         ],
         "ok\ntaken 1 1\n",
         "line 3: incarnation not greater",
+    ),
+    (
+        &["node 10.0.0.1:1 7", "restart 10.0.0.1:1 6"],
+        "ok\n",
+        "line 2: incarnation not greater",
+    ),
+    (
+        &[
+            "node 10.0.0.1:1 7",
+            "node 10.0.0.2:1 1",
+            "take 10.0.0.1:1 10.0.0.2:1 1 alive",
+            "take 10.0.0.1:1 10.0.0.1:1 7 suspect",
+            "restart 10.0.0.2:1 1",
+        ],
+        "ok\nok\ntaken 1 0\ntaken 1 1\n",
+        "line 5: incarnation not greater",
     ),
     (
         &["node 10.0.0.1:1 7", "send 10.0.0.2:1 10.0.0.1:1"],
@@ -174,6 +196,8 @@ const NO_COMMANDS: [&str; 33] = [
     "digest 10.0.0.1:1 x",
 ];
 
+/// `deliver 9` where no such message was made: unknown message. `restart` of a node at the incarnation that it has, first or refuted,
+/// or below it: incarnation not greater. Unknown and existing nodes; what is no command.
 #[test]
 fn refuses_lines_at_fault(rt: HostRuntime) {
     for (lines, answers, text) in &AT_FAULT {
@@ -184,14 +208,22 @@ fn refuses_lines_at_fault(rt: HostRuntime) {
     }
 }
 
-/// Checks what so many lines of a form end with: the last answer, and the text of the fault, or of none where that is empty.
-fn check_last(rt: &impl Abort, alloc: Global, form: Form, count: usize, wanted: (&str, &str)) {
+/// Checks what this many lines of a form end with: the last answer, and the text of the error, or of none if that is
+/// empty.
+fn check_last(
+    rt: &(impl Env + Abort),
+    alloc: Global,
+    form: Form,
+    count: usize,
+    wanted: (&str, &str),
+) {
     let reader = Reader::new(Source::Many(form, count), ALL);
     let mut page = Page::new(ALL);
     page.keeps_all = false;
     check(rt, alloc, &SIM, reader, page, wanted);
 }
 
+/// The 65th node, the 65,537th message, as one sent or as an answer.
 #[test]
 fn refuses_too_many_nodes(rt: HostRuntime) {
     check_last(
@@ -215,19 +247,22 @@ fn stops_where_a_node_is_full(rt: HostRuntime) {
     check_last(&rt, rt.alloc(), Form::Take, 4_097, ("stopped 0 Full\n", ""));
 }
 
-/// The last answer to too many messages, and what is said of the line behind it.
+/// The last answer to too many messages, and the error of the line after it.
 const TOO_MANY: (&str, &str) = ("message 65536\n", "line 65538: too many messages");
 
+/// The 65th node, the 65,537th message, as one sent or as an answer.
 #[test]
 fn refuses_too_many_messages(rt: HostRuntime) {
     check_last(&rt, rt.alloc(), Form::Ping, 65_538, TOO_MANY);
 }
 
+/// The 65th node, the 65,537th message, as one sent or as an answer.
 #[test]
 fn refuses_an_answer_too_many(rt: HostRuntime) {
     check_last(&rt, rt.alloc(), Form::Delivery, 65_538, TOO_MANY);
 }
 
+/// A line of 1,048,577 bytes: line too long.
 #[test]
 fn refuses_too_long_a_line(rt: HostRuntime) {
     let longer = Reader::new(Source::Long(1_048_577), ALL);
@@ -259,7 +294,7 @@ pub const SHORT: [&str; 3] = [
 
 pub const SHORT_ANSWERED: &str = "ok\n10.0.0.1:1alive7\n10.0.0.1:1leave7\n";
 
-/// What is answered when the reader fails after so many bytes, and what is said of that.
+/// The answer when the reader fails after this many bytes, and the error text.
 fn failed_after(left: usize) -> (&'static str, &'static str) {
     match left {
         0..18 => ("", "line 1: read failed"),
@@ -293,4 +328,39 @@ fn shows_each_answer_before_it_reads_on(rt: HostRuntime) {
     let mut reader = Reader::new(Source::Lines(&SHORT), ALL);
     reader.shown = Some(&shown);
     check(&rt, rt.alloc(), &SIM, reader, page, (SHORT_ANSWERED, ""));
+}
+
+/// Two nodes that take the same changes, each in its own order.
+const SAME_CHANGES: [&str; 16] = [
+    "node 10.0.0.1:1 7",
+    "node 10.0.0.2:1 1",
+    "take 10.0.0.1:1 10.0.0.2:1 1 alive",
+    "take 10.0.0.1:1 10.0.0.3:1 3 faulty",
+    "take 10.0.0.1:1 10.0.0.4:1 2 alive",
+    "take 10.0.0.1:1 10.0.0.3:1 1 suspect",
+    "members 10.0.0.1:1",
+    "digest 10.0.0.1:1",
+    "owners 10.0.0.1:1 4 zzzz1",
+    "take 10.0.0.2:1 10.0.0.4:1 2 alive",
+    "take 10.0.0.2:1 10.0.0.3:1 1 suspect",
+    "take 10.0.0.2:1 10.0.0.3:1 3 faulty",
+    "take 10.0.0.2:1 10.0.0.1:1 7 alive",
+    "members 10.0.0.2:1",
+    "digest 10.0.0.2:1",
+    "owners 10.0.0.2:1 4 zzzz1",
+];
+
+const SAME_CHANGES_ANSWERED: &str =
+    "ok\nok\ntaken 1 0\ntaken 1 0\ntaken 1 0\ntaken 0 0\n10.0.0.1:1alive7;10.0.0.2:1alive1;10.0.0.3:1faulty3;10.0.0.4:1alive2\nad0e1edde0699548b56dc7c6ffcf785898db5f457e38a1677c6e493f5b41905d\n10.0.0.2:1 10.0.0.4:1 10.0.0.1:1\ntaken 1 0\ntaken 1 0\ntaken 1 0\ntaken 1 0\n10.0.0.1:1alive7;10.0.0.2:1alive1;10.0.0.3:1faulty3;10.0.0.4:1alive2\nad0e1edde0699548b56dc7c6ffcf785898db5f457e38a1677c6e493f5b41905d\n10.0.0.2:1 10.0.0.4:1 10.0.0.1:1\n";
+
+#[test]
+fn nodes_with_the_same_changes_are_answered_alike(rt: HostRuntime) {
+    script_agreement::<SumHash>();
+    check_lines(
+        &rt,
+        rt.alloc(),
+        &SIM,
+        &SAME_CHANGES,
+        (SAME_CHANGES_ANSWERED, ""),
+    );
 }

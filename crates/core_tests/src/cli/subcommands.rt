@@ -5,8 +5,10 @@ use crate::cli::fakes::{ALL, Page, Reader, Source};
 use crate::cli::folds::LATER_FOLDED;
 use crate::cli::runs::{OWNER, SIM, TWO_OWNERS, check, check_lines};
 use crate::cli::scripts::{SHORT, SHORT_ANSWERED};
-use cli_core::{SimWords, Subcommand};
+use crate::shared::check_refused;
+use cli_core::{OwnerWords, SimWords, Subcommand, fold_run, hash_text, owner_run, sim_run};
 use std::alloc::Global;
+use std::env::Env;
 use std::process::Abort;
 
 /// Scripts for rings of 100 points that hash by SHA-256.
@@ -15,7 +17,7 @@ const SHA_SIM: Subcommand<'static> = Subcommand::Sim(SimWords {
     sum: false,
 });
 
-/// A subcommand and its input, what is written, and what is said of the fault if there is one.
+/// A subcommand and its input, what is written, and the error text.
 const RUNS: [(Subcommand<'static>, &[&str], &str, &str); 12] = [
     (Subcommand::Fold, &[ALIVE, LATER], LATER_FOLDED, ""),
     (Subcommand::Hash("abc"), &["[]"], "ba7816bf8f01cfea\n", ""),
@@ -46,10 +48,66 @@ const RUNS: [(Subcommand<'static>, &[&str], &str, &str); 12] = [
     ),
 ];
 
+/// `hash abc`: `ba7816bf8f01cfea`. `hash` of the empty word: `e3b0c44298fc1c14`. Each subcommand by its words writes what is its own, and
+/// `line N: ` and the text of its own fault, or `cannot write`, comes back.
 #[test]
 fn runs_the_subcommand_that_is_named(rt: HostRuntime) {
     for (subcommand, lines, output, text) in &RUNS {
         check_lines(&rt, rt.alloc(), subcommand, *lines, (*output, *text));
+    }
+}
+
+/// A call of the crate by its own name.
+#[derive(Clone, Copy)]
+enum Call {
+    Fold,
+    Owner,
+    Sim,
+    Hash,
+}
+
+/// Whether a call ends well, with what it is to write or answer.
+fn ends_well(alloc: Global, call: Call) -> bool {
+    let mut page = Page::new(ALL);
+    let mut lines = Reader::new(Source::Lines(&[ALIVE, LATER]), ALL);
+    match call {
+        Call::Fold => {
+            fold_run(alloc, &mut lines, &mut page).is_ok() && page.text() == LATER_FOLDED
+        }
+        Call::Owner => {
+            let words = OwnerWords {
+                count: 1,
+                replicas: 2,
+                sum: true,
+                key: "zzzz1",
+            };
+            let ended = owner_run(alloc, &words, &mut lines, &mut page);
+            ended.is_ok() && page.text() == "10.0.0.2:1\n"
+        }
+        Call::Sim => {
+            let words = SimWords {
+                replicas: 2,
+                sum: true,
+            };
+            let mut script = Reader::new(Source::Lines(&SHORT), ALL);
+            let ended = sim_run(alloc, &words, &mut script, &mut page);
+            ended.is_ok() && page.text() == SHORT_ANSWERED
+        }
+        Call::Hash => match hash_text(alloc, "abc") {
+            Ok(digits) => digits.as_str() == "ba7816bf8f01cfea",
+            Err(_) => false,
+        },
+    }
+}
+
+/// `fold_run`, `owner_run`, `sim_run` and `hash_text` by their names.
+#[test]
+fn each_subcommand_has_a_call_of_its_own(rt: HostRuntime) {
+    for call in [Call::Fold, Call::Owner, Call::Sim, Call::Hash] {
+        if !ends_well(rt.alloc(), call) {
+            check_refused(&rt);
+            assert!(rt; ends_well(rt.alloc(), call));
+        }
     }
 }
 
@@ -91,7 +149,7 @@ fn front(text: &str, len: usize) -> &str {
 }
 
 /// Checks what is written to each page that has not room for all, and to one that has just that.
-fn check_rooms(rt: &impl Abort, alloc: Global, written: &Written) {
+fn check_rooms(rt: &(impl Env + Abort), alloc: Global, written: &Written) {
     let (subcommand, lines, whole, _) = written;
     for room in 0..=whole.len() {
         let reader = Reader::new(Source::Lines(*lines), ALL);
@@ -110,6 +168,7 @@ fn folds_what_the_writer_takes(rt: HostRuntime) {
     check_rooms(&rt, rt.alloc(), &FOLDED);
 }
 
+/// Each subcommand by its words writes what is its own, and `line N: ` and the text of its own fault, or `cannot write`, comes back.
 #[test]
 fn writes_what_the_writer_takes(rt: HostRuntime) {
     for written in &WRITTEN {
@@ -118,7 +177,7 @@ fn writes_what_the_writer_takes(rt: HostRuntime) {
 }
 
 /// Checks what is written to a page that fails to flush.
-fn check_flush(rt: &impl Abort, alloc: Global, written: &Written) {
+fn check_flush(rt: &(impl Env + Abort), alloc: Global, written: &Written) {
     let (subcommand, lines, _, flushed) = written;
     let mut page = Page::new(ALL);
     page.can_flush = false;

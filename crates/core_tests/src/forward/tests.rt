@@ -1,16 +1,18 @@
 use crate::forward::views::{Views, keys, view_of, views_of};
 use crate::shared::{A, B, C, CountingHash, Ip, LIMIT, address, moment};
 use change_core::Status;
-use forward_core::{Attempt, ForwardError, MOST_SENDS, Route, Step, route_keys};
+use cluster_laws::laws::confined_disagreement;
+use forward_core::{Attempt, ForwardError, MAX_SENDS, Route, Step, route_keys};
 use hash_ring::SumHash;
 use node_core::View;
 use std::alloc::Global;
+use std::env::Env;
 use std::process::Abort;
 use std::sync::atomic::{AtomicU64, Ordering};
 
 /// Checks where keys go by a view.
 fn check_route(
-    rt: &impl Abort,
+    rt: &(impl Env + Abort),
     alloc: Global,
     view: &View<SumHash>,
     texts: &[&str],
@@ -29,7 +31,7 @@ fn route_to(rt: &impl Abort, ip: Ip) -> Result<Route, ForwardError> {
 }
 
 /// Checks the keys of each view.
-fn check_routes(rt: &impl Abort, alloc: Global, views: &Views) {
+fn check_routes(rt: &(impl Env + Abort), alloc: Global, views: &Views) {
     let (three, two, none) = (&views.three, &views.two, &views.none);
     let rows: [(&View<SumHash>, &[&str], Result<Route, ForwardError>); 8] = [
         (three, &["zzzz0"], Ok(Route::Here)),
@@ -46,10 +48,33 @@ fn check_routes(rt: &impl Abort, alloc: Global, views: &Views) {
     }
 }
 
+/// Keys `zzzz1` and `zzzz2` in one request have diverged. In a view of A that has left, alone: `nobody`.
 #[test]
 fn one_owner_of_all_keys(rt: HostRuntime) {
     let views = views_of(&rt, rt.alloc(), Status::Suspect);
     check_routes(&rt, rt.alloc(), &views);
+    drop(views);
+}
+
+/// Checks that a view names this member as the owner of a key.
+fn check_owner(rt: &impl Abort, view: &View<SumHash>, key: &[u8], ip: Ip) {
+    assert!(rt; view.owner(key) == Some(address(rt, ip)));
+}
+
+/// Checks two views of which one holds B as alive, the other as faulty.
+fn check_disagreement(rt: &impl Abort, views: &Views) {
+    check_owner(rt, &views.three, b"zzzz1", B);
+    check_owner(rt, &views.at_c, b"zzzz1", C);
+    check_owner(rt, &views.three, b"zzzz0", A);
+    check_owner(rt, &views.at_c, b"zzzz0", A);
+}
+
+/// A holds B as alive, C as faulty. They name different owners of `zzzz1`, of which one is B, and one owner of `zzzz0`.
+#[test]
+fn views_that_name_two_owners_differ_about_one_of_them(rt: HostRuntime) {
+    confined_disagreement::<SumHash>();
+    let views = views_of(&rt, rt.alloc(), Status::Alive);
+    check_disagreement(&rt, &views);
     drop(views);
 }
 
@@ -119,7 +144,12 @@ fn check_calls(rt: &impl Abort, attempt: Attempt, calls: &[Call]) -> Attempt {
 }
 
 /// Has a new attempt at these keys go through the calls; returns how often it was sent, and how many keys it has.
-fn attempt_of(rt: &impl Abort, alloc: Global, texts: &[&str], calls: &[Call]) -> (u32, usize) {
+fn attempt_of(
+    rt: &(impl Env + Abort),
+    alloc: Global,
+    texts: &[&str],
+    calls: &[Call],
+) -> (u32, usize) {
     let attempt = Attempt::start(keys(rt, alloc, texts));
     let attempt = check_calls(rt, attempt, calls);
     let counts = (attempt.sends(), attempt.keys().len());
@@ -128,7 +158,7 @@ fn attempt_of(rt: &impl Abort, alloc: Global, texts: &[&str], calls: &[Call]) ->
 }
 
 /// Checks an attempt that fails each time.
-fn check_failing(rt: &impl Abort, alloc: Global, views: &Views) {
+fn check_failing(rt: &(impl Env + Abort), alloc: Global, views: &Views) {
     let (three, none) = (&views.three, &views.none);
     let calls = [
         Call::Ready(three, 0, to(rt, B)),
@@ -146,9 +176,12 @@ fn check_failing(rt: &impl Abort, alloc: Global, views: &Views) {
         Call::Ready(none, 50_000, Err(ForwardError::RetriesSpent)),
         Call::Failed(50_000, Err(ForwardError::NotInFlight)),
     ];
-    assert!(rt; attempt_of(rt, alloc, &["zzzz1"], &calls) == (MOST_SENDS, 1));
+    assert!(rt; attempt_of(rt, alloc, &["zzzz1"], &calls) == (MAX_SENDS, 1));
 }
 
+/// Every send of `zzzz1` fails at once: sent to B at 0, 3,000, 9,000 and 21,000. The fourth failure: retries spent, after four sends.
+/// After it `ready` says retries spent, and `failed` not in flight. After each call of an attempt its keys are lent out and taken back,
+/// and the next call answers as without that.
 #[test]
 fn an_attempt_is_sent_four_times(rt: HostRuntime) {
     let views = views_of(&rt, rt.alloc(), Status::Alive);
@@ -157,7 +190,7 @@ fn an_attempt_is_sent_four_times(rt: HostRuntime) {
 }
 
 /// Checks an attempt whose owner changes.
-fn check_owners(rt: &impl Abort, alloc: Global, views: &Views) {
+fn check_owners(rt: &(impl Env + Abort), alloc: Global, views: &Views) {
     let (three, two, at_c, none) = (&views.three, &views.two, &views.at_c, &views.none);
     let calls = [
         Call::Failed(0, Err(ForwardError::NotInFlight)),
@@ -177,7 +210,7 @@ fn check_owners(rt: &impl Abort, alloc: Global, views: &Views) {
 }
 
 /// Checks an attempt that is this node's, and then another's.
-fn check_here(rt: &impl Abort, alloc: Global, views: &Views) {
+fn check_here(rt: &(impl Env + Abort), alloc: Global, views: &Views) {
     let calls = [
         Call::Ready(&views.at_c, 0, Ok(Step::Here)),
         Call::Ready(&views.two, 0, to(rt, C)),
@@ -185,6 +218,10 @@ fn check_here(rt: &impl Abort, alloc: Global, views: &Views) {
     attempt_of(rt, alloc, &["zzzz1"], &calls);
 }
 
+/// After each call of an attempt its keys are lent out and taken back, and the next call answers as without that. `ready` at 0 sends to
+/// B, and again: in flight. `failed` at 0, and again: not in flight. `ready` at 2,999: wait until 3,000. B is faulty in the next view:
+/// `ready` at 3,000 sends to C. In a view of C, with A alive and B faulty, a new attempt for `zzzz1` is handled here. In a view of A that
+/// has left, alone: `nobody`.
 #[test]
 fn the_owner_is_looked_up_each_time(rt: HostRuntime) {
     let views = views_of(&rt, rt.alloc(), Status::Alive);
@@ -194,7 +231,7 @@ fn the_owner_is_looked_up_each_time(rt: HostRuntime) {
 }
 
 /// Checks an attempt at two keys, of one owner or of two.
-fn check_two_keys(rt: &impl Abort, alloc: Global, views: &Views) {
+fn check_two_keys(rt: &(impl Env + Abort), alloc: Global, views: &Views) {
     let (three, two) = (&views.three, &views.two);
     let calls = [
         Call::Ready(three, 0, Err(ForwardError::Diverged)),
@@ -218,7 +255,7 @@ fn an_attempt_waits_for_one_owner(rt: HostRuntime) {
 
 /// Checks how many hashes the routing of keys takes.
 fn count_routing<'a>(
-    rt: &impl Abort,
+    rt: &(impl Env + Abort),
     alloc: Global,
     view: &View<CountingHash<'a>>,
     calls: &AtomicU64,
@@ -254,13 +291,19 @@ fn count_attempt<'a>(
 }
 
 /// Checks how many hashes three keys take.
-fn count<'a>(rt: &impl Abort, alloc: Global, view: &View<CountingHash<'a>>, calls: &AtomicU64) {
+fn count<'a>(
+    rt: &(impl Env + Abort),
+    alloc: Global,
+    view: &View<CountingHash<'a>>,
+    calls: &AtomicU64,
+) {
     count_routing(rt, alloc, view, calls);
     let mut attempt = Attempt::start(keys(rt, alloc, &["zzzz1", "zzzz2", "zzzy3"]));
     count_attempt(rt, &mut attempt, view, calls);
     drop(attempt);
 }
 
+/// Three keys with one owner cost three hashes.
 #[test]
 fn each_key_is_hashed_once(rt: HostRuntime) {
     let calls = AtomicU64::new(0);

@@ -1,15 +1,16 @@
-//! The nodes' views and the keys that the tests route by. Where a growth is refused it is asked for again.
-use crate::shared::{A, B, C, Ip, again, config, configured, hear, view};
+//! The nodes' views and the keys that the tests route by. If an allocation fails the call is made again.
+use crate::shared::{A, B, C, Ip, again, check_refused, config, configured, hear, view};
 use change_core::Status;
 use hash_ring::{PointHash, SumHash};
 use node_core::{NodeError, View};
 use std::alloc::Global;
+use std::env::Env;
 use std::process::Abort;
 use wire_json::{Keys, Text};
 
 /// The view of a node with these members besides itself.
 pub(crate) fn view_of<H: PointHash>(
-    rt: &impl Abort,
+    rt: &(impl Env + Abort),
     alloc: Global,
     hash: H,
     own: Ip,
@@ -24,10 +25,10 @@ pub(crate) fn view_of<H: PointHash>(
     view
 }
 
-/// The view of a node that has left, and knows nobody else.
-fn left(rt: &impl Abort, alloc: Global) -> View<SumHash> {
+/// The view of a node that has left, and knows no other.
+fn left(rt: &(impl Env + Abort), alloc: Global) -> View<SumHash> {
     let mut node = configured(rt, alloc, &config(4096), SumHash, A, 1);
-    let has_left = again!(node.leave()).is_ok();
+    let has_left = again!(rt, node.leave()).is_ok();
     let view = view(rt, &mut node);
     drop(node);
     assert!(rt; has_left);
@@ -48,7 +49,7 @@ pub(crate) struct Views {
 }
 
 /// The views, the first with C of this status.
-pub(crate) fn views_of(rt: &impl Abort, alloc: Global, status: Status) -> Views {
+pub(crate) fn views_of(rt: &(impl Env + Abort), alloc: Global, status: Status) -> Views {
     let faulty = Status::Faulty;
     let alive = Status::Alive;
     Views {
@@ -59,31 +60,37 @@ pub(crate) fn views_of(rt: &impl Abort, alloc: Global, status: Status) -> Views 
     }
 }
 
-fn text(rt: &impl Abort, alloc: Global, text: &str) -> Text {
+fn text(rt: &(impl Env + Abort), alloc: Global, text: &str) -> Text {
     match Text::new(alloc, text) {
         Ok(text) => text,
-        Err(_) => Text::new(alloc, text).ok().expect(rt, "a text"),
+        Err(_) => {
+            check_refused(rt);
+            Text::new(alloc, text).ok().expect(rt, "a text")
+        }
     }
 }
 
-fn push(rt: &impl Abort, alloc: Global, keys: &mut Keys, one: &str) {
+fn push(rt: &(impl Env + Abort), alloc: Global, keys: &mut Keys, one: &str) {
     if keys.push(text(rt, alloc, one)).is_err() {
+        check_refused(rt);
         assert!(rt; keys.push(text(rt, alloc, one)).is_ok());
     }
 }
 
 /// A list of one key.
-fn one_key(rt: &impl Abort, alloc: Global, first: &str) -> Keys {
+fn one_key(rt: &(impl Env + Abort), alloc: Global, first: &str) -> Keys {
     match Keys::new(alloc, text(rt, alloc, first)) {
         Ok(keys) => keys,
-        Err(_) => Keys::new(alloc, text(rt, alloc, first))
-            .ok()
-            .expect(rt, "keys"),
+        Err(_) => {
+            check_refused(rt);
+            let keys = Keys::new(alloc, text(rt, alloc, first));
+            keys.ok().expect(rt, "keys")
+        }
     }
 }
 
 /// These keys, at least one.
-pub(crate) fn keys(rt: &impl Abort, alloc: Global, texts: &[&str]) -> Keys {
+pub(crate) fn keys(rt: &(impl Env + Abort), alloc: Global, texts: &[&str]) -> Keys {
     let mut keys = one_key(rt, alloc, texts.first().copied().unwrap_or(""));
     for one in texts.iter().skip(1) {
         push(rt, alloc, &mut keys, one);

@@ -1,4 +1,4 @@
-//! Nodes that are shared, and calls of them. Where a growth is refused the node is as before, and the next try goes on.
+//! Nodes that are shared, and calls of them. If an allocation fails the node is unchanged, and the next try continues.
 ghost use Rattle.std.specs.Prelude.{◌≡◌, []};
 ghost use Rattle.std.specs.List.{All};
 ghost use Rattle.change_core.specs.Address.{address_of};
@@ -8,10 +8,11 @@ ghost use Rattle.locked_node.specs.Passes.{name_of, Fits, IsNew};
 use crate::calls::{Call, Calls, Told, event, read, tells, wanted_again};
 use crate::cases::{A_AT_7, Case, Start};
 use crate::node::played::begun;
-use crate::shared::{Ip, Row, moment, news};
+use crate::shared::{Ip, Row, check_refused, moment, news};
 use locked_node::{LockedNode, NodePass, StopCause, Stopped, SumHash};
 use node_core::{Event, Reply};
 use std::alloc::Global;
+use std::env::Env;
 use std::process::Abort;
 use std::sync::Wait;
 
@@ -19,9 +20,9 @@ pub(crate) type Shared = LockedNode<SumHash>;
 
 pub(crate) type Caller = NodePass<SumHash>;
 
-/// A node that begins so, shared by so many passes.
+/// A node that starts so, shared by this many passes.
 fn share(
-    rt: &impl Abort,
+    rt: &(impl Env + Abort),
     alloc: Global,
     start: &Start,
     passes: u32,
@@ -33,6 +34,7 @@ fn share(
     if let Ok(made) = LockedNode::new(alloc, begun(rt, alloc, start, SumHash), passes, turns) {
         return made;
     }
+    check_refused(rt);
     let again = begun(rt, alloc, start, SumHash);
     let Ok(made) = LockedNode::new(alloc, again, passes, turns) else {
         panic!(rt; "a locked node")
@@ -40,8 +42,8 @@ fn share(
     made
 }
 
-/// A node that begins so, with one pass.
-fn shared_node(rt: &impl Abort, alloc: Global, start: &Start) -> (Shared, Caller)
+/// A node that starts so, with one pass.
+fn shared_node(rt: &(impl Env + Abort), alloc: Global, start: &Start) -> (Shared, Caller)
     ensures { Fits result.0 result.1 }
 {
     let (shared, mut passes) = share(rt, alloc, start, 1, 1000);
@@ -50,7 +52,7 @@ fn shared_node(rt: &impl Abort, alloc: Global, start: &Start) -> (Shared, Caller
 }
 
 /// The node 10.0.0.1:1 at 7, with one pass.
-pub(crate) fn alone(rt: &impl Abort, alloc: Global) -> (Shared, Caller)
+pub(crate) fn alone(rt: &(impl Env + Abort), alloc: Global) -> (Shared, Caller)
     ensures { Fits result.0 result.1 }
 {
     shared_node(rt, alloc, &A_AT_7)
@@ -64,7 +66,7 @@ pub(crate) fn let_go(shared: Shared, pass: Caller) {
 
 /// The node at 7 with two passes, and the list that they came in, now empty.
 pub(crate) fn pair(
-    rt: &impl Abort,
+    rt: &(impl Env + Abort),
     alloc: Global,
     own: Ip,
     turns: u32,
@@ -84,7 +86,7 @@ pub(crate) fn pair(
 }
 
 /// Takes a change that its own member says, which is not refused.
-pub(crate) fn hear<R: Wait + Abort>(rt: &R, shared: &Shared, pass: &mut Caller, row: Row)
+pub(crate) fn hear<R: Wait + Env + Abort>(rt: &R, shared: &Shared, pass: &mut Caller, row: Row)
     requires { Fits shared.now pass.old }
     ensures { Fits shared.now pass.new }
 {
@@ -96,12 +98,13 @@ pub(crate) fn hear<R: Wait + Abort>(rt: &R, shared: &Shared, pass: &mut Caller, 
     };
     let mut answer = shared.take(rt, pass, &given, now);
     if answer == Ok(Err(refused)) {
+        check_refused(rt);
         answer = shared.take(rt, pass, &given, now);
     }
     assert!(rt; matches!(answer, Ok(Ok(_))));
 }
 
-/// The reply of this kind to a call of the node, which is let in.
+/// The reply of this kind to a call of the node, which is admitted.
 macro_rules! let_in {
     ($rt:expr, $reply:ident: $call:expr) => {
         Reply::$reply($call.ok().expect($rt, "a turn"))
@@ -154,8 +157,8 @@ fn ask<R: Wait + Abort>(rt: &R, node: &Shared, pass: &mut Caller, event: &Event)
     }
 }
 
-/// Whether an event is answered so. Where that found no memory it comes once more.
-fn answers<R: Wait + Abort>(
+/// Whether an event has this answer. If it was out of memory it comes again.
+fn answers<R: Wait + Env + Abort>(
     rt: &R,
     shared: &Shared,
     pass: &mut Caller,
@@ -169,13 +172,16 @@ fn answers<R: Wait + Abort>(
     let again = wanted_again(read(&reply), wanted);
     let is_so = tells(reply, wanted);
     match again {
-        Some(wanted) => tells(ask(rt, shared, pass, event), wanted),
+        Some(wanted) => {
+            check_refused(rt);
+            tells(ask(rt, shared, pass, event), wanted)
+        }
         None => is_so,
     }
 }
 
-/// Whether a call is answered so.
-fn is_answered<R: Wait + Abort>(
+/// Whether a call has this answer.
+fn is_answered<R: Wait + Env + Abort>(
     rt: &R,
     alloc: Global,
     shared: &Shared,
@@ -192,8 +198,8 @@ fn is_answered<R: Wait + Abort>(
     is_so
 }
 
-/// Checks what a pass is answered to calls, one after another.
-pub(crate) fn check_calls<R: Wait + Abort>(
+/// Checks the replies to the calls of a pass, one after another.
+pub(crate) fn check_calls<R: Wait + Env + Abort>(
     rt: &R,
     alloc: Global,
     shared: &Shared,
@@ -213,7 +219,7 @@ pub(crate) fn check_calls<R: Wait + Abort>(
 }
 
 /// Checks an example by the pass of a new node.
-pub(crate) fn check<R: Wait + Abort>(rt: &R, alloc: Global, case: &Case) {
+pub(crate) fn check<R: Wait + Env + Abort>(rt: &R, alloc: Global, case: &Case) {
     let (start, calls) = case;
     let (shared, mut pass) = shared_node(rt, alloc, start);
     check_calls(rt, alloc, &shared, &mut pass, *calls);

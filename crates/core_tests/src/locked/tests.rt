@@ -1,4 +1,5 @@
-//! What no clause says: that the calls succeed, and that threads take turns. Worked examples, by one pass or by several.
+//! What contracts do not cover: that the calls succeed, and that threads take turns. Worked examples, by one pass or by
+//! several.
 ghost use Rattle.std.specs.Prelude.{◌≡◌, []};
 ghost use Rattle.std.specs.List.{All};
 ghost use Rattle.change_core.specs.Address.{address_of};
@@ -10,11 +11,12 @@ use crate::locked::nodes::{Caller, Shared, alone, check, check_calls, hear, let_
 use crate::node::played::{self, begun};
 use crate::node::tests::twenty;
 use crate::node::view_tests::check_view;
-use crate::shared::{A, B, F, Ip, address, change};
+use crate::shared::{A, B, F, Ip, address, change, check_refused};
 use locked_node::{
     CloseError, LockError, LockedNode, NewError, NodeError, NodeState, Status, SumHash, View,
 };
 use std::alloc::Global;
+use std::env::Env;
 use std::process::Abort;
 use std::sync::Wait;
 use std::thread::{Threads, join};
@@ -26,25 +28,29 @@ fn a_pass_is_answered_as_by_the_node(rt: HostRuntime) {
     }
 }
 
+/// Members, their text, the digest and the owners are told if memory is available.
 #[test]
 fn says_what_it_holds(rt: HostRuntime) {
     check(&rt, rt.alloc(), &LOOKS_UP);
 }
 
-/// A view. Where it found no memory it is made once more.
-fn view<R: Wait + Abort>(rt: &R, shared: &Shared, pass: &mut Caller) -> View<SumHash>
+/// A view. If out of memory it is made again.
+fn view<R: Wait + Env + Abort>(rt: &R, shared: &Shared, pass: &mut Caller) -> View<SumHash>
     requires { Fits shared.now pass.old }
     ensures { Fits shared.now pass.new }
 {
     let made = match shared.view(rt, pass) {
-        Ok(Err(NodeError::Memory)) => shared.view(rt, pass),
+        Ok(Err(NodeError::Memory)) => {
+            check_refused(rt);
+            shared.view(rt, pass)
+        }
         made => made,
     };
     made.ok().expect(rt, "a turn").ok().expect(rt, "a view")
 }
 
 /// Checks that a view names the owners of its time when another owns a key.
-fn check_owners<R: Wait + Abort>(rt: &R, alloc: Global, shared: &Shared, pass: &mut Caller)
+fn check_owners<R: Wait + Env + Abort>(rt: &R, alloc: Global, shared: &Shared, pass: &mut Caller)
     requires { Fits shared.now pass.old }
 {
     check_calls(rt, alloc, shared, pass, MEETS_TWO);
@@ -54,6 +60,8 @@ fn check_owners<R: Wait + Abort>(rt: &R, alloc: Global, shared: &Shared, pass: &
     drop(before);
 }
 
+/// By sum, A, B, C: the owners of `zzzz0` and `zzzz1` are A and B, then B is faulty: A and C. A view made before still says A and B. A
+/// view names the owners of `zzzz1`: B, C, A.
 #[test]
 fn a_view_answers_as_the_node_did(rt: HostRuntime) {
     let (shared, mut pass) = alone(&rt, rt.alloc());
@@ -69,8 +77,8 @@ fn handed_back(refused: NewError<NodeState<SumHash>>) -> Option<NodeState<SumHas
     }
 }
 
-/// Checks that so many passes or turns hand the node back.
-fn check_counts(rt: &impl Abort, alloc: Global, passes: u32, turns: u32) {
+/// Checks that this many passes or turns hand the node back.
+fn check_counts(rt: &(impl Env + Abort), alloc: Global, passes: u32, turns: u32) {
     let given = begun(rt, alloc, &A_AT_7, SumHash);
     let Some(refused) = LockedNode::new(alloc, given, passes, turns).err() else {
         panic!(rt; "{passes} passes of {turns} turns")
@@ -80,6 +88,7 @@ fn check_counts(rt: &impl Abort, alloc: Global, passes: u32, turns: u32) {
     drop(given);
 }
 
+/// 0 passes, 1,025 passes and 0 turns: bad count, and the node comes back.
 #[test]
 fn counts_out_of_range_hand_the_node_back(rt: HostRuntime) {
     for (passes, turns) in [(0, 1), (1025, 1), (1, 0)] {
@@ -88,7 +97,12 @@ fn counts_out_of_range_hand_the_node_back(rt: HostRuntime) {
 }
 
 /// Checks that a pass of two calls is spent after them.
-fn check_spent<R: Wait + Abort>(rt: &R, shared: &Shared, first: &mut Caller, second: &mut Caller)
+fn check_spent<R: Wait + Env + Abort>(
+    rt: &R,
+    shared: &Shared,
+    first: &mut Caller,
+    second: &mut Caller,
+)
     requires first { Fits shared.now first.old }
     requires second { Fits shared.now second.old }
 {
@@ -101,6 +115,7 @@ fn check_spent<R: Wait + Abort>(rt: &R, shared: &Shared, first: &mut Caller, sec
     assert!(rt; calls == [Ok(2), Ok(2), Err(LockError::PassSpent)]);
 }
 
+/// Two turns: the third call finds the pass spent.
 #[test]
 fn a_pass_is_spent_after_its_calls(rt: HostRuntime) {
     let (shared, mut first, mut second, _) = pair(&rt, rt.alloc(), A, 2);
@@ -120,7 +135,7 @@ fn close_too_soon(rt: &impl Abort, shared: Shared, passes: Vec<Caller>) -> (Shar
     (refused.node, refused.passes)
 }
 
-/// Checks that the node closes, and holds what was heard of.
+/// Checks that the node closes, and holds what was received.
 fn close_whole(rt: &impl Abort, shared: Shared, passes: Vec<Caller>)
     requires { All (Fits shared) passes.items }
 {
@@ -133,6 +148,8 @@ fn close_whole(rt: &impl Abort, shared: Shared, passes: Vec<Caller>)
     assert!(rt; matches!(held, Some(entry) if entry.status == Status::Alive));
 }
 
+/// Of two passes the first takes (B,1,alive), and asks for B: alive at 1. Closing with one pass: missing pass, node and pass come back;
+/// with both: the node that holds B.
 #[test]
 fn a_node_does_not_close_without_a_pass(rt: HostRuntime) {
     let (shared, mut first, second, mut passes) = pair(&rt, rt.alloc(), A, 9);
@@ -151,7 +168,7 @@ fn len<R: Wait>(rt: &R, shared: &Shared, mut pass: Caller) -> (Result<usize, Loc
     (answer, pass)
 }
 
-/// What two threads are answered, and their passes.
+/// The replies to two threads, and their passes.
 fn len_by_two<R: Threads + Wait + Sync>(
     rt: &R,
     shared: &Shared,
@@ -180,7 +197,7 @@ fn len_by_two<R: Threads + Wait + Sync>(
 }
 
 /// A pass of 10.0.0.2:1.
-fn foreign_pass(rt: &impl Abort, alloc: Global) -> Caller
+fn foreign_pass(rt: &(impl Env + Abort), alloc: Global) -> Caller
     ensures { lock_name result ≡ address_of 167772162 1 }
 {
     let (shared, pass, other, _) = pair(rt, alloc, B, 9);
@@ -198,7 +215,7 @@ fn close_refused(rt: &impl Abort, shared: Shared, passes: Vec<Caller>) -> (Close
     told
 }
 
-/// Both passes, of which the second is none of the node, after each has asked.
+/// Both passes, whose second is none of the node, after each has asked.
 fn check_len<R: Threads + Wait + Abort + Sync>(
     rt: &R,
     shared: &Shared,
@@ -234,6 +251,7 @@ fn both(
     passes
 }
 
+/// Closing with a pass of another node: foreign pass, and both passes come back.
 #[test]
 fn a_pass_of_another_node_is_refused(rt: HostRuntime) {
     let (shared, other, own, room) = pair(&rt, rt.alloc(), A, 9);
@@ -245,7 +263,7 @@ fn a_pass_of_another_node_is_refused(rt: HostRuntime) {
 }
 
 /// Takes that a member is alive, and then some of the twenty changes.
-fn hear_some<R: Wait + Abort>(
+fn hear_some<R: Wait + Env + Abort>(
     rt: &R,
     shared: &Shared,
     mut pass: Caller,
@@ -263,7 +281,7 @@ fn hear_some<R: Wait + Abort>(
 }
 
 /// Two threads take what there is to take, each in its own order.
-fn hear_by_two<R: Threads + Wait + Abort + Sync>(
+fn hear_by_two<R: Threads + Wait + Env + Abort + Sync>(
     rt: &R,
     shared: &Shared,
     first: Caller,
@@ -290,7 +308,7 @@ fn hear_by_two<R: Threads + Wait + Abort + Sync>(
 }
 
 /// The node after two threads took the twenty changes and that both nodes are alive. The list has room for its passes.
-fn after_twenty<R: Threads + Wait + Abort + Sync>(
+fn after_twenty<R: Threads + Wait + Env + Abort + Sync>(
     rt: &R,
     alloc: Global,
     own: Ip,
@@ -303,7 +321,7 @@ fn after_twenty<R: Threads + Wait + Abort + Sync>(
 }
 
 /// Checks a node whose two threads take the twenty changes in these orders.
-fn check_orders<R: Threads + Wait + Abort + Sync>(
+fn check_orders<R: Threads + Wait + Env + Abort + Sync>(
     rt: &R,
     alloc: Global,
     own: Ip,
@@ -314,6 +332,7 @@ fn check_orders<R: Threads + Wait + Abort + Sync>(
     drop(node);
 }
 
+/// The same twenty, by two threads on each of two locked nodes.
 #[test]
 fn nodes_that_two_threads_share_agree(rt: HostRuntime) {
     let up = [1u8, 2, 3, 4, 5, 6, 7, 8, 9, 10];

@@ -1,4 +1,4 @@
-//! Agreement from end to end: two runs, and the law that ties their nodes.
+//! Agreement from end to end: two runs, and the theorem about their nodes.
 ghost use Rattle.std.specs.Prelude.{◌≡◌, IfSome};
 ghost use Rattle.change_core.specs.Members.{HaveSameChanges};
 ghost use Rattle.node_core.specs.Agreement.{Agree};
@@ -6,16 +6,17 @@ ghost use Rattle.node_core.specs.Run.{log};
 
 use crate::calls::{Call, Calls, Told};
 use crate::node::played::{check_calls, events, tell};
-use crate::shared::{A, B, C, node};
+use crate::shared::{A, B, C, check_refused, node};
 use change_core::Status;
 use hash_ring::{PointHash, SumHash};
 use node_core::laws::agreement;
 use node_core::{Event, NodeState, Run, run};
 use std::alloc::Global;
+use std::env::Env;
 use std::process::Abort;
 
-/// Two nodes after runs of their own. Where the logs of these hold the same changes, the nodes agree, if they have one hash and
-/// one number of replica points.
+/// Two nodes after two runs. If the logs of these hold the same changes, the nodes agree, if they have one hash and one
+/// number of replica points.
 fn both_runs<H: PointHash>(
     alloc: Global,
     one: NodeState<H>,
@@ -45,7 +46,7 @@ fn both_runs<H: PointHash>(
     }
 }
 
-/// A hears of the others at once, and B of them one after another in another order.
+/// A is given the others in one batch, and B one after another in another order.
 const AT_ONCE: Calls = (
     "at once",
     &[(
@@ -62,8 +63,8 @@ const IN_TURN: Calls = (
     ],
 );
 
-/// Both runs. None where a growth was refused.
-fn runs(rt: &impl Abort, alloc: Global) -> Option<(Run<SumHash>, Run<SumHash>)> {
+/// Both runs. None if an allocation failed.
+fn runs(rt: &(impl Env + Abort), alloc: Global) -> Option<(Run<SumHash>, Run<SumHash>)> {
     let at_once = events(rt, alloc, AT_ONCE);
     let in_turn = events(rt, alloc, IN_TURN);
     let one = node(rt, alloc, A, 7);
@@ -86,8 +87,8 @@ const HELD: Calls = (
     ],
 );
 
-/// Checks a node after a run by which all was taken; whether it was.
-fn check_run(rt: &impl Abort, alloc: Global, run: Run<SumHash>, calls: Calls) -> bool {
+/// Checks a node after a run by which all was processed; whether it was.
+fn check_run(rt: &(impl Env + Abort), alloc: Global, run: Run<SumHash>, calls: Calls) -> bool {
     let mut run = run;
     let told = tell(run.replies.as_slice(), calls);
     if told.is_some() {
@@ -98,8 +99,8 @@ fn check_run(rt: &impl Abort, alloc: Global, run: Run<SumHash>, calls: Calls) ->
     told.is_some()
 }
 
-/// Makes both runs, and checks their nodes; whether no growth was refused.
-fn agree(rt: &impl Abort, alloc: Global) -> bool {
+/// Makes both runs, and checks their nodes; whether no allocation failed.
+fn agree(rt: &(impl Env + Abort), alloc: Global) -> bool {
     match runs(rt, alloc) {
         Some((one, other)) => {
             let is_whole = check_run(rt, alloc, one, AT_ONCE);
@@ -109,7 +110,12 @@ fn agree(rt: &impl Abort, alloc: Global) -> bool {
     }
 }
 
+/// A at 7 hears (B,1,alive) and (C,2,suspect) in one run of calls, and B at 1 hears (C,2,suspect) and then (A,7,alive) in another: both
+/// runs, and the law that ties their nodes, in one function (`both_runs`). One text, and the same owner of `zzzz1`, by sum.
 #[test]
 fn two_runs_agree(rt: HostRuntime) {
-    assert!(rt; agree(&rt, rt.alloc()) || agree(&rt, rt.alloc()));
+    if !agree(&rt, rt.alloc()) {
+        check_refused(&rt);
+        assert!(rt; agree(&rt, rt.alloc()));
+    }
 }

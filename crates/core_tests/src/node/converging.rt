@@ -3,12 +3,16 @@ ghost use Rattle.std.specs.Prelude.{◌≡◌, ◌≢◌, IfSome};
 ghost use Rattle.node_core.specs.Agreement.{Agree};
 
 use crate::node::reconciling::{all_of, take_all_of};
-use crate::shared::{A, B, C, D, E, F, Ip, Row, again, hear, moment, node, put, vec_of};
+use crate::shared::{
+    A, B, C, D, E, F, Ip, Row, address, again, check_refused, hear, moment, node, put, vec_of,
+};
 use change_core::{Moment, Status};
 use cluster_laws::laws::convergence;
 use hash_ring::{PointHash, SumHash};
-use node_core::{NodeError, NodeState, StopCause, Stopped, Taken};
+use message_core::Message;
+use node_core::{NodeError, NodeState, Received, StopCause, Stopped, Taken};
 use std::alloc::Global;
+use std::env::Env;
 use std::process::Abort;
 
 /// The nodes of a cluster, the first of them or all.
@@ -21,7 +25,9 @@ enum Step {
     Takes(usize, usize),
     /// Every node takes all of every other.
     Sweep,
-    /// A node hears a rumour.
+    /// Every node pings every other, and takes its ack; this many times.
+    Rounds(usize),
+    /// A node receives a rumour.
     Hears(usize, Row),
     Leaves(usize),
     /// A node starts again at this incarnation; it holds itself alone.
@@ -32,11 +38,10 @@ enum Step {
     AllHold(&'static str),
 }
 
-use Step::{AllHold, Hears, Holds, Leaves, Restarts, Sweep, Takes};
+use Step::{AllHold, Hears, Holds, Leaves, Restarts, Rounds, Sweep, Takes};
 
-/// Three nodes round a ring: six exchanges are enough, and five are not. What the second refutes in the fourth exchange, the first
-/// hears in the sixth.
-const RING: &[Step] = &[
+/// What three nodes hear at first: each of both others, and of a fourth.
+const RUMOURS: &[Step] = &[
     Hears(0, (B, 1, Status::Faulty)),
     Hears(0, (C, 5, Status::Suspect)),
     Hears(0, (D, 1, Status::Alive)),
@@ -46,6 +51,11 @@ const RING: &[Step] = &[
     Hears(2, (A, 9, Status::Suspect)),
     Hears(2, (B, 4, Status::Faulty)),
     Hears(2, (D, 2, Status::Alive)),
+];
+
+/// Three nodes round a ring: six exchanges are enough, and five are not. The first receives in the sixth exchange what
+/// the second refutes in the fourth.
+const RING: &[Step] = &[
     Takes(1, 0),
     Takes(2, 1),
     Takes(0, 2),
@@ -56,6 +66,18 @@ const RING: &[Step] = &[
         "10.0.0.1:1alive10;10.0.0.2:1faulty4;10.0.0.3:1alive6;10.0.0.4:1alive2",
     ),
     Takes(0, 2),
+    AllHold("10.0.0.1:1alive10;10.0.0.2:1alive5;10.0.0.3:1alive6;10.0.0.4:1alive2"),
+];
+
+/// Three nodes in rounds of pings: no rumour is sent back to the node that it came from, so a node hears a rumour against itself only
+/// by an ack of all members, and there is none while other changes are passed on.
+const ROUNDS: &[Step] = &[
+    Rounds(12),
+    Holds(
+        0,
+        "10.0.0.1:1alive1;10.0.0.2:1alive5;10.0.0.3:1suspect5;10.0.0.4:1alive2",
+    ),
+    Rounds(1),
     AllHold("10.0.0.1:1alive10;10.0.0.2:1alive5;10.0.0.3:1alive6;10.0.0.4:1alive2"),
 ];
 
@@ -92,7 +114,7 @@ const SWEEPS: &[Step] = &[
 
 /// One node takes all that another holds. What memory refuses is tried again.
 fn take_all(
-    rt: &impl Abort,
+    rt: &(impl Env + Abort),
     alloc: Global,
     nodes: &mut [NodeState<SumHash>],
     taker: usize,
@@ -101,7 +123,10 @@ fn take_all(
     let now = moment(rt, 1);
     let giver = nodes.get(giver).expect(rt, "a giver");
     let told = match all_of(alloc, giver) {
-        None => all_of(alloc, giver),
+        None => {
+            check_refused(rt);
+            all_of(alloc, giver)
+        }
         told => told,
     };
     let told = told.expect(rt, "what it holds");
@@ -112,13 +137,16 @@ fn take_all(
                 cause: StopCause::Memory,
                 ..
             },
-        ) => taker.take(told.as_slice(), now),
+        ) => {
+            check_refused(rt);
+            taker.take(told.as_slice(), now)
+        }
         taken => taken,
     };
     assert!(rt; taken.is_ok());
 }
 
-fn sweep(rt: &impl Abort, alloc: Global, nodes: &mut [NodeState<SumHash>]) {
+fn sweep(rt: &(impl Env + Abort), alloc: Global, nodes: &mut [NodeState<SumHash>]) {
     for taker in 0..nodes.len() {
         for giver in 0..nodes.len() {
             if giver != taker {
@@ -128,20 +156,81 @@ fn sweep(rt: &impl Abort, alloc: Global, nodes: &mut [NodeState<SumHash>]) {
     }
 }
 
+/// The ack of a message, if it has one.
+fn ack_in(received: Received) -> Option<Message> {
+    match received {
+        Received::Answer(_, ack) => Some(ack),
+        _ => None,
+    }
+}
+
+/// Whether a message is taken that has no answer.
+fn is_done(received: Received) -> bool {
+    matches!(received, Received::Done(_))
+}
+
+/// What a node answers to a ping. What memory refuses is tried again.
+fn answer(rt: &(impl Env + Abort), node: &mut NodeState<SumHash>, ping: &Message) -> Message {
+    let now = moment(rt, 1);
+    match ack_in(node.receive(ping, now)) {
+        Some(ack) => ack,
+        None => {
+            check_refused(rt);
+            ack_in(node.receive(ping, now)).expect(rt, "an ack")
+        }
+    }
+}
+
+/// A node takes an ack. What memory refuses is tried again.
+fn take_ack(rt: &(impl Env + Abort), node: &mut NodeState<SumHash>, ack: &Message) {
+    let now = moment(rt, 1);
+    if !is_done(node.receive(ack, now)) {
+        check_refused(rt);
+        let is_taken = is_done(node.receive(ack, now));
+        assert!(rt; is_taken);
+    }
+}
+
+/// One node pings another, and takes its ack.
+fn ping(rt: &(impl Env + Abort), nodes: &mut [NodeState<SumHash>], pinger: usize, pinged: usize) {
+    let target = address(rt, *MEMBERS.get(pinged).expect(rt, "a member"));
+    let caller = nodes.get_mut(pinger).expect(rt, "a pinger");
+    let message = again!(rt, caller.ping_to(target)).ok().expect(rt, "a ping");
+    let ack = answer(rt, nodes.get_mut(pinged).expect(rt, "a pinged"), &message);
+    drop(message);
+    take_ack(rt, nodes.get_mut(pinger).expect(rt, "a pinger"), &ack);
+    drop(ack);
+}
+
+fn round(rt: &(impl Env + Abort), nodes: &mut [NodeState<SumHash>]) {
+    for pinger in 0..nodes.len() {
+        for pinged in 0..nodes.len() {
+            if pinged != pinger {
+                ping(rt, nodes, pinger, pinged);
+            }
+        }
+    }
+}
+
 /// Whether a node holds these members.
-fn holds(rt: &impl Abort, node: &NodeState<SumHash>, members: &str) -> bool {
-    let text = again!(node.digest_text()).ok().expect(rt, "a text");
+fn holds(rt: &(impl Env + Abort), node: &NodeState<SumHash>, members: &str) -> bool {
+    let text = again!(rt, node.digest_text()).ok().expect(rt, "a text");
     text.as_str() == members
 }
 
-fn play(rt: &impl Abort, alloc: Global, nodes: &mut [NodeState<SumHash>], step: Step) {
+fn play(rt: &(impl Env + Abort), alloc: Global, nodes: &mut [NodeState<SumHash>], step: Step) {
     match step {
         Takes(taker, giver) => take_all(rt, alloc, nodes, taker, giver),
         Sweep => sweep(rt, alloc, nodes),
+        Rounds(count) => {
+            for _ in 0..count {
+                round(rt, nodes);
+            }
+        }
         Hears(at, row) => hear(rt, nodes.get_mut(at).expect(rt, "a node"), row, 0),
         Leaves(at) => {
             let leaver = nodes.get_mut(at).expect(rt, "a node");
-            assert!(rt; again!(leaver.leave()).is_ok());
+            assert!(rt; again!(rt, leaver.leave()).is_ok());
         }
         Restarts(at, incarnation) => {
             let own = *MEMBERS.get(at).expect(rt, "a member");
@@ -158,26 +247,33 @@ fn play(rt: &impl Abort, alloc: Global, nodes: &mut [NodeState<SumHash>], step: 
     }
 }
 
-/// Plays these steps with this many new nodes.
-fn play_all(rt: &impl Abort, alloc: Global, count: usize, steps: &[Step]) {
+/// Plays the steps of these tables, one after another, with this many new nodes.
+fn play_all(rt: &(impl Env + Abort), alloc: Global, count: usize, tables: &[&[Step]]) {
     let mut nodes = vec_of(rt, alloc, count);
     for own in MEMBERS.iter().take(count) {
         put(rt, &mut nodes, node(rt, alloc, *own, 1));
     }
-    for step in steps {
-        play(rt, alloc, &mut nodes, *step);
+    for steps in tables {
+        for step in *steps {
+            play(rt, alloc, &mut nodes, *step);
+        }
     }
     drop(nodes);
 }
 
 #[test]
 fn three_nodes_converge_round_a_ring(rt: HostRuntime) {
-    play_all(&rt, rt.alloc(), 3, RING);
+    play_all(&rt, rt.alloc(), 3, &[RUMOURS, RING]);
+}
+
+#[test]
+fn three_nodes_converge_in_rounds_of_pings(rt: HostRuntime) {
+    play_all(&rt, rt.alloc(), 3, &[RUMOURS, ROUNDS]);
 }
 
 #[test]
 fn five_nodes_converge_in_two_sweeps(rt: HostRuntime) {
-    play_all(&rt, rt.alloc(), 5, SWEEPS);
+    play_all(&rt, rt.alloc(), 5, &[SWEEPS]);
 }
 
 /// Three nodes take all of one another round a ring, twice. None if it runs out of memory. Else they agree, if they have different
@@ -218,7 +314,10 @@ fn three_nodes_agree(rt: HostRuntime) {
     hear(&rt, &mut three, (A, 1, Status::Faulty), 0);
     let now = moment(&rt, 1);
     let done = match round_ring(alloc, &mut one, &mut two, &mut three, now) {
-        None => round_ring(alloc, &mut one, &mut two, &mut three, now),
+        None => {
+            check_refused(&rt);
+            round_ring(alloc, &mut one, &mut two, &mut three, now)
+        }
         done => done,
     };
     assert!(&rt; done.is_some());

@@ -6,15 +6,16 @@ use crate::shared::{A, B, C, CountingHash, view};
 use change_core::Status;
 use node_core::NodeState;
 use std::alloc::Global;
+use std::env::Env;
 use std::process::Abort;
 use std::sync::atomic::{AtomicU64, Ordering};
 
-/// A call, what it is answered, and how many hashes it costs.
+/// A call, its reply, and how many hashes it costs.
 type Costly = (Call, Told<'static>, u64);
 
 /// Counts the hashes of calls, one after another.
 fn count_calls<'a>(
-    rt: &impl Abort,
+    rt: &(impl Env + Abort),
     alloc: Global,
     node: &mut NodeState<CountingHash<'a>>,
     calls: &AtomicU64,
@@ -42,7 +43,11 @@ const ALTERATIONS: [Costly; 7] = [
 ];
 
 /// Counts the hashes of a view.
-fn count_view<'a>(rt: &impl Abort, node: &mut NodeState<CountingHash<'a>>, calls: &AtomicU64) {
+fn count_view<'a>(
+    rt: &(impl Env + Abort),
+    node: &mut NodeState<CountingHash<'a>>,
+    calls: &AtomicU64,
+) {
     let before = calls.load(Ordering::SeqCst);
     let view = view(rt, node);
     let made = calls.load(Ordering::SeqCst);
@@ -51,6 +56,8 @@ fn count_view<'a>(rt: &impl Abort, node: &mut NodeState<CountingHash<'a>>, calls
     assert!(rt; made == before && calls.load(Ordering::SeqCst) == before.wrapping_add(1));
 }
 
+/// A hash that counts: a new member costs as many hashes as it has points, suspect to alive none, `owner` one, a view none, its `owner`
+/// one.
 #[test]
 fn an_alteration_hashes_no_more_than_its_points(rt: HostRuntime) {
     let calls = AtomicU64::new(0);
@@ -91,7 +98,9 @@ const WEIGHTY: [Costly; 6] = [
     ),
 ];
 
-/// A node that was refused memory hashed its points once more.
+/// A node that was out of memory hashed its points again.
+/// The same with weights: A of weight 2 costs four hashes, B of weight 3 six, and suspect, alive again, suspect and faulty by its timer
+/// none.
 #[test]
 fn a_weight_makes_as_many_points(rt: HostRuntime) {
     let calls = AtomicU64::new(0);

@@ -1,20 +1,21 @@
-//! Where a node refuses: a bad configuration, too many members, and growths that are refused.
+//! Where a node refuses: a bad configuration, too many members, and allocations that fail.
 use crate::calls::{Call, Told, event, read, wanted_again};
 use crate::cli::fakes::{ALL, Page};
 use crate::node::played::answers;
 use crate::shared::{
-    A, B, C, Row, address, batch, config, configured, hear, incarnation, moment, news, node, put,
-    vec_of,
+    A, B, C, Row, address, batch, check_refused, config, configured, hear, incarnation, moment,
+    news, node, put, vec_of,
 };
 use change_core::Status;
 use hash_ring::SumHash;
 use node_core::{ConfigField, Event, NodeError, NodeState, Reply, StopCause};
 use std::alloc::Global;
+use std::env::Env;
 use std::io::Write;
 use std::process::Abort;
 use wire_json::Changes;
 
-/// Why no node is made with so many points for each unit of weight.
+/// Why no node is made with this many points for each unit of weight.
 fn refusal(rt: &impl Abort, alloc: Global, replicas: u32) -> Option<NodeError> {
     let mut bad = config(4096);
     bad.replicas = replicas;
@@ -22,6 +23,7 @@ fn refusal(rt: &impl Abort, alloc: Global, replicas: u32) -> Option<NodeError> {
     NodeState::new(alloc, bad, SumHash, own, born, 1, start).err()
 }
 
+/// 0 and 1,001 points for each server: bad config, replicas.
 #[test]
 fn no_node_of_a_bad_configuration(rt: HostRuntime) {
     let wanted = Some(NodeError::BadConfig(ConfigField::Replicas));
@@ -29,7 +31,7 @@ fn no_node_of_a_bad_configuration(rt: HostRuntime) {
     assert!(rt; refusal(&rt, rt.alloc(), 1_001) == wanted);
 }
 
-/// Why a call of a node is refused, and what is said of it.
+/// Why a call of a node is refused, and the error text.
 const TEXTS: [(NodeError, &str); 10] = [
     (
         NodeError::BadConfig(ConfigField::Replicas),
@@ -46,6 +48,7 @@ const TEXTS: [(NodeError, &str); 10] = [
     (NodeError::Memory, "out of memory"),
 ];
 
+/// Each of the ten refusals of a node has its text, as `bad configuration: replicas`.
 #[test]
 fn each_refusal_has_its_text(rt: HostRuntime) {
     for (refusal, text) in &TEXTS {
@@ -56,7 +59,7 @@ fn each_refusal_has_its_text(rt: HostRuntime) {
 }
 
 /// Changes about 4,096 addresses from 11.0.0.0 on.
-fn strangers(rt: &impl Abort, alloc: Global) -> Changes {
+fn strangers(rt: &(impl Env + Abort), alloc: Global) -> Changes {
     let mut given = vec_of(rt, alloc, 4096);
     for place in 0..4096u16 {
         let stranger = 0x0b00_0000 + u32::from(place);
@@ -65,8 +68,8 @@ fn strangers(rt: &impl Abort, alloc: Global) -> Changes {
     Changes::from_vec(given).ok().expect(rt, "changes")
 }
 
-/// Takes as many of them as it may hold beside itself.
-fn take_strangers(rt: &impl Abort, alloc: Global, node: &mut NodeState<SumHash>) {
+/// Takes as many of them as it may hold in addition to itself.
+fn take_strangers(rt: &(impl Env + Abort), alloc: Global, node: &mut NodeState<SumHash>) {
     let now = moment(rt, 0);
     let event = Event::Take(strangers(rt, alloc), now);
     let is_full = answers(rt, node, &event, Told::Stopped(4_095, StopCause::Full));
@@ -74,6 +77,7 @@ fn take_strangers(rt: &impl Abort, alloc: Global, node: &mut NodeState<SumHash>)
     assert!(rt; is_full && node.len() == 4_096);
 }
 
+/// One point for each server, and 4,096 changes about unknown addresses in one batch: stopped after 4,095, full.
 #[test]
 fn stops_at_the_last_of_as_many_as_may_be(rt: HostRuntime) {
     let mut small = config(4096);
@@ -91,20 +95,21 @@ const THREE: [Row; 3] = [
 ];
 
 /// Takes the three, as far as memory lets it: how many of them.
-fn take_three(rt: &impl Abort, alloc: Global, node: &mut NodeState<SumHash>) -> usize {
+fn take_three(rt: &(impl Env + Abort), alloc: Global, node: &mut NodeState<SumHash>) -> usize {
     let batch = batch(rt, alloc, &THREE);
     let answer = node.take(batch.as_slice(), moment(rt, 0));
     drop(batch);
     match answer {
         Ok(_) => 3,
         Err(stopped) => {
+            check_refused(rt);
             assert!(rt; stopped.cause == StopCause::Memory && stopped.taken < 3);
             stopped.taken
         }
     }
 }
 
-/// A ping to a node that heard nothing yet.
+/// A ping to a node that has received nothing yet.
 const PING: Call = Call::MakePing(0x0a00_0009);
 
 /// What tells two nodes apart: the digest of their members, the owners of keys, sixteen pings, and what runs out when.
@@ -136,34 +141,35 @@ const ASKED: [Call; 25] = [
     Call::Expire(86_405_000),
 ];
 
-/// What a node answers to an event; where it found no memory it comes once more.
-fn ask(node: &mut NodeState<SumHash>, event: &Event) -> Reply {
+/// What a node answers to an event; if out of memory it is made again.
+fn ask(rt: &(impl Env + Abort), node: &mut NodeState<SumHash>, event: &Event) -> Reply {
     let reply = node.apply(event);
     if wanted_again(read(&reply), Told::Done).is_none() {
         return reply;
     }
+    check_refused(rt);
     drop(reply);
     node.apply(event)
 }
 
 /// Whether two nodes answer a call alike.
 fn answer_alike(
-    rt: &impl Abort,
+    rt: &(impl Env + Abort),
     alloc: Global,
     first: &mut NodeState<SumHash>,
     second: &mut NodeState<SumHash>,
     call: Call,
 ) -> bool {
     let event = event(rt, alloc, call);
-    let reply = ask(first, &event);
+    let reply = ask(rt, first, &event);
     let is_alike = answers(rt, second, &event, read(&reply));
     drop(reply);
     drop(event);
     is_alike
 }
 
-/// Compares a node with a new one that hears these.
-fn compare(rt: &impl Abort, alloc: Global, first: &mut NodeState<SumHash>, heard: &[Row]) {
+/// Compares a node with a new one that receives these.
+fn compare(rt: &(impl Env + Abort), alloc: Global, first: &mut NodeState<SumHash>, heard: &[Row]) {
     let mut second = node(rt, alloc, A, 7);
     for row in heard {
         hear(rt, &mut second, *row, 0);

@@ -4,16 +4,17 @@ ghost use Rattle.change_core.specs.Address.{address_of};
 
 use crate::calls::{Call, Calls, Told, event, is_told, read, tells, wanted_again};
 use crate::cases::{Case, Start};
-use crate::shared::{config, configured, put, vec_of};
-use change_core::{Change, Entry, Weight};
+use crate::shared::{check_refused, config, configured, held, put, vec_of};
+use change_core::Weight;
 use hash_ring::{PointHash, SumHash};
 use node_core::{Event, NodeState, Reply, Run, run};
 use std::alloc::Global;
+use std::env::Env;
 use std::process::Abort;
 
-/// A node that begins so.
+/// A node that starts so.
 pub(crate) fn begun<H: PointHash>(
-    rt: &impl Abort,
+    rt: &(impl Env + Abort),
     alloc: Global,
     start: &Start,
     hash: H,
@@ -25,41 +26,33 @@ pub(crate) fn begun<H: PointHash>(
     configured(rt, alloc, &config, hash, start.own, start.born)
 }
 
-/// What is held of a node, how many it holds, and what of the member that an event first speaks of.
-fn held<H: PointHash>(node: &NodeState<H>, event: &Event) -> (Change, usize, Option<Entry>) {
-    let own = node.own();
-    let mut subject = own.address;
-    if let Event::Take(changes, _) = event {
-        if let Some(first) = changes.as_slice().first() {
-            subject = first.change.address;
-        }
-    }
-    (own, node.len(), node.member(subject))
-}
-
-/// Whether an event is answered so. Where it is refused the node is as before; where that was for want of memory it comes once more.
+/// Whether an event has this answer. If it is refused the node is unchanged; if that was for a failed allocation it
+/// comes again.
 pub(crate) fn answers<H: PointHash>(
-    rt: &impl Abort,
+    rt: &(impl Env + Abort),
     node: &mut NodeState<H>,
     event: &Event,
     wanted: Told<'_>,
 ) -> bool {
-    let before = held(node, event);
+    let before = held(rt, node);
     let reply = node.apply(event);
     let told = read(&reply);
     let is_refused = matches!(told, Told::Refused(_) | Told::Stopped(0, _));
     let again = wanted_again(told, wanted);
     let is_so = tells(reply, wanted);
-    assert!(rt; !is_refused || held(node, event) == before);
+    assert!(rt; !is_refused || held(rt, node) == before);
     match again {
-        Some(wanted) => tells(node.apply(event), wanted),
+        Some(wanted) => {
+            check_refused(rt);
+            tells(node.apply(event), wanted)
+        }
         None => is_so,
     }
 }
 
-/// Whether a call is answered so.
+/// Whether a call has this answer.
 pub(crate) fn is_answered<H: PointHash>(
-    rt: &impl Abort,
+    rt: &(impl Env + Abort),
     alloc: Global,
     node: &mut NodeState<H>,
     call: Call,
@@ -73,7 +66,7 @@ pub(crate) fn is_answered<H: PointHash>(
 
 /// Checks what a node answers to calls, one after another.
 pub(crate) fn check_calls<H: PointHash>(
-    rt: &impl Abort,
+    rt: &(impl Env + Abort),
     alloc: Global,
     node: &mut NodeState<H>,
     calls: Calls,
@@ -88,7 +81,7 @@ pub(crate) fn check_calls<H: PointHash>(
 }
 
 /// The events of calls.
-pub(crate) fn events(rt: &impl Abort, alloc: Global, calls: Calls) -> Vec<Event> {
+pub(crate) fn events(rt: &(impl Env + Abort), alloc: Global, calls: Calls) -> Vec<Event> {
     let (_, rows) = calls;
     let mut events = vec_of(rt, alloc, rows.len());
     for (call, _) in rows {
@@ -97,7 +90,7 @@ pub(crate) fn events(rt: &impl Abort, alloc: Global, calls: Calls) -> Vec<Event>
     events
 }
 
-/// Whether these replies tell what calls are to be answered; none where one was refused memory.
+/// Whether these are the replies that calls have to have; None if one ran out of memory.
 pub(crate) fn tell(replies: &[Reply], calls: Calls) -> Option<bool> {
     let (_, rows) = calls;
     let mut is_so = replies.len() == rows.len();
@@ -110,7 +103,7 @@ pub(crate) fn tell(replies: &[Reply], calls: Calls) -> Option<bool> {
     Some(is_so)
 }
 
-/// Makes these calls of a node, which comes back where its replies find no memory.
+/// Makes these calls of a node, which comes back if out of memory for its replies.
 fn try_run(
     alloc: Global,
     node: NodeState<SumHash>,
@@ -122,22 +115,23 @@ fn try_run(
     }
 }
 
-/// Makes these calls of a new node, which comes back as it was where its replies find no memory.
-fn finish(rt: &impl Abort, alloc: Global, start: &Start, events: &[Event]) -> Run<SumHash> {
+/// Makes these calls of a new node, which comes back unchanged if out of memory for its replies.
+fn finish(rt: &(impl Env + Abort), alloc: Global, start: &Start, events: &[Event]) -> Run<SumHash> {
     let node = begun(rt, alloc, start, SumHash);
     let own = node.own();
     match try_run(alloc, node, events) {
         Ok(finished) => finished,
         Err(node) => {
+            check_refused(rt);
             assert!(rt; node.own() == own && node.len() == 1);
             try_run(alloc, node, events).ok().expect(rt, "a run")
         }
     }
 }
 
-/// Whether a new node answers a run of these events so; none where one was refused memory.
+/// Whether a new node has these replies to a run of these events; None if one ran out of memory.
 fn runs(
-    rt: &impl Abort,
+    rt: &(impl Env + Abort),
     alloc: Global,
     start: &Start,
     events: &[Event],
@@ -149,11 +143,14 @@ fn runs(
     answer
 }
 
-/// Checks what a node answers to a run of calls; where one was refused memory, a new node makes them all.
-fn check_run(rt: &impl Abort, alloc: Global, start: &Start, calls: Calls) {
+/// Checks a node's replies to a run of calls; if one was out of memory, a new node makes them all.
+fn check_run(rt: &(impl Env + Abort), alloc: Global, start: &Start, calls: Calls) {
     let events = events(rt, alloc, calls);
     let answer = match runs(rt, alloc, start, &events, calls) {
-        None => runs(rt, alloc, start, &events, calls),
+        None => {
+            check_refused(rt);
+            runs(rt, alloc, start, &events, calls)
+        }
         answer => answer,
     };
     drop(events);
@@ -162,7 +159,7 @@ fn check_run(rt: &impl Abort, alloc: Global, start: &Start, calls: Calls) {
 }
 
 /// Checks an example by calls one after another, and by a run of them.
-pub(crate) fn check(rt: &impl Abort, alloc: Global, case: &Case) {
+pub(crate) fn check(rt: &(impl Env + Abort), alloc: Global, case: &Case) {
     let (start, calls) = case;
     let mut node = begun(rt, alloc, start, SumHash);
     check_calls(rt, alloc, &mut node, *calls);

@@ -1,5 +1,7 @@
 //! A list of numbers under a lock.
+use crate::given::check_refused;
 use std::alloc::Global;
+use std::env::Env;
 use std::process::Abort;
 use turn_lock::{Kept, Pass, TurnLock};
 
@@ -35,10 +37,13 @@ impl Tally {
         }
     }
 
-    // An empty list with room for so many. Where memory was refused, it is asked for once more.
-    pub(super) fn with_room(rt: &impl Abort, alloc: Global, room: usize) -> Tally {
+    // An empty list with room for this many. If out of memory, it is made again.
+    pub(super) fn with_room(rt: &(impl Env + Abort), alloc: Global, room: usize) -> Tally {
         let numbers = match Vec::with_capacity(alloc, room) {
-            Err(_) => Vec::with_capacity(alloc, room),
+            Err(_) => {
+                check_refused(rt);
+                Vec::with_capacity(alloc, room)
+            }
             numbers => numbers,
         };
         Tally {

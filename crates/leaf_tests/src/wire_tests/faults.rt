@@ -1,7 +1,7 @@
-//! What is no change and no message, and why.
+//! Texts that are neither a change nor a message, and the error of each.
 use wire_json::{Field, WireError};
 
-/// Lines that are no change, and what is wrong with each.
+/// Lines that are not a change, and what is wrong with each.
 pub(super) const FAULTS_OF_CHANGES: [(&str, WireError); 21] = [
     (r#""#, WireError::BadJson),
     (
@@ -77,7 +77,7 @@ pub(super) const FAULTS_OF_CHANGES: [(&str, WireError); 21] = [
     ),
 ];
 
-/// Lines that are no message, and what is wrong with each.
+/// Lines that are not a message, and what is wrong with each.
 pub(super) const FAULTS_OF_MESSAGES: [(&str, WireError); 31] = [
     (r#"[]"#, WireError::NotObject),
     (r#"{}"#, WireError::MissingField(Field::Kind)),

@@ -5,6 +5,7 @@ use Rattle.cluster_core.specs.Channels.{any_answer}
 use Rattle.peer_core.proofs.Acts.{said_so}
 use Rattle.cli_net.proofs.Entered.{MayFollow, cannot_begin, cannot_end, cannot_listen, cannot_serve, had_hosts, kept_out_by, let_in_by, entered_by, served_by}
 use Rattle.cli_net.proofs.Written.{said_both, unsaid_first, unsaid_last}
+use Rattle.server.proofs.Starts.{healed_by}
 use Rattle.cli_net.proofs.serving.serve_out.Goals as goal
 
 pub returns-in_err-join_hosts-clause-named : goal.returns-in_err-join_hosts-clause-named
@@ -85,5 +86,7 @@ returns-clause-ended g c =
     served_by g.H.PointHash.hash_of any_answer c.args.hash c.args.words.now c.in_ok-node.node c.in_ok-node.passes.items c.in_ok-node.timer c.join_hosts.new.pass
     c.as_slice-hosts.result.now c.moment-now.result c.in_ok-node.ensures.born c.in_ok-node.ensures.fresh c.as_slice-hosts.ensures.value (λ none. (c.in_ok-join_hosts.ensures.alone none).1)
     c.args.timeouts (arc_value c.in_ok-ended.ended.server) c.new-server.result c.in_ok-ended.ended.rounds c.in_ok-ended.ended.workers.items
-    c.in_ok-ended.ensures.server c.new-server.ensures.node (ap (λ (e : Echo). e.address) c.new-server.ensures.handler) c.new-server.ensures.timeouts c.in_ok-node.ensures.count
+    c.in_ok-ended.ensures.server c.new-server.ensures.node (ap (λ (e : Echo). e.address) c.new-server.ensures.handler) c.new-server.ensures.timeouts
+    (healed_by c.args.words.now.heal c.args.words.now.address c.args.words.now.hosts.items c.in_ok-healing.healing c.new-server.result.healing c.new-server.ensures.healing c.in_ok-healing.ensures.heals)
+    c.in_ok-node.ensures.count
     c.in_ok-node.ensures.all c.in_ok-join_hosts.ensures.joined c.in_ok-ended.ensures.rounds c.in_ok-ended.ensures.resting c.in_ok-ended.ensures.connections

@@ -10,5 +10,8 @@ returns-clause-numbers c =
       period = n.period;
       replicas = n.replicas;
       weight = n.weight;
+      per_message = n.per_message;
+      piggyback = n.piggyback;
+      heal = n.heal;
       sum = n.sum;
     }

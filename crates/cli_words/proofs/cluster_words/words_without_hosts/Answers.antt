@@ -19,3 +19,9 @@ returns-in_err-period-clause-taken c = λ has.
 
 pub returns-in_err-weight-clause-taken : goal.returns-in_err-weight-clause-taken
 returns-in_err-weight-clause-taken c = λ has. let never : false ≡ true = c.in_err-weight.ensures.taken has.weight in cc
+
+pub returns-in_err-per_message-clause-taken : goal.returns-in_err-per_message-clause-taken
+returns-in_err-per_message-clause-taken c = λ has. let never : false ≡ true = c.in_err-per_message.ensures.taken has.per_message in cc
+
+pub returns-in_err-piggyback-clause-taken : goal.returns-in_err-piggyback-clause-taken
+returns-in_err-piggyback-clause-taken c = λ has. let never : false ≡ true = c.in_err-piggyback.ensures.taken has.piggyback in cc

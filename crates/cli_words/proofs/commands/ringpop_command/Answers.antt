@@ -15,6 +15,7 @@ returns c =
     let with_3 = subcommand_if_added _ _ _ _ (line.leaf line.owner_words) c.with_subcommand-command-2.ensures with_2 c.owner_command.ensures refl in
     let with_4 = subcommand_if_added _ _ _ _ (line.leaf line.sim_words) c.with_subcommand-command-3.ensures with_3 c.sim_command.ensures refl in
     let with_5 = subcommand_if_added _ _ _ _ (line.leaf line.serve_words) c.with_subcommand-command-4.ensures with_4 c.serve_command.ensures refl in
-    let with_6 = subcommand_if_added _ _ _ _ (line.leaf line.ask_words) c.with_subcommand-command-5.ensures with_5 c.ask_command.ensures refl in
-    let with_7 = subcommand_if_added _ _ _ _ (line.leaf line.members_words) c.with_subcommand-command-6.ensures with_6 c.members_command.ensures refl in
-    subcommand_if_added _ _ _ _ (line.leaf line.tell_words) c.with_subcommand.ensures with_7 c.tell_command.ensures refl
+    let with_6 = subcommand_if_added _ _ _ _ (line.leaf line.agent_words) c.with_subcommand-command-5.ensures with_5 c.agent_command.ensures refl in
+    let with_7 = subcommand_if_added _ _ _ _ (line.leaf line.ask_words) c.with_subcommand-command-6.ensures with_6 c.ask_command.ensures refl in
+    let with_8 = subcommand_if_added _ _ _ _ (line.leaf line.members_words) c.with_subcommand-command-7.ensures with_7 c.members_command.ensures refl in
+    subcommand_if_added _ _ _ _ (line.leaf line.tell_words) c.with_subcommand.ensures with_8 c.tell_command.ensures refl

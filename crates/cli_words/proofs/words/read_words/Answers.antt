@@ -6,7 +6,7 @@ use Rattle.cli_words.specs.CommandLine.{ringpop_app}
 use Rattle.cli_words.specs.Faults.{fault_of_kind, fault_of_words}
 use Rattle.cli_words.specs.Whole.{HasBadAddress, IsRefusalBy}
 use Rattle.cli_words.specs.Words.{AreAskedBy}
-use Rattle.cli_words.specs.declared.faults.WordsFault.{WordsFault}
+use Rattle.cli_words.specs.declared.faults.WordsError.{WordsError}
 use Rattle.cli_words.specs.declared.words.Words.{Words}
 use Rattle.cli_words.proofs.Built.{ringpop_is_simple}
 use Rattle.cli_words.proofs.Given.{handed_on}
@@ -26,7 +26,7 @@ pub returns-clause-address : goal.returns-clause-address
 returns-clause-address g c = λ is.
     let found = found_by _ (map g.S.AsStr.text c.args.words.now) c.in_ok-matches.matches c.in_ok-ringpop_command.ensures c.in_ok-matches.ensures.matches in
     subst (λ (o : Option (Text × List Row)). IsSomeAnd o (λ p. HasBadAddress p.1)) found
-    (subst (λ (r : Result Words WordsFault). IfErr r (IsRefusalBy (subcommand_rows_of c.in_ok-matches.matches))) is c.words_of.ensures.fault)
+    (subst (λ (r : Result Words WordsError). IfErr r (IsRefusalBy (subcommand_rows_of c.in_ok-matches.matches))) is c.words_of.ensures.fault)
 
 pub returns-clause-taken : goal.returns-clause-taken
 returns-clause-taken g c = λ passes.

@@ -1,13 +1,13 @@
 use Rattle.std.proofs.Common.{◌≡◌, ◌+◌, ◌∙◌, ap, arith, length, length-append, map}
 use Rattle.change_core.specs.declared.changes.Change.{Change}
-use Rattle.cluster_core.specs.declared.channel_links.Post.{Post}
+use Rattle.cluster_core.specs.declared.channel_links.Mailbox.{Mailbox}
 use Rattle.cluster_core.proofs.Crews.{posted_all, posted_more}
 use Rattle.cluster_core.proofs.clusters.posts_for.Goals as goal
 
 pub loop-node-init : goal.loop-node-init
 loop-node-init g c = record {
   within = omega arith;
-  posts = ap (map (λ (p : Post). p.address)) c.in_ok-posts.ensures.items;
+  posts = ap (map (λ (p : Mailbox). p.address)) c.in_ok-posts.ensures.items;
   outlets = ap length c.in_ok-outlets.ensures.items;
 }
 

@@ -1,7 +1,7 @@
 use Rattle.cluster_laws.proofs.Converging.{nodes_converge, sweeps_converge, converged_agree}
 use Rattle.cluster_laws.proofs.Delivering.{delivered_converge}
 use Rattle.cluster_laws.proofs.Exchanging.{calls_take}
-use Rattle.cluster_laws.proofs.Rounds.{rounds_converge}
+use Rattle.cluster_laws.proofs.Rounds.{rounds_converge, stretches_converge}
 use Rattle.cluster_laws.proofs.Worlds.{worlds_converge}
 use Rattle.cluster_laws.proofs.laws.convergence.Goals as goal
 
@@ -25,3 +25,6 @@ returns-clause-worlds g c = worlds_converge g.H.PointHash.hash_of
 
 pub returns-clause-rounds : goal.returns-clause-rounds
 returns-clause-rounds g c = rounds_converge g.H.PointHash.hash_of
+
+pub returns-clause-lossy : goal.returns-clause-lossy
+returns-clause-lossy g c = stretches_converge g.H.PointHash.hash_of

@@ -7,7 +7,7 @@ returns-then-count-le-FEW-clause-named c =
 
 pub returns-clause-named : goal.returns-clause-named
 returns-clause-named c =
-    named_around c.args.count c.args.start c.args.points.now _ _ _ _ _ c.requires.nobody c.split_at.ensures.front c.split_at.ensures.back c.name_many.ensures.named c.name_many-2.ensures.named
+    named_around c.args.count c.args.start c.args.points.now _ _ _ _ _ c.requires.nobody c.split_at.ensures.front c.split_at.ensures.back c.distinct_from_sorted.ensures.named c.distinct_from_sorted-2.ensures.named
 
-pub name_many-requires-clause-sorted : goal.name_many-requires-clause-sorted
-name_many-requires-clause-sorted c = IsSorted-none _ _ c.requires.nobody c.in_ok-sorted.ensures.items
+pub distinct_from_sorted-requires-clause-sorted : goal.distinct_from_sorted-requires-clause-sorted
+distinct_from_sorted-requires-clause-sorted c = IsSorted-none _ _ c.requires.nobody c.in_ok-sorted.ensures.items

@@ -12,4 +12,4 @@ returns-in-None-clause-round g c =
 
 pub returns-in-Some-clause-round : goal.returns-in-Some-clause-round
 returns-in-Some-clause-round g c =
-    does_next _ _ _ _ c.in_ok-expire_all.ensures.did (does_next_is _ _ _ _ _ c.in_ok-probe.ensures.did c.in-Some.is c.bring_to_end.ensures.did)
+    does_next _ _ _ _ c.in_ok-expire_all.ensures.did (does_next_is _ _ _ _ _ c.in_ok-probe.ensures.did c.in-Some.is c.run_probe.ensures.did)

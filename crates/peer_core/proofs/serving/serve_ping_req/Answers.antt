@@ -10,7 +10,7 @@ returns-in_err-received-clause-did g c =
 
 pub returns-in-Done-clause-did : goal.returns-in-Done-clause-did
 returns-in-Done-clause-did g c =
-    does_next_is _ _ _ _ _ (did_call (call.Receive c.args.message.now c.args.now) reply.Receive _ c.in_ok-received.ensures.called) c.in-Done.is c.report.ensures.did
+    does_next_is _ _ _ _ _ (did_call (call.Receive c.args.message.now c.args.now) reply.Receive _ c.in_ok-received.ensures.called) c.in-Done.is c.report_target.ensures.did
 
 pub returns-in-Stopped-clause-did : goal.returns-in-Stopped-clause-did
 returns-in-Stopped-clause-did g c =

@@ -3,8 +3,8 @@ use Rattle.server.proofs.answering.answer_line.Goals as goal
 
 pub returns-in-Ok-clause-did : goal.returns-in-Ok-clause-did
 returns-in-Ok-clause-did g c =
-    served_so g.H.PointHash.hash_of g.L.Link.may_answer g.A.Handler.may_handle c.args.now c.args.node.now c.args.pass.now c.answer_message.new.pass
-    c.args.line.now c.in-Ok.message c.answer_message.result c.in-Ok.ensures.message c.answer_message.ensures.did
+    served_so g.H.PointHash.hash_of g.L.Link.may_answer g.A.Handler.may_handle c.args.now c.args.node.now c.args.pass.now c.serve_one.new.pass
+    c.args.line.now c.in-Ok.message c.serve_one.result c.in-Ok.ensures.message c.serve_one.ensures.served
 
 pub returns-in-Err-clause-did : goal.returns-in-Err-clause-did
 returns-in-Err-clause-did g c =

@@ -1,7 +1,7 @@
 use Rattle.std.proofs.Common.{rules}
 use Rattle.server.specs.Working.{IsOneRound}
-use Rattle.cluster_core.proofs.Worked.{none_yet, one_more}
-use Rattle.server.proofs.Worked.{a_round}
+use Rattle.cluster_core.proofs.Worked.{none_yet}
+use Rattle.server.proofs.Worked.{a_round, one_more}
 use Rattle.server.proofs.servers.make_rounds_over.Goals as goal
 
 pub loop-init : goal.loop-init

@@ -1,6 +1,7 @@
 use Rattle.std.proofs.Common.{rules}
 use Rattle.server.specs.Working.{IsConnection}
-use Rattle.cluster_core.proofs.Worked.{none_yet, one_more}
+use Rattle.cluster_core.proofs.Worked.{none_yet}
+use Rattle.server.proofs.Worked.{one_more}
 use Rattle.server.proofs.servers.work_over.Goals as goal
 
 pub loop-init : goal.loop-init

@@ -1,6 +1,6 @@
 use Rattle.std.proofs.Common.{◌∙◌, refl, set, subst, sym, List}
 use Rattle.std.specs.Arc.{arc_value}
-use Rattle.cluster_core.specs.declared.channel_links.Post.{Post}
+use Rattle.cluster_core.specs.declared.channel_links.Mailbox.{Mailbox}
 use Rattle.cluster_core.specs.Clusters.{HasRound, SeatState}
 use Rattle.cluster_core.proofs.Crews.{has_round, same_addresses}
 use Rattle.cluster_core.proofs.clusters.Cluster.round.Goals as goal
@@ -14,7 +14,7 @@ invariant_of-self g c =
 pub returns-clause-made : goal.returns-clause-made
 returns-clause-made g c =
     λ some.
-    let posts : List Post = (arc_value c.self.inside.posts).items in
+    let posts : List Mailbox = (arc_value c.self.inside.posts).items in
     let seats : List (SeatState _) = c.self.inside.seats.items in
     let now : List (SeatState _) = set seats c.in-Some.at c.round.new.self in
     subst (λ s. HasRound c.args.address c.args.now c.round.result s (record { posts = posts; seats = now })) c.self.view_is

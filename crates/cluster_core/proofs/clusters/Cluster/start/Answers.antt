@@ -27,16 +27,16 @@ apart_so same apart = subst (λ ns. AreApart ns) same apart
 twins_so : {H : Type 0} {seen nodes : List (Seen H)} → seen ≡ nodes → (AreApart seen → ⊥) → AreApart nodes → ⊥
 twins_so same twins = subst (λ ns. AreApart ns → ⊥) same twins
 
-pub returns-then-has_twins-clause-refused : goal.returns-then-has_twins-clause-refused
-returns-then-has_twins-clause-refused g c =
-    (refl, (search rules, search rules), twins_so c.deref.ensures.value (c.has_twins.ensures.twins c.if-has_twins.true))
+pub returns-then-has_duplicate_address-clause-refused : goal.returns-then-has_duplicate_address-clause-refused
+returns-then-has_duplicate_address-clause-refused g c =
+    (refl, (search rules, search rules), twins_so c.deref.ensures.value (c.has_duplicate_address.ensures.twins c.if-has_duplicate_address.true))
 
 pub returns-clause-can : goal.returns-clause-can
 returns-clause-can g c =
     if_ok_so c.launch.result
-    ((search rules, search rules), apart_so c.deref.ensures.value (c.has_twins.ensures.apart c.if-has_twins.false))
+    ((search rules, search rules), apart_so c.deref.ensures.value (c.has_duplicate_address.ensures.apart c.if-has_duplicate_address.false))
 
 pub returns-clause-refused : goal.returns-clause-refused
 returns-clause-refused g c =
     given_up_so c.launch.result _ _ c.launch.ensures.given_up (search rules, search rules)
-    (apart_so c.deref.ensures.value (c.has_twins.ensures.apart c.if-has_twins.false))
+    (apart_so c.deref.ensures.value (c.has_duplicate_address.ensures.apart c.if-has_duplicate_address.false))

@@ -21,8 +21,8 @@ returns-clause-named g c =
     let same : listed ≡ all = λ j. ascending point_cmp (c.deref.ensures.value j ++ c.deref-2.ensures.value j) in
     let fewer : count ≡ min c.args.count (length servers) = omega (arith, c.min-count.ensures, c.len.ensures) in
     rw (← c.self.view_is)
-    (IfOk-weaker c.met_with_late.result (λ (named : Vec Address). AreMet from listed count named.items) (λ (named : Vec Address). named.items ≡ take c.args.count (owners hash_of i.replicas servers key))
+    (IfOk-weaker c.owners_from_both.result (λ (named : Vec Address). AreMet from listed count named.items) (λ (named : Vec Address). named.items ≡ take c.args.count (owners hash_of i.replicas servers key))
     (λ named met.
     let walk = ring_owners hash_of i.replicas servers all listed key met.start from c.self.invariant.ring c.hash-hash.ensures c.hash-hash.type_inv same met.low met.high in
     met.met ∙ ap (take count) walk ∙ owners_enough hash_of i.replicas servers key c.args.count count fewer)
-    c.met_with_late.ensures.met)
+    c.owners_from_both.ensures.met)

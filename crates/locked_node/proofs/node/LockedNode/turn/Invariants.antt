@@ -2,4 +2,4 @@ use Rattle.locked_node.specs.History.{entry_of}
 use Rattle.locked_node.proofs.node.LockedNode.turn.Given as goal
 
 abbrev pub ghost-leave : goal.ghost-leave
-ghost-leave g a = entry_of (g.A.Asked.call a._asked.now) (g.A.Asked.answer a._reply.now) a.held.node.node
+ghost-leave g a = entry_of (g.A.LockedCall.call a._asked.now) (g.A.LockedCall.answer a._reply.now) a.held.node.node

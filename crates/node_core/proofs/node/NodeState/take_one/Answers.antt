@@ -78,7 +78,7 @@ returns-in-Ok-alter-clause-ok g c =
     subst (λ (s : Seen g.row.H.Denot). TakesOne s.node c.args.sourced.now Refuted new) c.self.view_is
     (takes-refuted g.H.PointHash.hash_of p c.self.invariant c.args.sourced.now c.in-Refute.given c.in-Refute.next new (sym c.judge-verdict.ensures ∙ c.in-Refute.is)
     (subst (λ (s : Seen g.row.H.Denot). new ≡ altered s.node (asserted_by c.in-Refute.next.address c.in-Refute.next)) (sym c.self.view_is)
-    (subst (λ (t : Sourced). new ≡ altered c.args.self.now.node t) c.asserted-news.ensures c.in-Ok-alter.ensures.ok)))
+    (subst (λ (t : Sourced). new ≡ altered c.args.self.now.node t) c.sourced_by_self-news.ensures c.in-Ok-alter.ensures.ok)))
 
 pub returns-in-Err-alter-clause-err : goal.returns-in-Err-alter-clause-err
 returns-in-Err-alter-clause-err g c =

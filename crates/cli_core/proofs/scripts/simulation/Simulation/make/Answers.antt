@@ -13,14 +13,14 @@ returns-then-is_some-clause-fault g c =
 pub returns-in_err-push-clause-fault : goal.returns-in_err-push-clause-fault
 returns-in_err-push-clause-fault g c =
     let seen = c.self.inside.nodes.items in
-    let few : length (nodes_in seen) < most_nodes = omega (arith, c.len.ensures, c.if-len-ge-MOST_NODES.false, c.as_slice.ensures.len, ap length c.as_slice.ensures.value, length-map seen (λ s. s.node)) in
+    let few : length (nodes_in seen) < most_nodes = omega (arith, c.len.ensures, c.if-len-ge-MAX_NODES.false, c.as_slice.ensures.len, ap length c.as_slice.ensures.value, length-map seen (λ s. s.node)) in
     let p = err_from_is_err_and c.from_residual-in_err-push.result c.from_residual-in_err-push.ensures.1 in
     rw (← c.self.view_is, p.1, p.2) (absent_place seen c.args.birth.now.address c.place_of.result c.is_some.result c.if-is_some.false c.is_some.ensures (rw c.as_slice.ensures.value at c.place_of.ensures.none), few)
 
 pub returns-clause-answer : goal.returns-clause-answer
 returns-clause-answer g c =
     let seen = c.self.inside.nodes.items in
-    let few : length (nodes_in seen) < most_nodes = omega (arith, c.len.ensures, c.if-len-ge-MOST_NODES.false, c.as_slice.ensures.len, ap length c.as_slice.ensures.value, length-map seen (λ s. s.node)) in
+    let few : length (nodes_in seen) < most_nodes = omega (arith, c.len.ensures, c.if-len-ge-MAX_NODES.false, c.as_slice.ensures.len, ap length c.as_slice.ensures.value, length-map seen (λ s. s.node)) in
     rw (← c.self.view_is) (
       absent_place seen c.args.birth.now.address c.place_of.result c.is_some.result c.if-is_some.false c.is_some.ensures (rw c.as_slice.ensures.value at c.place_of.ensures.none),
       few,
@@ -28,15 +28,15 @@ returns-clause-answer g c =
           (nodes_push seen c.push.new.self.items c.in_ok-node.node _ c.in_ok-push.ensures.items c.in_ok-node.ensures.born),
     )
 
-pub returns-then-len-ge-MOST_NODES-clause-fault : goal.returns-then-len-ge-MOST_NODES-clause-fault
-returns-then-len-ge-MOST_NODES-clause-fault g c =
+pub returns-then-len-ge-MAX_NODES-clause-fault : goal.returns-then-len-ge-MAX_NODES-clause-fault
+returns-then-len-ge-MAX_NODES-clause-fault g c =
     let seen = c.self.inside.nodes.items in
-    let many : most_nodes ≤ length (nodes_in seen) = omega (arith, c.len.ensures, c.if-len-ge-MOST_NODES.true, c.as_slice.ensures.len, ap length c.as_slice.ensures.value, length-map seen (λ s. s.node)) in
+    let many : most_nodes ≤ length (nodes_in seen) = omega (arith, c.len.ensures, c.if-len-ge-MAX_NODES.true, c.as_slice.ensures.len, ap length c.as_slice.ensures.value, length-map seen (λ s. s.node)) in
     rw (← c.self.view_is) (absent_place seen c.args.birth.now.address c.place_of.result c.is_some.result c.if-is_some.false c.is_some.ensures (rw c.as_slice.ensures.value at c.place_of.ensures.none), many)
 
 pub returns-in_err-node-clause-fault : goal.returns-in_err-node-clause-fault
 returns-in_err-node-clause-fault g c =
     let seen = c.self.inside.nodes.items in
-    let few : length (nodes_in seen) < most_nodes = omega (arith, c.len.ensures, c.if-len-ge-MOST_NODES.false, c.as_slice.ensures.len, ap length c.as_slice.ensures.value, length-map seen (λ s. s.node)) in
+    let few : length (nodes_in seen) < most_nodes = omega (arith, c.len.ensures, c.if-len-ge-MAX_NODES.false, c.as_slice.ensures.len, ap length c.as_slice.ensures.value, length-map seen (λ s. s.node)) in
     let p = err_from_is_err_and c.from_residual.result c.from_residual.ensures.1 in
     rw (← c.self.view_is, p.1, p.2, c.in_err-node.ensures.fault) (absent_place seen c.args.birth.now.address c.place_of.result c.is_some.result c.if-is_some.false c.is_some.ensures (rw c.as_slice.ensures.value at c.place_of.ensures.none), few)

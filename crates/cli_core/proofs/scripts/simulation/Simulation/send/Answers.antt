@@ -4,8 +4,8 @@ use Rattle.cli_core.specs.Simulated.{most_messages, nodes_in}
 use Rattle.cli_core.proofs.ScriptCommands.{place_known, simulated_of, send_refused}
 use Rattle.cli_core.proofs.scripts.simulation.Simulation.send.Goals as goal
 
-pub returns-then-len-ge-MOST_MESSAGES-clause-fault : goal.returns-then-len-ge-MOST_MESSAGES-clause-fault
-returns-then-len-ge-MOST_MESSAGES-clause-fault g c =
+pub returns-then-len-ge-MAX_MESSAGES-clause-fault : goal.returns-then-len-ge-MAX_MESSAGES-clause-fault
+returns-then-len-ge-MAX_MESSAGES-clause-fault g c =
     let many : most_messages ≤ length c.self.inside.messages.items = search rules in
     rw (← c.self.view_is) (place_known c.self.inside.nodes.items c.args.address c.in-Some.place (rw c.as_slice.ensures.value at c.in-Some.ensures.place), many)
 

@@ -1,0 +1,118 @@
+//! The state that the threads of an agent share.
+use crate::applications::Application;
+use crate::callers::{Caller, Passes};
+use crate::counters::{Count, Counters};
+use crate::systems::Host;
+use change_core::{Address, Moment};
+use log::sink::Console;
+use log::{LevelFilter, Logged};
+use server::{ServerClock, Stopwatch, Timeouts};
+use std::sync::Mutex;
+use std::sync::atomic::{AtomicBool, Ordering};
+use std::thread::Parker;
+
+/// The phase of an agent.
+#[derive(Clone, Copy, Debug, PartialEq, Eq)]
+pub enum Phase {
+    /// Hosts are given, and none has answered a join yet.
+    Joining,
+    /// It handles requests.
+    Serving,
+    /// Its node has left the ring.
+    Left,
+}
+
+/// A flag that threads set and read.
+#[derive(Drop)]
+pub struct Flag(AtomicBool);
+
+impl Flag {
+    /// Makes a flag with this value.
+    pub fn new(value: bool) -> Flag {
+        Flag(AtomicBool::new(value))
+    }
+
+    /// Sets the flag to a value.
+    pub fn set(&self, value: bool) {
+        self.0.store(value, Ordering::SeqCst);
+    }
+
+    /// Returns the flag's value.
+    pub fn get(&self) -> bool {
+        self.0.load(Ordering::SeqCst)
+    }
+}
+
+/// The state that the threads of an agent share.
+#[derive(Drop)]
+pub struct Agent<R> {
+    pub rt: R,
+    /// The greatest level that the log prints.
+    pub level: LevelFilter,
+    /// The node's address.
+    pub own: Address,
+    pub replicas: u32,
+    pub stopwatch: Stopwatch,
+    pub timeouts: Timeouts,
+    pub application: Application<R>,
+    /// The passes that no thread has.
+    pub passes: Mutex<Passes>,
+    pub counters: Counters,
+    /// The number of HTTP requests that are being answered.
+    pub busy: Count,
+    pub has_joined: Flag,
+    pub has_left: Flag,
+    /// Whether the node has left and the agent is to end.
+    pub is_stopping: Flag,
+    /// Whether a thread needed a pass and none was left.
+    pub is_spent: Flag,
+    /// The parker that is unparked when the agent is to end.
+    pub bell: Parker,
+}
+
+impl<R: Host> Agent<R> {
+    /// Returns the present moment.
+    pub fn now(&self) -> Moment {
+        self.stopwatch.moment(&self.rt)
+    }
+
+    /// Returns the log, which prints to standard error what is at most at the agent's level.
+    pub fn log(&self) -> Logged<R, Console<R>> {
+        Logged::new(self.rt, self.level, Console(self.rt))
+    }
+
+    /// Returns the clock by which requests are tried again.
+    pub fn clock(&self) -> ServerClock<R> {
+        ServerClock::new(self.rt, self.stopwatch)
+    }
+
+    /// Returns the phase of the agent.
+    pub fn phase(&self) -> Phase {
+        if self.has_left.get() {
+            Phase::Left
+        } else if self.has_joined.get() {
+            Phase::Serving
+        } else {
+            Phase::Joining
+        }
+    }
+
+    /// Returns the node with a pass that no thread has; None if no pass is left.
+    pub fn next_caller(&self) -> Option<Caller> {
+        self.passes.lock(&self.rt).next()
+    }
+
+    /// Replaces the pass of a caller if it has made all its calls. If no other is left, the agent ends.
+    pub fn renew(&self, caller: &mut Caller) {
+        if !caller.is_spent() {
+            return;
+        }
+        match self.next_caller() {
+            Some(next) => *caller = next,
+            None => {
+                self.is_spent.set(true);
+                self.bell.unpark();
+            }
+        }
+    }
+}

@@ -1,0 +1,382 @@
+//! The node as one thread calls it, and the passes that no thread has.
+ghost use Rattle.std.specs.Prelude.{◌≡◌, IfSome};
+ghost use Rattle.std.specs.Arc.{arc_value};
+ghost use Rattle.std.specs.List.{All};
+ghost use Rattle.locked_node.specs.Passes.{Fits};
+ghost use Rattle.peer_core.specs.Parts.{Does};
+ghost use Rattle.peer_core.specs.Rounds.{IsRound};
+
+use change_core::{Address, Change, Digest, Entry, Moment};
+use hash_ring::Sha256Hash;
+use locked_node::{LockedNode, NodePass};
+use message_core::{Keys, Text};
+use node_core::{ChangeList, View};
+use peer_core::{
+    Clock, ClusterError, Handler, Healing, Link, Round, gossip_round, handle_or_forward, heal, join,
+};
+use server::{Input, respond};
+use std::alloc::Global;
+use std::marker::Model;
+use std::sync::{Arc, Wait};
+use turn_lock::LockError;
+
+/// The node of an agent.
+pub type Node = LockedNode<Sha256Hash>;
+
+/// The node, and the pass by which one thread calls it.
+#[derive(Drop)]
+pub struct Caller {
+    node: Arc<Node, Global>,
+    pass: NodePass<Sha256Hash>,
+    is_spent: bool,
+}
+
+impl Model for Caller {
+    ghost use Rattle.std.specs.Arc.{arc_value};
+    ghost use Rattle.locked_node.specs.Passes.{Fits};
+    ghost use Rattle.agent.specs.Calling.{Calling};
+
+    ghost Value = { Calling };
+
+    ghost view = { λ c. record { node = arc_value c.node; pass = c.pass } };
+
+    ghost invariant = { λ c. Fits (arc_value c.node) c.pass };
+}
+
+/// Returns whether a call was refused because the pass has made all its calls.
+fn tells_spent<T>(answer: &Result<T, ClusterError>) -> bool {
+    matches!(answer, Err(ClusterError::PassSpent))
+}
+
+impl Caller {
+    /// Returns whether a call was refused because the pass has made all its calls: the pass has to be replaced.
+    pub fn is_spent(&self) -> bool {
+        self.is_spent
+    }
+
+    /// Makes one round of gossip at a moment, and returns how it ended.
+    ///
+    /// # Errors
+    ///
+    /// The effect of the calls before stays.
+    ///
+    /// - `ForeignPass`: the pass has another node's name.
+    /// - `PassSpent`: the pass has made all its calls.
+    /// - `Memory`: out of memory, here or in the link.
+    /// - `Busy`: a probe still runs after the one that ran was completed.
+    /// - `Spent`: no probe number is left.
+    /// - `StaleProbe`, `NotAsked`: another pass ended the probe, or answered for its helper, in the meantime.
+    pub fn round<R: Wait, L: Link>(
+        &mut self,
+        rt: &R,
+        alloc: Global,
+        link: &mut L,
+        now: Moment,
+    ) -> Result<Round, ClusterError>
+        ensures node { self.new.node ≡ self.old.node }
+        ensures did { Does self.old.node (IsRound L.may_answer now) result self.old.pass self.new.pass }
+    {
+        let round = gossip_round(rt, alloc, &*self.node, &mut self.pass, link, now);
+        self.is_spent |= tells_spent(&round);
+        round
+    }
+
+    /// Heals a cluster whose members parted; to be called after each round, at its moment. It is [`heal`]. Returns whether a
+    /// host answered by a Joined.
+    ///
+    /// # Errors
+    ///
+    /// The effect of the calls before stays.
+    ///
+    /// - `ForeignPass`: the pass has another node's name.
+    /// - `PassSpent`: the pass has made all its calls.
+    /// - `Memory`: out of memory, here or in the link.
+    pub fn heal<R: Wait, L: Link>(
+        &mut self,
+        rt: &R,
+        alloc: Global,
+        link: &mut L,
+        now: Moment,
+        healing: &mut Healing<'_>,
+    ) -> Result<bool, ClusterError> {
+        let healed = heal(rt, alloc, &*self.node, &mut self.pass, link, now, healing);
+        self.is_spent |= tells_spent(&healed);
+        healed
+    }
+
+    /// Sends a Join to one host, and processes its Joined at a moment. Returns 1, the number of hosts that answered.
+    ///
+    /// # Errors
+    ///
+    /// The effect of the calls before stays.
+    ///
+    /// - `ForeignPass`: the pass has another node's name.
+    /// - `PassSpent`: the pass has made all its calls.
+    /// - `Memory`: out of memory, here or in the link.
+    /// - `NoneJoined`: the host did not answer by a Joined.
+    pub fn join<R: Wait, L: Link>(
+        &mut self,
+        rt: &R,
+        alloc: Global,
+        link: &mut L,
+        host: Address,
+        now: Moment,
+    ) -> Result<u32, ClusterError> {
+        let joined = join(rt, alloc, &*self.node, &mut self.pass, link, &[host], now);
+        self.is_spent |= tells_spent(&joined);
+        joined
+    }
+
+    /// Returns the line that answers the input from another node; None if it needs no answer, or none could be made.
+    pub fn respond<R: Wait, L: Link, A: Handler>(
+        &mut self,
+        rt: &R,
+        alloc: Global,
+        link: &mut L,
+        handler: &A,
+        now: Moment,
+        input: &Input,
+    ) -> Option<Vec<u8>> {
+        let line = respond(
+            rt,
+            alloc,
+            &*self.node,
+            &mut self.pass,
+            link,
+            handler,
+            now,
+            input,
+        );
+        if line.is_none() {
+            // (there may be no line because the pass has made all its calls: another call shows that)
+            let own = self
+                .node
+                .own(rt, &mut self.pass)
+                .map_err(ClusterError::from);
+            self.is_spent |= tells_spent(&own);
+        }
+        line
+    }
+
+    /// Returns the answer to a request of these keys with this body: by the handler if this node owns the keys, else by the
+    /// node that does, to which the request is sent.
+    ///
+    /// # Errors
+    ///
+    /// The effect of the calls before stays. The keys and the body are dropped.
+    ///
+    /// - `Diverged`: two of the keys have different owners.
+    /// - `Nobody`: no member serves.
+    /// - `RetriesSpent`: the fourth send failed too.
+    /// - `HandlerFault`: the handler failed.
+    /// - `Memory`: out of memory, here, in the handler or in the link.
+    /// - `ForeignPass`: the pass has another node's name.
+    /// - `PassSpent`: the pass has made all its calls.
+    pub fn request<R: Wait, L: Link, A: Handler, C: Clock>(
+        &mut self,
+        rt: &R,
+        alloc: Global,
+        link: &mut L,
+        handler: &A,
+        clock: &C,
+        keys: Keys,
+        body: Text,
+    ) -> Result<Text, ClusterError>
+        ensures node { self.new.node ≡ self.old.node }
+    {
+        let answer = handle_or_forward(
+            rt,
+            alloc,
+            &*self.node,
+            &mut self.pass,
+            link,
+            handler,
+            clock,
+            keys,
+            body,
+        );
+        self.is_spent |= tells_spent(&answer);
+        answer
+    }
+
+    /// Returns a copy of the node's ring.
+    ///
+    /// # Errors
+    ///
+    /// The node is unchanged.
+    ///
+    /// - `ForeignPass`: the pass has another node's name. This is checked first.
+    /// - `PassSpent`: the pass has made all its calls.
+    /// - `Memory`: out of memory for the copy.
+    pub fn view<R: Wait>(&mut self, rt: &R) -> Result<View<Sha256Hash>, ClusterError> {
+        let view = answered(self.node.view(rt, &mut self.pass));
+        self.is_spent |= tells_spent(&view);
+        view
+    }
+
+    /// Returns the node's own entry, as a change.
+    ///
+    /// # Errors
+    ///
+    /// The node and the pass are unchanged.
+    ///
+    /// - `ForeignPass`: the pass has another node's name. This is checked first.
+    /// - `PassSpent`: the pass has made all its calls.
+    pub fn own<R: Wait>(&mut self, rt: &R) -> Result<Change, ClusterError> {
+        let own = self
+            .node
+            .own(rt, &mut self.pass)
+            .map_err(ClusterError::from);
+        self.is_spent |= tells_spent(&own);
+        own
+    }
+
+    /// Returns the entry that the node holds of an address; None if it holds none.
+    ///
+    /// # Errors
+    ///
+    /// The node and the pass are unchanged.
+    ///
+    /// - `ForeignPass`: the pass has another node's name. This is checked first.
+    /// - `PassSpent`: the pass has made all its calls.
+    pub fn member<R: Wait>(
+        &mut self,
+        rt: &R,
+        address: Address,
+    ) -> Result<Option<Entry>, ClusterError> {
+        let member = self
+            .node
+            .member(rt, &mut self.pass, address)
+            .map_err(ClusterError::from);
+        self.is_spent |= tells_spent(&member);
+        member
+    }
+
+    /// Returns the members that the node holds, ascending by address.
+    ///
+    /// # Errors
+    ///
+    /// The node is unchanged.
+    ///
+    /// - `ForeignPass`: the pass has another node's name. This is checked first.
+    /// - `PassSpent`: the pass has made all its calls.
+    /// - `Memory`: out of memory for the list.
+    pub fn members<R: Wait>(&mut self, rt: &R) -> Result<ChangeList, ClusterError> {
+        let members = answered(self.node.members(rt, &mut self.pass));
+        self.is_spent |= tells_spent(&members);
+        members
+    }
+
+    /// Returns the digest of the members.
+    ///
+    /// # Errors
+    ///
+    /// The node is unchanged.
+    ///
+    /// - `ForeignPass`: the pass has another node's name. This is checked first.
+    /// - `PassSpent`: the pass has made all its calls.
+    /// - `Memory`: out of memory for the digest's text.
+    pub fn digest<R: Wait>(&mut self, rt: &R) -> Result<Digest, ClusterError> {
+        let digest = answered(self.node.digest(rt, &mut self.pass));
+        self.is_spent |= tells_spent(&digest);
+        digest
+    }
+
+    /// Leaves the cluster. Returns the node's new own entry, as a change.
+    ///
+    /// # Errors
+    ///
+    /// The node is unchanged.
+    ///
+    /// - `ForeignPass`: the pass has another node's name. This is checked first.
+    /// - `PassSpent`: the pass has made all its calls.
+    /// - `AlreadyLeft`: the node has left.
+    /// - `Memory`: out of memory.
+    pub fn leave<R: Wait>(&mut self, rt: &R) -> Result<Change, ClusterError> {
+        let left = answered(self.node.leave(rt, &mut self.pass));
+        self.is_spent |= tells_spent(&left);
+        left
+    }
+
+    /// Comes back after leaving. Returns the node's new own entry, as a change.
+    ///
+    /// # Errors
+    ///
+    /// The node is unchanged.
+    ///
+    /// - `ForeignPass`: the pass has another node's name. This is checked first.
+    /// - `PassSpent`: the pass has made all its calls.
+    /// - `NotLeft`: the node has not left.
+    /// - `Exhausted`: its incarnation is the greatest.
+    /// - `Memory`: out of memory.
+    pub fn rejoin<R: Wait>(&mut self, rt: &R) -> Result<Change, ClusterError> {
+        let back = answered(self.node.rejoin(rt, &mut self.pass));
+        self.is_spent |= tells_spent(&back);
+        back
+    }
+}
+
+/// Returns the node's answer, or the error of the lock or of the node.
+fn answered<T: Drop>(
+    answer: Result<Result<T, node_core::NodeError>, LockError>,
+) -> Result<T, ClusterError> {
+    match answer {
+        Ok(Ok(value)) => Ok(value),
+        Ok(Err(error)) => Err(ClusterError::from(error)),
+        Err(error) => Err(ClusterError::from(error)),
+    }
+}
+
+/// The passes of a node that no thread has yet.
+#[derive(Drop)]
+pub struct Passes {
+    node: Arc<Node, Global>,
+    passes: Vec<NodePass<Sha256Hash>>,
+}
+
+impl Model for Passes {
+    ghost use Rattle.std.specs.Arc.{arc_value};
+    ghost use Rattle.std.specs.List.{All};
+    ghost use Rattle.locked_node.specs.Passes.{Fits};
+    ghost use Rattle.agent.specs.Calling.{Unused};
+
+    ghost Value = { Unused };
+
+    ghost view = { λ p. record { node = arc_value p.node; passes = p.passes.items } };
+
+    ghost invariant = { λ p. All (Fits (arc_value p.node)) p.passes.items };
+}
+
+/// Removes and returns the last of the passes.
+fn take_pass(node: &Node, passes: &mut Vec<NodePass<Sha256Hash>>) -> Option<NodePass<Sha256Hash>>
+    requires { All (Fits node.now) passes.old.items }
+    ensures fits { IfSome result (Fits node.now) }
+    ensures rest { All (Fits node.now) passes.new.items }
+{
+    passes.pop()
+}
+
+impl Passes {
+    /// Makes the collection of these passes of a node.
+    pub fn new(node: Arc<Node, Global>, passes: Vec<NodePass<Sha256Hash>>) -> Self
+        requires { All (Fits (arc_value node)) passes.items }
+        ensures node { result.node ≡ arc_value node }
+        ensures passes { result.passes ≡ passes.items }
+    {
+        Passes { node, passes }
+    }
+
+    /// Returns the node with the next pass; None if no pass is left, or the node has too many handles for another.
+    pub fn next(&mut self) -> Option<Caller>
+        ensures node { IfSome result (λ c. c.node ≡ self.old.node) }
+        ensures kept { self.new.node ≡ self.old.node }
+    {
+        let node = Arc::try_clone(&self.node).ok()?;
+        let pass = take_pass(&self.node, &mut self.passes)?;
+        Some(Caller {
+            node,
+            pass,
+            is_spent: false,
+        })
+    }
+}

@@ -1,0 +1,90 @@
+//! The log lines of members that changed.
+use change_core::{Address, Change, Status};
+use log::{Log, info, warn};
+use peer_core::{ClusterError, Round};
+
+/// Logs a member that was not known before.
+fn log_new<R: Log>(rt: &R, change: &Change) {
+    let address = change.address;
+    let status = change.status.word();
+    let incarnation = change.incarnation.number();
+    info!(rt; "{address} is new: {status}, incarnation {incarnation}");
+}
+
+/// Logs how the node's own entry changed: it left, it came back, or it raised its incarnation since others held it as
+/// suspect or faulty.
+fn log_own<R: Log>(rt: &R, before: &Change, after: &Change) {
+    let incarnation = after.incarnation.number();
+    match (before.status, after.status) {
+        (_, Status::Leave) => info!(rt; "this node has left, incarnation {incarnation}"),
+        (Status::Leave, _) => info!(rt; "this node is back, incarnation {incarnation}"),
+        _ =>
+            warn!(rt; "refuted: others held this node as suspect or faulty; incarnation {incarnation}"),
+    }
+}
+
+/// Logs a member that changed and, if it is suspect, why. `is_silent` means that this node's own round could not reach it.
+fn log_other<R: Log>(rt: &R, before: &Change, after: &Change, is_silent: bool) {
+    let address = after.address;
+    let was = before.status.word();
+    let status = after.status.word();
+    let incarnation = after.incarnation.number();
+    match after.status {
+        Status::Alive | Status::Leave => {
+            info!(rt; "{address} is {status}, was {was}; incarnation {incarnation}")
+        }
+        Status::Suspect if is_silent => {
+            warn!(rt; "{address} is suspect, was {was}: it answered neither this node nor its helpers")
+        }
+        Status::Suspect => warn!(rt; "{address} is suspect, was {was}: another node says so"),
+        Status::Faulty | Status::Tombstone => warn!(rt; "{address} is {status}, was {was}"),
+    }
+}
+
+/// Returns whether a round found that an address does not answer.
+fn is_suspected(round: &Result<Round, ClusterError>, address: &Address) -> bool {
+    match round {
+        Ok(Round::Suspected(suspected)) => suspected == address,
+        _ => false,
+    }
+}
+
+/// Logs a member that was known before, if it changed; `round` is this node's last.
+fn log_known<R: Log>(
+    rt: &R,
+    own: &Address,
+    before: &Change,
+    after: &Change,
+    round: &Result<Round, ClusterError>,
+) {
+    if before == after {
+        return;
+    }
+    if after.address == *own {
+        return log_own(rt, before, after);
+    }
+    log_other(rt, before, after, is_suspected(round, &after.address));
+}
+
+/// Logs how the members changed from one list to a later one, each ascending by address. The later list has each member
+/// of the earlier. `round` is this node's last.
+pub fn log_changes<R: Log>(
+    rt: &R,
+    own: &Address,
+    before: &[Change],
+    after: &[Change],
+    round: &Result<Round, ClusterError>,
+) {
+    let mut old = before.iter();
+    let mut next = old.next();
+    for change in after {
+        let known = next.filter(|known| known.address == change.address);
+        match known {
+            Some(known) => {
+                log_known(rt, own, known, change, round);
+                next = old.next();
+            }
+            None => log_new(rt, change),
+        }
+    }
+}

@@ -1,0 +1,48 @@
+//! The errors of an agent.
+use node_core::ConfigField;
+use std::alloc::{AllocError, AllocFailed};
+use thiserror::Error;
+
+/// An error that ends an agent before it is told to stop.
+#[derive(Clone, Copy, Debug, PartialEq, Eq, Error)]
+pub enum AgentError {
+    /// The address for HTTP is not in 127.0.0.0/8, and `http_any` is not set.
+    #[error("--http is not in 127.0.0.0/8: add --http-any")]
+    NotLocal,
+    /// The first field of the node's configuration that is out of its range.
+    #[error("bad configuration: {0}")]
+    BadConfig(ConfigField),
+    /// The system has no clock, or its clock gives no time since 1970.
+    #[error("no clock")]
+    NoClock,
+    /// The system gave no random numbers.
+    #[error("no random numbers")]
+    NoRandom,
+    /// An address can't be listened at.
+    #[error("cannot listen")]
+    CannotListen,
+    /// The system gave no thread.
+    #[error("no thread")]
+    NoThread,
+    /// The writer failed.
+    #[error("cannot write")]
+    CannotWrite,
+    /// No pass of the node is left for a thread. The agent has to be started again.
+    #[error("no calls left")]
+    Spent,
+    /// An allocation failed.
+    #[error("out of memory")]
+    Memory,
+}
+
+impl From<AllocError> for AgentError {
+    fn from(_: AllocError) -> AgentError {
+        AgentError::Memory
+    }
+}
+
+impl<T: Drop> From<AllocFailed<T>> for AgentError {
+    fn from(_: AllocFailed<T>) -> AgentError {
+        AgentError::Memory
+    }
+}

@@ -1,0 +1,338 @@
+//! HTTP connections of clients.
+use crate::agents::{Agent, Phase};
+use crate::callers::Caller;
+use crate::links::{NotedHandler, NotedLink};
+use crate::responses::{Reply, put_refusal, put_reply};
+use crate::systems::Host;
+use agent_core::{
+    Action, LONGEST_BODY, Refusal, digest_line, members_text, metrics_text, owners_text, route,
+};
+use bytes::Bytes;
+use change_core::{Address, Change, Digest, MAX_MEMBERS};
+use cluster_core::{Deadline, Timed};
+use http::{Request, StatusCode};
+use http_server::{Config, Connection, Response, Service};
+use member_core::MemberTable;
+use message_core::{Keys, Text};
+use peer_core::ClusterError;
+use std::alloc::{AllocError, Global};
+use std::hash::RandomState;
+use std::net::{TcpListener, TcpStream};
+use std::sync::Arc;
+use std::sync::atomic::{AtomicBool, Ordering};
+use std::thread;
+use std::time::{Duration, Instant};
+
+/// The most milliseconds from one answer of a connection to the end of its next request.
+const IDLE: u64 = 30_000;
+
+/// The most milliseconds that the client may take to receive an answer.
+const TAKEN: u64 = 5_000;
+
+/// The milliseconds that a thread rests before it tries again.
+const REST: u64 = 10;
+
+/// Returns the refusal for an error of the node.
+fn refusal_of(error: ClusterError) -> Refusal {
+    match error {
+        ClusterError::Nobody => Refusal::Nobody,
+        ClusterError::RetriesSpent => Refusal::OwnerSilent,
+        ClusterError::HandlerFault => Refusal::ApplicationFailed,
+        ClusterError::Memory => Refusal::Memory,
+        ClusterError::AlreadyLeft => Refusal::AlreadyLeft,
+        ClusterError::NotLeft => Refusal::NotLeft,
+        ClusterError::Exhausted => Refusal::Exhausted,
+        _ => Refusal::Spent,
+    }
+}
+
+/// Returns the digest of these members.
+fn digest_of(alloc: Global, members: &[Change]) -> Result<Digest, Refusal> {
+    let Ok(mut table) = MemberTable::new(alloc, MAX_MEMBERS) else {
+        return Err(Refusal::Memory);
+    };
+    for change in members {
+        if table.take(*change).is_err() {
+            return Err(Refusal::Memory);
+        }
+    }
+    table.digest().map_err(|_| Refusal::Memory)
+}
+
+/// The service that answers the requests of one connection.
+#[derive(Drop)]
+struct Front<'f, 'a, R> {
+    agent: &'a Agent<R>,
+    alloc: Global,
+    caller: &'f mut Caller,
+    link: &'f mut NotedLink<'a, R>,
+}
+
+impl<'f, 'a, R: Host> Front<'f, 'a, R> {
+    /// Has the owner of a key answer a request, and returns the answer and the owner.
+    fn handle(&mut self, key: Text, body: Text) -> Result<Reply, Refusal> {
+        let agent = self.agent;
+        let keys = Keys::new(self.alloc, key).map_err(|_| Refusal::Memory)?;
+        let handler = NotedHandler {
+            handler: &agent.application,
+            was_asked: AtomicBool::new(false),
+        };
+        self.link.last = None;
+        let answer = self.caller.request(
+            &agent.rt,
+            self.alloc,
+            self.link,
+            &handler,
+            &agent.clock(),
+            keys,
+            body,
+        );
+        let text = answer.map_err(refusal_of)?;
+        let owner = match self.link.last {
+            Some(last) if !handler.was_asked.load(Ordering::SeqCst) => last,
+            _ => agent.own,
+        };
+        Ok(Reply::Handled { owner, text })
+    }
+
+    /// Returns the first owners of a key.
+    fn owners(&mut self, key: &Text, count: usize) -> Result<Reply, Refusal> {
+        let view = self.caller.view(&self.agent.rt).map_err(refusal_of)?;
+        let Ok(owners) = view.owners(key.as_str().as_bytes(), count) else {
+            return Err(Refusal::Memory);
+        };
+        if owners.as_slice().is_empty() {
+            return Err(Refusal::Nobody);
+        }
+        match owners_text(self.alloc, owners.as_slice()) {
+            Ok(text) => Ok(Reply::Json(text)),
+            Err(_) => Err(Refusal::Memory),
+        }
+    }
+
+    /// Returns the members, with their digest.
+    fn members(&mut self) -> Result<Reply, Refusal> {
+        let members = self.caller.members(&self.agent.rt).map_err(refusal_of)?;
+        let digest = digest_of(self.alloc, members.as_slice())?;
+        let text = members_text(
+            self.alloc,
+            self.agent.own,
+            &digest,
+            self.agent.replicas,
+            members.as_slice(),
+        );
+        match text {
+            Ok(text) => Ok(Reply::Json(text)),
+            Err(_) => Err(Refusal::Memory),
+        }
+    }
+
+    /// Returns the counts, with the members by status.
+    fn metrics(&mut self) -> Result<Reply, Refusal> {
+        let members = self.caller.members(&self.agent.rt).map_err(refusal_of)?;
+        let counts = self
+            .agent
+            .counters
+            .counts(self.agent.application.handled.get());
+        match metrics_text(self.alloc, &counts, members.as_slice()) {
+            Ok(text) => Ok(Reply::Text(text)),
+            Err(_) => Err(Refusal::Memory),
+        }
+    }
+
+    /// Returns the digest of the members.
+    fn digest(&mut self) -> Result<Reply, Refusal> {
+        let digest = self.caller.digest(&self.agent.rt).map_err(refusal_of)?;
+        match digest_line(self.alloc, &digest) {
+            Ok(text) => Ok(Reply::Text(text)),
+            Err(_) => Err(Refusal::Memory),
+        }
+    }
+
+    /// Has the node leave.
+    fn leave(&mut self) -> Result<Reply, Refusal> {
+        self.caller.leave(&self.agent.rt).map_err(refusal_of)?;
+        self.agent.has_left.set(true);
+        Ok(Reply::Line("left\n"))
+    }
+
+    /// Has the node leave, unless it has left already, and the agent end.
+    fn stop(&mut self) -> Result<Reply, Refusal> {
+        match self.leave() {
+            Ok(_) | Err(Refusal::AlreadyLeft) => {
+                self.agent.is_stopping.set(true);
+                Ok(Reply::Line("stopping\n"))
+            }
+            Err(refusal) => Err(refusal),
+        }
+    }
+
+    /// Has the node come back, unless the agent is to end.
+    fn rejoin(&mut self) -> Result<Reply, Refusal> {
+        if self.agent.is_stopping.get() {
+            return Err(Refusal::HasLeft);
+        }
+        self.caller.rejoin(&self.agent.rt).map_err(refusal_of)?;
+        self.agent.has_left.set(false);
+        Ok(Reply::Line("back\n"))
+    }
+
+    /// Returns `ok` if the agent handles requests, and else why it does not.
+    fn health(&self) -> Result<Reply, Refusal> {
+        match self.agent.phase() {
+            Phase::Joining => Err(Refusal::NotJoined),
+            Phase::Left => Err(Refusal::HasLeft),
+            Phase::Serving if !self.agent.application.is_up() => Err(Refusal::ApplicationDown),
+            Phase::Serving => Ok(Reply::Line("ok\n")),
+        }
+    }
+
+    /// Performs an action, and returns its reply.
+    fn act(&mut self, action: Action) -> Result<Reply, Refusal> {
+        match action {
+            Action::Handle { key, body } => self.handle(key, body),
+            Action::Owners { key, count } => self.owners(&key, count),
+            Action::Members => self.members(),
+            Action::Metrics => self.metrics(),
+            Action::Digest => self.digest(),
+            Action::Health => self.health(),
+            Action::Page => Ok(Reply::Page),
+            Action::Leave => self.leave(),
+            Action::Rejoin => self.rejoin(),
+            Action::Stop => self.stop(),
+        }
+    }
+
+    /// Returns the reply to a request.
+    fn reply(&mut self, request: &Request<Bytes>) -> Result<Reply, Refusal> {
+        let method = request.method().as_str();
+        // (so that a page of another site can't make a browser change anything here)
+        if method != "GET" && request.headers().contains_key("origin") {
+            return Err(Refusal::CrossSite);
+        }
+        let uri = request.uri();
+        let body = request.body().as_slice();
+        let action = route(self.alloc, method, uri.path(), uri.query(), body)?;
+        self.act(action)
+    }
+
+    /// Counts a request of a key by its reply and its time.
+    fn count(&self, reply: &Result<Reply, Refusal>, start: Option<Instant>) {
+        let counters = &self.agent.counters;
+        match reply {
+            Ok(_) => counters.answered.add(1),
+            Err(refusal) if refusal.status() < 500 => counters.refused.add(1),
+            Err(_) => counters.failed.add(1),
+        }
+        if let Some(start) = start {
+            if let Ok(spent) = start.elapsed(&self.agent.rt) {
+                counters.add_time(spent.as_micros().min(u64::MAX as u128) as u64);
+            }
+        }
+    }
+
+    /// Writes the reply to a request, or its refusal, and counts it.
+    fn answer(
+        &mut self,
+        request: &Request<Bytes>,
+        response: &mut Response,
+    ) -> Result<(), AllocError> {
+        let start = Instant::now(&self.agent.rt).ok();
+        let reply = self.reply(request);
+        if request.uri().path().starts_with("/keys/") {
+            self.count(&reply, start);
+        }
+        if matches!(&reply, Err(Refusal::Memory)) {
+            self.agent.counters.allocation_failures.add(1);
+        }
+        let closes = self.agent.is_stopping.get();
+        match &reply {
+            Ok(reply) => put_reply(self.alloc, response, reply, closes),
+            Err(refusal) => put_refusal(self.alloc, response, *refusal, closes),
+        }
+    }
+}
+
+impl<'f, 'a, R: Host> Service for Front<'f, 'a, R> {
+    ghost answers = { λ _ _ _ _. Unit {0} };
+
+    fn call(
+        &mut self,
+        request: &Request<Bytes>,
+        response: &mut Response,
+    ) -> Result<(), AllocError> {
+        self.agent.busy.add(1);
+        if self.answer(request, response).is_err() {
+            // (this allocates nothing)
+            response.clear();
+            response.status = StatusCode::SERVICE_UNAVAILABLE;
+        }
+        self.agent.busy.subtract(1);
+        Ok(())
+    }
+}
+
+/// Returns the deadline of a connection this many milliseconds from now.
+fn limit<R: Host>(agent: &Agent<R>, millis: u64) -> Option<Deadline<'_, R>> {
+    Deadline::after(&agent.rt, Duration::from_millis(millis)).ok()
+}
+
+/// Serves one connection, request after request, until it is done or a time limit has passed.
+fn serve_connection<R: Host>(
+    front: &mut Front<'_, '_, R>,
+    keys: RandomState,
+    stream: TcpStream,
+) -> Option<()> {
+    let agent = front.agent;
+    let _set = stream.set_nodelay(true);
+    let config = Config {
+        max_body_len: LONGEST_BODY,
+        ..Config::default()
+    };
+    let mut connection = Connection::new(front.alloc, keys, config);
+    let mut stream = Timed::new(stream, limit(agent, IDLE)?);
+    let mut writes = false;
+    for _ in agent.rt.forever() {
+        connection.advance(front);
+        if connection.is_done() {
+            return Some(());
+        }
+        let wants = connection.wants_write();
+        if wants != writes {
+            stream = stream.until(limit(agent, if wants { TAKEN } else { IDLE })?);
+            writes = wants;
+        }
+        if !wants {
+            connection.read_from(&mut stream).ok()?;
+        } else if connection.write_to(&mut stream).ok()? == 0 {
+            return None;
+        }
+    }
+    unreachable!()
+}
+
+/// Serves HTTP connections for ever, one at a time.
+pub fn serve_http<R: Host>(
+    agent: Arc<Agent<R>, Global>,
+    alloc: Global,
+    mut caller: Caller,
+    listener: Arc<TcpListener, Global>,
+    keys: RandomState,
+) {
+    let agent = &*agent;
+    let mut link = NotedLink::new(agent);
+    for _ in agent.rt.forever() {
+        let Ok((stream, _)) = listener.accept() else {
+            thread::sleep(&agent.rt, Duration::from_millis(REST));
+            continue;
+        };
+        let mut front = Front {
+            agent,
+            alloc,
+            caller: &mut caller,
+            link: &mut link,
+        };
+        let _served = serve_connection(&mut front, keys, stream);
+        agent.renew(&mut caller);
+    }
+}

@@ -1,0 +1,25 @@
+//! An agent: a node next to an application in any language. It gossips until it is stopped, answers HTTP, and has the
+//! application answer the requests of the keys that it owns.
+#![tactic(auto)]
+
+mod agents;
+mod applications;
+mod callers;
+mod changes;
+mod counters;
+mod errors;
+mod exchanges;
+mod fronts;
+mod hands;
+mod links;
+mod peers;
+mod responses;
+mod rounds;
+mod runs;
+mod settings;
+mod systems;
+
+pub use errors::AgentError;
+pub use runs::run;
+pub use settings::Settings;
+pub use systems::System;

@@ -1,0 +1,191 @@
+//! Rounds of gossip, joins, and the last rounds before the end.
+use crate::agents::Agent;
+use crate::callers::Caller;
+use crate::changes::log_changes;
+use crate::links::NotedLink;
+use crate::systems::Host;
+use change_core::{Address, Digest, Moment};
+use log::{info, warn};
+use node_core::ChangeList;
+use peer_core::{ClusterError, Healing, Round};
+use std::alloc::Global;
+use std::sync::Arc;
+use std::thread;
+use std::time::Duration;
+
+/// The number of rounds between two joins of the hosts that the node does not hold as serving.
+const BETWEEN_JOINS: u64 = 50;
+
+/// The least milliseconds between two such joins before any host has answered.
+const BETWEEN_FIRST_JOINS: u64 = 1_000;
+
+/// The number of rounds that spread that the node has left, before the agent ends.
+const LAST_ROUNDS: u64 = 10;
+
+/// The state that the thread of the rounds keeps from one round to the next.
+#[derive(Drop)]
+struct Rounds<'a, R> {
+    agent: &'a Agent<R>,
+    alloc: Global,
+    caller: Caller,
+    link: NotedLink<'a, R>,
+    hosts: &'a [Address],
+    healing: Healing<'a>,
+    /// The number of rounds before it joins the hosts again.
+    until_join: u64,
+    /// The members at the last logged change, or at first, and their digest.
+    members: Option<ChangeList>,
+    digest: Option<Digest>,
+}
+
+/// Joins by a host. Returns whether the host answered.
+fn join_one<R: Host>(
+    agent: &Agent<R>,
+    alloc: Global,
+    caller: &mut Caller,
+    link: &mut NotedLink<'_, R>,
+    host: Address,
+) -> bool {
+    let joined = caller.join(&agent.rt, alloc, link, host, agent.now());
+    agent.renew(caller);
+    if joined.is_ok() {
+        info!(agent.log(); "{host} let the node join");
+    }
+    joined.is_ok()
+}
+
+/// Returns whether the node holds a host as serving.
+fn is_held<R: Host>(agent: &Agent<R>, caller: &mut Caller, host: Address) -> bool {
+    match caller.member(&agent.rt, host) {
+        Ok(Some(entry)) => entry.status.serving(),
+        Ok(None) | Err(_) => false,
+    }
+}
+
+/// Joins by each host that the node does not hold as serving. Two parts of a cluster that hold each other as faulty no
+/// longer ping each other; these joins bring them together again.
+pub fn join_hosts<R: Host>(
+    agent: &Agent<R>,
+    alloc: Global,
+    caller: &mut Caller,
+    link: &mut NotedLink<'_, R>,
+    hosts: &[Address],
+) {
+    for host in hosts {
+        if is_held(agent, caller, *host) || join_one(agent, alloc, caller, link, *host) {
+            agent.has_joined.set(true);
+        }
+    }
+}
+
+impl<'a, R: Host> Rounds<'a, R> {
+    /// Logs how the members changed since they were last logged; `round` is the last round.
+    fn log(&mut self, round: &Result<Round, ClusterError>) {
+        let rt = &self.agent.rt;
+        let Ok(digest) = self.caller.digest(rt) else {
+            return;
+        };
+        if self.digest == Some(digest) {
+            return;
+        }
+        let Ok(members) = self.caller.members(rt) else {
+            return;
+        };
+        if let Some(before) = &self.members {
+            log_changes(
+                &self.agent.log(),
+                &self.agent.own,
+                before.as_slice(),
+                members.as_slice(),
+                round,
+            );
+        }
+        self.members = Some(members);
+        self.digest = Some(digest);
+    }
+
+    /// Makes one round of gossip, counts it, and logs its error and how the members changed.
+    fn make(&mut self) {
+        let agent = self.agent;
+        let now = agent.now();
+        let round = self
+            .caller
+            .round(&agent.rt, self.alloc, &mut self.link, now);
+        agent.counters.add_round(&round);
+        if let Err(error) = &round {
+            warn!(agent.log(); "a round failed: {error}");
+        }
+        self.log(&round);
+        agent.renew(&mut self.caller);
+        self.heal(now);
+    }
+
+    /// Heals after a round, unless the node has left: members that parted find one another again.
+    fn heal(&mut self, now: Moment) {
+        let agent = self.agent;
+        if agent.has_left.get() {
+            return;
+        }
+        let link = &mut self.link;
+        let healed = self
+            .caller
+            .heal(&agent.rt, self.alloc, link, now, &mut self.healing);
+        if let Err(error) = healed {
+            warn!(agent.log(); "healing failed: {error}");
+        }
+        agent.renew(&mut self.caller);
+    }
+
+    /// Joins the hosts if their turn has come and the node has not left.
+    fn join(&mut self, period: u64) {
+        if self.until_join > 0 {
+            self.until_join -= 1;
+            return;
+        }
+        let agent = self.agent;
+        if !agent.has_left.get() {
+            let hosts = self.hosts;
+            join_hosts(agent, self.alloc, &mut self.caller, &mut self.link, hosts);
+        }
+        self.until_join = if agent.has_joined.get() {
+            BETWEEN_JOINS
+        } else {
+            BETWEEN_FIRST_JOINS.checked_div(period).unwrap_or(0)
+        };
+    }
+}
+
+/// Makes rounds until the agent is to end, and then the last ones.
+pub fn make_rounds<R: Host>(
+    agent: Arc<Agent<R>, Global>,
+    alloc: Global,
+    caller: Caller,
+    hosts: Vec<Address>,
+    period: u64,
+) {
+    let agent = &*agent;
+    let mut rounds = Rounds {
+        agent,
+        alloc,
+        caller,
+        link: NotedLink::new(agent),
+        hosts: hosts.as_slice(),
+        healing: Healing::new(agent.own, hosts.as_slice()),
+        until_join: BETWEEN_FIRST_JOINS.checked_div(period).unwrap_or(0),
+        members: None,
+        digest: None,
+    };
+    let mut last: u64 = 0;
+    for _ in agent.rt.forever() {
+        rounds.join(period);
+        rounds.make();
+        if agent.is_stopping.get() {
+            last = last.saturating_add(1);
+            if last >= LAST_ROUNDS {
+                agent.bell.unpark();
+                return;
+            }
+        }
+        thread::sleep(&agent.rt, Duration::from_millis(period));
+    }
+}

@@ -1,0 +1,335 @@
+//! The run of an agent, from its settings to its end.
+ghost use Rattle.std.specs.Prelude.{◌++◌, ◌∷◌, [], IfOk, OnOk};
+ghost use Rattle.std.specs.Io.KnownBytes.{Appends};
+ghost use Rattle.agent.specs.Texts.{agent_text, serving_line};
+ghost use Rattle.wire_json.specs.Input.{AppendsFront};
+
+use crate::agents::{Agent, Flag};
+use crate::applications::Application;
+use crate::callers::{Caller, Passes};
+use crate::counters::{Count, Counters};
+use crate::errors::AgentError;
+use crate::fronts::serve_http;
+use crate::hands::serve_requests;
+use crate::links::NotedLink;
+use crate::peers::{Job, serve_peers};
+use crate::rounds::{join_hosts, make_rounds};
+use crate::settings::Settings;
+use crate::systems::System;
+use change_core::{Address, Incarnation, MAX_NUMBER, Moment};
+use cluster_core::{share, socket_address};
+use crossbeam_channel::{Receiver, Sender, bounded};
+use hash_ring::Sha256Hash;
+use log::warn;
+use node_core::{Config, NodeError, NodeState};
+use server::{Stopwatch, Timeouts};
+use std::alloc::Global;
+use std::hash::RandomState;
+use std::io::Write;
+use std::net::TcpListener;
+use std::sync::{Arc, Mutex};
+use std::thread;
+use std::thread::Parker;
+use std::time::Duration;
+use wire_json::write_line;
+
+/// The number of threads that read the lines of other nodes.
+const PEERS: u32 = 4;
+
+/// The most HTTP connections that are served at a time.
+const FRONTS: u32 = 64;
+
+/// The number of passes for threads, each for 4,294,967,295 calls.
+const PASSES: u32 = 1_023;
+
+/// The most requests of other nodes that wait for the application.
+const MOST_WAITING: usize = 256;
+
+/// The most milliseconds that the end waits for requests that are being answered.
+const LAST_WAIT: u64 = 10_000;
+
+/// The milliseconds between two tests whether requests are being answered.
+const REST: u64 = 20;
+
+/// Returns the incarnation at which the node starts. If none is given, it is the milliseconds since 1970, so that each
+/// start has a greater one.
+fn incarnation_of<R: System>(rt: &R, settings: &Settings) -> Result<Incarnation, AgentError> {
+    if let Some(incarnation) = settings.incarnation {
+        return Ok(incarnation);
+    }
+    let time = rt.since_1970().map_err(|_| AgentError::NoClock)?;
+    let millis = time.as_millis().min(MAX_NUMBER as u128) as u64;
+    Incarnation::new(millis).ok_or(AgentError::NoClock)
+}
+
+/// Returns the seed of the node's random choices. Nodes of different addresses that start at the same incarnation have
+/// different seeds.
+fn seed_of(address: Address, incarnation: Incarnation) -> u64 {
+    address
+        .number()
+        .wrapping_mul(32_768)
+        .wrapping_add(incarnation.number())
+}
+
+/// Makes the node of the settings.
+fn node_of<R: System>(
+    rt: &R,
+    alloc: Global,
+    settings: &Settings,
+) -> Result<NodeState<Sha256Hash>, AgentError> {
+    let incarnation = incarnation_of(rt, settings)?;
+    let config = Config {
+        per_message: settings.per_message,
+        replicas: settings.replicas,
+        weight: settings.weight,
+        ..Config::standard()
+    };
+    let made = NodeState::new(
+        alloc,
+        config,
+        Sha256Hash,
+        settings.address,
+        incarnation,
+        seed_of(settings.address, incarnation),
+        Moment::beginning(),
+    );
+    match made {
+        Ok(node) => Ok(node),
+        Err(NodeError::BadConfig(field)) => Err(AgentError::BadConfig(field)),
+        Err(_) => Err(AgentError::Memory),
+    }
+}
+
+/// Makes the node of the settings and its passes.
+fn passes_of<R: System>(rt: &R, alloc: Global, settings: &Settings) -> Result<Passes, AgentError> {
+    let node = node_of(rt, alloc, settings)?;
+    let (node, _pass, passes) = share(alloc, node, PASSES)?;
+    Ok(Passes::new(Arc::new(alloc, node)?, passes))
+}
+
+/// Makes the state that the threads of an agent share.
+fn agent_of<R: System>(
+    rt: &R,
+    alloc: Global,
+    settings: &Settings,
+) -> Result<Arc<Agent<R>, Global>, AgentError> {
+    let passes = passes_of(rt, alloc, settings)?;
+    let agent = Agent {
+        rt: *rt,
+        level: settings.level,
+        own: settings.address,
+        replicas: settings.replicas,
+        stopwatch: Stopwatch::start(rt),
+        timeouts: Timeouts::standard(),
+        application: Application::new(*rt, alloc, settings.address, settings.app),
+        passes: Mutex::new(passes),
+        counters: Counters::new(),
+        busy: Count::new(),
+        has_joined: Flag::new(settings.hosts.is_empty()),
+        has_left: Flag::new(false),
+        is_stopping: Flag::new(false),
+        is_spent: Flag::new(false),
+        bell: Parker::new(),
+    };
+    Ok(Arc::new(alloc, agent)?)
+}
+
+/// Listens at an address.
+fn listen<R: System>(
+    rt: &R,
+    alloc: Global,
+    address: Address,
+) -> Result<Arc<TcpListener, Global>, AgentError> {
+    let listener = TcpListener::bind(rt, socket_address(address)).map_err(
+        |_| AgentError::CannotListen,
+    )?;
+    Ok(Arc::new(alloc, listener)?)
+}
+
+/// Returns the node with a pass for another thread.
+fn caller_of<R: System>(agent: &Agent<R>) -> Result<Caller, AgentError> {
+    agent.next_caller().ok_or(AgentError::Spent)
+}
+
+/// Starts the threads that serve other nodes.
+fn start_peers<R: System>(
+    rt: &R,
+    alloc: Global,
+    agent: &Arc<Agent<R>, Global>,
+    listener: &Arc<TcpListener, Global>,
+    hands: &Sender<Job>,
+) -> Result<(), AgentError> {
+    for _ in 0..PEERS {
+        let caller = caller_of(agent)?;
+        let agent = Arc::try_clone(agent)?;
+        let listener = Arc::try_clone(listener)?;
+        let hands = hands.clone()?;
+        let started = thread::spawn(
+            rt,
+            move || serve_peers(agent, alloc, caller, listener, hands),
+        );
+        let _thread = started.map_err(|_| AgentError::NoThread)?;
+    }
+    Ok(())
+}
+
+/// Starts the threads that have the application answer other nodes.
+fn start_hands<R: System>(
+    rt: &R,
+    alloc: Global,
+    agent: &Arc<Agent<R>, Global>,
+    jobs: &Receiver<Job>,
+    count: u32,
+) -> Result<(), AgentError> {
+    for _ in 0..count {
+        let caller = caller_of(agent)?;
+        let agent = Arc::try_clone(agent)?;
+        let jobs = jobs.clone()?;
+        let started = thread::spawn(rt, move || serve_requests(agent, alloc, caller, jobs));
+        let _thread = started.map_err(|_| AgentError::NoThread)?;
+    }
+    Ok(())
+}
+
+/// Starts the threads that answer HTTP.
+fn start_fronts<R: System>(
+    rt: &R,
+    alloc: Global,
+    agent: &Arc<Agent<R>, Global>,
+    listener: &Arc<TcpListener, Global>,
+) -> Result<(), AgentError> {
+    let keys = RandomState::new(rt).map_err(|_| AgentError::NoRandom)?;
+    for _ in 0..FRONTS {
+        let caller = caller_of(agent)?;
+        let agent = Arc::try_clone(agent)?;
+        let listener = Arc::try_clone(listener)?;
+        let started = thread::spawn(rt, move || serve_http(agent, alloc, caller, listener, keys));
+        let _thread = started.map_err(|_| AgentError::NoThread)?;
+    }
+    Ok(())
+}
+
+/// Starts the thread that makes the rounds.
+fn start_rounds<R: System>(
+    rt: &R,
+    alloc: Global,
+    agent: &Arc<Agent<R>, Global>,
+    hosts: Vec<Address>,
+    period: u64,
+) -> Result<(), AgentError> {
+    let caller = caller_of(agent)?;
+    let agent = Arc::try_clone(agent)?;
+    let started = thread::spawn(rt, move || make_rounds(agent, alloc, caller, hosts, period));
+    let _thread = started.map_err(|_| AgentError::NoThread)?;
+    Ok(())
+}
+
+/// Writes a line and flushes.
+fn say<W: Write>(writer: &mut W, text: &str) -> Result<(), AgentError>
+    ensures said { OnOk result (Appends (W.contents writer.old) (W.contents writer.new) (text.now ++ 10 ∷ [])) }
+    ensures front { AppendsFront (W.contents writer.old) (W.contents writer.new) (text.now ++ 10 ∷ []) }
+{
+    write_line(writer, text.as_bytes()).map_err(|_| AgentError::CannotWrite)
+}
+
+/// Writes the line that the node at an address serves, and flushes.
+fn say_serving<W: Write>(alloc: Global, address: Address, writer: &mut W) -> Result<(), AgentError>
+    ensures said { OnOk result (Appends (W.contents writer.old) (W.contents writer.new) (serving_line address)) }
+    ensures front { AppendsFront (W.contents writer.old) (W.contents writer.new) (serving_line address) }
+{
+    let text = format!(in alloc; "serving {address}")?;
+    say(writer, text.as_str())
+}
+
+/// Waits until the agent is to end, and then until no request is being answered, ten seconds at most.
+fn wait_for_end<R: System>(rt: &R, agent: &Agent<R>) -> Result<(), AgentError> {
+    agent.bell.park(rt);
+    if agent.is_spent.get() {
+        return Err(AgentError::Spent);
+    }
+    for _ in 0..LAST_WAIT / REST {
+        if agent.busy.get() == 0 {
+            break;
+        }
+        thread::sleep(rt, Duration::from_millis(REST));
+    }
+    Ok(())
+}
+
+/// Starts the threads of an agent: those for other nodes, then those for HTTP, and last the one that makes rounds. The
+/// hosts are joined before HTTP is answered.
+fn start<R: System>(
+    rt: &R,
+    alloc: Global,
+    agent: &Arc<Agent<R>, Global>,
+    settings: Settings,
+) -> Result<(), AgentError> {
+    let listener = listen(rt, alloc, settings.bind)?;
+    let front = match settings.http {
+        Some(address) => Some(listen(rt, alloc, address)?),
+        None => None,
+    };
+    let (hands, jobs) = bounded(alloc, MOST_WAITING)?;
+    start_peers(rt, alloc, agent, &listener, &hands)?;
+    start_hands(rt, alloc, agent, &jobs, settings.hands)?;
+    let mut caller = caller_of(agent)?;
+    let mut link = NotedLink::new(agent);
+    let hosts = settings.hosts.as_slice();
+    join_hosts(agent, alloc, &mut caller, &mut link, hosts);
+    if let Some(front) = &front {
+        start_fronts(rt, alloc, agent, front)?;
+    }
+    let Settings { hosts, period, .. } = settings;
+    start_rounds(rt, alloc, agent, hosts, period)
+}
+
+/// Makes an agent and starts its threads.
+fn set_up<R: System>(
+    rt: &R,
+    alloc: Global,
+    settings: Settings,
+) -> Result<Arc<Agent<R>, Global>, AgentError> {
+    if !settings.is_http_local() && !settings.http_any {
+        return Err(AgentError::NotLocal);
+    }
+    let agent = agent_of(rt, alloc, &settings)?;
+    if !settings.is_http_local() {
+        warn!(agent.log(); "HTTP is answered beyond this machine, and nobody is asked who they are");
+    }
+    start(rt, alloc, &agent, settings)?;
+    Ok(agent)
+}
+
+/// Runs an agent until it is told to stop. It listens to other nodes, joins the hosts, answers HTTP, starts the rounds of
+/// gossip, and writes `serving` and the node's address. When `POST /stop` comes, it leaves, makes ten rounds that spread
+/// this, waits for the requests that are being answered, ten seconds at most, and writes `done`.
+///
+/// # Errors
+///
+/// Threads that were started before the error keep running until the program ends. A prefix of the two lines is written.
+///
+/// - `NotLocal`: the address for HTTP is not in 127.0.0.0/8, and `http_any` is not set. This is checked first.
+/// - `NoClock`: no incarnation is given, and the system has no clock, or its clock gives no time since 1970.
+/// - `BadConfig`: a field of the node's configuration is out of its range.
+/// - `CannotListen`: an address can't be listened at, that for other nodes or that for HTTP.
+/// - `NoRandom`: the system gave no random numbers for the threads that answer HTTP.
+/// - `NoThread`: the system gave no thread.
+/// - `CannotWrite`: the writer failed.
+/// - `Spent`: a thread needs a pass of the node, and none is left. There are 1,023, each for 4,294,967,295 calls.
+/// - `Memory`: out of memory before `serving` was written. Later only the request or the round that runs out of memory
+///   fails.
+pub fn run<R: System, W: Write>(
+    rt: &R,
+    alloc: Global,
+    settings: Settings,
+    writer: &mut W,
+) -> Result<(), AgentError>
+    ensures served { OnOk result (Appends (W.contents writer.old) (W.contents writer.new) (agent_text settings.address)) }
+    ensures front { AppendsFront (W.contents writer.old) (W.contents writer.new) (agent_text settings.address) }
+{
+    let own = settings.address;
+    let agent = set_up(rt, alloc, settings)?;
+    say_serving(alloc, own, writer)?;
+    wait_for_end(rt, &agent)?;
+    say(writer, "done")
+}

@@ -1,0 +1,44 @@
+//! The settings of an agent.
+use change_core::{Address, Incarnation, Weight};
+use log::LevelFilter;
+
+/// The settings with which an agent starts.
+#[derive(Debug, Drop)]
+pub struct Settings {
+    /// The address by which other nodes name the node.
+    pub address: Address,
+    /// The address at which it listens to other nodes.
+    pub bind: Address,
+    /// The address at which it answers HTTP, if it does.
+    pub http: Option<Address>,
+    /// Whether `http` may be an address other than those of the machine itself, 127.0.0.0/8.
+    pub http_any: bool,
+    /// The address of the application; without one the agent answers requests by an echo.
+    pub app: Option<Address>,
+    /// The most requests of other nodes that the application is given at a time.
+    pub hands: u32,
+    /// The milliseconds between two rounds.
+    pub period: u64,
+    /// The most changes that a message carries.
+    pub per_message: usize,
+    /// The number of points that a server has for each unit of its weight.
+    pub replicas: u32,
+    /// The node's weight.
+    pub weight: Weight,
+    /// The node's first incarnation; without one it is the milliseconds since 1970.
+    pub incarnation: Option<Incarnation>,
+    /// The greatest level that the log prints.
+    pub level: LevelFilter,
+    /// The nodes that it asks to admit it.
+    pub hosts: Vec<Address>,
+}
+
+impl Settings {
+    /// Returns whether the address for HTTP, if there is one, is in 127.0.0.0/8.
+    pub fn is_http_local(&self) -> bool {
+        match self.http {
+            Some(address) => address.ip() >> 24 == 127,
+            None => true,
+        }
+    }
+}

@@ -1,0 +1,6 @@
+-- A text that grows piece by piece.
+use Rattle.std.proofs.Common.{◌≡◌, ℕ, List, ◌++◌, ◌∙◌, ap, append_assoc}
+
+-- another piece is appended
+pub grown : (text all piece now next : List ℕ) → now ≡ text ++ all → next ≡ now ++ piece → next ≡ text ++ (all ++ piece)
+grown text all piece now next was is = is ∙ ap (λ z. z ++ piece) was ∙ append_assoc text all piece

@@ -1,0 +1,4 @@
+pub mod Requesting
+pub mod Packing
+pub mod Joining
+pub mod Growing

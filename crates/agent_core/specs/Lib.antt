@@ -1,0 +1,5 @@
+pub mod Requests
+pub mod Refusals
+pub mod Packs
+pub mod Texts
+pub mod Metrics

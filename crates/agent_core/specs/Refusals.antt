@@ -1,0 +1,61 @@
+-- The status and the line of text of each refusal, and the content types.
+use Rattle.std.specs.Prelude.{ℕ, List, [], ◌∷◌, ◌++◌, codes}
+use Rattle.agent_core.specs.declared.verbs.Verb.TheVariants.{Get, Post}
+use Rattle.agent_core.specs.declared.refusals.Part.TheVariants.{Key, Count, Body}
+use Rattle.agent_core.specs.declared.refusals.Refusal.{Refusal}
+use Rattle.agent_core.specs.declared.refusals.Refusal.TheVariants as refusal
+use Rattle.agent_core.specs.declared.answers.Kind.{Kind}
+use Rattle.agent_core.specs.declared.answers.Kind.TheVariants.{Text, Json, Html}
+
+-- the status code of HTTP (RFC 9110, section 15)
+abbrev pub status_of : Refusal → ℕ
+status_of (refusal.Malformed part) = 400
+status_of refusal.CrossSite = 403
+status_of refusal.NotFound = 404
+status_of (refusal.BadMethod verb) = 405
+status_of refusal.AlreadyLeft = 409
+status_of refusal.NotLeft = 409
+status_of refusal.Exhausted = 409
+status_of refusal.LongBody = 413
+status_of refusal.ApplicationFailed = 502
+status_of refusal.ApplicationDown = 503
+status_of refusal.NotJoined = 503
+status_of refusal.HasLeft = 503
+status_of refusal.Nobody = 503
+status_of refusal.Busy = 503
+status_of refusal.Spent = 503
+status_of refusal.Memory = 503
+status_of refusal.OwnerSilent = 504
+
+-- the text of a refusal
+abbrev pub text_of : Refusal → List ℕ
+text_of (refusal.Malformed Key) = codes "bad key: not 1 to 1024 bytes of UTF-8"
+text_of (refusal.Malformed Count) = codes "bad count: not n=1 to n=4096"
+text_of (refusal.Malformed Body) = codes "bad body: not UTF-8"
+text_of refusal.CrossSite = codes "refused: asked by a page of another site"
+text_of refusal.NotFound = codes "nothing at this path"
+text_of (refusal.BadMethod Get) = codes "bad method: this path takes GET"
+text_of (refusal.BadMethod Post) = codes "bad method: this path takes POST"
+text_of refusal.AlreadyLeft = codes "the node has left already"
+text_of refusal.NotLeft = codes "the node has not left"
+text_of refusal.Exhausted = codes "no incarnation is left"
+text_of refusal.LongBody = codes "bad body: more than 131072 bytes"
+text_of refusal.ApplicationFailed = codes "the application failed"
+text_of refusal.ApplicationDown = codes "the application does not answer"
+text_of refusal.NotJoined = codes "no host has answered"
+text_of refusal.HasLeft = codes "the node has left"
+text_of refusal.Nobody = codes "nobody serves"
+text_of refusal.Busy = codes "too many requests wait"
+text_of refusal.Spent = codes "the node takes no more calls"
+text_of refusal.Memory = codes "out of memory"
+text_of refusal.OwnerSilent = codes "the owner does not answer"
+
+-- that text as a line
+abbrev pub line_of : Refusal → List ℕ
+line_of refused = text_of refused ++ 10 ∷ []
+
+-- the content type (RFC 9110, section 8.3)
+abbrev pub kind_name : Kind → List ℕ
+kind_name Text = codes "text/plain; charset=utf-8"
+kind_name Json = codes "application/json"
+kind_name Html = codes "text/html; charset=utf-8"

@@ -1,0 +1,27 @@
+//! The actions that requests ask for.
+use message_core::Text;
+
+/// An action that a request asks for.
+#[derive(Debug, Drop)]
+pub enum Action {
+    /// The key's owner handles the request.
+    Handle { key: Text, body: Text },
+    /// The answer has the first `count` owners of a key, 1 to 4,096, or all serving members if there are fewer.
+    Owners { key: Text, count: usize },
+    /// The answer has the members and their digest.
+    Members,
+    /// The answer has the digest of the members.
+    Digest,
+    /// The answer says whether the node handles requests.
+    Health,
+    /// The answer has the counts.
+    Metrics,
+    /// The answer is the page that shows the ring.
+    Page,
+    /// The node leaves the ring. It still sends requests to their owners.
+    Leave,
+    /// The node comes back to the ring after it left.
+    Rejoin,
+    /// The node leaves the ring, other nodes learn of it, and the program ends.
+    Stop,
+}

@@ -1,0 +1,25 @@
+//! The core of an agent, a program that joins a cluster for an application in any language and serves HTTP: the action of
+//! a request, the application's answer as one text and back, and the texts of members, owners, counts and refusals. It
+//! performs no action itself.
+#![tactic(auto)]
+
+mod actions;
+mod answers;
+pub mod laws;
+mod metrics;
+mod packs;
+mod pages;
+mod refusals;
+mod routes;
+mod texts;
+mod verbs;
+
+pub use actions::Action;
+pub use answers::{Answer, Kind};
+pub use metrics::{BUCKETS, Counts, bucket_of, metrics_text};
+pub use packs::{GREATEST_STATUS, LEAST_STATUS, LONGEST_BODY, Packed, pack, unpack};
+pub use pages::PAGE;
+pub use refusals::{Part, Refusal};
+pub use routes::{LONGEST_KEY, MOST_OWNERS, route};
+pub use texts::{digest_line, members_text, owners_text};
+pub use verbs::Verb;

@@ -1,0 +1,272 @@
+//! The counts of an agent, in the text format of Prometheus (version 0.0.4).
+ghost use Rattle.std.specs.Prelude.{◌≡◌, ◌<◌, ◌++◌, IfOk, OnOk, count_by, length, string_bytes};
+ghost use Rattle.change_core.specs.Status.{rank};
+ghost use Rattle.agent_core.specs.Metrics.{address_samples, bucket_of, bucket_sample, bucket_samples, holds, metrics_text, other_samples, request_samples, round_samples, sample, status_sample, status_samples, time_samples, within};
+
+use change_core::{Change, MAX_MEMBERS, Status};
+use std::alloc::{AllocError, Global};
+use std::fmt::Write;
+
+/// The number of buckets in which the times of requests are counted. A time is in the first bucket whose bound is not
+/// below it. The bounds are 1, 5, 10, 50, 100 and 500 milliseconds, and 1, 5 and 10 seconds; the last bucket has none.
+pub const BUCKETS: usize = 10;
+
+/// The counts of an agent since it started.
+#[derive(Clone, Copy, Debug, PartialEq, Eq)]
+pub struct Counts {
+    /// Requests of keys that the owner answered, with any status.
+    pub answered: u64,
+    /// Requests of keys that were refused with a status from 400 to 499.
+    pub refused: u64,
+    /// Requests of keys that were refused with a status from 500 to 599.
+    pub failed: u64,
+    /// The sum of the times of requests of keys, in microseconds.
+    pub micros: u64,
+    /// The number of requests of keys whose time is in each bucket.
+    pub buckets: [u64; BUCKETS],
+    /// Requests of keys that this node's application or echo was to handle, those of other nodes among them.
+    pub handled: u64,
+    /// Sends of a request of a key to another node, repeated ones among them.
+    pub forwards: u64,
+    /// Rounds of gossip in which no member could be probed.
+    pub idle: u64,
+    /// Rounds whose target answered its ping, or was reached by a helper.
+    pub reached: u64,
+    /// Rounds whose target was not reached, by this node or by a helper.
+    pub suspected: u64,
+    /// Rounds whose target did not answer, and whose helpers all failed.
+    pub inconclusive: u64,
+    /// Rounds that ended with an error other than out of memory.
+    pub broken: u64,
+    /// Acks that carried all members.
+    pub full_syncs: u64,
+    /// Sends to another node that failed.
+    pub link_failures: u64,
+    /// Allocations that failed.
+    pub allocation_failures: u64,
+}
+
+/// Returns the bucket of a time in microseconds, from 0 to 9.
+pub fn bucket_of(micros: u64) -> usize
+    ensures bucket { result ≡ bucket_of micros }
+    ensures range { result < BUCKETS }
+{
+    match micros {
+        ..=1_000 => 0,
+        ..=5_000 => 1,
+        ..=10_000 => 2,
+        ..=50_000 => 3,
+        ..=100_000 => 4,
+        ..=500_000 => 5,
+        ..=1_000_000 => 6,
+        ..=5_000_000 => 7,
+        ..=10_000_000 => 8,
+        _ => 9,
+    }
+}
+
+/// Returns the number of members with the status.
+fn count_of(members: &[Change], status: Status) -> usize
+    ensures { result ≡ count_by (holds status) members.now }
+{
+    members
+        .iter()
+        .filter(|member| member.status.rank() == status.rank())
+        .count()
+}
+
+/// Returns the number of requests that took no longer than the bucket's bound, or 2^64 - 1 if there are more.
+fn within(buckets: &[u64; BUCKETS], bucket: usize) -> u64
+    requires { bucket < BUCKETS }
+    ensures { result ≡ within buckets.now bucket }
+{
+    let mut sum: u64 = 0;
+    for count in &buckets[..bucket + 1] {
+        sum = sum.saturating_add(*count);
+    }
+    sum
+}
+
+/// Appends a sample: its name, a space, the number and a newline.
+fn push_sample(text: &mut String, name: &str, number: u64) -> Result<(), AllocError>
+    ensures { OnOk result (string_bytes text.new ≡ string_bytes text.old ++ sample name.now number) }
+{
+    write!(text, "{name} {number}\n")?;
+    Ok(())
+}
+
+/// Appends the number of members with the status.
+fn push_status(text: &mut String, members: &[Change], status: Status) -> Result<(), AllocError>
+    ensures { OnOk result (string_bytes text.new ≡ string_bytes text.old ++ status_sample members.now status) }
+{
+    let count = count_of(members, status);
+    write!(text, "ringpop_members{{status=\"{status}\"}} {count}\n")?;
+    Ok(())
+}
+
+/// Appends the number of members with each status.
+fn push_statuses(text: &mut String, members: &[Change]) -> Result<(), AllocError>
+    ensures { OnOk result (string_bytes text.new ≡ string_bytes text.old ++ status_samples members.now) }
+{
+    text.push_str("# TYPE ringpop_members gauge\n")?;
+    push_status(text, members, Status::Alive)?;
+    push_status(text, members, Status::Suspect)?;
+    push_status(text, members, Status::Faulty)?;
+    push_status(text, members, Status::Leave)?;
+    push_status(text, members, Status::Tombstone)?;
+    Ok(())
+}
+
+/// Appends the number of addresses used, and the most that there can be.
+fn push_addresses(text: &mut String, addresses: usize) -> Result<(), AllocError>
+    ensures { OnOk result (string_bytes text.new ≡ string_bytes text.old ++ address_samples addresses) }
+{
+    text.push_str("# TYPE ringpop_addresses gauge\n")?;
+    push_sample(text, "ringpop_addresses", addresses as u64)?;
+    text.push_str("# TYPE ringpop_addresses_limit gauge\n")?;
+    push_sample(text, "ringpop_addresses_limit", MAX_MEMBERS as u64)?;
+    Ok(())
+}
+
+/// Appends the numbers of requests: by outcome, handled here, and sent to another node.
+fn push_requests(text: &mut String, counts: &Counts) -> Result<(), AllocError>
+    ensures { OnOk result (string_bytes text.new ≡ string_bytes text.old ++ request_samples counts.now) }
+{
+    text.push_str("# TYPE ringpop_requests_total counter\n")?;
+    push_sample(
+        text,
+        "ringpop_requests_total{outcome=\"answered\"}",
+        counts.answered,
+    )?;
+    push_sample(
+        text,
+        "ringpop_requests_total{outcome=\"refused\"}",
+        counts.refused,
+    )?;
+    push_sample(
+        text,
+        "ringpop_requests_total{outcome=\"failed\"}",
+        counts.failed,
+    )?;
+    text.push_str("# TYPE ringpop_handled_total counter\n")?;
+    push_sample(text, "ringpop_handled_total", counts.handled)?;
+    text.push_str("# TYPE ringpop_forwards_total counter\n")?;
+    push_sample(text, "ringpop_forwards_total", counts.forwards)?;
+    Ok(())
+}
+
+/// Appends the number of requests that took no longer than the bucket's bound, with that bound in seconds.
+fn push_bucket(
+    text: &mut String,
+    buckets: &[u64; BUCKETS],
+    bucket: usize,
+    bound: &str,
+) -> Result<(), AllocError>
+    requires { bucket < BUCKETS }
+    ensures { OnOk result (string_bytes text.new ≡ string_bytes text.old ++ bucket_sample buckets.now bucket bound.now) }
+{
+    let count = within(buckets, bucket);
+    write!(
+        text,
+        "ringpop_request_seconds_bucket{{le=\"{bound}\"}} {count}\n"
+    )?;
+    Ok(())
+}
+
+/// Appends the histogram's buckets.
+fn push_buckets(text: &mut String, buckets: &[u64; BUCKETS]) -> Result<(), AllocError>
+    ensures { OnOk result (string_bytes text.new ≡ string_bytes text.old ++ bucket_samples buckets.now) }
+{
+    push_bucket(text, buckets, 0, "0.001")?;
+    push_bucket(text, buckets, 1, "0.005")?;
+    push_bucket(text, buckets, 2, "0.01")?;
+    push_bucket(text, buckets, 3, "0.05")?;
+    push_bucket(text, buckets, 4, "0.1")?;
+    push_bucket(text, buckets, 5, "0.5")?;
+    push_bucket(text, buckets, 6, "1")?;
+    push_bucket(text, buckets, 7, "5")?;
+    push_bucket(text, buckets, 8, "10")?;
+    push_bucket(text, buckets, 9, "+Inf")?;
+    Ok(())
+}
+
+/// Appends the histogram of the times of requests, their sum and their number.
+fn push_times(text: &mut String, counts: &Counts) -> Result<(), AllocError>
+    ensures { OnOk result (string_bytes text.new ≡ string_bytes text.old ++ time_samples counts.now) }
+{
+    let micros = counts.micros;
+    let requests = within(&counts.buckets, BUCKETS - 1);
+    text.push_str("# TYPE ringpop_request_seconds histogram\n")?;
+    push_buckets(text, &counts.buckets)?;
+    write!(text, "ringpop_request_seconds_sum {micros}e-6\n")?;
+    push_sample(text, "ringpop_request_seconds_count", requests)?;
+    Ok(())
+}
+
+/// Appends the number of rounds by outcome.
+fn push_rounds(text: &mut String, counts: &Counts) -> Result<(), AllocError>
+    ensures { OnOk result (string_bytes text.new ≡ string_bytes text.old ++ round_samples counts.now) }
+{
+    text.push_str("# TYPE ringpop_rounds_total counter\n")?;
+    push_sample(text, "ringpop_rounds_total{outcome=\"idle\"}", counts.idle)?;
+    push_sample(
+        text,
+        "ringpop_rounds_total{outcome=\"reached\"}",
+        counts.reached,
+    )?;
+    push_sample(
+        text,
+        "ringpop_rounds_total{outcome=\"suspected\"}",
+        counts.suspected,
+    )?;
+    push_sample(
+        text,
+        "ringpop_rounds_total{outcome=\"inconclusive\"}",
+        counts.inconclusive,
+    )?;
+    push_sample(
+        text,
+        "ringpop_rounds_total{outcome=\"error\"}",
+        counts.broken,
+    )?;
+    Ok(())
+}
+
+/// Appends the number of full synchronizations and of failures.
+fn push_others(text: &mut String, counts: &Counts) -> Result<(), AllocError>
+    ensures { OnOk result (string_bytes text.new ≡ string_bytes text.old ++ other_samples counts.now) }
+{
+    text.push_str("# TYPE ringpop_full_syncs_total counter\n")?;
+    push_sample(text, "ringpop_full_syncs_total", counts.full_syncs)?;
+    text.push_str("# TYPE ringpop_link_failures_total counter\n")?;
+    push_sample(text, "ringpop_link_failures_total", counts.link_failures)?;
+    text.push_str("# TYPE ringpop_allocation_failures_total counter\n")?;
+    push_sample(
+        text,
+        "ringpop_allocation_failures_total",
+        counts.allocation_failures,
+    )?;
+    Ok(())
+}
+
+/// Returns the counts, and the number of members with each status, in the text format of Prometheus.
+///
+/// # Errors
+///
+/// - `AllocError`: out of memory.
+pub fn metrics_text(
+    alloc: Global,
+    counts: &Counts,
+    members: &[Change],
+) -> Result<String, AllocError>
+    ensures { IfOk result (λ text. string_bytes text ≡ metrics_text counts.now members.now) }
+{
+    let mut text = String::new(alloc);
+    push_statuses(&mut text, members)?;
+    push_addresses(&mut text, members.len())?;
+    push_requests(&mut text, counts)?;
+    push_times(&mut text, counts)?;
+    push_rounds(&mut text, counts)?;
+    push_others(&mut text, counts)?;
+    Ok(text)
+}

@@ -1,0 +1,146 @@
+//! The page that shows the ring. It requests `/members` each second, and draws the servers' points at their places on
+//! the ring: each point owns the keys between the point before it and itself.
+
+/// The page that shows the ring, as HTML. It loads nothing from another site.
+pub const PAGE: &str = r#"<!doctype html>
+<html lang="en"><head><meta charset="utf-8"><meta name="viewport" content="width=device-width">
+<title>ringpop</title><link rel="icon" href="data:,">
+<style>
+:root{color-scheme:light dark;--page:white;--text:rgb(30 30 35);--faint:rgb(105 105 115);--line:rgb(220 220 226);--warn:rgb(160 95 0);--bad:rgb(180 25 25)}
+@media(prefers-color-scheme:dark){:root{--page:rgb(22 22 26);--text:rgb(232 232 236);--faint:rgb(155 155 165);--line:rgb(58 58 66);--warn:rgb(240 175 70);--bad:rgb(255 120 110)}}
+body{font:15px/1.5 system-ui,sans-serif;margin:2rem auto;max-width:66rem;padding:0 1rem;background:var(--page);color:var(--text)}
+h1{font-size:1.4rem;margin:0}
+p{margin:.3rem 0 1rem;color:var(--faint)}
+main{display:flex;flex-wrap:wrap;gap:2rem;align-items:flex-start}
+svg.ring{width:320px;max-width:100%;height:auto;flex:none}
+svg text{fill:var(--text);font-size:15px;text-anchor:middle}
+svg text.small{fill:var(--faint);font-size:12px}
+.list{overflow-x:auto}
+table{border-collapse:collapse}
+th,td{text-align:left;padding:.2rem .9rem .2rem 0;border-bottom:1px solid var(--line);white-space:nowrap}
+th{color:var(--faint);font-weight:normal}
+.number{text-align:right;font-variant-numeric:tabular-nums}
+.own{font-weight:600}
+.suspect{color:var(--warn)}.faulty,.tombstone,.fault{color:var(--bad)}.leave{color:var(--faint)}
+.mark{display:inline-block;width:.75rem;height:.75rem;border-radius:2px;background:var(--line)}
+code{font-size:.85em;word-break:break-all}
+</style></head><body>
+<h1>ringpop <span id="own"></span></h1>
+<p id="sum" role="status">asking for the members</p>
+<main>
+<svg class="ring" id="ring" viewBox="-160 -160 320 320" role="img" aria-label="the ring, with the keys that each member owns"></svg>
+<div class="list"><table><thead><tr><th></th><th>member</th><th>status</th><th class="number">incarnation</th><th class="number">weight</th><th class="number">share of keys</th></tr></thead><tbody id="rows"></tbody></table></div>
+</main>
+<p>digest <code id="digest"></code></p>
+<script>
+'use strict';
+const by=id=>document.getElementById(id);
+const serves=m=>m.status==='alive'||m.status==='suspect';
+const most=60000;
+// SHA-256 (FIPS 180-4) of a text of less than 56 bytes of ASCII, as a place on the ring from 0 to 1: a page that was not
+// asked for at the machine itself has no crypto.subtle.
+const K=[],H=[];
+for(let n=2;K.length<64;n++){
+  if(K.length&&[...Array(n).keys()].some(d=>d>1&&n%d===0))continue;
+  const bits=x=>(x-Math.floor(x))*2**32|0;
+  K.push(bits(Math.cbrt(n)));
+  if(H.length<8)H.push(bits(Math.sqrt(n)));
+}
+const turn=(x,n)=>x>>>n|x<<32-n;
+const words=new Int32Array(64);
+function place(text){
+  const w=words.fill(0),n=text.length;
+  for(let i=0;i<n;i++)w[i>>2]|=text.charCodeAt(i)<<24-8*(i&3);
+  w[n>>2]|=128<<24-8*(n&3);
+  w[15]=8*n;
+  for(let i=16;i<64;i++){
+    const x=w[i-15],y=w[i-2];
+    w[i]=w[i-16]+(turn(x,7)^turn(x,18)^x>>>3)+w[i-7]+(turn(y,17)^turn(y,19)^y>>>10);
+  }
+  let [a,b,c,d,e,f,g,h]=H;
+  for(let i=0;i<64;i++){
+    const s=h+(turn(e,6)^turn(e,11)^turn(e,25))+(e&f^~e&g)+K[i]+w[i]|0;
+    const t=(turn(a,2)^turn(a,13)^turn(a,22))+(a&b^a&c^b&c)|0;
+    h=g;g=f;f=e;e=d+s|0;d=c;c=b;b=a;a=s+t|0;
+  }
+  return (H[0]+a>>>0)/2**32+(H[1]+b>>>0)/2**64;
+}
+function pointsOf(members,replicas){
+  const points=[];
+  for(const m of members)for(let i=0;i<replicas*m.weight;i++)points.push({at:place(m.address+i),m});
+  return points.sort((a,b)=>a.at-b.at);
+}
+function node(name,attributes,text){
+  const made=document.createElementNS('http://www.w3.org/2000/svg',name);
+  for(const key in attributes)made.setAttribute(key,attributes[key]);
+  if(text!==undefined)made.textContent=text;
+  return made;
+}
+const spot=t=>(140*Math.sin(2*Math.PI*t)).toFixed(2)+' '+(-140*Math.cos(2*Math.PI*t)).toFixed(2);
+function drawRing(members,points){
+  const ring=by('ring');
+  ring.replaceChildren();
+  points.forEach((p,i)=>{
+    const from=i?points[i-1].at:points[points.length-1].at-1;
+    p.m.share+=p.at-from;
+    p.m.path+=p.at-from<1?`M${spot(from)}A140 140 0 ${p.at-from>.5?1:0} 1 ${spot(p.at)}`:'M0-140A140 140 0 0 1 0 140A140 140 0 0 1 0-140';
+  });
+  for(const m of members){
+    if(!m.path)continue;
+    const arc=node('path',{d:m.path,stroke:m.color,'stroke-width':30,fill:'none'});
+    arc.append(node('title',{},`${m.address}: ${(100*m.share).toFixed(1)} %`));
+    ring.append(arc);
+  }
+  const serving=members.filter(serves).length;
+  ring.append(node('text',{y:-2},serving?serving+' serving':'nobody serves'));
+  ring.append(node('text',{y:18,class:'small'},points.length?points.length+' points':serving?'too many points to draw':''));
+}
+function drawRows(members,own,known){
+  by('rows').replaceChildren(...members.map(m=>{
+    const row=document.createElement('tr');
+    row.className=m.status+(m.address===own?' own':'');
+    const mark=document.createElement('span');
+    mark.className='mark';
+    if(m.color)mark.style.background=m.color;
+    row.insertCell().append(mark);
+    row.insertCell().textContent=m.address;
+    row.insertCell().textContent=m.status;
+    for(const text of [m.incarnation,m.weight,!serves(m)?'':known?(100*m.share).toFixed(1)+' %':'?']){
+      const cell=row.insertCell();
+      cell.className='number';
+      cell.textContent=text;
+    }
+    return row;
+  }));
+}
+function draw(view){
+  const members=view.members,serving=members.filter(serves);
+  for(const m of members){m.share=0;m.path='';m.color=''}
+  serving.forEach((m,i)=>{m.color=`hsl(${Math.round(i*137.508%360)} 65% ${i%2?45:58}%)`});
+  const count=serving.reduce((sum,m)=>sum+view.replicas*m.weight,0);
+  drawRing(members,count<=most?pointsOf(serving,view.replicas):[]);
+  drawRows(members,view.address,count<=most);
+}
+let drawn='';
+async function look(){
+  const sum=by('sum');
+  try{
+    const answer=await fetch('members',{cache:'no-store'});
+    if(!answer.ok)throw new Error(await answer.text());
+    const view=await answer.json(),counts={};
+    for(const m of view.members)counts[m.status]=(counts[m.status]||0)+1;
+    if(drawn!==view.digest){draw(view);drawn=view.digest}
+    by('own').textContent=view.address;
+    by('digest').textContent=view.digest;
+    document.title='ringpop '+view.address;
+    sum.textContent=Object.entries(counts).map(([status,n])=>n+' '+status).join(', ')+'; '+view.replicas+' points for a unit of weight';
+    sum.className='';
+  }catch(error){
+    sum.textContent='no answer from the agent: '+error.message;
+    sum.className='fault';
+  }
+  setTimeout(look,1000);
+}
+look();
+</script></body></html>
+"#;

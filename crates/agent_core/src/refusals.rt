@@ -1,0 +1,108 @@
+//! The refusals of requests, and the status and the text of each.
+ghost use Rattle.std.specs.Prelude.{◌≡◌};
+ghost use Rattle.agent_core.specs.Refusals.{line_of, status_of};
+
+use crate::verbs::Verb;
+
+/// A part of a request that is malformed.
+#[derive(Clone, Copy, Debug, PartialEq, Eq)]
+pub enum Part {
+    /// The key is not 1 to 1,024 bytes of UTF-8.
+    Key,
+    /// The query is not `n=` and a number from 1 to 4,096.
+    Count,
+    /// The body is not UTF-8.
+    Body,
+}
+
+/// A reason why a request is refused.
+#[derive(Clone, Copy, Debug, PartialEq, Eq)]
+pub enum Refusal {
+    /// A part of the request is malformed.
+    Malformed(Part),
+    /// A page of another site asks for a change (the request is not a GET, and has an `Origin` field).
+    CrossSite,
+    /// The path is not one that is served.
+    NotFound,
+    /// The request has another method than this one, the only one of its path.
+    BadMethod(Verb),
+    /// The node has left already.
+    AlreadyLeft,
+    /// The node has not left.
+    NotLeft,
+    /// No incarnation is left for the entry that the node would have to assert.
+    Exhausted,
+    /// The body has more than 131,072 bytes.
+    LongBody,
+    /// The application did not answer the request, or its answer can't be passed on.
+    ApplicationFailed,
+    /// The application can't be reached.
+    ApplicationDown,
+    /// No host has answered a join yet, so the node is alone.
+    NotJoined,
+    /// The node has left the ring.
+    HasLeft,
+    /// No member serves, so no key has an owner.
+    Nobody,
+    /// Too many requests wait for the application.
+    Busy,
+    /// The node takes no more calls.
+    Spent,
+    /// Out of memory.
+    Memory,
+    /// The owner of the key answered none of the sends.
+    OwnerSilent,
+}
+
+impl Refusal {
+    /// Returns the status code of HTTP (RFC 9110, section 15).
+    pub fn status(self) -> u16
+        ensures { result ≡ status_of self }
+    {
+        match self {
+            Refusal::Malformed(_) => 400,
+            Refusal::CrossSite => 403,
+            Refusal::NotFound => 404,
+            Refusal::BadMethod(_) => 405,
+            Refusal::AlreadyLeft | Refusal::NotLeft | Refusal::Exhausted => 409,
+            Refusal::LongBody => 413,
+            Refusal::ApplicationFailed => 502,
+            Refusal::ApplicationDown
+            | Refusal::NotJoined
+            | Refusal::HasLeft
+            | Refusal::Nobody
+            | Refusal::Busy
+            | Refusal::Spent
+            | Refusal::Memory => 503,
+            Refusal::OwnerSilent => 504,
+        }
+    }
+
+    /// Returns the refusal's text, one line with its newline.
+    pub fn line(self) -> &'static str
+        ensures { result.now ≡ line_of self }
+    {
+        match self {
+            Refusal::Malformed(Part::Key) => "bad key: not 1 to 1024 bytes of UTF-8\n",
+            Refusal::Malformed(Part::Count) => "bad count: not n=1 to n=4096\n",
+            Refusal::Malformed(Part::Body) => "bad body: not UTF-8\n",
+            Refusal::CrossSite => "refused: asked by a page of another site\n",
+            Refusal::NotFound => "nothing at this path\n",
+            Refusal::BadMethod(Verb::Get) => "bad method: this path takes GET\n",
+            Refusal::BadMethod(Verb::Post) => "bad method: this path takes POST\n",
+            Refusal::AlreadyLeft => "the node has left already\n",
+            Refusal::NotLeft => "the node has not left\n",
+            Refusal::Exhausted => "no incarnation is left\n",
+            Refusal::LongBody => "bad body: more than 131072 bytes\n",
+            Refusal::ApplicationFailed => "the application failed\n",
+            Refusal::ApplicationDown => "the application does not answer\n",
+            Refusal::NotJoined => "no host has answered\n",
+            Refusal::HasLeft => "the node has left\n",
+            Refusal::Nobody => "nobody serves\n",
+            Refusal::Busy => "too many requests wait\n",
+            Refusal::Spent => "the node takes no more calls\n",
+            Refusal::Memory => "out of memory\n",
+            Refusal::OwnerSilent => "the owner does not answer\n",
+        }
+    }
+}

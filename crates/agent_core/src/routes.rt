@@ -1,0 +1,172 @@
+//! The action that a request asks for, by its method, path, query and body.
+ghost use Rattle.std.specs.Prelude.{◌≡◌, ◌≢◌, IfOk, IfErr, OnOk, option_copied};
+ghost use Rattle.agent_core.specs.Requests.{AsksForKey, asked, body_in, count_in, count_of, handled, key_in, named, place_of, plain, verb_name};
+
+use crate::actions::Action;
+use crate::packs::LONGEST_BODY;
+use crate::refusals::{Part, Refusal};
+use crate::verbs::Verb;
+use message_core::{Text, WireError};
+use percent_encoding::{DecodeError, percent_decode};
+use std::alloc::Global;
+
+/// The most bytes in a key.
+pub const LONGEST_KEY: usize = 1_024;
+
+/// The most owners that a request can ask for, which is the most members that a node holds.
+pub const MOST_OWNERS: usize = 4_096;
+
+/// Returns a copy of the text.
+fn text_of(alloc: Global, text: &str) -> Result<Text, Refusal>
+    ensures copy { IfOk result (λ t. t ≡ text.now) }
+    ensures refusal { IfErr result (λ e. e ≡ Refusal.Memory) }
+{
+    Text::new(alloc, text).map_err(|_| Refusal::Memory)
+}
+
+/// Returns the key that the rest of a path encodes: percent-decoded, it is 1 to 1,024 bytes of UTF-8.
+fn key_of(alloc: Global, path: &str) -> Result<Text, Refusal>
+    ensures key { IfOk result (λ key. key_in path.now ≡ Ok key) }
+    ensures refused { IfErr result (λ e. e ≢ Refusal.Memory → key_in path.now ≡ Err e) }
+{
+    let decoded = match percent_decode(path.as_bytes()).decode_utf8(alloc) {
+        Ok(decoded) => decoded,
+        Err(DecodeError::OutOfMemory) => return Err(Refusal::Memory),
+        Err(DecodeError::Utf8(_)) => return Err(Refusal::Malformed(Part::Key)),
+    };
+    if decoded.is_empty() || decoded.len() > LONGEST_KEY {
+        return Err(Refusal::Malformed(Part::Key));
+    }
+    text_of(alloc, &decoded)
+}
+
+/// Returns the body as a text of at most 131,072 bytes.
+fn body_of(alloc: Global, body: &[u8]) -> Result<Text, Refusal>
+    ensures body { IfOk result (λ text. body_in body.now ≡ Ok text) }
+    ensures refused { IfErr result (λ e. e ≢ Refusal.Memory → body_in body.now ≡ Err e) }
+{
+    if body.len() > LONGEST_BODY {
+        return Err(Refusal::LongBody);
+    }
+    match str::from_utf8(body) {
+        Ok(text) => text_of(alloc, text),
+        Err(_) => Err(Refusal::Malformed(Part::Body)),
+    }
+}
+
+/// Returns the number that decimal digits write; None if it is not 1 to 4,096, or has a sign.
+fn count_of(digits: &str) -> Option<usize>
+    ensures { result ≡ count_of digits.now }
+{
+    if digits.starts_with('+') {
+        return None;
+    }
+    let Ok(count) = digits.parse::<usize>() else {
+        return None;
+    };
+    if count >= 1 && count <= MOST_OWNERS {
+        Some(count)
+    } else {
+        None
+    }
+}
+
+/// Returns the number of owners that a query asks for: one if there is no query.
+fn count_in(query: Option<&str>) -> Result<usize, Refusal>
+    ensures { result ≡ count_in (option_copied query.entry) }
+{
+    let Some(query) = query else {
+        return Ok(1);
+    };
+    let Some(digits) = query.strip_prefix("n=") else {
+        return Err(Refusal::Malformed(Part::Count));
+    };
+    count_of(digits).ok_or(Refusal::Malformed(Part::Count))
+}
+
+/// Refuses a method other than the path's.
+fn check_method(method: &str, verb: Verb) -> Result<(), Refusal>
+    ensures right { OnOk result (method.now ≡ verb_name verb) }
+    ensures wrong { IfErr result (λ e. (e ≡ Refusal.BadMethod verb) × (method.now ≢ verb_name verb)) }
+{
+    if method == verb.name() {
+        Ok(())
+    } else {
+        Err(Refusal::BadMethod(verb))
+    }
+}
+
+/// Returns the action at a path without a key.
+fn plain(method: &str, path: &str) -> Result<Action, Refusal>
+    ensures { result ≡ plain method.now (place_of path.now) }
+{
+    let (verb, action) = match path {
+        "/" => (Verb::Get, Action::Page),
+        "/members" => (Verb::Get, Action::Members),
+        "/digest" => (Verb::Get, Action::Digest),
+        "/healthz" => (Verb::Get, Action::Health),
+        "/metrics" => (Verb::Get, Action::Metrics),
+        "/leave" => (Verb::Post, Action::Leave),
+        "/rejoin" => (Verb::Post, Action::Rejoin),
+        "/stop" => (Verb::Post, Action::Stop),
+        _ => return Err(Refusal::NotFound),
+    };
+    check_method(method, verb)?;
+    Ok(action)
+}
+
+/// Returns the action of a request for a key.
+fn handle(alloc: Global, path: &str, body: &[u8]) -> Result<Action, Refusal>
+    ensures action { IfOk result (λ action. handled (key_in path.now) (body_in body.now) ≡ Ok action) }
+    ensures refused { IfErr result (λ e. e ≢ Refusal.Memory → handled (key_in path.now) (body_in body.now) ≡ Err e) }
+{
+    let key = key_of(alloc, path)?;
+    let body = body_of(alloc, body)?;
+    Ok(Action::Handle { key, body })
+}
+
+/// Returns the action of a request for a key's owners.
+fn owners(alloc: Global, path: &str, query: Option<&str>) -> Result<Action, Refusal>
+    ensures action { IfOk result (λ action. named (key_in path.now) (count_in (option_copied query.entry)) ≡ Ok action) }
+    ensures refused { IfErr result (λ e. e ≢ Refusal.Memory → named (key_in path.now) (count_in (option_copied query.entry)) ≡ Err e) }
+{
+    let key = key_of(alloc, path)?;
+    let count = count_in(query)?;
+    Ok(Action::Owners { key, count })
+}
+
+/// Returns the action that a request asks for. The paths with a key are `POST /keys/KEY`, which reads the body and no
+/// query, and `GET /owner/KEY`, which reads the query (`n=COUNT`, or none for 1) and no body. The others read neither.
+///
+/// # Errors
+///
+/// If several apply, the first of them, except that `Memory` can replace any but the first two.
+///
+/// - `NotFound`: the path is not one that is served.
+/// - `BadMethod`: the path takes another method, which the error names.
+/// - `Malformed(Part::Key)`: the rest of the path, percent-decoded, is not 1 to 1,024 bytes of UTF-8.
+/// - `LongBody`: the body of a request for a key has more than 131,072 bytes.
+/// - `Malformed(Part::Body)`: that body is not UTF-8.
+/// - `Malformed(Part::Count)`: the query for a key's owners is not `n=` and a number from 1 to 4,096 without a sign.
+/// - `Memory`: out of memory for the key or the body; never at a path without a key.
+pub fn route(
+    alloc: Global,
+    method: &str,
+    path: &str,
+    query: Option<&str>,
+    body: &[u8],
+) -> Result<Action, Refusal>
+    ensures action { IfOk result (λ action. asked method.now path.now (option_copied query.entry) body.now ≡ Ok action) }
+    ensures refused { IfErr result (λ e. e ≢ Refusal.Memory → asked method.now path.now (option_copied query.entry) body.now ≡ Err e) }
+    ensures memory { result ≡ Err Refusal.Memory → AsksForKey method.now path.now }
+{
+    if let Some(rest) = path.strip_prefix("/keys/") {
+        check_method(method, Verb::Post)?;
+        return handle(alloc, rest, body);
+    }
+    if let Some(rest) = path.strip_prefix("/owner/") {
+        check_method(method, Verb::Get)?;
+        return owners(alloc, rest, query);
+    }
+    plain(method, path)
+}

@@ -1,0 +1,149 @@
+use agent_core::*;
+use change_core::{Address, Change, Digest, Incarnation, Status, Weight};
+use std::alloc::AllocError;
+use std::process::Abort;
+
+fn address(rt: &impl Abort, text: &str) -> Address {
+    Address::parse(text).ok().expect(rt, "an address")
+}
+
+fn member(rt: &impl Abort, text: &str, status: Status, number: u64, weight: u8) -> Change {
+    Change {
+        address: address(rt, text),
+        incarnation: Incarnation::new(number).expect(rt, "an incarnation"),
+        status,
+        weight: Weight::new(weight).expect(rt, "a weight"),
+    }
+}
+
+#[test]
+fn writes_owners(rt: HostRuntime) {
+    let owners = [address(&rt, "10.0.0.1:7946"), address(&rt, "10.0.0.2:1")];
+    for (count, wanted) in &[
+        (0usize, "{\"owners\":[]}\n"),
+        (1, "{\"owners\":[\"10.0.0.1:7946\"]}\n"),
+        (2, "{\"owners\":[\"10.0.0.1:7946\",\"10.0.0.2:1\"]}\n"),
+    ] {
+        assert!(rt; *count <= 2);
+        let text = again!(&rt, AllocError, owners_text(rt.alloc(), &owners[..*count]));
+        assert!(rt;
+            text.ok().expect(&rt, "a text").as_str() == *wanted,
+            "{wanted}"
+        );
+    }
+}
+
+/// The SHA-256 of the empty text (FIPS 180-4).
+const DIGITS: &str = "e3b0c44298fc1c149afbf4c8996fb92427ae41e4649b934ca495991b7852b855";
+
+#[test]
+fn writes_members_and_digests(rt: HostRuntime) {
+    let digest = Digest::parse(DIGITS).expect(&rt, "a digest");
+    let own = address(&rt, "10.0.0.1:7946");
+    let members = [
+        member(&rt, "10.0.0.1:7946", Status::Alive, 1_790_000_000_000, 1),
+        member(&rt, "10.0.0.2:7946", Status::Tombstone, 0, 8),
+    ];
+    let text = again!(
+        &rt,
+        AllocError,
+        members_text(rt.alloc(), own, &digest, 100, &members)
+    );
+    let wanted =
+        "{\"address\":\"10.0.0.1:7946\",\"digest\":\"e3b0c44298fc1c149afbf4c8996fb92427ae41e4649b934ca495991b7852b855\",\"replicas\":100,\"members\":[{\"address\":\"10.0.0.1:7946\",\"status\":\"alive\",\"incarnation\":1790000000000,\"weight\":1},{\"address\":\"10.0.0.2:7946\",\"status\":\"tombstone\",\"incarnation\":0,\"weight\":8}]}\n";
+    assert!(rt; text.ok().expect(&rt, "a text").as_str() == wanted);
+    let line = again!(&rt, AllocError, digest_line(rt.alloc(), &digest))
+        .ok()
+        .expect(&rt, "a line");
+    assert!(rt;
+        line.as_str() == "e3b0c44298fc1c149afbf4c8996fb92427ae41e4649b934ca495991b7852b855\n"
+    );
+}
+
+/// A time in microseconds, and the bucket in which it is counted.
+const TIMES: [(u64, usize); 8] = [
+    (0, 0),
+    (1_000, 0),
+    (1_001, 1),
+    (50_000, 3),
+    (1_000_000, 6),
+    (1_000_001, 7),
+    (10_000_001, 9),
+    (u64::MAX, 9),
+];
+
+const METRICS: &str = "# TYPE ringpop_members gauge
+ringpop_members{status=\"alive\"} 2
+ringpop_members{status=\"suspect\"} 0
+ringpop_members{status=\"faulty\"} 1
+ringpop_members{status=\"leave\"} 0
+ringpop_members{status=\"tombstone\"} 0
+# TYPE ringpop_addresses gauge
+ringpop_addresses 3
+# TYPE ringpop_addresses_limit gauge
+ringpop_addresses_limit 4096
+# TYPE ringpop_requests_total counter
+ringpop_requests_total{outcome=\"answered\"} 7
+ringpop_requests_total{outcome=\"refused\"} 2
+ringpop_requests_total{outcome=\"failed\"} 1
+# TYPE ringpop_handled_total counter
+ringpop_handled_total 4
+# TYPE ringpop_forwards_total counter
+ringpop_forwards_total 3
+# TYPE ringpop_request_seconds histogram
+ringpop_request_seconds_bucket{le=\"0.001\"} 5
+ringpop_request_seconds_bucket{le=\"0.005\"} 8
+ringpop_request_seconds_bucket{le=\"0.01\"} 8
+ringpop_request_seconds_bucket{le=\"0.05\"} 8
+ringpop_request_seconds_bucket{le=\"0.1\"} 8
+ringpop_request_seconds_bucket{le=\"0.5\"} 9
+ringpop_request_seconds_bucket{le=\"1\"} 9
+ringpop_request_seconds_bucket{le=\"5\"} 9
+ringpop_request_seconds_bucket{le=\"10\"} 9
+ringpop_request_seconds_bucket{le=\"+Inf\"} 10
+ringpop_request_seconds_sum 12345678e-6
+ringpop_request_seconds_count 10
+# TYPE ringpop_rounds_total counter
+ringpop_rounds_total{outcome=\"idle\"} 1
+ringpop_rounds_total{outcome=\"reached\"} 50
+ringpop_rounds_total{outcome=\"suspected\"} 2
+ringpop_rounds_total{outcome=\"inconclusive\"} 3
+ringpop_rounds_total{outcome=\"error\"} 0
+# TYPE ringpop_full_syncs_total counter
+ringpop_full_syncs_total 6
+# TYPE ringpop_link_failures_total counter
+ringpop_link_failures_total 8
+# TYPE ringpop_allocation_failures_total counter
+ringpop_allocation_failures_total 18446744073709551615
+";
+
+#[test]
+fn writes_metrics(rt: HostRuntime) {
+    for (micros, bucket) in &TIMES {
+        assert!(rt; bucket_of(*micros) == *bucket, "{micros}");
+    }
+    let members = [
+        member(&rt, "10.0.0.1:1", Status::Alive, 1, 1),
+        member(&rt, "10.0.0.2:1", Status::Faulty, 1, 1),
+        member(&rt, "10.0.0.3:1", Status::Alive, 1, 1),
+    ];
+    let counts = Counts {
+        answered: 7,
+        refused: 2,
+        failed: 1,
+        micros: 12_345_678,
+        buckets: [5, 3, 0, 0, 0, 1, 0, 0, 0, 1],
+        handled: 4,
+        forwards: 3,
+        idle: 1,
+        reached: 50,
+        suspected: 2,
+        inconclusive: 3,
+        broken: 0,
+        full_syncs: 6,
+        link_failures: 8,
+        allocation_failures: u64::MAX,
+    };
+    let text = again!(&rt, AllocError, metrics_text(rt.alloc(), &counts, &members));
+    assert!(rt; text.ok().expect(&rt, "a text").as_str() == METRICS);
+}

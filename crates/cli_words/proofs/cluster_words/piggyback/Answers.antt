@@ -1,0 +1,6 @@
+use Rattle.std.proofs.Common.{◌≡◌, None, Some, arith}
+use Rattle.cli_words.proofs.cluster_words.piggyback.Goals as goal
+
+pub returns-in_err-piggyback-clause-taken : goal.returns-in_err-piggyback-clause-taken
+returns-in_err-piggyback-clause-taken c = λ n.
+    let never : None ≡ Some n.0 = c.in_err-piggyback.ensures.taken n.0 n.1 (omega (arith, n.2.0)) (omega (arith, n.2.1, c.from.ensures)) in cc

@@ -1,0 +1,156 @@
+//! The arguments of `agent`, read from those of the command line.
+ghost use Rattle.std.specs.Prelude.{◌≡◌, ◌≤◌, Some, codes, IfErr, IfOk, IfSome, IsSome};
+ghost use Rattle.clap.specs.Words.{first_of};
+ghost use Rattle.change_core.specs.Numbers.{greatest_number};
+ghost use Rattle.cli_words.specs.Faults.{IsRefusalOf};
+ghost use Rattle.cli_words.specs.Whole.{HasAgent, HasAgentNumbers, HasBadAddress, HasLevel, HasNumber, IsNoAddressAt};
+ghost use Rattle.cli_words.specs.Words.{AreAddressesAt, AreAgentNumbersAt, IsAddressAt, IsAgentAt, IsNumberAt, IsNumberIfAt, IsOptionAt, level_name, rows_in};
+
+use crate::agent_words::{AgentWords, LogLevel, MAX_HANDS, MAX_PERIOD};
+use crate::cluster_words::{address_at, address_of, hosts_at, incarnation, weight};
+use crate::commands::{ADDRESS, APP, BIND, HANDS, HTTP, HTTP_ANY, LOG, PER_MESSAGE, PERIOD};
+use crate::faults::WordsError;
+use crate::words::{absent, flag, number, replicas};
+use change_core::{Address, Incarnation, MAX_MEMBERS};
+use clap::ArgMatches;
+use std::alloc::Global;
+
+/// Returns the level of this name, if and only if there is one.
+fn level_of(name: &str) -> Option<LogLevel>
+    ensures level { IfSome result (λ l. name.now ≡ level_name l) }
+    ensures all { (l : LogLevel) → name.now ≡ level_name l → result ≡ Some l }
+{
+    match name {
+        "off" => Some(LogLevel::Off),
+        "error" => Some(LogLevel::Error),
+        "warn" => Some(LogLevel::Warn),
+        "info" => Some(LogLevel::Info),
+        "debug" => Some(LogLevel::Debug),
+        _ => None,
+    }
+}
+
+/// Returns the address of an option; None if it is not given. A text that is not an address is `BadAddress`.
+fn option_at(matches: &ArgMatches<'_>, id: &str) -> Result<Option<Address>, WordsError>
+    ensures ok { IfOk result (IsOptionAt (rows_in matches.now) id.now) }
+    ensures fault { IfErr result (IsRefusalOf (Unit {0}) (IsNoAddressAt (rows_in matches.now) id.now)) }
+{
+    match matches.get_str(id) {
+        Some(text) => Ok(Some(address_of(text)?)),
+        None => Ok(None),
+    }
+}
+
+/// The addresses among the arguments of `agent`.
+#[derive(Drop)]
+struct Addresses {
+    address: Address,
+    bind: Option<Address>,
+    http: Option<Address>,
+    app: Option<Address>,
+    hosts: Vec<Address>,
+}
+
+/// Returns the addresses among the arguments of `agent`. If the first is absent, the error is `Usage`; the first argument
+/// that has to be an address and is not one is `BadAddress`.
+fn addresses_in(alloc: Global, matches: &ArgMatches<'_>) -> Result<Addresses, WordsError>
+    ensures address { IfOk result (λ r. IsAddressAt (rows_in matches.now) (codes "address") r.address) }
+    ensures bind { IfOk result (λ r. IsOptionAt (rows_in matches.now) (codes "bind") r.bind) }
+    ensures http { IfOk result (λ r. IsOptionAt (rows_in matches.now) (codes "http") r.http) }
+    ensures app { IfOk result (λ r. IsOptionAt (rows_in matches.now) (codes "app") r.app) }
+    ensures hosts { IfOk result (λ r. AreAddressesAt (rows_in matches.now) (codes "host") r.hosts.items) }
+    ensures fault { IfErr result (IsRefusalOf (IsSome (first_of (codes "address") (rows_in matches.now))) (HasBadAddress (rows_in matches.now))) }
+{
+    Ok(Addresses {
+        address: address_at(alloc, matches, ADDRESS)?,
+        bind: option_at(matches, BIND)?,
+        http: option_at(matches, HTTP)?,
+        app: option_at(matches, APP)?,
+        hosts: hosts_at(alloc, matches)?,
+    })
+}
+
+/// Returns the level of the log, if and only if its argument is there and names one.
+fn level(matches: &ArgMatches<'_>) -> Option<LogLevel>
+    ensures level { IfSome result (λ l. first_of (codes "log") (rows_in matches.now) ≡ Some (level_name l)) }
+    ensures taken { HasLevel (rows_in matches.now) → IsSome result }
+{
+    let name = matches.get_str(LOG)?;
+    level_of(name)
+}
+
+/// Returns a node's first incarnation, if and only if it is given and in its range.
+fn incarnation_if(matches: &ArgMatches<'_>) -> Option<Incarnation>
+    ensures { IsNumberIfAt (rows_in matches.now) (codes "incarnation") (λ n. n ≤ greatest_number) result }
+{
+    incarnation(matches)
+}
+
+/// Returns the number of the argument of this name, if and only if it is there and lies from 1 to `most`.
+fn count(matches: &ArgMatches<'_>, id: &str, most: u64) -> Option<u64>
+    ensures range { IfSome result (λ n. (1 ≤ n) × (n ≤ most)) }
+    ensures given { IfSome result (IsNumberAt (rows_in matches.now) id.now) }
+    ensures taken { HasNumber (rows_in matches.now) id.now (λ n. (1 ≤ n) × (n ≤ most)) → IsSome result }
+{
+    number(matches, id, 1, most)
+}
+
+/// Returns the arguments of `agent` with these addresses, if and only if each number is there and in its range, and the
+/// level of the log is there.
+fn words_with(matches: &ArgMatches<'_>, addresses: Addresses) -> Option<AgentWords>
+    ensures address { IfSome result (λ w. w.address ≡ addresses.address) }
+    ensures bind { IfSome result (λ w. w.bind ≡ addresses.bind) }
+    ensures http { IfSome result (λ w. w.http ≡ addresses.http) }
+    ensures app { IfSome result (λ w. w.app ≡ addresses.app) }
+    ensures hosts { IfSome result (λ w. w.hosts ≡ addresses.hosts) }
+    ensures numbers { IfSome result (AreAgentNumbersAt (rows_in matches.now)) }
+    ensures taken { HasAgentNumbers (rows_in matches.now) → IsSome result }
+{
+    let hands = count(matches, HANDS, MAX_HANDS)?;
+    let period = count(matches, PERIOD, MAX_PERIOD)?;
+    let per_message = count(matches, PER_MESSAGE, MAX_MEMBERS as u64)?;
+    let replicas = replicas(matches)?;
+    let weight = weight(matches)?;
+    let level = level(matches)?;
+    let Addresses {
+        address,
+        bind,
+        http,
+        app,
+        hosts,
+    } = addresses;
+    Some(AgentWords {
+        address,
+        bind,
+        http,
+        http_any: flag(matches, HTTP_ANY),
+        app,
+        hands: hands as u32,
+        period,
+        per_message: per_message as usize,
+        replicas,
+        weight,
+        incarnation: incarnation_if(matches),
+        level,
+        hosts,
+    })
+}
+
+/// Returns the arguments of `agent`. The addresses are read before the numbers.
+///
+/// # Errors
+///
+/// - `Usage`: an argument is absent or not in its range, or no level of the log has the name that is given; in the form
+///   of `clap`'s errors.
+/// - `BadAddress`: an argument that has to be an address is not one.
+/// - `NoMemory`: out of memory.
+pub fn agent_words(alloc: Global, matches: &ArgMatches<'_>) -> Result<AgentWords, WordsError>
+    ensures words { IfOk result (IsAgentAt (rows_in matches.now)) }
+    ensures fault { IfErr result (IsRefusalOf (HasAgent (rows_in matches.now)) (HasBadAddress (rows_in matches.now))) }
+{
+    let addresses = addresses_in(alloc, matches)?;
+    match words_with(matches, addresses) {
+        Some(words) => Ok(words),
+        None => Err(absent(alloc)),
+    }
+}

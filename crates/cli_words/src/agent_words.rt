@@ -1,0 +1,61 @@
+//! The arguments of `agent`.
+ghost use Rattle.std.specs.Prelude.{◌≤◌};
+ghost use Rattle.hash_ring.specs.Points.{IsReplicas};
+
+use change_core::{Address, Incarnation, Weight};
+
+/// The greatest number of requests of other nodes that the application is given at a time.
+pub const MAX_HANDS: u64 = 256;
+
+/// The greatest number of milliseconds between two rounds of an agent.
+pub const MAX_PERIOD: u64 = 60_000;
+
+/// The level of a log, which prints what is of this level or of one before it.
+#[derive(Clone, Copy, Debug, PartialEq, Eq)]
+pub enum LogLevel {
+    /// Nothing.
+    Off,
+    /// Errors that end the program.
+    Error,
+    /// Events that may need a person's attention.
+    Warn,
+    /// Changes of members.
+    Info,
+    /// Details that help to find a bug.
+    Debug,
+}
+
+/// The arguments of `agent`.
+#[derive(Debug, PartialEq, Drop)]
+pub struct AgentWords {
+    /// The address by which other nodes name the node.
+    pub address: Address,
+    /// The address at which it listens, if it is another.
+    pub bind: Option<Address>,
+    /// The address at which HTTP is answered, if it is.
+    pub http: Option<Address>,
+    /// Whether that address may lie outside 127.0.0.0/8.
+    pub http_any: bool,
+    /// The address of the application, if there is one.
+    pub app: Option<Address>,
+    /// The most requests of other nodes that the application is given at a time, 1 to 256.
+    pub hands: u32,
+    /// Milliseconds between two rounds of gossip, 1 to 60,000.
+    pub period: u64,
+    /// The most changes that a message carries, 1 to 4,096.
+    pub per_message: usize,
+    /// The number of points that a server has for each unit of its weight, 1 to 1,000.
+    pub replicas: u32,
+    /// The node's weight.
+    pub weight: Weight,
+    /// The node's first incarnation, if it is given.
+    pub incarnation: Option<Incarnation>,
+    /// The level of the log.
+    pub level: LogLevel,
+    /// The nodes that are asked to admit the node.
+    pub hosts: Vec<Address>,
+    pub ghost hands_range: { (1 ≤ hands) × (hands ≤ 256) },
+    pub ghost period_range: { (1 ≤ period) × (period ≤ 60000) },
+    pub ghost per_message_range: { (1 ≤ per_message) × (per_message ≤ 4096) },
+    pub ghost replicas_range: { IsReplicas replicas },
+}

@@ -1,0 +1,250 @@
+//! The commands of arguments.
+ghost use Rattle.std.specs.Prelude.{◌≡◌, ◌<◌, ◌^◌, vec_len};
+ghost use Rattle.hash_ring.specs.Points.{IsReplicas};
+
+use crate::shared::check_refused;
+use change_core::{Address, Incarnation, MAX_NUMBER, Weight};
+use cli_core::{
+    AskAnyWords, AskWords, ClusterCommand, MembersWords, OwnerWords, ServeWords, SimWords,
+    Subcommand,
+};
+use cli_words::{Words, WordsError, read_words};
+use std::alloc::Global;
+use std::env::Env;
+use std::process::Abort;
+
+/// Words, at most this many.
+pub type Line<'a> = [&'a str; 16];
+
+/// No words.
+pub const NO_WORDS: Line<'static> = [""; 16];
+
+/// The arguments of a line, between its spaces; None if it is empty.
+pub fn words_in<'a, 'b>(rt: &impl Abort, line: &'a str, words: &'b mut Line<'a>) -> &'b [&'a str] {
+    let mut count = 0;
+    if !line.is_empty() {
+        for word in line.split(' ') {
+            let Some(place) = words.get_mut(count) else {
+                panic!(rt; "too many words: {line}")
+            };
+            *place = word;
+            count += 1;
+        }
+    }
+    words.get(..count).unwrap_or_default()
+}
+
+/// Reads the arguments. After a failed allocation they are read again.
+///
+/// # Errors
+///
+/// - The error of the arguments, but not that of a failed allocation.
+pub fn read<'a>(
+    rt: &(impl Env + Abort),
+    alloc: Global,
+    words: &'a [&'a str],
+) -> Result<Words<'a>, WordsError> {
+    match read_words(alloc, words) {
+        Err(WordsError::NoMemory) => {
+            check_refused(rt);
+            read_words(alloc, words)
+        }
+        ended => ended,
+    }
+}
+
+/// Words, and the subcommand that they ask for.
+const READ: [(&str, Subcommand<'static>); 11] = [
+    (
+        "ringpop sim",
+        Subcommand::Sim(SimWords {
+            replicas: 100,
+            sum: false,
+        }),
+    ),
+    (
+        "ringpop sim --sum --replicas 2",
+        Subcommand::Sim(SimWords {
+            replicas: 2,
+            sum: true,
+        }),
+    ),
+    ("", Subcommand::Fold),
+    ("ringpop", Subcommand::Fold),
+    ("ringpop fold", Subcommand::Fold),
+    ("ringpop hash ", Subcommand::Hash("")),
+    ("ringpop hash abc", Subcommand::Hash("abc")),
+    (
+        "ringpop owner k",
+        Subcommand::Owner(OwnerWords {
+            count: 1,
+            replicas: 100,
+            sum: false,
+            key: "k",
+        }),
+    ),
+    (
+        "ringpop owner --n 0 k",
+        Subcommand::Owner(OwnerWords {
+            count: 0,
+            replicas: 100,
+            sum: false,
+            key: "k",
+        }),
+    ),
+    (
+        "ringpop owner --n=4096 --replicas 1 k",
+        Subcommand::Owner(OwnerWords {
+            count: 4096,
+            replicas: 1,
+            sum: false,
+            key: "k",
+        }),
+    ),
+    (
+        "ringpop owner --n 3 --replicas=1000 --sum -- -k",
+        Subcommand::Owner(OwnerWords {
+            count: 3,
+            replicas: 1000,
+            sum: true,
+            key: "-k",
+        }),
+    ),
+];
+
+/// That the arguments of a line have this command.
+fn asks(rt: &(impl Env + Abort), alloc: Global, line: &str, wanted: Words<'_>) {
+    let mut words = NO_WORDS;
+    let words = read(rt, alloc, words_in(rt, line, &mut words));
+    let is_so = matches!(&words, Ok(words) if *words == wanted);
+    drop(words);
+    drop(wanted);
+    assert!(rt; is_so, "{line}");
+}
+
+/// With no words it is `fold`; `owner` has one owner and 100 points for each server where nothing is told.
+#[test]
+fn reads_the_words(rt: HostRuntime) {
+    for (line, wanted) in &READ {
+        asks(&rt, rt.alloc(), *line, Words::Lines(*wanted));
+    }
+}
+
+/// 127.0.0.1:1.
+fn local(rt: &impl Abort) -> Address {
+    Address::new(0x7f00_0001, 1).expect(rt, "an address")
+}
+
+/// A request to 127.0.0.1:1.
+fn ask<'a>(rt: &impl Abort, key: &'a str, body: &'a str) -> Words<'a> {
+    Words::Cluster(ClusterCommand::Ask(AskWords {
+        address: local(rt),
+        key,
+        body,
+    }))
+}
+
+/// A request for b to the owner of the key k, by 127.0.0.1:1 and with this many points of a server.
+fn ask_any(rt: &impl Abort, replicas: u32, sum: bool) -> Words<'static>
+    requires { IsReplicas replicas }
+{
+    Words::Cluster(ClusterCommand::AskAny(AskAnyWords {
+        host: local(rt),
+        replicas,
+        sum,
+        key: "k",
+        body: "b",
+    }))
+}
+
+/// `ask`, `ask --any`, `members`, `members --lines` and `tell` at 127.0.0.1:1, with empty texts, and with texts behind `--` that begin
+/// with `-`.
+#[test]
+fn reads_the_words_of_questions(rt: HostRuntime) {
+    let (alloc, host) = (rt.alloc(), local(&rt));
+    let line = "ringpop ask 127.0.0.1:1 k b";
+    asks(&rt, alloc, line, ask(&rt, "k", "b"));
+    asks(&rt, alloc, "ringpop ask 127.0.0.1:1  ", ask(&rt, "", ""));
+    let line = "ringpop ask 127.0.0.1:1 -- -k -b";
+    asks(&rt, alloc, line, ask(&rt, "-k", "-b"));
+    let line = "ringpop ask --any 127.0.0.1:1 k b";
+    asks(&rt, alloc, line, ask_any(&rt, 100, false));
+    let line = "ringpop ask --any --replicas 2 --sum 127.0.0.1:1 k b";
+    asks(&rt, alloc, line, ask_any(&rt, 2, true));
+    let members = ClusterCommand::Members(MembersWords { host, lines: false });
+    let line = "ringpop members 127.0.0.1:1";
+    asks(&rt, alloc, line, Words::Cluster(members));
+    let lines = ClusterCommand::Members(MembersWords { host, lines: true });
+    let line = "ringpop members --lines 127.0.0.1:1";
+    asks(&rt, alloc, line, Words::Cluster(lines));
+    let tell = ClusterCommand::Tell(host);
+    asks(&rt, alloc, "ringpop tell 127.0.0.1:1", Words::Cluster(tell));
+}
+
+/// What serves at 127.0.0.1:1 where only the incarnation 1 and one connection are told, but for the hosts.
+fn least_server(rt: &impl Abort, hosts: Vec<Address>) -> Words<'static>
+    requires { vec_len hosts < 2 ^ 32 }
+{
+    Words::Cluster(ClusterCommand::Serve(ServeWords {
+        address: local(rt),
+        incarnation: Incarnation::new(1).expect(rt, "an incarnation"),
+        requests: 1,
+        workers: 2,
+        period: 0,
+        replicas: 100,
+        weight: Weight::new(1).expect(rt, "a weight"),
+        per_message: 64,
+        piggyback: 15,
+        heal: false,
+        sum: false,
+        hosts,
+    }))
+}
+
+/// What serves at 127.0.0.1:1 with the greatest numbers.
+fn greatest_server(rt: &impl Abort, alloc: Global) -> Words<'static> {
+    Words::Cluster(ClusterCommand::Serve(ServeWords {
+        address: local(rt),
+        incarnation: Incarnation::new(MAX_NUMBER).expect(rt, "an incarnation"),
+        requests: 1_000_000,
+        workers: 16,
+        period: MAX_NUMBER,
+        replicas: 1000,
+        weight: Weight::new(8).expect(rt, "a weight"),
+        per_message: 4096,
+        piggyback: 1000,
+        heal: true,
+        sum: true,
+        hosts: Vec::new(alloc),
+    }))
+}
+
+/// 10.0.0.2:7946, and 127.0.0.1:1 twice.
+fn three_hosts(rt: &(impl Env + Abort), alloc: Global) -> Vec<Address>
+    ensures { vec_len result ≡ 3 }
+{
+    let other = Address::new(0x0a00_0002, 7946).expect(rt, "an address");
+    if let Ok(hosts) = vec![in alloc; other, local(rt), local(rt)] {
+        return hosts;
+    }
+    check_refused(rt);
+    let Ok(hosts) = vec![in alloc; other, local(rt), local(rt)] else {
+        panic!(rt; "out of memory")
+    };
+    hosts
+}
+
+/// `serve` at 127.0.0.1:1 of incarnation 1 for one connection: 2 workers, no rounds, 100 points, SHA-256, weight 1, no host; with the
+/// greatest of each; with three hosts, which stay in their order.
+#[test]
+fn reads_the_words_of_serve(rt: HostRuntime) {
+    let alloc = rt.alloc();
+    let line = "ringpop serve 127.0.0.1:1 1 1";
+    asks(&rt, alloc, line, least_server(&rt, Vec::new(alloc)));
+    let line =
+        "ringpop serve --workers=16 --period 9007199254740991 --replicas=1000 --sum --weight 8 --per-message 4096 --piggyback=1000 --heal 127.0.0.1:1 9007199254740991 1000000";
+    asks(&rt, alloc, line, greatest_server(&rt, alloc));
+    // its hosts stay in their order
+    let line = "ringpop serve 127.0.0.1:1 1 1 10.0.0.2:7946 127.0.0.1:1 127.0.0.1:1";
+    asks(&rt, alloc, line, least_server(&rt, three_hosts(&rt, alloc)));
+}

@@ -1,0 +1,247 @@
+//! Arguments that are refused, and the error text.
+
+use crate::cli::reads::{NO_WORDS, read, words_in};
+use crate::shared::check_refused;
+use cli_words::{WordsError, words_not_text};
+use std::alloc::Global;
+use std::env::Env;
+use std::process::Abort;
+
+/// The text of an error.
+fn told(rt: &(impl Env + Abort), alloc: Global, fault: &WordsError) -> String {
+    let said = match format!(in alloc; "{fault}") {
+        Err(_) => {
+            check_refused(rt);
+            format!(in alloc; "{fault}")
+        }
+        said => said,
+    };
+    said.ok().expect(rt, "a text")
+}
+
+/// That the error of arguments starts with this text, and ends the program with status 2.
+fn begins(rt: &(impl Env + Abort), alloc: Global, fault: WordsError, text: &str) {
+    let said = told(rt, alloc, &fault);
+    let is_so = said.as_str().starts_with(text) && fault.status() == 2;
+    drop(said);
+    drop(fault);
+    assert!(rt; is_so, "{text}");
+}
+
+/// Arguments of `serve`, and the start of their error text.
+const REFUSED_SERVERS: [(&str, &str); 22] = [
+    (
+        "ringpop serve",
+        "error: the following required arguments were not provided:\n  <ADDRESS>\n  <INCARNATION>\n  <REQUESTS>\n",
+    ),
+    (
+        "ringpop serve 127.0.0.1:1 1",
+        "error: the following required arguments were not provided:\n  <REQUESTS>\n",
+    ),
+    (
+        "ringpop serve 127.0.0.1:1 one 1",
+        "error: invalid value 'one' for '<INCARNATION>'",
+    ),
+    (
+        "ringpop serve 127.0.0.1:1 9007199254740992 1",
+        "error: invalid value '9007199254740992' for '<INCARNATION>'",
+    ),
+    (
+        "ringpop serve 127.0.0.1:1 1 0",
+        "error: invalid value '0' for '<REQUESTS>'",
+    ),
+    (
+        "ringpop serve 127.0.0.1:1 1 1000001",
+        "error: invalid value '1000001' for '<REQUESTS>'",
+    ),
+    (
+        "ringpop serve --workers 0 127.0.0.1:1 1 1",
+        "error: invalid value '0' for '--workers <W>'",
+    ),
+    (
+        "ringpop serve --workers 0 x 1 1",
+        "error: invalid value '0' for '--workers <W>'",
+    ),
+    (
+        "ringpop serve --workers 17 127.0.0.1:1 1 1",
+        "error: invalid value '17' for '--workers <W>'",
+    ),
+    (
+        "ringpop serve --period 9007199254740992 127.0.0.1:1 1 1",
+        "error: invalid value '9007199254740992' for '--period <MS>'",
+    ),
+    (
+        "ringpop serve --replicas 0 127.0.0.1:1 1 1",
+        "error: invalid value '0' for '--replicas <R>'",
+    ),
+    (
+        "ringpop serve --replicas 1001 127.0.0.1:1 1 1",
+        "error: invalid value '1001' for '--replicas <R>'",
+    ),
+    (
+        "ringpop serve --weight 0 127.0.0.1:1 1 1",
+        "error: invalid value '0' for '--weight <W>'",
+    ),
+    (
+        "ringpop serve --weight 9 127.0.0.1:1 1 1",
+        "error: invalid value '9' for '--weight <W>'",
+    ),
+    (
+        "ringpop serve --per-message 0 127.0.0.1:1 1 1",
+        "error: invalid value '0' for '--per-message <N>'",
+    ),
+    (
+        "ringpop serve --per-message 4097 127.0.0.1:1 1 1",
+        "error: invalid value '4097' for '--per-message <N>'",
+    ),
+    (
+        "ringpop serve --piggyback 1001 127.0.0.1:1 1 1",
+        "error: invalid value '1001' for '--piggyback <N>'",
+    ),
+    (
+        "ringpop serve --lines 127.0.0.1:1 1 1",
+        "error: unexpected argument '--lines' found\n",
+    ),
+    ("ringpop serve 127.0.0.1:01 1 1", "ringpop: bad address\n"),
+    ("ringpop serve 127.0.0.1:1 1 1 x", "ringpop: bad address\n"),
+    (
+        "ringpop serve 127.0.0.1:1 1 1 127.0.0.1:1 127.0.0.1:0 127.0.0.1:1",
+        "ringpop: bad address\n",
+    ),
+    (
+        "ringpop serve 127.0.0.1:1 1 1 127.0.0.1:1 ",
+        "ringpop: bad address\n",
+    ),
+];
+
+/// That these arguments are refused, and the error starts with this text.
+fn is_refused(rt: &(impl Env + Abort), alloc: Global, line: &str, text: &str) {
+    let mut words = NO_WORDS;
+    let words = words_in(rt, line, &mut words);
+    let Err(fault) = read(rt, alloc, words) else {
+        panic!(rt; "not refused: {text}")
+    };
+    begins(rt, alloc, fault, text);
+}
+
+/// `serve` without one of its words, or with a number one outside its range: refused by `clap`. Behind that the node's own address, and
+/// any of its hosts that is none: `ringpop: bad address`.
+#[test]
+fn refuses_the_words_of_a_server(rt: HostRuntime) {
+    for (line, text) in &REFUSED_SERVERS {
+        is_refused(&rt, rt.alloc(), *line, *text);
+    }
+}
+
+/// Arguments, and the start of their error text.
+const REFUSED_WORDS: [(&str, &str); 28] = [
+    ("ringpop ", "error: unrecognized subcommand ''\n"),
+    (
+        "ringpop server",
+        "error: unrecognized subcommand 'server'\n",
+    ),
+    (
+        "ringpop --help",
+        "The members of a cluster and the owners of its keys",
+    ),
+    ("ringpop --version", "ringpop 1.0.0-dev\n"),
+    (
+        "elsewhere/ringpop sim --help",
+        "Reads a script of nodes in one process, a command a line; answers each with a line\n\nUsage: ringpop sim [OPTIONS]\n",
+    ),
+    ("ringpop fold x", "error: unexpected argument 'x' found\n"),
+    (
+        "ringpop hash",
+        "error: the following required arguments were not provided:\n",
+    ),
+    (
+        "ringpop owner",
+        "error: the following required arguments were not provided:\n",
+    ),
+    (
+        "ringpop owner k l",
+        "error: unexpected argument 'l' found\n",
+    ),
+    (
+        "ringpop owner --n 4097 k",
+        "error: invalid value '4097' for '--n <N>'",
+    ),
+    (
+        "ringpop owner --replicas 0 k",
+        "error: invalid value '0' for '--replicas <R>'",
+    ),
+    (
+        "ringpop owner --replicas 1001 k",
+        "error: invalid value '1001' for '--replicas <R>'",
+    ),
+    ("ringpop sim x", "error: unexpected argument 'x' found\n"),
+    (
+        "ringpop sim --replicas 0",
+        "error: invalid value '0' for '--replicas <R>'",
+    ),
+    (
+        "ringpop sim --replicas 1001",
+        "error: invalid value '1001' for '--replicas <R>'",
+    ),
+    (
+        "ringpop ask 127.0.0.1:1 k",
+        "error: the following required arguments were not provided:\n",
+    ),
+    (
+        "ringpop ask --sum 127.0.0.1:1 k b",
+        "error: the following required arguments were not provided:\n  --any\n",
+    ),
+    (
+        "ringpop ask --replicas 2 127.0.0.1:1 k b",
+        "error: the following required arguments were not provided:\n  --any\n",
+    ),
+    (
+        "ringpop ask --any --replicas 0 x k b",
+        "error: invalid value '0' for '--replicas <R>'",
+    ),
+    (
+        "ringpop members",
+        "error: the following required arguments were not provided:\n",
+    ),
+    (
+        "ringpop members 127.0.0.1:1 l",
+        "error: unexpected argument 'l' found\n",
+    ),
+    (
+        "ringpop tell",
+        "error: the following required arguments were not provided:\n",
+    ),
+    ("ringpop ask 10.0.0.01:1 k b", "ringpop: bad address\n"),
+    ("ringpop ask --any x k b", "ringpop: bad address\n"),
+    ("ringpop members 10.0.0.1:0", "ringpop: bad address\n"),
+    ("ringpop members ", "ringpop: bad address\n"),
+    ("ringpop tell x", "ringpop: bad address\n"),
+    (
+        "ringpop tell --help",
+        "Reads at most 4096 change lines; tells them to a running node, and prints how many members it then holds\n\nUsage: ringpop tell <HOST>\n",
+    ),
+];
+
+/// Other words are refused by `clap`, in its own text, with status 2; `--sum` or `--replicas` of `ask` without `--any` among them. Behind
+/// that an address that is none: `ringpop: bad address`, status 2.
+#[test]
+fn refuses_words(rt: HostRuntime) {
+    for (line, text) in &REFUSED_WORDS {
+        is_refused(&rt, rt.alloc(), *line, *text);
+    }
+}
+
+/// Other words are refused by `clap`, in its own text, with status 2; `--sum` or `--replicas` of `ask` without `--any` among them. Behind
+/// that an address that is none: `ringpop: bad address`, status 2.
+#[test]
+fn refuses_words_that_are_not_text(rt: HostRuntime) {
+    let fault = match words_not_text(rt.alloc()) {
+        WordsError::NoMemory => {
+            check_refused(&rt);
+            words_not_text(rt.alloc())
+        }
+        fault => fault,
+    };
+    let text = "error: the words are not UTF-8\n";
+    begins(&rt, rt.alloc(), fault, text);
+}

@@ -1,0 +1,110 @@
+//! Rounds of gossip in which no other node answers: of 2n - 1 of them one ends with each member.
+ghost use Rattle.locked_node.specs.Passes.{Fits};
+
+use crate::locked::nodes::{Caller, Shared, alone, hear, let_go};
+use crate::shared::{B, C, D, address, check_refused, moment};
+use locked_node::{Address, Message, Status, SumHash};
+use peer_core::{ClusterError, Link, LinkError, Round, gossip_round};
+use std::alloc::Global;
+use std::env::Env;
+use std::process::Abort;
+use std::sync::Wait;
+use system_laws::laws::completeness;
+
+/// A link that reaches no node.
+#[derive(Drop)]
+struct Cut {
+    failures: u64,
+}
+
+impl Link for Cut {
+    ghost may_answer = { λ _ _ _. Unit {0} };
+
+    ghost failed = { λ c. c.failures };
+
+    fn failures(&self) -> u64 {
+        self.failures
+    }
+
+    fn call<R: Wait>(
+        &mut self,
+        _rt: &R,
+        _alloc: Global,
+        _to: Address,
+        _message: &Message,
+    ) -> Result<Message, LinkError> {
+        if self.failures == u64::MAX {
+            return Err(LinkError::Spent);
+        }
+        self.failures += 1;
+        Err(LinkError::Io)
+    }
+}
+
+/// Makes one round; once more if an allocation failed.
+fn round<R: Wait + Env + Abort>(
+    rt: &R,
+    alloc: Global,
+    node: &Shared,
+    pass: &mut Caller,
+    link: &mut Cut,
+) -> Round
+    requires { Fits node.now pass.old }
+    ensures { Fits node.now pass.new }
+{
+    let now = moment(rt, 0);
+    let done = match gossip_round(rt, alloc, node, pass, link, now) {
+        Err(ClusterError::Memory) => {
+            check_refused(rt);
+            gossip_round(rt, alloc, node, pass, link, now)
+        }
+        done => done,
+    };
+    done.ok().expect(rt, "a round")
+}
+
+/// Whether a round ends with the address as suspected, or as one of which no helper could tell.
+fn finds(round: &Round, sought: Address) -> bool {
+    match round {
+        Round::Suspected(found) | Round::Inconclusive(found) => *found == sought,
+        _ => false,
+    }
+}
+
+/// Which of three members were found, once this round ended.
+fn noted(found: [bool; 3], done: &Round, sought: &[Address; 3]) -> [bool; 3] {
+    [
+        found[0] || finds(done, sought[0]),
+        found[1] || finds(done, sought[1]),
+        found[2] || finds(done, sought[2]),
+    ]
+}
+
+/// Makes five rounds, and checks that each of three members is found.
+fn check_rounds<R: Wait + Env + Abort>(rt: &R, alloc: Global, node: &Shared, pass: &mut Caller)
+    requires { Fits node.now pass.old }
+    ensures { Fits node.now pass.new }
+{
+    let mut link = Cut { failures: 0 };
+    let sought = [address(rt, B), address(rt, C), address(rt, D)];
+    let mut found = [false; 3];
+    for i in 0..5u64 {
+        let _ = i;
+        let done = round(rt, alloc, node, pass, &mut link);
+        found = noted(found, &done, &sought);
+        drop(done);
+    }
+    drop(link);
+    assert!(rt; found == [true; 3]);
+}
+
+#[test]
+fn five_rounds_find_each_of_three_members(rt: HostRuntime) {
+    completeness::<SumHash, Cut>();
+    let (node, mut pass) = alone(&rt, rt.alloc());
+    hear(&rt, &node, &mut pass, (B, 1, Status::Alive));
+    hear(&rt, &node, &mut pass, (C, 1, Status::Alive));
+    hear(&rt, &node, &mut pass, (D, 1, Status::Alive));
+    check_rounds(&rt, rt.alloc(), &node, &mut pass);
+    let_go(node, pass);
+}

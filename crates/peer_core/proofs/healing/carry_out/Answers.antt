@@ -1,0 +1,9 @@
+use Rattle.peer_core.proofs.Healed.{named_choice}
+use Rattle.peer_core.proofs.Parts.{does_next, does_stop_at}
+use Rattle.peer_core.proofs.healing.carry_out.Goals as goal
+
+pub returns-in_err-meet_chosen-clause-did : goal.returns-in_err-meet_chosen-clause-did
+returns-in_err-meet_chosen-clause-did g c = does_stop_at _ _ _ c.from_residual.result c.from_residual.ensures.1 c.in_err-meet_chosen.ensures.did
+
+pub returns-clause-did : goal.returns-clause-did
+returns-clause-did g c = does_next _ _ _ _ c.in_ok-meet_chosen.ensures.did c.join_chosen.ensures.did

@@ -1,0 +1,8 @@
+use Rattle.peer_core.proofs.Parts.{does_next, does_stop_at}
+use Rattle.peer_core.proofs.meeting.take_and_correct.Goals as goal
+
+pub returns-in_err-take_joined-clause-did : goal.returns-in_err-take_joined-clause-did
+returns-in_err-take_joined-clause-did g c = does_stop_at _ _ _ c.from_residual.result c.from_residual.ensures.1 c.in_err-take_joined.ensures.did
+
+pub returns-clause-did : goal.returns-clause-did
+returns-clause-did g c = does_next _ _ _ _ c.in_ok-take_joined.ensures.did c.correct.ensures.did

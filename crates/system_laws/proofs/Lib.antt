@@ -1,0 +1,5 @@
+mod Sharing
+mod Reading
+mod Closing
+mod Completing
+mod Scripting

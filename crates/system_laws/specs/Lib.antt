@@ -1,0 +1,5 @@
+pub mod Sharing
+pub mod Reading
+pub mod Closing
+pub mod Completeness
+pub mod Scripts

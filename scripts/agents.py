@@ -1,0 +1,138 @@
+"""Agents with applications, each in a process of its own, and what scripts ask of them."""
+import contextlib
+import http.client
+import json
+import subprocess
+import threading
+import time
+from urllib.parse import quote
+
+from nodes import ROOT, Wrong, address
+
+# within how many seconds an agent says that it is well
+PATIENCE = 30
+
+
+class Agent:
+    """An agent with an application."""
+
+    def __init__(self, program, port, hosts, app=("python3", str(ROOT / "examples" / "app.py")), log=None):
+        self.program, self.port, self.hosts, self.log = program, port, hosts, log
+        self.own, self.http, self.app = address(port), address(port + 100), address(port + 200)
+        self.application = subprocess.Popen([*app, str(port + 200)], stderr=subprocess.DEVNULL)
+        self.start()
+
+    def start(self):
+        self.process = subprocess.Popen(
+            [self.program, "agent", "--http", self.http, "--app", self.app, self.own, *map(address, self.hosts)],
+            stdout=subprocess.DEVNULL, stderr=self.log or subprocess.DEVNULL)
+
+    def ask(self, method, path, body=None):
+        """The status and the text of an answer."""
+        with contextlib.closing(http.client.HTTPConnection(self.http, timeout=60)) as link:
+            link.request(method, path, body)
+            answer = link.getresponse()
+            return answer.status, answer.read().decode()
+
+    def is_well(self):
+        with contextlib.suppress(OSError, http.client.HTTPException):
+            return self.ask("GET", "/healthz")[0] == 200
+        return False
+
+    def members(self):
+        return {member["address"]: member["status"] for member in json.loads(self.ask("GET", "/members")[1])["members"]}
+
+    def end(self):
+        for process in (self.process, self.application):
+            process.kill()
+            process.wait()
+
+
+def wait_until(what, seconds, is_so):
+    """Waits until something is so."""
+    end = time.monotonic() + seconds
+    while not is_so():
+        if time.monotonic() > end:
+            raise Wrong(f"not {what} within {seconds} seconds")
+        time.sleep(0.05)
+
+
+def agree(agents):
+    """Whether all agents are well and hold the same members."""
+    return all(agent.is_well() for agent in agents) and len({agent.ask("GET", "/digest")[1] for agent in agents}) == 1
+
+
+class Load:
+    """Threads that ask for keys through agents, and check each answer."""
+
+    def __init__(self, agents, keys, threads=8, most=None):
+        self.agents, self.keys, self.most = agents, keys, most
+        self.lock, self.is_over = threading.Lock(), False
+        self.asked, self.answered, self.failed, self.wrong, self.lost, self.longest = 0, 0, {}, [], {}, 0.0
+        self.threads = [threading.Thread(target=self.work, args=(number,), daemon=True) for number in range(threads)]
+        for thread in self.threads:
+            thread.start()
+
+    def take(self):
+        with self.lock:
+            if self.is_over or self.asked == self.most:
+                return None
+            self.asked += 1
+            return self.asked
+
+    def one(self, link, agent, number):
+        """Asks once; whether the connection may be used again."""
+        key, body = self.keys[number % len(self.keys)], f"b{number}"
+        start = time.monotonic()
+        link.request("POST", "/keys/" + quote(key, safe=""), body.encode())
+        answer = link.getresponse()
+        text, owner = answer.read().decode(), answer.headers.get("x-ringpop-owner")
+        with self.lock:
+            self.longest = max(self.longest, time.monotonic() - start)
+            if answer.status == 200:
+                self.answered += 1
+                if not text.startswith(f"{key}: ") or not text.endswith(f" {body}") or not self.is_owner(key, owner):
+                    self.wrong.append((agent.own, key, owner, text))
+            else:
+                self.failed[answer.status] = self.failed.get(answer.status, 0) + 1
+        return answer.headers.get("connection") != "close"
+
+    def is_owner(self, key, owner):
+        return owner is not None
+
+    def work(self, first):
+        link, agent, at = None, None, first
+        while (number := self.take()) is not None:
+            for _ in range(20):
+                try:
+                    if link is None:
+                        at += 1
+                        agent = self.agents[at % len(self.agents)]
+                        link = http.client.HTTPConnection(agent.http, timeout=60)
+                        link.connect()
+                    break
+                except OSError:
+                    link = None
+                    time.sleep(0.05)
+            if link is None:
+                continue
+            try:
+                if not self.one(link, agent, number):
+                    link = None
+            except (OSError, http.client.HTTPException):
+                with self.lock:
+                    self.lost[agent.own] = self.lost.get(agent.own, 0) + 1
+                link = None
+
+    def end(self):
+        if self.most is None:
+            with self.lock:
+                self.is_over = True
+        for thread in self.threads:
+            thread.join()
+        if self.wrong:
+            raise Wrong(f"{len(self.wrong)} wrong answers, the first {self.wrong[0]}")
+        return self
+
+    def __str__(self):
+        return f"{self.answered} answered, failed {self.failed}, lost {self.lost}, the longest {self.longest:.2f} s"

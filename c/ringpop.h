@@ -182,7 +182,7 @@ static inline const char *ringpop_code_text(uint32_t code) {
     case RINGPOP_BAD_FIELD: return "a field is bad";
     case RINGPOP_TOO_MANY: return "too many changes or keys";
     case RINGPOP_NOT_GOSSIP: return "no message of the membership";
-    case RINGPOP_UNANSWERED: return "taken, and the answer found no memory";
+    case RINGPOP_UNANSWERED: return "applied, but out of memory for the answer";
     case RINGPOP_SUSPECTED: return "the probe has ended against its target";
     case RINGPOP_WAITING: return "another helper has not answered";
     case RINGPOP_INCONCLUSIVE: return "every helper failed";

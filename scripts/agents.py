@@ -2,6 +2,7 @@
 import contextlib
 import http.client
 import json
+import pathlib
 import subprocess
 import threading
 import time
@@ -16,15 +17,19 @@ PATIENCE = 30
 class Agent:
     """An agent with an application."""
 
-    def __init__(self, program, port, hosts, app=("python3", str(ROOT / "examples" / "app.py")), log=None):
-        self.program, self.port, self.hosts, self.log = program, port, hosts, log
+    def __init__(self, program, port, hosts, app=("python3", str(ROOT / "examples" / "app.py")), log=None, more=()):
+        self.program, self.port, self.hosts, self.log, self.more = program, port, hosts, log, more
         self.own, self.http, self.app = address(port), address(port + 100), address(port + 200)
-        self.application = subprocess.Popen([*app, str(port + 200)], stderr=subprocess.DEVNULL)
+        self.words = [*app, str(port + 200)]
+        self.start_application()
         self.start()
+
+    def start_application(self):
+        self.application = subprocess.Popen(self.words, stderr=subprocess.DEVNULL)
 
     def start(self):
         self.process = subprocess.Popen(
-            [self.program, "agent", "--http", self.http, "--app", self.app, self.own, *map(address, self.hosts)],
+            [self.program, "agent", *self.more, "--http", self.http, "--app", self.app, self.own, *map(address, self.hosts)],
             stdout=subprocess.DEVNULL, stderr=self.log or subprocess.DEVNULL)
 
     def ask(self, method, path, body=None):
@@ -41,6 +46,20 @@ class Agent:
 
     def members(self):
         return {member["address"]: member["status"] for member in json.loads(self.ask("GET", "/members")[1])["members"]}
+
+    def held(self):
+        """How much memory in KiB, how many descriptors and how many threads it has."""
+        process = pathlib.Path(f"/proc/{self.process.pid}")
+        told = dict(line.split(":", 1) for line in (process / "status").read_text().splitlines())
+        return int(told["VmRSS"].split()[0]), len(list((process / "fd").iterdir())), int(told["Threads"])
+
+    def held_at_rest(self):
+        """The least of what it holds within two seconds."""
+        looks = []
+        for _ in range(20):
+            looks.append(self.held())
+            time.sleep(0.1)
+        return tuple(map(min, zip(*looks)))
 
     def end(self):
         for process in (self.process, self.application):

@@ -1,5 +1,5 @@
-/* Preloaded into a test program: makes its Nth allocation fail, N being FAIL_ALLOC, and none if that is absent.
-   If FAIL_ALLOC_COUNT names a file, the number of allocations is written to it at the end. */
+/* Preloaded into a program: makes its Nth allocation fail, N being FAIL_ALLOC, and none if that is absent; with FAIL_ALLOC_LENGTH = L the
+   L allocations from the Nth on. If FAIL_ALLOC_COUNT names a file, the number of allocations is written to it at the end. */
 #define _GNU_SOURCE
 #include <errno.h>
 #include <stdatomic.h>
@@ -12,15 +12,23 @@ void *__libc_malloc(size_t size);
 void *__libc_realloc(void *from, size_t size);
 
 static atomic_ulong count;
-static unsigned long failing;
+static unsigned long failing, length;
+
+static unsigned long number_of(const char *name, unsigned long other) {
+    const char *word = getenv(name);
+    return word ? strtoul(word, NULL, 10) : other;
+}
 
 __attribute__((constructor)) static void start(void) {
-    const char *word = getenv("FAIL_ALLOC");
-    failing = word ? strtoul(word, NULL, 10) : 0;
+    failing = number_of("FAIL_ALLOC", 0);
+    length = number_of("FAIL_ALLOC_LENGTH", 1);
     atomic_store(&count, 0);
 }
 
-static int fails(void) { return atomic_fetch_add(&count, 1) + 1 == failing; }
+static int fails(void) {
+    unsigned long number = atomic_fetch_add(&count, 1) + 1;
+    return failing && number >= failing && number - failing < length;
+}
 
 void *malloc(size_t size) {
     if (fails()) {

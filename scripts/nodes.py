@@ -19,6 +19,8 @@ NOBODY = "e3b0c44298fc1c149afbf4c8996fb92427ae41e4649b934ca495991b7852b855"
 MOST = 1_000_000
 # within how many seconds a node prints that it serves
 PATIENCE = 30
+# a busy machine can miss a node's limit for a line, half a second: what took nearly as long is tried again, this often at most
+LIMIT, TRIES = 0.4, 10
 
 
 class Wrong(Exception):
@@ -129,6 +131,16 @@ def rest(stream):
             came += more
     except ConnectionResetError:
         pass
+    return came
+
+
+def in_time(attempt, is_right):
+    """What an attempt gives. One that is not right is made again only if it took as long as the limit of a line."""
+    for _ in range(TRIES):
+        begun = time.monotonic()
+        came = attempt()
+        if is_right(came) or time.monotonic() - begun < LIMIT:
+            break
     return came
 
 

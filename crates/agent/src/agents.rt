@@ -2,9 +2,9 @@
 use crate::applications::Application;
 use crate::callers::{Caller, Passes};
 use crate::counters::{Count, Counters};
+use crate::journals::Journal;
 use crate::systems::Host;
 use change_core::{Address, Moment};
-use log::sink::Console;
 use log::{LevelFilter, Logged};
 use server::{ServerClock, Stopwatch, Timeouts};
 use std::sync::Mutex;
@@ -60,6 +60,10 @@ pub struct Agent<R> {
     pub counters: Counters,
     /// The number of HTTP requests that are being answered.
     pub busy: Count,
+    /// The number of them that wait for a key's owner.
+    pub waiting: Count,
+    /// The number of HTTP connections that are served.
+    pub connections: Count,
     pub has_joined: Flag,
     pub has_left: Flag,
     /// Whether the node has left and the agent is to end.
@@ -77,8 +81,8 @@ impl<R: Host> Agent<R> {
     }
 
     /// Returns the log, which prints to standard error what is at most at the agent's level.
-    pub fn log(&self) -> Logged<R, Console<R>> {
-        Logged::new(self.rt, self.level, Console(self.rt))
+    pub fn log(&self) -> Logged<R, Journal<R>> {
+        Journal::new(self.rt, self.own).at(self.level)
     }
 
     /// Returns the clock by which requests are tried again.

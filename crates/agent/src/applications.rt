@@ -1,11 +1,14 @@
 //! The application, which answers the requests of the keys that this node owns.
+use crate::agents::Flag;
 use crate::counters::Count;
 use crate::exchanges::{Answer, Outcome, exchange};
+use crate::journals::Journal;
 use crate::systems::Host;
 use agent_core::{GREATEST_STATUS, LEAST_STATUS, LONGEST_BODY, Refusal, pack};
 use change_core::Address;
 use cluster_core::{Deadline, Timed, socket_address};
 use http1::{Client, Limits};
+use log::{Logged, info, warn};
 use message_core::{Keys, Text, WireError};
 use peer_core::{Handler, HandlerFault};
 use std::alloc::Global;
@@ -32,10 +35,15 @@ struct Kept {
 #[derive(Drop)]
 pub struct Application<R> {
     rt: R,
+    log: Logged<R, Journal<R>>,
     own: Address,
     at: Option<Address>,
     /// The number of requests that were to be handled here.
     pub handled: Count,
+    /// The number of them that the program did not answer.
+    pub failures: Count,
+    /// Whether it did not answer the last request.
+    is_failing: Flag,
     kept: Mutex<Vec<Kept>>,
 }
 
@@ -67,12 +75,21 @@ fn packed(alloc: Global, status: u16, is_json: bool, body: &[u8]) -> Result<Text
 
 impl<R: Host> Application<R> {
     /// Makes the application at an address; without one, the echo of the node at its own address.
-    pub fn new(rt: R, alloc: Global, own: Address, at: Option<Address>) -> Self {
+    pub fn new(
+        rt: R,
+        alloc: Global,
+        log: Logged<R, Journal<R>>,
+        own: Address,
+        at: Option<Address>,
+    ) -> Self {
         Application {
             rt,
+            log,
             own,
             at,
             handled: Count::new(),
+            failures: Count::new(),
+            is_failing: Flag::new(false),
             kept: Mutex::new(Vec::new(alloc)),
         }
     }
@@ -152,6 +169,23 @@ impl<R: Host> Application<R> {
         }
     }
 
+    /// Notes that the application answered, and logs it if the request before had no answer.
+    fn note_answer(&self, at: Address) {
+        if self.is_failing.get() {
+            self.is_failing.set(false);
+            info!(self.log; "the application at {at} answers again");
+        }
+    }
+
+    /// Counts a request that the application did not answer, and logs it if the request before had an answer.
+    fn note_failure(&self, at: Address) {
+        self.failures.add(1);
+        if !self.is_failing.get() {
+            self.is_failing.set(true);
+            warn!(self.log; "the application at {at} does not answer");
+        }
+    }
+
     fn echo(&self, alloc: Global, body: &str) -> Result<Text, HandlerFault> {
         let own = self.own;
         match format!(in alloc; "{own} {body}") {
@@ -178,8 +212,15 @@ impl<R: Host> Handler for Application<R> {
         };
         let key = keys.get(0).ok_or(HandlerFault::Failed)?;
         match self.ask(alloc, at, key.as_str(), body.as_str()) {
-            Some(answer) => packed(alloc, answer.status, answer.is_json, answer.body.as_slice()),
-            None => Err(HandlerFault::Failed),
+            Some(answer) => {
+                self.note_answer(at);
+                packed(alloc, answer.status, answer.is_json, answer.body.as_slice())
+            }
+            // (a Reply and no error, so that the asking node does not try again)
+            None => {
+                self.note_failure(at);
+                refused(alloc, Refusal::ApplicationFailed)
+            }
         }
     }
 }

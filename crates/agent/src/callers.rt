@@ -4,6 +4,7 @@ ghost use Rattle.std.specs.Arc.{arc_value};
 ghost use Rattle.std.specs.List.{All};
 ghost use Rattle.locked_node.specs.Passes.{Fits};
 ghost use Rattle.peer_core.specs.Parts.{Does};
+ghost use Rattle.peer_core.specs.Correcting.{IsCorrectingRound};
 ghost use Rattle.peer_core.specs.Rounds.{IsRound};
 
 use change_core::{Address, Change, Digest, Entry, Moment};
@@ -12,7 +13,8 @@ use locked_node::{LockedNode, NodePass};
 use message_core::{Keys, Text};
 use node_core::{ChangeList, View};
 use peer_core::{
-    Clock, ClusterError, Handler, Healing, Link, Round, gossip_round, handle_or_forward, heal, join,
+    Clock, ClusterError, Handler, Healing, Link, Round, correcting_round, gossip_round,
+    handle_or_forward, heal, join,
 };
 use server::{Input, respond};
 use std::alloc::Global;
@@ -77,6 +79,33 @@ impl Caller {
         ensures did { Does self.old.node (IsRound L.may_answer now) result self.old.pass self.new.pass }
     {
         let round = gossip_round(rt, alloc, &*self.node, &mut self.pass, link, now);
+        self.is_spent |= tells_spent(&round);
+        round
+    }
+
+    /// Makes one round of gossip that corrects its target, and returns how it ended. It is [`correcting_round`].
+    ///
+    /// # Errors
+    ///
+    /// The effect of the calls before stays.
+    ///
+    /// - `ForeignPass`: the pass has another node's name.
+    /// - `PassSpent`: the pass has made all its calls.
+    /// - `Memory`: out of memory, here or in the link.
+    /// - `Busy`: a probe still runs after the one that ran was completed.
+    /// - `Spent`: no probe number is left.
+    /// - `StaleProbe`, `NotAsked`: another pass ended the probe, or answered for its helper, in the meantime.
+    pub fn correcting_round<R: Wait, L: Link>(
+        &mut self,
+        rt: &R,
+        alloc: Global,
+        link: &mut L,
+        now: Moment,
+    ) -> Result<Round, ClusterError>
+        ensures node { self.new.node ≡ self.old.node }
+        ensures did { Does self.old.node (IsCorrectingRound L.may_answer now) result self.old.pass self.new.pass }
+    {
+        let round = correcting_round(rt, alloc, &*self.node, &mut self.pass, link, now);
         self.is_spent |= tells_spent(&round);
         round
     }

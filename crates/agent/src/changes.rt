@@ -11,13 +11,19 @@ fn log_new<R: Log>(rt: &R, change: &Change) {
     info!(rt; "{address} is new: {status}, incarnation {incarnation}");
 }
 
-/// Logs how the node's own entry changed: it left, it came back, or it raised its incarnation since others held it as
-/// suspect or faulty.
+/// The most by which refutations raise the node's incarnation between two rounds: each raises it by 1.
+const MOST_RAISED: u64 = 10;
+
+/// Logs how the node's own entry changed: it left, it came back, or its incarnation was raised. A refutation raises it by 1
+/// since others held the node as suspect or faulty. If it was raised by much more, others hold the node at an incarnation
+/// that this one has not stated.
 fn log_own<R: Log>(rt: &R, before: &Change, after: &Change) {
     let incarnation = after.incarnation.number();
     match (before.status, after.status) {
         (_, Status::Leave) => info!(rt; "this node has left, incarnation {incarnation}"),
         (Status::Leave, _) => info!(rt; "this node is back, incarnation {incarnation}"),
+        _ if incarnation.saturating_sub(before.incarnation.number()) > MOST_RAISED =>
+            warn!(rt; "another node has this address, or the clock went back: others hold incarnation {incarnation}"),
         _ =>
             warn!(rt; "refuted: others held this node as suspect or faulty; incarnation {incarnation}"),
     }
@@ -39,6 +45,22 @@ fn log_other<R: Log>(rt: &R, before: &Change, after: &Change, is_silent: bool) {
         Status::Suspect => warn!(rt; "{address} is suspect, was {was}: another node says so"),
         Status::Faulty | Status::Tombstone => warn!(rt; "{address} is {status}, was {was}"),
     }
+}
+
+/// Returns the entry of an address among members.
+fn entry_of<'a>(members: &'a [Change], address: &Address) -> Option<&'a Change> {
+    members.iter().find(|change| change.address == *address)
+}
+
+/// Returns whether the node's own entry changed from one list of members to a later one though the node neither left nor
+/// came back.
+pub fn is_refuted(own: &Address, before: &[Change], after: &[Change]) -> bool {
+    let (Some(before), Some(after)) = (entry_of(before, own), entry_of(after, own)) else {
+        return false;
+    };
+    before.incarnation != after.incarnation
+        && before.status != Status::Leave
+        && after.status != Status::Leave
 }
 
 /// Returns whether a round found that an address does not answer.

@@ -13,6 +13,15 @@ impl Count {
         Count(AtomicU64::new(0))
     }
 
+    /// Adds 1 to the count unless it is this number or more. Returns whether it was added.
+    pub fn add_below(&self, most: u64) -> bool {
+        if self.0.fetch_add(1, Ordering::SeqCst) < most {
+            return true;
+        }
+        self.subtract(1);
+        false
+    }
+
     /// Adds to the count.
     pub fn add(&self, more: u64) {
         self.0.fetch_add(more, Ordering::SeqCst);
@@ -105,9 +114,9 @@ impl Counters {
         }
     }
 
-    /// Returns the counts, with this number of requests that were to be handled here. The full synchronizations are 0, since
-    /// an agent does not count them.
-    pub fn counts(&self, handled: u64) -> Counts {
+    /// Returns the counts, with these numbers of requests that were to be handled here, and that the application did not
+    /// answer.
+    pub fn counts(&self, handled: u64, application_failures: u64) -> Counts {
         let mut buckets = [0; BUCKETS];
         for (place, count) in buckets.iter_mut().zip(self.buckets.iter()) {
             *place = count.get();
@@ -123,7 +132,7 @@ impl Counters {
             inconclusive: self.inconclusive.get(),
             idle: self.idle.get(),
             broken: self.broken.get(),
-            full_syncs: 0,
+            application_failures,
             link_failures: self.link_failures.get(),
             allocation_failures: self.allocation_failures.get(),
             micros: self.micros.get(),

@@ -4,9 +4,7 @@ use crate::callers::Caller;
 use crate::links::{NotedHandler, NotedLink};
 use crate::responses::{Reply, put_refusal, put_reply};
 use crate::systems::Host;
-use agent_core::{
-    Action, LONGEST_BODY, Refusal, digest_line, members_text, metrics_text, owners_text, route,
-};
+use agent_core::{Action, Refusal, digest_line, members_text, metrics_text, owners_text, route};
 use bytes::Bytes;
 use change_core::{Address, Change, Digest, MAX_MEMBERS};
 use cluster_core::{Deadline, Timed};
@@ -23,8 +21,22 @@ use std::sync::atomic::{AtomicBool, Ordering};
 use std::thread;
 use std::time::{Duration, Instant};
 
+/// The number of threads that answer HTTP, each one connection at a time.
+pub const FRONTS: u32 = 128;
+
+/// The most requests that wait for a key's owner at a time, and the most connections that are kept open between requests.
+/// The other threads answer what needs no wait.
+const MOST_WAITING: u64 = 112;
+
+/// The most bytes in a request's body that are read. One that is longer than 131,072 is refused with a line of text, and
+/// one that is longer than this by the HTTP server, which sends no text.
+const LONGEST_READ: usize = 1_048_576;
+
 /// The most milliseconds from one answer of a connection to the end of its next request.
 const IDLE: u64 = 30_000;
+
+/// That limit for connections that come while the most that are kept open are served.
+const SHORT_IDLE: u64 = 2_000;
 
 /// The most milliseconds that the client may take to receive an answer.
 const TAKEN: u64 = 5_000;
@@ -69,8 +81,18 @@ struct Front<'f, 'a, R> {
 }
 
 impl<'f, 'a, R: Host> Front<'f, 'a, R> {
-    /// Has the owner of a key answer a request, and returns the answer and the owner.
+    /// Has the owner of a key answer a request, unless too many wait already. Returns the answer and the owner.
     fn handle(&mut self, key: Text, body: Text) -> Result<Reply, Refusal> {
+        if !self.agent.waiting.add_below(MOST_WAITING) {
+            return Err(Refusal::Busy);
+        }
+        let reply = self.ask_owner(key, body);
+        self.agent.waiting.subtract(1);
+        reply
+    }
+
+    /// Has the owner of a key answer a request, and returns the answer and the owner.
+    fn ask_owner(&mut self, key: Text, body: Text) -> Result<Reply, Refusal> {
         let agent = self.agent;
         let keys = Keys::new(self.alloc, key).map_err(|_| Refusal::Memory)?;
         let handler = NotedHandler {
@@ -130,10 +152,11 @@ impl<'f, 'a, R: Host> Front<'f, 'a, R> {
     /// Returns the counts, with the members by status.
     fn metrics(&mut self) -> Result<Reply, Refusal> {
         let members = self.caller.members(&self.agent.rt).map_err(refusal_of)?;
+        let application = &self.agent.application;
         let counts = self
             .agent
             .counters
-            .counts(self.agent.application.handled.get());
+            .counts(application.handled.get(), application.failures.get());
         match metrics_text(self.alloc, &counts, members.as_slice()) {
             Ok(text) => Ok(Reply::Text(text)),
             Err(_) => Err(Refusal::Memory),
@@ -245,7 +268,7 @@ impl<'f, 'a, R: Host> Front<'f, 'a, R> {
         if matches!(&reply, Err(Refusal::Memory)) {
             self.agent.counters.allocation_failures.add(1);
         }
-        let closes = self.agent.is_stopping.get();
+        let closes = self.agent.is_stopping.get() || is_crowded(self.agent);
         match &reply {
             Ok(reply) => put_reply(self.alloc, response, reply, closes),
             Err(refusal) => put_refusal(self.alloc, response, *refusal, closes),
@@ -272,6 +295,16 @@ impl<'f, 'a, R: Host> Service for Front<'f, 'a, R> {
     }
 }
 
+/// Returns whether each connection is closed after its next answer, so that others are served: more than 112 are.
+fn is_crowded<R: Host>(agent: &Agent<R>) -> bool {
+    agent.connections.get() > MOST_WAITING
+}
+
+/// Returns the most milliseconds that a connection may take for its next request.
+fn idle<R: Host>(agent: &Agent<R>) -> u64 {
+    if is_crowded(agent) { SHORT_IDLE } else { IDLE }
+}
+
 /// Returns the deadline of a connection this many milliseconds from now.
 fn limit<R: Host>(agent: &Agent<R>, millis: u64) -> Option<Deadline<'_, R>> {
     Deadline::after(&agent.rt, Duration::from_millis(millis)).ok()
@@ -286,11 +319,11 @@ fn serve_connection<R: Host>(
     let agent = front.agent;
     let _set = stream.set_nodelay(true);
     let config = Config {
-        max_body_len: LONGEST_BODY,
+        max_body_len: LONGEST_READ,
         ..Config::default()
     };
     let mut connection = Connection::new(front.alloc, keys, config);
-    let mut stream = Timed::new(stream, limit(agent, IDLE)?);
+    let mut stream = Timed::new(stream, limit(agent, idle(agent))?);
     let mut writes = false;
     for _ in agent.rt.forever() {
         connection.advance(front);
@@ -299,7 +332,7 @@ fn serve_connection<R: Host>(
         }
         let wants = connection.wants_write();
         if wants != writes {
-            stream = stream.until(limit(agent, if wants { TAKEN } else { IDLE })?);
+            stream = stream.until(limit(agent, if wants { TAKEN } else { idle(agent) })?);
             writes = wants;
         }
         if !wants {
@@ -332,7 +365,9 @@ pub fn serve_http<R: Host>(
             caller: &mut caller,
             link: &mut link,
         };
+        agent.connections.add(1);
         let _served = serve_connection(&mut front, keys, stream);
+        agent.connections.subtract(1);
         agent.renew(&mut caller);
     }
 }

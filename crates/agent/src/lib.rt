@@ -11,6 +11,7 @@ mod errors;
 mod exchanges;
 mod fronts;
 mod hands;
+mod journals;
 mod links;
 mod peers;
 mod responses;

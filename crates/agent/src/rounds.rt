@@ -1,10 +1,11 @@
 //! Rounds of gossip, joins, and the last rounds before the end.
 use crate::agents::Agent;
 use crate::callers::Caller;
-use crate::changes::log_changes;
+use crate::changes::{is_refuted, log_changes};
 use crate::links::NotedLink;
 use crate::systems::Host;
-use change_core::{Address, Digest, Moment};
+use agent_core::{Refutations, are_many_addresses};
+use change_core::{Address, Change, Digest, MAX_MEMBERS, Moment};
 use log::{info, warn};
 use node_core::ChangeList;
 use peer_core::{ClusterError, Healing, Round};
@@ -36,6 +37,7 @@ struct Rounds<'a, R> {
     /// The members at the last logged change, or at first, and their digest.
     members: Option<ChangeList>,
     digest: Option<Digest>,
+    refutations: Refutations,
 }
 
 /// Joins by a host. Returns whether the host answered.
@@ -79,38 +81,56 @@ pub fn join_hosts<R: Host>(
 }
 
 impl<'a, R: Host> Rounds<'a, R> {
-    /// Logs how the members changed since they were last logged; `round` is the last round.
-    fn log(&mut self, round: &Result<Round, ClusterError>) {
-        let rt = &self.agent.rt;
-        let Ok(digest) = self.caller.digest(rt) else {
-            return;
+    /// Logs how the members changed since they were last logged; `round` is the last round. Returns whether this node's own
+    /// entry was refuted.
+    fn log_members(&mut self, round: &Result<Round, ClusterError>) -> bool {
+        let agent = self.agent;
+        let Ok(digest) = self.caller.digest(&agent.rt) else {
+            return false;
         };
         if self.digest == Some(digest) {
-            return;
+            return false;
         }
-        let Ok(members) = self.caller.members(rt) else {
-            return;
+        let Ok(members) = self.caller.members(&agent.rt) else {
+            return false;
         };
+        let after = members.as_slice();
+        let mut is_own = false;
+        let mut used = 0;
         if let Some(before) = &self.members {
-            log_changes(
-                &self.agent.log(),
-                &self.agent.own,
-                before.as_slice(),
-                members.as_slice(),
-                round,
-            );
+            let before = before.as_slice();
+            log_changes(&agent.log(), &agent.own, before, after, round);
+            is_own = is_refuted(&agent.own, before, after);
+            used = before.len();
         }
+        self.warn_of_addresses(used, after);
         self.members = Some(members);
         self.digest = Some(digest);
+        is_own
+    }
+
+    /// Warns if many of the addresses that there can be are used; `before` is how many were.
+    fn warn_of_addresses(&self, before: usize, members: &[Change]) {
+        let used = members.len();
+        if are_many_addresses(before, used) {
+            warn!(self.agent.log(); "{used} of {MAX_MEMBERS} addresses are used: later ones will not be admitted");
+        }
+    }
+
+    /// Logs how the members changed, and whether this node's own entry is refuted again and again.
+    fn log(&mut self, round: &Result<Round, ClusterError>) {
+        let is_refuted = self.log_members(round);
+        if self.refutations.note(is_refuted) {
+            let own = self.agent.own;
+            warn!(self.agent.log(); "refuted again and again: no node reaches {own}, or another has this address");
+        }
     }
 
     /// Makes one round of gossip, counts it, and logs its error and how the members changed.
     fn make(&mut self) {
         let agent = self.agent;
         let now = agent.now();
-        let round = self
-            .caller
-            .round(&agent.rt, self.alloc, &mut self.link, now);
+        let round = self.gossip(now);
         agent.counters.add_round(&round);
         if let Err(error) = &round {
             warn!(agent.log(); "a round failed: {error}");
@@ -134,6 +154,16 @@ impl<'a, R: Host> Rounds<'a, R> {
             warn!(agent.log(); "healing failed: {error}");
         }
         agent.renew(&mut self.caller);
+    }
+
+    /// Makes one round of gossip, which corrects its target unless the node has left.
+    fn gossip(&mut self, now: Moment) -> Result<Round, ClusterError> {
+        let (agent, link) = (self.agent, &mut self.link);
+        if agent.has_left.get() {
+            return self.caller.round(&agent.rt, self.alloc, link, now);
+        }
+        self.caller
+            .correcting_round(&agent.rt, self.alloc, link, now)
     }
 
     /// Joins the hosts if their turn has come and the node has not left.
@@ -174,6 +204,7 @@ pub fn make_rounds<R: Host>(
         until_join: BETWEEN_FIRST_JOINS.checked_div(period).unwrap_or(0),
         members: None,
         digest: None,
+        refutations: Refutations::new(),
     };
     let mut last: u64 = 0;
     for _ in agent.rt.forever() {

@@ -9,8 +9,9 @@ use crate::applications::Application;
 use crate::callers::{Caller, Passes};
 use crate::counters::{Count, Counters};
 use crate::errors::AgentError;
-use crate::fronts::serve_http;
+use crate::fronts::{FRONTS, serve_http};
 use crate::hands::serve_requests;
+use crate::journals::Journal;
 use crate::links::NotedLink;
 use crate::peers::{Job, serve_peers};
 use crate::rounds::{join_hosts, make_rounds};
@@ -35,9 +36,6 @@ use wire_json::write_line;
 
 /// The number of threads that read the lines of other nodes.
 const PEERS: u32 = 4;
-
-/// The most HTTP connections that are served at a time.
-const FRONTS: u32 = 64;
 
 /// The number of passes for threads, each for 4,294,967,295 calls.
 const PASSES: u32 = 1_023;
@@ -107,6 +105,12 @@ fn passes_of<R: System>(rt: &R, alloc: Global, settings: &Settings) -> Result<Pa
     Ok(Passes::new(Arc::new(alloc, node)?, passes))
 }
 
+/// Makes the application of the settings.
+fn application_of<R: System>(rt: &R, alloc: Global, settings: &Settings) -> Application<R> {
+    let log = Journal::new(*rt, settings.address).at(settings.level);
+    Application::new(*rt, alloc, log, settings.address, settings.app)
+}
+
 /// Makes the state that the threads of an agent share.
 fn agent_of<R: System>(
     rt: &R,
@@ -121,10 +125,12 @@ fn agent_of<R: System>(
         replicas: settings.replicas,
         stopwatch: Stopwatch::start(rt),
         timeouts: Timeouts::standard(),
-        application: Application::new(*rt, alloc, settings.address, settings.app),
+        application: application_of(rt, alloc, settings),
         passes: Mutex::new(passes),
         counters: Counters::new(),
         busy: Count::new(),
+        waiting: Count::new(),
+        connections: Count::new(),
         has_joined: Flag::new(settings.hosts.is_empty()),
         has_left: Flag::new(false),
         is_stopping: Flag::new(false),

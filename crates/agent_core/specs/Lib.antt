@@ -3,3 +3,4 @@ pub mod Refusals
 pub mod Packs
 pub mod Texts
 pub mod Metrics
+pub mod Warnings

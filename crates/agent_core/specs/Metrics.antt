@@ -46,10 +46,10 @@ status_samples members =
 -- the number of addresses used, and the most that there can be
 abbrev pub address_samples : ℕ → List ℕ
 address_samples addresses =
-    line (codes "# TYPE ringpop_addresses gauge")
-    ++ sample (codes "ringpop_addresses") addresses
-    ++ line (codes "# TYPE ringpop_addresses_limit gauge")
-    ++ sample (codes "ringpop_addresses_limit") most_members
+    line (codes "# TYPE ringpop_addresses_used gauge")
+    ++ sample (codes "ringpop_addresses_used") addresses
+    ++ line (codes "# TYPE ringpop_addresses_max gauge")
+    ++ sample (codes "ringpop_addresses_max") most_members
 
 -- the numbers of requests: by outcome, handled here, and sent to another node
 abbrev pub request_samples : Counts → List ℕ
@@ -99,11 +99,11 @@ round_samples counts =
     ++ sample (codes "ringpop_rounds_total{outcome=\"inconclusive\"}") counts.inconclusive
     ++ sample (codes "ringpop_rounds_total{outcome=\"error\"}") counts.broken
 
--- the number of full synchronizations and of failures
+-- the numbers of failures: of the application, of links, and of allocations
 abbrev pub other_samples : Counts → List ℕ
 other_samples counts =
-    line (codes "# TYPE ringpop_full_syncs_total counter")
-    ++ sample (codes "ringpop_full_syncs_total") counts.full_syncs
+    line (codes "# TYPE ringpop_application_failures_total counter")
+    ++ sample (codes "ringpop_application_failures_total") counts.application_failures
     ++ line (codes "# TYPE ringpop_link_failures_total counter")
     ++ sample (codes "ringpop_link_failures_total") counts.link_failures
     ++ line (codes "# TYPE ringpop_allocation_failures_total counter")

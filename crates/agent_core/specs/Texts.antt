@@ -1,5 +1,5 @@
 -- The JSON texts of members and owners, and the line of a digest.
-use Rattle.std.specs.Prelude.{ℕ, List, [], ◌∷◌, ◌++◌, map, codes, decimal}
+use Rattle.std.specs.Prelude.{ℕ, List, [], ◌∷◌, ◌++◌, map, codes, decimal, length}
 use Rattle.std.specs.List.{join_with_byte}
 use Rattle.change_core.specs.declared.changes.Change.{Change}
 use Rattle.change_core.specs.Address.{address_text}
@@ -24,14 +24,14 @@ member_text c =
 abbrev pub members_list : List Change → List ℕ
 members_list members = join_with_byte 44 (map member_text members)
 
--- the text before the members: the node's own address, the digest's digits, and the points for a unit of weight
-abbrev pub members_head : ℕ → List ℕ → ℕ → List ℕ
-members_head own digits replicas =
-    codes "{\"address\":\"" ++ (address_text own ++ (codes "\",\"digest\":\"" ++ (digits ++ (codes "\",\"replicas\":" ++ (decimal replicas ++ codes ",\"members\":[")))))
+-- the text before the members: the node's own address, the digest's digits, the points for a unit of weight, and how many addresses are used of 4,096
+abbrev pub members_head : ℕ → List ℕ → ℕ → ℕ → List ℕ
+members_head own digits replicas used =
+    codes "{\"address\":\"" ++ (address_text own ++ (codes "\",\"digest\":\"" ++ (digits ++ (codes "\",\"replicas\":" ++ (decimal replicas ++ (codes ",\"addresses_used\":" ++ (decimal used ++ codes ",\"addresses_max\":4096,\"members\":[")))))))
 
 -- that text, the members, and a newline
 abbrev pub members_text : ℕ → List ℕ → ℕ → List Change → List ℕ
-members_text own digest replicas members = members_head own (digest_digits digest) replicas ++ (members_list members ++ (codes "]}" ++ 10 ∷ []))
+members_text own digest replicas members = members_head own (digest_digits digest) replicas (length members) ++ (members_list members ++ (codes "]}" ++ 10 ∷ []))
 
 -- the digest in hexadecimal digits, and a newline
 abbrev pub digest_line : List ℕ → List ℕ

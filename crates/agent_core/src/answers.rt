@@ -1,5 +1,5 @@
 //! Answers over HTTP: a status, a kind of content and a body.
-ghost use Rattle.std.specs.Prelude.{◌≡◌};
+ghost use Rattle.std.specs.Prelude.{◌≡◌, ◌≤◌};
 ghost use Rattle.agent_core.specs.Refusals.{kind_name, line_of, status_of};
 
 use crate::pages::PAGE;
@@ -51,6 +51,7 @@ impl Answer<'static> {
     /// Makes the answer to a refused request: the refusal's status and its line of text.
     pub fn refused(refusal: Refusal) -> Self
         ensures status { result.status ≡ status_of refusal }
+        ensures range { (400 ≤ result.status) × (result.status ≤ 599) }
         ensures kind { result.kind ≡ Kind.Text }
         ensures body { result.body.now ≡ line_of refusal }
     {

@@ -1,6 +1,6 @@
 //! The core of an agent, a program that joins a cluster for an application in any language and serves HTTP: the action of
-//! a request, the application's answer as one text and back, and the texts of members, owners, counts and refusals. It
-//! performs no action itself.
+//! a request, the application's answer as one text and back, the texts of members, owners, counts and refusals, and what
+//! its log warns of. It performs no action itself.
 #![tactic(auto)]
 
 mod actions;
@@ -13,6 +13,7 @@ mod refusals;
 mod routes;
 mod texts;
 mod verbs;
+mod warnings;
 
 pub use actions::Action;
 pub use answers::{Answer, Kind};
@@ -23,3 +24,4 @@ pub use refusals::{Part, Refusal};
 pub use routes::{LONGEST_KEY, MOST_OWNERS, route};
 pub use texts::{digest_line, members_text, owners_text};
 pub use verbs::Verb;
+pub use warnings::{MANY_ADDRESSES, Refutations, are_many_addresses};

@@ -38,8 +38,8 @@ pub struct Counts {
     pub inconclusive: u64,
     /// Rounds that ended with an error other than out of memory.
     pub broken: u64,
-    /// Acks that carried all members.
-    pub full_syncs: u64,
+    /// Requests of keys that this node's application was given and did not answer.
+    pub application_failures: u64,
     /// Sends to another node that failed.
     pub link_failures: u64,
     /// Allocations that failed.
@@ -121,10 +121,10 @@ fn push_statuses(text: &mut String, members: &[Change]) -> Result<(), AllocError
 fn push_addresses(text: &mut String, addresses: usize) -> Result<(), AllocError>
     ensures { OnOk result (string_bytes text.new ≡ string_bytes text.old ++ address_samples addresses) }
 {
-    text.push_str("# TYPE ringpop_addresses gauge\n")?;
-    push_sample(text, "ringpop_addresses", addresses as u64)?;
-    text.push_str("# TYPE ringpop_addresses_limit gauge\n")?;
-    push_sample(text, "ringpop_addresses_limit", MAX_MEMBERS as u64)?;
+    text.push_str("# TYPE ringpop_addresses_used gauge\n")?;
+    push_sample(text, "ringpop_addresses_used", addresses as u64)?;
+    text.push_str("# TYPE ringpop_addresses_max gauge\n")?;
+    push_sample(text, "ringpop_addresses_max", MAX_MEMBERS as u64)?;
     Ok(())
 }
 
@@ -232,12 +232,16 @@ fn push_rounds(text: &mut String, counts: &Counts) -> Result<(), AllocError>
     Ok(())
 }
 
-/// Appends the number of full synchronizations and of failures.
+/// Appends the numbers of failures: of the application, of links, and of allocations.
 fn push_others(text: &mut String, counts: &Counts) -> Result<(), AllocError>
     ensures { OnOk result (string_bytes text.new ≡ string_bytes text.old ++ other_samples counts.now) }
 {
-    text.push_str("# TYPE ringpop_full_syncs_total counter\n")?;
-    push_sample(text, "ringpop_full_syncs_total", counts.full_syncs)?;
+    text.push_str("# TYPE ringpop_application_failures_total counter\n")?;
+    push_sample(
+        text,
+        "ringpop_application_failures_total",
+        counts.application_failures,
+    )?;
     text.push_str("# TYPE ringpop_link_failures_total counter\n")?;
     push_sample(text, "ringpop_link_failures_total", counts.link_failures)?;
     text.push_str("# TYPE ringpop_allocation_failures_total counter\n")?;

@@ -1,5 +1,5 @@
 //! An application's answer (its status, whether it is JSON, and its body) as the one text that a Reply carries.
-ghost use Rattle.std.specs.Prelude.{◌≡◌, ◌<◌, ◌≤◌, IfOk, IsOkUnless, OnSome, length, slice_index, string_bytes};
+ghost use Rattle.std.specs.Prelude.{◌≡◌, ◌<◌, ◌≤◌, IfOk, IfSome, IsOkUnless, OnSome, length, slice_index, string_bytes};
 ghost use Rattle.agent_core.specs.Packs.{front_of, is_marked, marked, packed, unpacked};
 
 use message_core::{Text, WireError};
@@ -66,6 +66,7 @@ pub fn pack(alloc: Global, status: u16, is_json: bool, body: &str) -> Result<Tex
 /// to 599 and space come first.
 fn front_of(text: &[u8]) -> Option<(u16, bool)>
     ensures front { result ≡ front_of text.now }
+    ensures range { IfSome result (λ r. (200 ≤ r.0) × (r.0 ≤ 599)) }
     ensures space { OnSome result ((4 < length text.now) × (slice_index text.now 4 ≡ 32)) }
 {
     match text {
@@ -90,6 +91,7 @@ fn front_of(text: &[u8]) -> Option<(u16, bool)>
 /// status and a space is the body of an answer with status 200 that is not JSON.
 pub fn unpack(text: &str) -> Packed<'_>
     ensures status { result.status ≡ (unpacked text.now).status }
+    ensures range { (200 ≤ result.status) × (result.status ≤ 599) }
     ensures is_json { result.is_json ≡ (unpacked text.now).is_json }
     ensures body { result.body.now ≡ (unpacked text.now).body }
 {

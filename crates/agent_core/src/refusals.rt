@@ -1,5 +1,5 @@
 //! The refusals of requests, and the status and the text of each.
-ghost use Rattle.std.specs.Prelude.{◌≡◌};
+ghost use Rattle.std.specs.Prelude.{◌≡◌, ◌≤◌};
 ghost use Rattle.agent_core.specs.Refusals.{line_of, status_of};
 
 use crate::verbs::Verb;
@@ -57,7 +57,8 @@ pub enum Refusal {
 impl Refusal {
     /// Returns the status code of HTTP (RFC 9110, section 15).
     pub fn status(self) -> u16
-        ensures { result ≡ status_of self }
+        ensures status { result ≡ status_of self }
+        ensures range { (400 ≤ result) × (result ≤ 599) }
     {
         match self {
             Refusal::Malformed(_) => 400,

@@ -53,9 +53,10 @@ fn push_members(text: &mut String, members: &[Change]) -> Result<(), AllocError>
     Ok(())
 }
 
-/// Returns `{"address":"10.0.0.1:7946","digest":"..","replicas":100,"members":[..]}` and a newline: the node's own
-/// address, the digest in 64 hexadecimal digits, the number of points on the ring for a unit of weight, and the members
-/// in their order, each with its address, status, incarnation and weight.
+/// Returns `{"address":"10.0.0.1:7946","digest":"..","replicas":100,"addresses_used":3,"addresses_max":4096,"members":[..]}`
+/// and a newline: the node's own address, the digest in 64 hexadecimal digits, the number of points on the ring for a unit
+/// of weight, how many addresses are used of those that there can be, and the members in their order, each with its
+/// address, status, incarnation and weight.
 ///
 /// # Errors
 ///
@@ -71,8 +72,9 @@ pub fn members_text(
 {
     let digits = DigestText::of(digest);
     let digits = digits.as_str();
+    let used = members.len();
     let mut text = format!(in alloc;
-        "{{\"address\":\"{own}\",\"digest\":\"{digits}\",\"replicas\":{replicas},\"members\":["
+        "{{\"address\":\"{own}\",\"digest\":\"{digits}\",\"replicas\":{replicas},\"addresses_used\":{used},\"addresses_max\":4096,\"members\":["
     )?;
     push_members(&mut text, members)?;
     text.push_str("]}\n")?;

@@ -28,3 +28,5 @@ mod refused;
 mod route_tests;
 #[cfg(test)]
 mod text_tests;
+#[cfg(test)]
+mod warning_tests;

@@ -50,7 +50,7 @@ fn writes_members_and_digests(rt: HostRuntime) {
         members_text(rt.alloc(), own, &digest, 100, &members)
     );
     let wanted =
-        "{\"address\":\"10.0.0.1:7946\",\"digest\":\"e3b0c44298fc1c149afbf4c8996fb92427ae41e4649b934ca495991b7852b855\",\"replicas\":100,\"members\":[{\"address\":\"10.0.0.1:7946\",\"status\":\"alive\",\"incarnation\":1790000000000,\"weight\":1},{\"address\":\"10.0.0.2:7946\",\"status\":\"tombstone\",\"incarnation\":0,\"weight\":8}]}\n";
+        "{\"address\":\"10.0.0.1:7946\",\"digest\":\"e3b0c44298fc1c149afbf4c8996fb92427ae41e4649b934ca495991b7852b855\",\"replicas\":100,\"addresses_used\":2,\"addresses_max\":4096,\"members\":[{\"address\":\"10.0.0.1:7946\",\"status\":\"alive\",\"incarnation\":1790000000000,\"weight\":1},{\"address\":\"10.0.0.2:7946\",\"status\":\"tombstone\",\"incarnation\":0,\"weight\":8}]}\n";
     assert!(rt; text.ok().expect(&rt, "a text").as_str() == wanted);
     let line = again!(&rt, AllocError, digest_line(rt.alloc(), &digest))
         .ok()
@@ -78,10 +78,10 @@ ringpop_members{status=\"suspect\"} 0
 ringpop_members{status=\"faulty\"} 1
 ringpop_members{status=\"leave\"} 0
 ringpop_members{status=\"tombstone\"} 0
-# TYPE ringpop_addresses gauge
-ringpop_addresses 3
-# TYPE ringpop_addresses_limit gauge
-ringpop_addresses_limit 4096
+# TYPE ringpop_addresses_used gauge
+ringpop_addresses_used 3
+# TYPE ringpop_addresses_max gauge
+ringpop_addresses_max 4096
 # TYPE ringpop_requests_total counter
 ringpop_requests_total{outcome=\"answered\"} 7
 ringpop_requests_total{outcome=\"refused\"} 2
@@ -109,8 +109,8 @@ ringpop_rounds_total{outcome=\"reached\"} 50
 ringpop_rounds_total{outcome=\"suspected\"} 2
 ringpop_rounds_total{outcome=\"inconclusive\"} 3
 ringpop_rounds_total{outcome=\"error\"} 0
-# TYPE ringpop_full_syncs_total counter
-ringpop_full_syncs_total 6
+# TYPE ringpop_application_failures_total counter
+ringpop_application_failures_total 6
 # TYPE ringpop_link_failures_total counter
 ringpop_link_failures_total 8
 # TYPE ringpop_allocation_failures_total counter
@@ -140,7 +140,7 @@ fn writes_metrics(rt: HostRuntime) {
         suspected: 2,
         inconclusive: 3,
         broken: 0,
-        full_syncs: 6,
+        application_failures: 6,
         link_failures: 8,
         allocation_failures: u64::MAX,
     };

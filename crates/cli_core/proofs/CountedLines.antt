@@ -14,8 +14,8 @@ read_failed : (lines : List (List ℕ)) → IsUnread lines Io
 read_failed [] = refl
 read_failed (line ∷ lines) = tt
 
-no_memory : (xs : List ℕ) → 0 < length (line_of xs) → IsUnread (lines_of xs) Memory
-no_memory xs h = let first = lines_of-first xs (some_from_line xs 0 h) in rw first tt
+out_of_memory : (xs : List ℕ) → 0 < length (line_of xs) → IsUnread (lines_of xs) Memory
+out_of_memory xs h = let first = lines_of-first xs (some_from_line xs 0 h) in rw first tt
 
 too_long : (xs : List ℕ) → max_line < length (line_of xs) → IsUnread (lines_of xs) LineTooLong
 too_long xs h = let first = lines_of-first xs (some_from_line xs max_line h) in rw first h
@@ -28,7 +28,7 @@ taken_known xs new (Ok None) t i = t.0
 taken_known xs new (Ok (Some v)) t i = (after_line xs, t.2, lines_of-first xs t.0 ∙ ap (λ l. l ∷ lines_of (after_line xs)) (sym t.1))
 taken_known xs new (Err e) t (inl q) = let long = rw q at t in rw q (too_long xs long.0)
 taken_known xs new (Err e) t (inr (inl q)) = rw q (read_failed (lines_of xs))
-taken_known xs new (Err e) t (inr (inr q)) = let part = rw q at t in rw q (no_memory xs part.0)
+taken_known xs new (Err e) t (inr (inr q)) = let part = rw q at t in rw q (out_of_memory xs part.0)
 
 -- what was taken as a line is one
 pub line_taken : (known new : Option (List ℕ)) (r : Result (Option (Vec ℕ Global)) WireError) → TakesLine known r new → IfErr r (λ e. IsReadError e) → IfSome known (λ xs. ReadsLine xs r new)
@@ -39,7 +39,7 @@ last_known : (xs : List ℕ) (new : Option (List ℕ)) (r now : Result (Option (
 last_known xs new (Ok None) now t e = rw e t.0
 last_known xs new (Ok (Some v)) now t e = rw e (read_failed (lines_of xs))
 last_known xs new (Err e) now t (inl p) = rw p.1 (read_failed (lines_of xs))
-last_known xs new (Err e) now t (inr p) = let part = rw p.0 at t in rw p.1 (no_memory xs part.0)
+last_known xs new (Err e) now t (inr p) = let part = rw p.0 at t in rw p.1 (out_of_memory xs part.0)
 
 last_taken : (known new : Option (List ℕ)) (r now : Result (Option (Vec ℕ Global)) WireError) → TakesLine known r new → EndsLines r now → IfSome known (λ xs. ReadsLine xs now new)
 last_taken None new r now t e = tt

@@ -10,9 +10,9 @@ use Rattle.change_core.proofs.Members.{greatest-members}
 use Rattle.change_core.proofs.News.{length-members_known, length-members_new}
 use Rattle.wire_json.proofs.Uniqueness.{one_line_change, sound_line}
 use Rattle.cli_core.specs.declared.faults.LineError.{LineError}
-use Rattle.cli_core.specs.declared.faults.LineError.TheVariants.{Wire, TooManyMembers, ReadFailed, OutOfMemory}
+use Rattle.cli_core.specs.declared.faults.LineError.TheVariants.{Wire, TooManyMembers, ReadFailed, OutOfMemory as LineOutOfMemory}
 use Rattle.cli_core.specs.declared.faults.RunError.{RunError}
-use Rattle.cli_core.specs.declared.faults.RunError.TheVariants.{AtLine, NoMemory, CannotWrite}
+use Rattle.cli_core.specs.declared.faults.RunError.TheVariants.{AtLine, OutOfMemory, CannotWrite}
 use Rattle.cli_core.specs.Input.{lines_of}
 use Rattle.cli_core.specs.Changes.{IsChangeLine, AreChangeLines, ComeTo, IsLineFault, IsFaultAt, IsFirstFault, IsRefused, IsTooMany, IsOutside}
 use Rattle.cli_core.specs.Runs.{RunsTo}
@@ -81,14 +81,14 @@ no_line_fault cs line c ds TooManyMembers p f few =
     let many = subst (λ (x : Sourced). IsTooMany (members cs) x.change) same f.2 in
     absurd (too_many cs c.change ds many few)
 no_line_fault cs line c ds ReadFailed p f few = tt
-no_line_fault cs line c ds OutOfMemory p f few = tt
+no_line_fault cs line c ds LineOutOfMemory p f few = tt
 
 no_fault_at : (cs : List Change) (left : List (List ℕ)) (ys : List Sourced) (f : LineError) → AreChangeLines left ys → IsFaultAt (members cs) left f
     → length (members (cs ++ map change_of ys)) ≤ most_members → IsOutside (AtLine 0 f)
 no_fault_at cs [] ys (Wire e) p h few = absurd h
 no_fault_at cs [] ys TooManyMembers p h few = absurd h
 no_fault_at cs [] ys ReadFailed p h few = tt
-no_fault_at cs [] ys OutOfMemory p h few = tt
+no_fault_at cs [] ys LineOutOfMemory p h few = tt
 no_fault_at cs (line ∷ left) [] f p h few = absurd p
 no_fault_at cs (line ∷ left) (c ∷ ys) f p h few = no_line_fault cs line c (map change_of ys) f p.0 h few
 
@@ -96,7 +96,7 @@ pub outside_anywhere : (m n : ℕ) (f : LineError) → IsOutside (AtLine m f) �
 outside_anywhere m n (Wire e) h = h
 outside_anywhere m n TooManyMembers h = h
 outside_anywhere m n ReadFailed h = tt
-outside_anywhere m n OutOfMemory h = tt
+outside_anywhere m n LineOutOfMemory h = tt
 
 -- lines that come to members have no fault of their own
 pub no_fault_before : (before left : List (List ℕ)) (held now : List Change) (f : LineError) → ComeTo before held → ComeTo (before ++ left) now → IsFaultAt held left f
@@ -117,5 +117,5 @@ no_first_fault text input output n f p q =
 
 pub no_refusal : (text : List Change → List ℕ) (input output : List ℕ) (e : RunError) → RunsTo text input output → IsRefused input e → IsOutside e
 no_refusal text input output (AtLine n f) p q = no_first_fault text input output n f p q
-no_refusal text input output NoMemory p q = tt
+no_refusal text input output OutOfMemory p q = tt
 no_refusal text input output CannotWrite p q = tt

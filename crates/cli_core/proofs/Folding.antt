@@ -16,7 +16,7 @@ use Rattle.message_core.specs.declared.errors.WireError.{WireError}
 use Rattle.message_core.specs.declared.errors.WireError.TheVariants.{LineTooLong, BadJson, NotObject, UnknownKind, MissingField, BadField, TooMany, Io, Memory}
 use Rattle.cli_core.specs.declared.faults.LineError.{LineError}
 use Rattle.cli_core.specs.declared.faults.RunError.{RunError}
-use Rattle.cli_core.specs.declared.faults.RunError.TheVariants.{AtLine, NoMemory, CannotWrite}
+use Rattle.cli_core.specs.declared.faults.RunError.TheVariants.{AtLine, OutOfMemory, CannotWrite}
 use Rattle.cli_core.specs.Input.{lines_of}
 use Rattle.cli_core.specs.Counted.{IsCountedFault, IsUnread, ReadsLine}
 use Rattle.cli_core.specs.Faults.{fault_of_wire}
@@ -175,6 +175,6 @@ held_members input held p = let c = p.0 in subst IsMemberList (sym c.are_members
 pub left_by : (text : List Change → List ℕ) (known old new : Option (List ℕ)) (held : List Change) (output : List ℕ) (fault : RunError) → ComesTo known held
     → (IsMemberList held → output ≡ text held) → LeavesPart output fault old new → Leaves text fault known old new
 left_by text known old new held output (AtLine number fault) p e h = absurd h
-left_by text known old new held output NoMemory p e h = h
+left_by text known old new held output OutOfMemory p e h = h
 left_by text None old new held output CannotWrite p e h = tt
 left_by text (Some input) old new held output CannotWrite p e h = front_written text (Some input) old new held output p (e (held_members input held p)) h

@@ -62,9 +62,9 @@ held_below seen a i held given p h l =
     let is = rw e at h in
     (n, e, omega (arith, is, l))
 
-pub restarted : {H : Type 0} (seen : List (Seen H)) (a i held given : ℕ) (x born : Node H) → IsPlace seen a i → IfSome (node_at (nodes_in seen) a) (λ n. held ≡ (own_change n).incarnation)
-    → held < given → x ≡ born → GoesOn (nodes_in seen) a (λ before after. ((own_change before).incarnation < given) × (after ≡ born)) (with_node (nodes_in seen) a x)
-restarted seen a i held given x born p h l is =
+pub restarted : {H : Type 0} (seen : List (Seen H)) (a i held given : ℕ) (x created : Node H) → IsPlace seen a i → IfSome (node_at (nodes_in seen) a) (λ n. held ≡ (own_change n).incarnation)
+    → held < given → x ≡ created → GoesOn (nodes_in seen) a (λ before after. ((own_change before).incarnation < given) × (after ≡ created)) (with_node (nodes_in seen) a x)
+restarted seen a i held given x created p h l is =
     let (n, e) = place_held seen a i p in
     let own = rw e at h in
     (n, x, e, (omega (arith, own, l), is), refl)

@@ -9,9 +9,9 @@ use Rattle.change_core.specs.Numbers.{greatest_number, most_members}
 use Rattle.wire_json.specs.Forms.{ChangeForm, ChangeFault}
 use Rattle.wire_json.specs.Lines.{IsLine, Faults}
 use Rattle.cli_core.specs.declared.faults.LineError.{LineError}
-use Rattle.cli_core.specs.declared.faults.LineError.TheVariants.{Wire, TooManyMembers, ReadFailed, OutOfMemory}
+use Rattle.cli_core.specs.declared.faults.LineError.TheVariants.{Wire, TooManyMembers, ReadFailed, OutOfMemory as LineOutOfMemory}
 use Rattle.cli_core.specs.declared.faults.RunError.{RunError}
-use Rattle.cli_core.specs.declared.faults.RunError.TheVariants.{AtLine, NoMemory, CannotWrite}
+use Rattle.cli_core.specs.declared.faults.RunError.TheVariants.{AtLine, OutOfMemory, CannotWrite}
 use Rattle.cli_core.specs.Input.{lines_of}
 
 -- the line is this change
@@ -39,8 +39,8 @@ abbrev pub IsOutside : RunError → Type 0
 IsOutside (AtLine number (Wire e)) = ⊥
 IsOutside (AtLine number TooManyMembers) = ⊥
 IsOutside (AtLine number ReadFailed) = Unit {0}
-IsOutside (AtLine number OutOfMemory) = Unit {0}
-IsOutside NoMemory = Unit {0}
+IsOutside (AtLine number LineOutOfMemory) = Unit {0}
+IsOutside OutOfMemory = Unit {0}
 IsOutside CannotWrite = Unit {0}
 
 -- an error of a line that comes after these members; out of memory and a failed read depend on none of its bytes
@@ -48,7 +48,7 @@ abbrev pub IsLineFault : List Change → List ℕ → LineError → Type 0
 IsLineFault held line (Wire e) = Faults ChangeFault line e
 IsLineFault held line TooManyMembers = (c : Sourced) × IsChangeLine line c × IsTooMany held c.change
 IsLineFault held line ReadFailed = Unit {0}
-IsLineFault held line OutOfMemory = Unit {0}
+IsLineFault held line LineOutOfMemory = Unit {0}
 
 -- an error of the first of the remaining lines; if none remains a read can fail, and nothing else
 abbrev pub IsFaultAt : List Change → List (List ℕ) → LineError → Type 0
@@ -56,7 +56,7 @@ IsFaultAt held (line ∷ lines) fault = IsLineFault held line fault
 IsFaultAt held [] (Wire e) = ⊥
 IsFaultAt held [] TooManyMembers = ⊥
 IsFaultAt held [] ReadFailed = Unit {0}
-IsFaultAt held [] OutOfMemory = ⊥
+IsFaultAt held [] LineOutOfMemory = ⊥
 
 -- the error of the line with this number is of the machine, or the line is one that is counted
 abbrev pub IsCounted : ℕ → LineError → Type 0
@@ -81,7 +81,7 @@ IsHeard input held = ComeTo (lines_of input) held × (length (lines_of input) �
 -- write
 abbrev pub IsRefused : List ℕ → RunError → Type 0
 IsRefused input (AtLine number fault) = IsFirstFault input number fault
-IsRefused input NoMemory = (held : List Change) × IsHeard input held
+IsRefused input OutOfMemory = (held : List Change) × IsHeard input held
 IsRefused input CannotWrite = (held : List Change) × IsHeard input held
 
 -- each line of one list is in the other, in any order and any number

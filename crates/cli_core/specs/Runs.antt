@@ -5,7 +5,7 @@ use Rattle.change_core.specs.declared.changes.Change.{Change}
 use Rattle.change_core.specs.Numbers.{greatest_number}
 use Rattle.wire_json.specs.Input.{AppendsFront}
 use Rattle.cli_core.specs.declared.faults.RunError.{RunError}
-use Rattle.cli_core.specs.declared.faults.RunError.TheVariants.{AtLine, NoMemory, CannotWrite}
+use Rattle.cli_core.specs.declared.faults.RunError.TheVariants.{AtLine, OutOfMemory, CannotWrite}
 use Rattle.cli_core.specs.Input.{lines_of}
 use Rattle.cli_core.specs.Changes.{ComeTo}
 
@@ -23,11 +23,11 @@ Writes text known old new = IfSome known (λ input. (output : List ℕ) × RunsT
 -- the output at an error: nothing, or a prefix of the output if the writer failed
 abbrev pub Leaves : (List Change → List ℕ) → RunError → Option (List ℕ) → Option (List ℕ) → Option (List ℕ) → Type 0
 Leaves text (AtLine number fault) known old new = Keeps old new
-Leaves text NoMemory known old new = Keeps old new
+Leaves text OutOfMemory known old new = Keeps old new
 Leaves text CannotWrite known old new = IfSome known (λ input. (output : List ℕ) × RunsTo text input output × AppendsFront old new output)
 
 -- the part of this output that is written at an error: nothing if out of memory, a prefix of it if the writer failed
 abbrev pub LeavesPart : List ℕ → RunError → Option (List ℕ) → Option (List ℕ) → Type 0
 LeavesPart output (AtLine number fault) old new = ⊥
-LeavesPart output NoMemory old new = Keeps old new
+LeavesPart output OutOfMemory old new = Keeps old new
 LeavesPart output CannotWrite old new = AppendsFront old new output

@@ -72,13 +72,13 @@ message_of messages zero = None
 message_of messages (suc n) = slice_get messages n
 
 -- a new node, at a moment: standard, apart from its points of the ring and its weight
-abbrev pub born : {H : Type 0} → H → ℕ → ℕ → Birth → Node H
-born hash replicas moment birth =
+abbrev pub created : {H : Type 0} → H → ℕ → ℕ → Birth → Node H
+created hash replicas moment birth =
     newborn hash (record standard { replicas = replicas; weight = birth.weight }) birth.address birth.incarnation moment (seeded 0)
 
 -- the same in a script
-abbrev pub born_in : {H : Type 0} → Simulated H → Birth → Node H
-born_in s birth = born s.hash s.replicas s.moment birth
+abbrev pub created_in : {H : Type 0} → Simulated H → Birth → Node H
+created_in s birth = created s.hash s.replicas s.moment birth
 
 -- a change with its subject as its source
 abbrev pub of_itself : Change → Sourced
@@ -136,7 +136,7 @@ with_message messages to message = messages ++ record { to = to; message = messa
 -- the answer to a command, and the script after it
 abbrev pub Obeys : {H : Type 0} → (H → List ℕ → ℕ) → Simulated H → Command → Answer → Simulated H → Type 0
 Obeys hash_of old (Makes birth) answer.Done new =
-    (node_at old.nodes birth.address ≡ None) × (length old.nodes < most_nodes) × (new ≡ record old { nodes = old.nodes ++ born_in old birth ∷ [] })
+    (node_at old.nodes birth.address ≡ None) × (length old.nodes < most_nodes) × (new ≡ record old { nodes = old.nodes ++ created_in old birth ∷ [] })
 Obeys hash_of old (At moment) answer.Done new = new ≡ record old { moment = moment }
 Obeys {H} hash_of old (Ask a question) answer new =
     (nodes : List (Node H)) × GoesOn old.nodes a (λ before after. NodeAnswers hash_of old.moment before question answer after) nodes × (new ≡ record old { nodes = nodes })
@@ -156,7 +156,7 @@ Obeys {H} hash_of old (Deliver n) (answer.Stopped stopped) new =
 Obeys {H} hash_of old (Deliver n) answer.Nothing new =
     (sent : Sent) × (nodes : List (Node H)) × Comes hash_of old n sent received.NotGossip nodes × (new ≡ record old { nodes = nodes })
 Obeys {H} hash_of old (Restart birth) answer.Done new =
-    (nodes : List (Node H)) × GoesOn old.nodes birth.address (λ before after. ((own_change before).incarnation < birth.incarnation) × (after ≡ born_in old birth)) nodes
+    (nodes : List (Node H)) × GoesOn old.nodes birth.address (λ before after. ((own_change before).incarnation < birth.incarnation) × (after ≡ created_in old birth)) nodes
     × (new ≡ record old { nodes = nodes })
 -- no other answer is given
 Obeys hash_of old command other new = ⊥

@@ -1,6 +1,6 @@
 //! The errors of a run.
 ghost use Rattle.std.specs.Prelude.{◌≡◌};
-ghost use Rattle.cli_core.specs.declared.faults.RunError.TheVariants.{NoMemory};
+ghost use Rattle.cli_core.specs.declared.faults.RunError.TheVariants.{OutOfMemory};
 
 use message_core::WireError;
 use std::alloc::AllocError;
@@ -31,7 +31,7 @@ pub enum RunError {
     AtLine(u64, LineError),
     /// Out of memory for something else than a line.
     #[error("out of memory")]
-    NoMemory,
+    OutOfMemory,
     /// The writer failed.
     #[error("cannot write")]
     CannotWrite,
@@ -52,9 +52,9 @@ impl From<WireError> for LineError {
 }
 
 impl From<AllocError> for RunError {
-    ghost from_gives = { λ _ f. f ≡ NoMemory };
+    ghost from_gives = { λ _ f. f ≡ OutOfMemory };
 
     fn from(_refused: AllocError) -> RunError {
-        RunError::NoMemory
+        RunError::OutOfMemory
     }
 }

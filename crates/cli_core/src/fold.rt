@@ -15,14 +15,14 @@ use std::io::{Read, Write};
 ///
 /// # Errors
 ///
-/// - `NoMemory`: out of memory.
+/// - `OutOfMemory`: out of memory.
 pub fn fold_text(alloc: Global, table: &MemberTable) -> Result<String, RunError>
     ensures text { IfOk result (λ s. string_bytes s ++ 10 ∷ [] ≡ fold_text table.now.members) }
-    ensures refusal { IsOkUnless result RunError.NoMemory }
+    ensures refusal { IsOkUnless result RunError.OutOfMemory }
 {
-    let digest = table.digest().map_err(|_| RunError::NoMemory)?;
-    let digits = digest.text(alloc).map_err(|_| RunError::NoMemory)?;
-    let mut text = table.digest_text().map_err(|_| RunError::NoMemory)?;
+    let digest = table.digest().map_err(|_| RunError::OutOfMemory)?;
+    let digits = digest.text(alloc).map_err(|_| RunError::OutOfMemory)?;
+    let mut text = table.digest_text().map_err(|_| RunError::OutOfMemory)?;
     write!(text, "\n{digits}")?;
     Ok(text)
 }
@@ -32,7 +32,7 @@ pub fn fold_text(alloc: Global, table: &MemberTable) -> Result<String, RunError>
 /// # Errors
 ///
 /// - `AtLine`: a line has an error; the first one is named. There is no output.
-/// - `NoMemory`: out of memory. There is no output.
+/// - `OutOfMemory`: out of memory. There is no output.
 /// - `CannotWrite`: the writer failed. A prefix of the output is written.
 pub fn fold_run<R: Read, W: Write>(
     alloc: Global,

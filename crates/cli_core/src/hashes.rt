@@ -14,10 +14,10 @@ use std::io::Write;
 ///
 /// # Errors
 ///
-/// - `NoMemory`: out of memory.
+/// - `OutOfMemory`: out of memory.
 pub fn hash_text(alloc: Global, text: &str) -> Result<String, RunError>
     ensures text { IfOk result (λ s. string_bytes s ≡ hash_text text.now) }
-    ensures refusal { IsOkUnless result RunError.NoMemory }
+    ensures refusal { IsOkUnless result RunError.OutOfMemory }
 {
     let hash = Sha256Hash.hash(text.as_bytes());
     Ok(format!(in alloc; "{hash:016x}")?)
@@ -27,7 +27,7 @@ pub fn hash_text(alloc: Global, text: &str) -> Result<String, RunError>
 ///
 /// # Errors
 ///
-/// - `NoMemory`: out of memory. There is no output.
+/// - `OutOfMemory`: out of memory. There is no output.
 /// - `CannotWrite`: the writer failed. A prefix of the output is written.
 pub fn hash_run<W: Write>(alloc: Global, text: &str, writer: &mut W) -> Result<(), RunError>
     ensures ok { OnOk result (Appends (W.contents writer.old) (W.contents writer.new)

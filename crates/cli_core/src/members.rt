@@ -60,7 +60,7 @@ fn hear<R: Read>(
 ///
 /// - `AtLine`: the first line with an error, and the error. A line past the last number is `ReadFailed`, or
 ///   `OutOfMemory` if reading it runs out of memory.
-/// - `NoMemory`: out of memory for something else than a line.
+/// - `OutOfMemory`: out of memory for something else than a line.
 pub fn read_members<R: Read>(alloc: Global, reader: &mut R) -> Result<MemberTable, RunError>
     ensures ok { IfOk result (λ table. IfSome (R.remaining reader.old) (λ input.
         IsHeard input table.members)) }

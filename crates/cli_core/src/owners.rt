@@ -22,7 +22,7 @@ use std::io::{Read, Write};
 /// The members that serve, with their weights.
 fn servers_among(alloc: Global, members: &[Change]) -> Result<Vec<Server>, RunError>
     ensures servers { IfOk result (λ servers. IsMemberList members.now → servers.items ≡ servers_of members.now) }
-    ensures refusal { IsOkUnless result RunError.NoMemory }
+    ensures refusal { IsOkUnless result RunError.OutOfMemory }
 {
     let mut servers = Vec::with_capacity(alloc, members.len())?;
     'members: for member in members {
@@ -40,7 +40,7 @@ fn servers_among(alloc: Global, members: &[Change]) -> Result<Vec<Server>, RunEr
 ///
 /// # Errors
 ///
-/// - `NoMemory`: out of memory.
+/// - `OutOfMemory`: out of memory.
 pub fn ring_of<H: PointHash>(
     alloc: Global,
     hash: H,
@@ -51,11 +51,11 @@ pub fn ring_of<H: PointHash>(
     ensures hash { IfOk result (λ ring. ring.hash ≡ hash) }
     ensures replicas { IfOk result (λ ring. ring.replicas ≡ replicas) }
     ensures servers { IfOk result (λ ring. IsMemberList members.now → ring.servers ≡ servers_of members.now) }
-    ensures refusal { IsOkUnless result RunError.NoMemory }
+    ensures refusal { IsOkUnless result RunError.OutOfMemory }
 {
     let servers = servers_among(alloc, members)?;
     let Ok(ring) = Ring::with_servers(alloc, hash, replicas, servers.as_slice()) else {
-        return Err(RunError::NoMemory);
+        return Err(RunError::OutOfMemory);
     };
     Ok(ring)
 }
@@ -63,9 +63,9 @@ pub fn ring_of<H: PointHash>(
 /// The addresses, a line each; the last newline is left to the writing.
 fn owners_text(alloc: Global, first: Address, others: &[Address]) -> Result<String, RunError>
     ensures text { IfOk result (λ s. string_bytes s ++ 10 ∷ [] ≡ flat_map owner_line (first ∷ others.now)) }
-    ensures refusal { IsOkUnless result RunError.NoMemory }
+    ensures refusal { IsOkUnless result RunError.OutOfMemory }
 {
-    let mut text = first.text(alloc).map_err(|_| RunError::NoMemory)?;
+    let mut text = first.text(alloc).map_err(|_| RunError::OutOfMemory)?;
     'others: for other in others {
         write!(text, "\n{other}")?;
     }
@@ -95,14 +95,14 @@ fn owners_among<H: PointHash>(
 ) -> Result<Vec<Address>, RunError>
     ensures owners { IfOk result (λ named. IsMemberList table.now.members → named.items
         ≡ take words.now.count (owners (H.hash_of hash) words.now.replicas (servers_of table.now.members) words.now.key.now)) }
-    ensures refusal { IsOkUnless result RunError.NoMemory }
+    ensures refusal { IsOkUnless result RunError.OutOfMemory }
 {
     let Ok(members) = table.list() else {
-        return Err(RunError::NoMemory);
+        return Err(RunError::OutOfMemory);
     };
     let ring = ring_of(alloc, hash, words.replicas, members.as_slice())?;
     let Ok(owners) = ring.owners(words.key.as_bytes(), words.count) else {
-        return Err(RunError::NoMemory);
+        return Err(RunError::OutOfMemory);
     };
     Ok(owners)
 }
@@ -134,7 +134,7 @@ fn owner_run_by<H: PointHash, R: Read, W: Write>(
 /// # Errors
 ///
 /// - `AtLine`: a line has an error; the first one is named. There is no output.
-/// - `NoMemory`: out of memory. There is no output.
+/// - `OutOfMemory`: out of memory. There is no output.
 /// - `CannotWrite`: the writer failed. A prefix of the output is written.
 pub fn owner_run<R: Read, W: Write>(
     alloc: Global,

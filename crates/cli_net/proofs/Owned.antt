@@ -28,4 +28,4 @@ module _ (May : MayAnswer) (host : Address) (hash : List ℕ → ℕ) (replicas 
   left_by Came (fault.Refused reason) old u = (u, Keeps-refl old)
   left_by Came fault.Unexpected old u = (u, Keeps-refl old)
   left_by Came fault.CannotWrite old u = absurd (not_written u)
-  left_by Came fault.NoMemory old u = (u, Keeps-refl old)
+  left_by Came fault.OutOfMemory old u = (u, Keeps-refl old)

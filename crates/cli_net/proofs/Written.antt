@@ -12,7 +12,7 @@ use Rattle.cli_net.specs.declared.faults.ServeError.TheVariants as serve
 -- a fault of the first line, as a fault of all
 left_serving : (a : ℕ) (e : ServeError) (old new : Option (List ℕ)) → LeavesServing a e old new → LeavesService a e old new
 left_serving a serve.CannotWrite old new h = front_more old new (serving_line a) (codes "done" ++ 10 ∷ []) h
-left_serving a serve.NoMemory old new h = inl h
+left_serving a serve.OutOfMemory old new h = inl h
 left_serving a serve.NoneJoined old new h = absurd h
 left_serving a serve.CannotListen old new h = absurd h
 left_serving a serve.NoThread old new h = absurd h
@@ -27,7 +27,7 @@ module _ {T : Type 0} (a : ℕ) (old mid new : Option (List ℕ)) where
   unsaid_first e (Ok t) is h = tt
   unsaid_first e (Err x) is h = subst (λ y. LeavesService a y old new) (sym is) (left_serving a e old new h)
 
-  -- the first line was said, and of the last a front
+  -- the first line was said, and of the last a prefix
   pub unsaid_last : (e : ServeError) (r : Result T ServeError) → IsErrAnd r (λ x. x ≡ e) → Appends old mid (serving_line a) → AppendsFront mid new (codes "done" ++ 10 ∷ [])
       → e ≡ serve.CannotWrite → IfErr r (λ x. LeavesService a x old new)
   unsaid_last e (Ok t) is first front fault = tt

@@ -5,6 +5,7 @@ use Rattle.cluster_core.specs.Channels.{any_answer}
 use Rattle.cli_net.specs.Asking.{IsReply, IsUnasked, LeavesReply, WritesReply, request}
 use Rattle.cli_net.specs.Membership.{IsUnwritten, WritesSeen, membership_text}
 use Rattle.cli_net.specs.Owning.{IsAnswered, IsUnanswered}
+use Rattle.server.specs.Working.{RoundTimes}
 use Rattle.cli_net.specs.Service.{IsUnserved, Served}
 use Rattle.cli_net.specs.Telling.{IsUntold, Tells}
 use Rattle.cli_core.specs.declared.words.ClusterCommand.{ClusterCommand}
@@ -12,14 +13,14 @@ use Rattle.cli_core.specs.declared.words.ClusterCommand.TheVariants.{Serve, Ask,
 use Rattle.cli_net.specs.declared.commands.ClusterCommandError.{ClusterCommandError}
 use Rattle.cli_net.specs.declared.commands.ClusterCommandError.TheVariants as fault
 
--- The output of a command that succeeds, by the answer; for `serve` all that `Served` has. `tell` passes on the known input.
-abbrev pub CommandFinishes : ClusterCommand → Option (List ℕ) → Option (List ℕ) → Option (List ℕ) → Type 0
-CommandFinishes (Serve words) known old new = Served words old new
-CommandFinishes (Ask words) known old new = WritesReply (IsReply any_answer words.address (request words.key.now words.body.now)) old new
-CommandFinishes (AskAny words) known old new =
+-- The output of a command that succeeds, by the answer; for `serve`, whose rounds go by this clock, all that `Served` has. `tell` passes on the known input.
+abbrev pub CommandFinishes : RoundTimes → ClusterCommand → Option (List ℕ) → Option (List ℕ) → Option (List ℕ) → Type 0
+CommandFinishes Time (Serve words) known old new = Served Time words old new
+CommandFinishes Time (Ask words) known old new = WritesReply (IsReply any_answer words.address (request words.key.now words.body.now)) old new
+CommandFinishes Time (AskAny words) known old new =
     WritesReply (IsAnswered any_answer words.host (hash_by words.sum) words.replicas words.key.now words.body.now) old new
-CommandFinishes (Members words) known old new = WritesSeen any_answer words.host [] (membership_text words.lines) old new
-CommandFinishes (Tell host) known old new = Tells any_answer host known old new
+CommandFinishes Time (Members words) known old new = WritesSeen any_answer words.host [] (membership_text words.lines) old new
+CommandFinishes Time (Tell host) known old new = Tells any_answer host known old new
 
 -- the error of one that fails, and the output then; `serve` and `tell` have separate errors
 abbrev pub CommandFails : ClusterCommand → ClusterCommandError → Option (List ℕ) → Option (List ℕ) → Option (List ℕ) → Type 0

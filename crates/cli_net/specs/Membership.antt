@@ -57,7 +57,7 @@ abbrev pub IsNotTold : MayAnswer → Address → List Sourced → AskError → T
 IsNotTold May to changes (fault.Refused reason) = Asked May to (joining_with changes) (Ok (content.Refused reason))
 IsNotTold May to changes fault.Unexpected = (other : Content) × Asked May to (joining_with changes) (Ok other) × IsNoWelcome other
 IsNotTold May to changes fault.NoAnswer = Asked May to (joining_with changes) (Err fault.NoAnswer)
-IsNotTold May to changes fault.NoMemory = Asked May to (joining_with changes) (Err fault.NoMemory)
+IsNotTold May to changes fault.OutOfMemory = Asked May to (joining_with changes) (Err fault.OutOfMemory)
 IsNotTold May to changes fault.NotOwner = ⊥
 IsNotTold May to changes fault.CannotWrite = ⊥
 
@@ -65,7 +65,7 @@ IsNotTold May to changes fault.CannotWrite = ⊥
 abbrev pub IsNotSeen : MayAnswer → Address → List Sourced → AskError → Type 0
 IsNotSeen May to changes fault.Unexpected =
     IsNotTold May to changes fault.Unexpected ⊎ ((news : News) × IsTold May to changes news × (IsWhole news → ⊥))
-IsNotSeen May to changes fault.NoMemory = IsNotTold May to changes fault.NoMemory ⊎ ((news : News) × IsTold May to changes news)
+IsNotSeen May to changes fault.OutOfMemory = IsNotTold May to changes fault.OutOfMemory ⊎ ((news : News) × IsTold May to changes news)
 IsNotSeen May to changes other = IsNotTold May to changes other
 
 -- a change's line
@@ -80,7 +80,7 @@ membership_text false news = fold_text (told_members news)
 -- the part of a text that is written at an error: none if out of memory, a prefix of it if the writer failed
 abbrev pub LeavesText : List ℕ → AskError → Option (List ℕ) → Option (List ℕ) → Type 0
 LeavesText text fault.CannotWrite old new = AppendsFront old new text
-LeavesText text fault.NoMemory old new = Keeps old new
+LeavesText text fault.OutOfMemory old new = Keeps old new
 LeavesText text other old new = ⊥
 
 module _ (May : MayAnswer) (to : Address) (changes : List Sourced) (text : News → List ℕ) where

@@ -18,7 +18,7 @@ told_owner hash replicas key news = owner hash replicas (servers_of (told_member
 -- the error if no owner is named: there is none, or out of memory to find it
 abbrev pub IsUnnamed : Option Address → AskError → Type 0
 IsUnnamed found (fault.Refused reason.Nobody) = found ≡ None
-IsUnnamed found fault.NoMemory = Unit {0}
+IsUnnamed found fault.OutOfMemory = Unit {0}
 IsUnnamed found other = ⊥
 
 -- the host reported its members, and this is the key's owner among them

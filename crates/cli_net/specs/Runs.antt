@@ -3,6 +3,7 @@ use Rattle.std.specs.Prelude.{◌≡◌, ℕ, List, Option}
 use Rattle.std.specs.Io.KnownBytes.{Appends}
 use Rattle.wire_json.specs.Input.{AppendsFront}
 use Rattle.agent.specs.Texts.{agent_text}
+use Rattle.server.specs.Working.{any_times}
 use Rattle.cli_core.specs.Subcommands.{Finishes, Fails, Reads}
 use Rattle.cli_net.specs.Commands.{CommandFinishes, CommandFails, CommandReads}
 use Rattle.cli_net.specs.declared.program_errors.Fault.{Fault}
@@ -13,10 +14,10 @@ use Rattle.cli_words.specs.declared.words.Words.TheVariants.{Lines, Cluster, Age
 -- the output for the known input, if the command of the arguments succeeds
 abbrev pub WordsFinish : Words → Option (List ℕ) → Option (List ℕ) → Option (List ℕ) → Type 0
 WordsFinish (Lines subcommand) known old new = Finishes subcommand known old new
-WordsFinish (Cluster command) known old new = CommandFinishes command known old new
+WordsFinish (Cluster command) known old new = CommandFinishes any_times command known old new
 WordsFinish (Agent words) known old new = Appends old new (agent_text words.address)
 
--- why it does not, and what is written then: the fault is its own; of what an agent says a front
+-- why it does not, and what is written then: the fault is its own; of what an agent says a prefix
 abbrev pub WordsFail : Words → Fault → Option (List ℕ) → Option (List ℕ) → Option (List ℕ) → Type 0
 WordsFail (Lines subcommand) (fault.Subcommand e) known old new = Fails subcommand e known old new
 WordsFail (Cluster command) (fault.Cluster e) known old new = CommandFails command e known old new

@@ -28,7 +28,7 @@ use Rattle.cli_core.specs.Owner.{hash_by}
 use Rattle.cli_net.specs.declared.faults.ServeError.{ServeError}
 use Rattle.cli_net.specs.declared.faults.ServeError.TheVariants as serve
 use Rattle.server.specs.Threads.{ServeAlone}
-use Rattle.server.specs.Working.{AreRounds}
+use Rattle.server.specs.Working.{AreRounds, RoundTimes}
 use Rattle.server.specs.declared.servers.Server.{Server}
 use Rattle.cli_net.specs.declared.echoes.Echo.{Echo}
 use Rattle.cli_net.specs.Echoes.{MayEcho}
@@ -41,13 +41,13 @@ config_of words = record standard { replicas = words.replicas; weight = words.we
 
 module _ {H : Type 0} (hash_of : H → List ℕ → ℕ) where
   -- the new node of the arguments, alone at moment 0, its incarnation its seed
-  abbrev pub IsBorn : H → ServeWords → Seen H → Type 0
-  IsBorn hash words node = node ≡ seen_of hash_of (newborn hash (config_of words) words.address words.incarnation 0 (seeded words.incarnation))
+  abbrev pub IsCreated : H → ServeWords → Seen H → Type 0
+  IsCreated hash words node = node ≡ seen_of hash_of (newborn hash (config_of words) words.address words.incarnation 0 (seeded words.incarnation))
 
 -- a server's error for the result of a join
 abbrev pub join_fault : Result ℕ ClusterError → Option ServeError
 join_fault (Ok n) = None
-join_fault (Err error.Memory) = Some serve.NoMemory
+join_fault (Err error.Memory) = Some serve.OutOfMemory
 join_fault (Err other) = Some serve.NoneJoined
 
 -- `serving`, a space, the address and a newline
@@ -64,18 +64,18 @@ LeavesService a serve.NoneJoined old new = Keeps old new
 LeavesService a serve.CannotListen old new = Keeps old new
 LeavesService a serve.NoThread old new = Appends old new (serving_line a)
 LeavesService a serve.CannotWrite old new = AppendsFront old new (service_text a)
-LeavesService a serve.NoMemory old new = Keeps old new ⊎ Appends old new (serving_line a)
+LeavesService a serve.OutOfMemory old new = Keeps old new ⊎ Appends old new (serving_line a)
 
 -- the output at an error of writing that a server listens
 abbrev pub LeavesServing : ℕ → ServeError → Option (List ℕ) → Option (List ℕ) → Type 0
 LeavesServing a serve.CannotWrite old new = AppendsFront old new (serving_line a)
-LeavesServing a serve.NoMemory old new = Keeps old new
+LeavesServing a serve.OutOfMemory old new = Keeps old new
 LeavesServing a other old new = ⊥
 
 -- the errors of threads that do not serve to the end
 abbrev pub IsThreadFault : ServeError → Type 0
 IsThreadFault serve.NoThread = Unit {0}
-IsThreadFault serve.NoMemory = Unit {0}
+IsThreadFault serve.OutOfMemory = Unit {0}
 IsThreadFault other = ⊥
 
 -- The node asked these hosts to admit it, over a link that answered so, with this result.
@@ -91,7 +91,7 @@ pub record HasEntered {H : Type 0} (hash_of : H → List ℕ → ℕ) (Came : Ma
   pub now : ℕ
   pub old : NodePass H
   pub new : NodePass H
-  pub born : IsBorn hash_of hash words (opening_of node)
+  pub created : IsCreated hash_of hash words (opening_of node)
   pub fresh : IsNew node (2 ^ 32 - 1) old
   pub joined : words.hosts.items ≢ [] → IsJoinedTo Came node words.hosts.items now fault old new
   pub alone : words.hosts.items ≡ [] → new ≡ old
@@ -105,13 +105,13 @@ EntersBy false words = let hash : Sha256Hash = record {} in HasEntered (λ (h : 
 abbrev pub TellsEntry : {T : Type 0} → (Option ServeError → Type 0) → Result T ServeError → Type 0
 TellsEntry Entered (Ok t) = Entered None
 TellsEntry Entered (Err serve.NoneJoined) = Entered (Some serve.NoneJoined)
-TellsEntry Entered (Err serve.NoMemory) = Unit {0}
+TellsEntry Entered (Err serve.OutOfMemory) = Unit {0}
 TellsEntry Entered (Err other) = Entered None
 
 -- The server's node entered so, and then only served: these are all the passes that it has, as they stand at the end; since they were made,
--- or the node had entered, rounds alone were made by that of the timer, with healing after each where the words ask for it, and none where the
--- period is 0; and connections alone were served by each worker's.
-pub record HasServed {H : Type 0} (hash_of : H → List ℕ → ℕ) (Came : MayAnswer) (hash : H) (timeouts : Timeouts) (words : ServeWords) (server : Server H Echo) (timer : NodePass H) (workers : List (NodePass H)) : Type 0 where
+-- or the node had entered, rounds alone were made by that of the timer, each at a moment that the clock told after a rest for the period of the
+-- words, with healing after each where the words ask for it, and none where the period is 0; and connections alone were served by each worker's.
+pub record HasServed {H : Type 0} (Time : RoundTimes) (hash_of : H → List ℕ → ℕ) (Came : MayAnswer) (hash : H) (timeouts : Timeouts) (words : ServeWords) (server : Server H Echo) (timer : NodePass H) (workers : List (NodePass H)) : Type 0 where
   pub entry : HasEntered hash_of Came hash words None
   pub crew : List (NodePass H)
   pub its : entry.node ≡ server.node
@@ -121,28 +121,29 @@ pub record HasServed {H : Type 0} (hash_of : H → List ℕ → ℕ) (Came : May
   pub count : length crew ≡ words.workers
   pub all : AreAll server.node (crew ++ entry.old ∷ [])
   pub fresh : AreFresh server.node (crew ++ entry.old ∷ [])
-  pub rounds : Makes server.node (AreRounds server.healing) entry.new timer
+  pub hosts : server.hosts ≡ None
+  pub rounds : Makes server.node (AreRounds Time words.period [] server.healing) entry.new timer
   pub resting : words.period ≡ 0 → timer ≡ entry.new
   pub connections : ServeAlone hash_of MayEcho server.node crew workers
 
 -- there were a server of these arguments and timeouts, and passes, that satisfy that; the passes before any thread started do, too
-abbrev pub IsServed : {H : Type 0} → (H → List ℕ → ℕ) → H → Timeouts → ServeWords → Type 0
-IsServed {H} hash_of hash timeouts words =
-    (server : Server H Echo) × (timer : NodePass H) × (workers : List (NodePass H)) × HasServed hash_of any_answer hash timeouts words server timer workers
+abbrev pub IsServed : {H : Type 0} → RoundTimes → (H → List ℕ → ℕ) → H → Timeouts → ServeWords → Type 0
+IsServed {H} Time hash_of hash timeouts words =
+    (server : Server H Echo) × (timer : NodePass H) × (workers : List (NodePass H)) × HasServed Time hash_of any_answer hash timeouts words server timer workers
 
 -- the same under the sum of the bytes or under SHA-256's first eight
-abbrev pub ServesBy : Bool → ServeWords → Timeouts → Type 0
-ServesBy true words timeouts = let hash : SumHash = record {} in IsServed (λ (h : SumHash). hash_by true) hash timeouts words
-ServesBy false words timeouts = let hash : Sha256Hash = record {} in IsServed (λ (h : Sha256Hash). hash_by false) hash timeouts words
+abbrev pub ServesBy : RoundTimes → Bool → ServeWords → Timeouts → Type 0
+ServesBy Time true words timeouts = let hash : SumHash = record {} in IsServed Time (λ (h : SumHash). hash_by true) hash timeouts words
+ServesBy Time false words timeouts = let hash : Sha256Hash = record {} in IsServed Time (λ (h : Sha256Hash). hash_by false) hash timeouts words
 
 -- the same with the standard timeouts
-abbrev pub ServesAsStandard : ServeWords → Type 0
-ServesAsStandard words = (timeouts : Timeouts) × AreStandardTimeouts timeouts × ServesBy words.sum words timeouts
+abbrev pub ServesAsStandard : RoundTimes → ServeWords → Type 0
+ServesAsStandard Time words = (timeouts : Timeouts) × AreStandardTimeouts timeouts × ServesBy Time words.sum words timeouts
 
 -- the server of these arguments served its last connection: all is written, the node was made so, and admitted if hosts are named, before,
 -- and there were a server and passes that served so
-abbrev pub Served : ServeWords → Option (List ℕ) → Option (List ℕ) → Type 0
-Served words old new = Appends old new (service_text words.address) × EntersBy words.sum words None × ServesAsStandard words
+abbrev pub Served : RoundTimes → ServeWords → Option (List ℕ) → Option (List ℕ) → Type 0
+Served Time words old new = Appends old new (service_text words.address) × EntersBy words.sum words None × ServesAsStandard Time words
 
 -- the error if it did not, and the output then: no host admitted it only if hosts are named, and the error shows the result of entering
 pub record IsUnserved (words : ServeWords) (e : ServeError) (old new : Option (List ℕ)) : Type 0 where

@@ -17,15 +17,15 @@ use std::time::Clock;
 /// A request for a key.
 fn request(alloc: Global, key: &str, body: &str) -> Result<Content, AskError>
     ensures ok { IfOk result (λ c. c ≡ request key.now body.now) }
-    ensures refusal { IsOkUnless result AskError.NoMemory }
+    ensures refusal { IsOkUnless result AskError.OutOfMemory }
 {
-    let key = Text::new(alloc, key).map_err(|_| AskError::NoMemory)?;
-    let keys = Keys::new(alloc, key).map_err(|_| AskError::NoMemory)?;
-    let body = Text::new(alloc, body).map_err(|_| AskError::NoMemory)?;
+    let key = Text::new(alloc, key).map_err(|_| AskError::OutOfMemory)?;
+    let keys = Keys::new(alloc, key).map_err(|_| AskError::OutOfMemory)?;
+    let body = Text::new(alloc, body).map_err(|_| AskError::OutOfMemory)?;
     Ok(Content::Forward(keys, body))
 }
 
-/// Returns the node's reply to a request. The errors are those of `ask_over` but `CannotWrite`; `NoMemory` only if the
+/// Returns the node's reply to a request. The errors are those of `ask_over` but `CannotWrite`; `OutOfMemory` only if the
 /// link ran out of memory.
 fn reply_to<R: Wait, L: Link>(
     rt: &R,
@@ -70,7 +70,7 @@ pub fn reply_of<R: Wait, L: Link>(
 ///
 /// # Errors
 ///
-/// - `NoMemory`: out of memory, here or in the link.
+/// - `OutOfMemory`: out of memory, here or in the link.
 /// - `NoAnswer`: no message came.
 /// - `NotOwner`: the node does not own the key.
 /// - `Refused`: the node refused the request, for this reason.

@@ -71,7 +71,7 @@ pub fn cluster_command_run<
     reader: &mut I,
     writer: &mut W,
 ) -> Result<(), ClusterCommandError>
-    ensures output { OnOk result (CommandFinishes command.now
+    ensures output { OnOk result (CommandFinishes R.times command.now
         (I.remaining reader.old) (W.contents writer.old) (W.contents writer.new)) }
     ensures fault { IfErr result (λ e. CommandFails command.now e
         (I.remaining reader.old) (W.contents writer.old) (W.contents writer.new)) }

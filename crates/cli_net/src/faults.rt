@@ -29,14 +29,14 @@ pub enum AskError {
     CannotWrite,
     /// Out of memory.
     #[error("out of memory")]
-    NoMemory,
+    OutOfMemory,
 }
 
 impl From<AllocError> for AskError {
-    ghost from_gives = { λ _ f. f ≡ ask.NoMemory };
+    ghost from_gives = { λ _ f. f ≡ ask.OutOfMemory };
 
     fn from(_refused: AllocError) -> AskError {
-        AskError::NoMemory
+        AskError::OutOfMemory
     }
 }
 
@@ -57,7 +57,7 @@ pub enum ServeError {
     CannotWrite,
     /// Out of memory.
     #[error("out of memory")]
-    NoMemory,
+    OutOfMemory,
 }
 
 /// The errors of passing changes to a node and writing how many members it then holds.
@@ -83,9 +83,9 @@ impl From<AskError> for TellError {
 }
 
 impl From<AllocError> for ServeError {
-    ghost from_gives = { λ _ f. f ≡ serve.NoMemory };
+    ghost from_gives = { λ _ f. f ≡ serve.OutOfMemory };
 
     fn from(_refused: AllocError) -> ServeError {
-        ServeError::NoMemory
+        ServeError::OutOfMemory
     }
 }

@@ -29,13 +29,13 @@ use wire_json::encode_change;
 fn folded(alloc: Global, changes: &[Sourced]) -> Result<MemberTable, AskError>
     requires { length changes.now ≤ most_members }
     ensures members { IfOk result (λ t. t.members ≡ members (map change_of changes.now)) }
-    ensures refusal { IsOkUnless result AskError.NoMemory }
+    ensures refusal { IsOkUnless result AskError.OutOfMemory }
 {
     let mut table = MemberTable::new(alloc, MAX_MEMBERS).unwrap();
     'changes: for sourced in changes {
         match table.take(sourced.change) {
             Ok(_) => {}
-            Err(MemberError::Memory) => return Err(AskError::NoMemory),
+            Err(MemberError::Memory) => return Err(AskError::OutOfMemory),
             Err(MemberError::Full | MemberError::BadLimit) => unreachable!(),
         }
     }
@@ -46,7 +46,7 @@ fn folded(alloc: Global, changes: &[Sourced]) -> Result<MemberTable, AskError>
 ///
 /// # Errors
 ///
-/// - `NoMemory`: out of memory, here or in the link.
+/// - `OutOfMemory`: out of memory, here or in the link.
 /// - `NoAnswer`: no message came.
 /// - `Refused`: the node refused the join, for this reason.
 /// - `Unexpected`: any other message came, or its digest is not that of the members.
@@ -63,7 +63,7 @@ pub fn look<R: Wait, L: Link>(
 {
     let news = join_with(rt, alloc, link, host, changes)?;
     let table = folded(alloc, news.changes.as_slice())?;
-    let digest = table.digest().map_err(|_| AskError::NoMemory)?;
+    let digest = table.digest().map_err(|_| AskError::OutOfMemory)?;
     if digest.bytes() != news.checksum.bytes() {
         return Err(AskError::Unexpected);
     }
@@ -94,15 +94,15 @@ pub fn look_only<R: Wait, L: Link>(
 /// The line of a change, without its newline.
 fn line_of(alloc: Global, change: &Sourced) -> Result<Vec<u8>, AskError>
     ensures text { IfOk result (λ b. b.items ≡ compact_text (change_data change.now)) }
-    ensures refusal { IsOkUnless result AskError.NoMemory }
+    ensures refusal { IsOkUnless result AskError.OutOfMemory }
 {
-    encode_change(alloc, change).map_err(|_| AskError::NoMemory)
+    encode_change(alloc, change).map_err(|_| AskError::OutOfMemory)
 }
 
 /// The lines of changes; the last newline is left to the writing.
 fn change_lines(alloc: Global, first: &Sourced, others: &[Sourced]) -> Result<Vec<u8>, AskError>
     ensures text { IfOk result (λ v. v.items ++ 10 ∷ [] ≡ flat_map change_line (first.now ∷ others.now)) }
-    ensures refusal { IsOkUnless result AskError.NoMemory }
+    ensures refusal { IsOkUnless result AskError.OutOfMemory }
 {
     let mut lines = line_of(alloc, first)?;
     'others: for other in others {
@@ -140,7 +140,7 @@ fn write_members<W: Write>(
     ensures left { IfErr result (λ e. LeavesText (fold_text table.now.members) e
         (W.contents writer.old) (W.contents writer.new)) }
 {
-    let text = fold_text(alloc, table).map_err(|_| AskError::NoMemory)?;
+    let text = fold_text(alloc, table).map_err(|_| AskError::OutOfMemory)?;
     write_text(writer, text.as_str().as_bytes())
 }
 
@@ -150,7 +150,7 @@ fn write_members<W: Write>(
 ///
 /// # Errors
 ///
-/// - `NoMemory`: out of memory, here or in the link.
+/// - `OutOfMemory`: out of memory, here or in the link.
 /// - `NoAnswer`: no message came.
 /// - `Refused`: the node refused the join, for this reason.
 /// - `Unexpected`: any other message came, or its digest is not that of the members.

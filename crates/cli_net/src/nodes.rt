@@ -3,7 +3,7 @@ ghost use Rattle.std.specs.Prelude.{◌≡◌, ◌≢◌, ◌⊎◌, ◌<◌, �
 ghost use Rattle.std.specs.List.{All};
 ghost use Rattle.locked_node.specs.Passes.{Fits, opening_of};
 ghost use Rattle.cluster_core.specs.Clusters.{AreAll, AreFresh};
-ghost use Rattle.cli_net.specs.Service.{IsBorn, IsJoinedTo, join_fault};
+ghost use Rattle.cli_net.specs.Service.{IsCreated, IsJoinedTo, join_fault};
 
 use crate::faults::ServeError;
 use change_core::{Address, Moment};
@@ -21,8 +21,8 @@ fn node_of<H: PointHash>(
     hash: H,
     words: &ServeWords,
 ) -> Result<NodeState<H>, ServeError>
-    ensures born { IfOk result (IsBorn H.hash_of hash words.now) }
-    ensures refusal { IsOkUnless result ServeError.NoMemory }
+    ensures created { IfOk result (IsCreated H.hash_of hash words.now) }
+    ensures refusal { IsOkUnless result ServeError.OutOfMemory }
 {
     let mut config = Config::standard();
     config.replicas = words.replicas;
@@ -41,7 +41,7 @@ fn node_of<H: PointHash>(
     );
     match made {
         Ok(node) => Ok(node),
-        Err(NodeError::Memory) => Err(ServeError::NoMemory),
+        Err(NodeError::Memory) => Err(ServeError::OutOfMemory),
         Err(_) => unreachable!(),
     }
 }
@@ -50,33 +50,33 @@ fn node_of<H: PointHash>(
 ///
 /// # Errors
 ///
-/// - `NoMemory`: out of memory.
+/// - `OutOfMemory`: out of memory.
 pub fn shared_node<H: PointHash>(
     alloc: Global,
     hash: H,
     words: &ServeWords,
 ) -> Result<(LockedNode<H>, NodePass<H>, Vec<NodePass<H>>), ServeError>
-    ensures born { IfOk result (λ r. IsBorn H.hash_of hash words.now (opening_of r.0)) }
+    ensures created { IfOk result (λ r. IsCreated H.hash_of hash words.now (opening_of r.0)) }
     ensures fits { IfOk result (λ r. Fits r.0 r.1 × All (Fits r.0) r.2.items) }
     ensures count { IfOk result (λ r. length r.2.items ≡ words.now.workers) }
     ensures all { IfOk result (λ r. AreAll r.0 (r.2.items ++ r.1 ∷ [])) }
     ensures fresh { IfOk result (λ r. AreFresh r.0 (r.2.items ++ r.1 ∷ [])) }
-    ensures refusal { IsOkUnless result ServeError.NoMemory }
+    ensures refusal { IsOkUnless result ServeError.OutOfMemory }
 {
     let node = node_of(alloc, hash, words)?;
     match share(alloc, node, words.workers) {
         Ok(shared) => Ok(shared),
-        Err(_) => Err(ServeError::NoMemory),
+        Err(_) => Err(ServeError::OutOfMemory),
     }
 }
 
 /// Returns a server's error for an error of its join.
 fn fault_of(error: ClusterError) -> ServeError
     ensures is { Some result ≡ join_fault (Err error) }
-    ensures named { (result ≡ ServeError.NoneJoined) ⊎ (result ≡ ServeError.NoMemory) }
+    ensures named { (result ≡ ServeError.NoneJoined) ⊎ (result ≡ ServeError.OutOfMemory) }
 {
     match error {
-        ClusterError::Memory => ServeError::NoMemory,
+        ClusterError::Memory => ServeError::OutOfMemory,
         _ => ServeError::NoneJoined,
     }
 }
@@ -85,7 +85,7 @@ fn fault_of(error: ClusterError) -> ServeError
 ///
 /// # Errors
 ///
-/// - `NoMemory`: out of memory, here or in the link.
+/// - `OutOfMemory`: out of memory, here or in the link.
 /// - `NoneJoined`: none of them admitted the node.
 pub fn join_hosts<R: Wait, H: PointHash, L: Link>(
     rt: &R,
@@ -102,7 +102,7 @@ pub fn join_hosts<R: Wait, H: PointHash, L: Link>(
     ensures joined { hosts.now ≢ [] → MatchResult result
         (λ _. IsJoinedTo L.may_answer node.now hosts.now now None pass.old pass.new)
         (λ e. IsJoinedTo L.may_answer node.now hosts.now now (Some e) pass.old pass.new) }
-    ensures named { IfErr result (λ e. (e ≡ ServeError.NoneJoined) ⊎ (e ≡ ServeError.NoMemory)) }
+    ensures named { IfErr result (λ e. (e ≡ ServeError.NoneJoined) ⊎ (e ≡ ServeError.OutOfMemory)) }
     ensures fits { Fits node.now pass.new }
 {
     if hosts.is_empty() {

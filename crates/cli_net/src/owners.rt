@@ -37,7 +37,7 @@ fn owner_by<H: PointHash>(
     ensures owner { IfOk result (λ a. owner (H.hash_of hash) replicas (servers_of members.now) key.now ≡ Some a) }
     ensures fault { IfErr result (IsUnnamed (owner (H.hash_of hash) replicas (servers_of members.now) key.now)) }
 {
-    let ring = ring_of(alloc, hash, replicas, members).map_err(|_| AskError::NoMemory)?;
+    let ring = ring_of(alloc, hash, replicas, members).map_err(|_| AskError::OutOfMemory)?;
     match ring.owner(key.as_bytes()) {
         Some(owner) => Ok(owner),
         None => Err(AskError::Refused(Reason::Nobody)),
@@ -68,7 +68,7 @@ fn find_owner<R: Wait, L: Link>(
     ensures fault { IfErr result (IsNoOwner L.may_answer words.now.host (hash_by words.now.sum) words.now.replicas words.now.key.now) }
 {
     let (_news, table) = look_only(rt, alloc, link, words.host)?;
-    let members = table.list().map_err(|_| AskError::NoMemory)?;
+    let members = table.list().map_err(|_| AskError::OutOfMemory)?;
     owner_in(alloc, words, members.as_slice())
 }
 

@@ -2,7 +2,7 @@
 ghost use Rattle.std.specs.Prelude.{◌≡◌, ◌∷◌, ◌++◌, [], IfOk, IfErr, OnOk, IsOkUnless};
 ghost use Rattle.std.specs.Io.KnownBytes.{Appends};
 ghost use Rattle.wire_json.specs.Input.{AppendsFront};
-ghost use Rattle.cli_net.specs.Asking.{Asked, by_nobody};
+ghost use Rattle.cli_net.specs.Asking.{Asked, unsourced};
 ghost use Rattle.cli_net.specs.Membership.{IsNotTold, IsTold};
 
 use crate::faults::AskError;
@@ -15,8 +15,8 @@ use std::sync::Wait;
 use wire_json::write_line;
 
 /// A message that no node made.
-fn by_nobody(content: Content) -> Message
-    ensures { result ≡ by_nobody content }
+fn unsourced(content: Content) -> Message
+    ensures { result ≡ unsourced content }
 {
     let (Some(source), Some(source_incarnation)) = (Address::new(0, 1), Incarnation::new(0)) else {
         unreachable!()
@@ -32,7 +32,7 @@ fn by_nobody(content: Content) -> Message
 ///
 /// # Errors
 ///
-/// - `NoMemory`: out of memory in the link.
+/// - `OutOfMemory`: out of memory in the link.
 /// - `NoAnswer`: no message came.
 pub fn ask_for<R: Wait, L: Link>(
     rt: &R,
@@ -43,9 +43,9 @@ pub fn ask_for<R: Wait, L: Link>(
 ) -> Result<Content, AskError>
     ensures { Asked L.may_answer to content result }
 {
-    match link.call(rt, alloc, to, &by_nobody(content)) {
+    match link.call(rt, alloc, to, &unsourced(content)) {
         Ok(answer) => Ok(answer.content),
-        Err(LinkError::Memory) => Err(AskError::NoMemory),
+        Err(LinkError::Memory) => Err(AskError::OutOfMemory),
         Err(_) => Err(AskError::NoAnswer),
     }
 }
@@ -54,7 +54,7 @@ pub fn ask_for<R: Wait, L: Link>(
 ///
 /// # Errors
 ///
-/// - `NoMemory`: out of memory in the link.
+/// - `OutOfMemory`: out of memory in the link.
 /// - `NoAnswer`: no message came.
 /// - `Refused`: the node refused the join, for this reason.
 /// - `Unexpected`: any other message came.

@@ -9,7 +9,7 @@ ghost use Rattle.locked_node.specs.Passes.{Fits};
 ghost use Rattle.peer_core.specs.Acts.{Makes};
 ghost use Rattle.server.specs.Starting.{IsHealedAs};
 ghost use Rattle.server.specs.Threads.{ServeAlone};
-ghost use Rattle.server.specs.Working.{AreRounds};
+ghost use Rattle.server.specs.Working.{AreRounds, hosts_of};
 ghost use Rattle.cli_net.specs.Echoes.{MayEcho};
 ghost use Rattle.cli_net.specs.Service.{EntersBy, HasEntered, HasServed, IsServed, IsThreadFault, LeavesService, LeavesServing, ServesAsStandard, ServesBy, TellsEntry, service_text, serving_line};
 
@@ -56,16 +56,16 @@ fn say_serving<W: Write>(alloc: Global, address: Address, writer: &mut W) -> Res
 ///
 /// # Errors
 ///
-/// - `NoMemory`: an allocation failed.
+/// - `OutOfMemory`: an allocation failed.
 fn plan_of(alloc: Global, words: &ServeWords) -> Result<Option<HealingPlan>, ServeError>
     ensures heals { IfOk result (IsHealedAs words.now.heal words.now.address words.now.hosts.items) }
-    ensures refusal { IsOkUnless result ServeError.NoMemory }
+    ensures refusal { IsOkUnless result ServeError.OutOfMemory }
 {
     let hosts = Vec::from_slice(alloc, words.hosts.as_slice())?;
     Ok(HealingPlan::of(words.heal, words.address, hosts))
 }
 
-/// Serves until the last connection, by threads with these passes. The errors are `NoThread` and `NoMemory`.
+/// Serves until the last connection, by threads with these passes. The errors are `NoThread` and `OutOfMemory`.
 fn serve_all<
     R: Net<Listener = TcpListener, Stream = TcpStream> + Runtime,
     H: PointHash + Send + Sync + 'static,
@@ -80,7 +80,7 @@ fn serve_all<
     requires timer { Fits server.node timer }
     requires workers { All (Fits server.node) workers.items }
     ensures server { IfOk result (λ r. arc_value r.server ≡ server) }
-    ensures rounds { IfOk result (λ r. Makes server.node (AreRounds server.healing) timer r.rounds) }
+    ensures rounds { IfOk result (λ r. Makes server.node (AreRounds R.times period (hosts_of server.hosts) server.healing) timer r.rounds) }
     ensures resting { IfOk result (λ r. period ≡ 0 → r.rounds ≡ timer) }
     ensures connections { IfOk result (λ r. ServeAlone H.hash_of MayEcho server.node workers.items r.workers.items) }
     ensures fault { IfErr result IsThreadFault }
@@ -88,7 +88,7 @@ fn serve_all<
     match Running::start(rt, alloc, server, timer, workers, period) {
         Ok(running) => Ok(running.wait(rt)),
         Err(ServerError::NoThread) => Err(ServeError::NoThread),
-        Err(ServerError::Memory) => Err(ServeError::NoMemory),
+        Err(ServerError::Memory) => Err(ServeError::OutOfMemory),
     }
 }
 
@@ -109,7 +109,7 @@ fn serve_out<
     ensures left { IfErr result (λ e. LeavesService words.now.address e (W.contents writer.old) (W.contents writer.new)) }
     ensures named { result ≡ Err ServeError.NoneJoined → words.now.hosts.items ≢ [] }
     ensures entered { TellsEntry (HasEntered H.hash_of any_answer hash words.now) result }
-    ensures ended { IfOk result (λ r. HasServed H.hash_of any_answer hash timeouts words.now (arc_value r.server) r.rounds r.workers.items) }
+    ensures ended { IfOk result (λ r. HasServed R.times H.hash_of any_answer hash timeouts words.now (arc_value r.server) r.rounds r.workers.items) }
 {
     let healing = plan_of(alloc, words)?;
     let stopwatch = Stopwatch::start(rt);
@@ -154,7 +154,7 @@ fn serve_by<
     ensures left { IfErr result (λ e. LeavesService words.now.address e (W.contents writer.old) (W.contents writer.new)) }
     ensures named { result ≡ Err ServeError.NoneJoined → words.now.hosts.items ≢ [] }
     ensures entered { TellsEntry (HasEntered H.hash_of any_answer hash words.now) result }
-    ensures serves { OnOk result (IsServed H.hash_of hash timeouts words.now) }
+    ensures serves { OnOk result (IsServed R.times H.hash_of hash timeouts words.now) }
 {
     match serve_out(rt, alloc, hash, timeouts, words, writer) {
         Ok(_ended) => Ok(()),
@@ -171,7 +171,7 @@ fn serve_by<
 ///
 /// The first step that fails ends it, in the order above.
 ///
-/// - `NoMemory`: out of memory, in any step.
+/// - `OutOfMemory`: out of memory, in any step.
 /// - `NoneJoined`: hosts were named and none admitted the node.
 /// - `CannotListen`: the address can't be listened at.
 /// - `CannotWrite`: the writer failed, before any thread runs or after all have ended.
@@ -187,7 +187,7 @@ pub fn serve_within<R: Net<Listener = TcpListener, Stream = TcpStream> + Runtime
     ensures left { IfErr result (λ e. LeavesService words.now.address e (W.contents writer.old) (W.contents writer.new)) }
     ensures named { result ≡ Err ServeError.NoneJoined → words.now.hosts.items ≢ [] }
     ensures entered { TellsEntry (EntersBy words.now.sum words.now) result }
-    ensures serves { OnOk result (ServesBy words.now.sum words.now timeouts) }
+    ensures serves { OnOk result (ServesBy R.times words.now.sum words.now timeouts) }
 {
     if words.sum {
         serve_by(rt, alloc, SumHash, timeouts, words, writer)
@@ -211,7 +211,7 @@ pub fn serve_run<R: Net<Listener = TcpListener, Stream = TcpStream> + Runtime, W
     ensures left { IfErr result (λ e. LeavesService words.now.address e (W.contents writer.old) (W.contents writer.new)) }
     ensures named { result ≡ Err ServeError.NoneJoined → words.now.hosts.items ≢ [] }
     ensures entered { TellsEntry (EntersBy words.now.sum words.now) result }
-    ensures serves { OnOk result (ServesAsStandard words.now) }
+    ensures serves { OnOk result (ServesAsStandard R.times words.now) }
 {
     serve_within(rt, alloc, Timeouts::standard(), words, writer)
 }

@@ -79,7 +79,7 @@ fn read_changes<R: Read>(alloc: Global, reader: &mut R) -> Result<Changes, TellE
 /// The decimal digits of a number.
 fn count_text(alloc: Global, count: usize) -> Result<String, AskError>
     ensures text { IfOk result (λ s. string_bytes s ≡ number_text count) }
-    ensures refusal { IsOkUnless result AskError.NoMemory }
+    ensures refusal { IsOkUnless result AskError.OutOfMemory }
 {
     Ok(format!(in alloc; "{count}")?)
 }

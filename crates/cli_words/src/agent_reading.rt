@@ -143,7 +143,7 @@ fn words_with(matches: &ArgMatches<'_>, addresses: Addresses) -> Option<AgentWor
 /// - `Usage`: an argument is absent or not in its range, or no level of the log has the name that is given; in the form
 ///   of `clap`'s errors.
 /// - `BadAddress`: an argument that has to be an address is not one.
-/// - `NoMemory`: out of memory.
+/// - `OutOfMemory`: out of memory.
 pub fn agent_words(alloc: Global, matches: &ArgMatches<'_>) -> Result<AgentWords, WordsError>
     ensures words { IfOk result (IsAgentAt (rows_in matches.now)) }
     ensures fault { IfErr result (IsRefusalOf (HasAgent (rows_in matches.now)) (HasBadAddress (rows_in matches.now))) }

@@ -43,7 +43,7 @@ pub fn address_of(text: &str) -> Result<Address, WordsError>
 ///
 /// - `Usage`: there is no argument of this name; in the form of `clap`'s errors.
 /// - `BadAddress`: the argument is not an address.
-/// - `NoMemory`: out of memory for the text of `Usage`.
+/// - `OutOfMemory`: out of memory for the text of `Usage`.
 pub fn address_at(alloc: Global, matches: &ArgMatches<'_>, id: &str) -> Result<Address, WordsError>
     ensures ok { IfOk result (IsAddressAt (rows_in matches.now) id.now) }
     ensures fault { IfErr result (IsRefusalOf (IsSome (first_of id.now (rows_in matches.now))) (IsNoAddressAt (rows_in matches.now) id.now)) }
@@ -72,7 +72,7 @@ fn addresses_of(alloc: Global, texts: &[&str]) -> Result<Vec<Address>, WordsErro
 /// # Errors
 ///
 /// - `BadAddress`: a host is not an address.
-/// - `NoMemory`: out of memory for the list; never if no host is given.
+/// - `OutOfMemory`: out of memory for the list; never if no host is given.
 pub fn hosts_at(alloc: Global, matches: &ArgMatches<'_>) -> Result<Vec<Address>, WordsError>
     ensures ok { IfOk result (λ hosts. AreAddressesAt (rows_in matches.now) (codes "host") hosts.items) }
     ensures fault { IfErr result (IsRefusalOf (Unit {0}) (IsNoAddressAmong (rows_in matches.now) (codes "host"))) }
@@ -248,7 +248,7 @@ fn members_words(alloc: Global, matches: &ArgMatches<'_>) -> Result<MembersWords
 ///
 /// - `Usage`: an argument is absent or not in its range, or there are 2^32 hosts; in the form of `clap`'s errors.
 /// - `BadAddress`: an argument that has to be an address is not one.
-/// - `NoMemory`: out of memory.
+/// - `OutOfMemory`: out of memory.
 pub fn cluster_command_of<'a>(
     alloc: Global,
     name: &str,

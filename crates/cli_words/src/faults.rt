@@ -1,6 +1,6 @@
 //! The errors of the arguments.
 ghost use Rattle.std.specs.Prelude.{◌≡◌};
-ghost use Rattle.cli_words.specs.declared.faults.WordsError.TheVariants.{NoMemory};
+ghost use Rattle.cli_words.specs.declared.faults.WordsError.TheVariants.{OutOfMemory};
 
 use clap::error::ErrorKind;
 use std::alloc::{AllocError, AllocFailed};
@@ -14,7 +14,7 @@ pub enum WordsError {
     /// An argument that has to be an address is not one.
     BadAddress,
     /// Out of memory before the subcommand started.
-    NoMemory,
+    OutOfMemory,
 }
 
 impl WordsError {
@@ -26,7 +26,7 @@ impl WordsError {
     {
         match self {
             WordsError::Usage(_) | WordsError::BadAddress => 2,
-            WordsError::NoMemory => 1,
+            WordsError::OutOfMemory => 1,
         }
     }
 }
@@ -36,24 +36,24 @@ impl fmt::Display for WordsError {
         match self {
             WordsError::Usage(error) => write!(f, "{error}"),
             WordsError::BadAddress => writeln!(f, "ringpop: bad address"),
-            WordsError::NoMemory => writeln!(f, "ringpop: out of memory"),
+            WordsError::OutOfMemory => writeln!(f, "ringpop: out of memory"),
         }
     }
 }
 
 impl From<AllocError> for WordsError {
-    ghost from_gives = { λ _ f. f ≡ NoMemory };
+    ghost from_gives = { λ _ f. f ≡ OutOfMemory };
 
     fn from(_refused: AllocError) -> WordsError {
-        WordsError::NoMemory
+        WordsError::OutOfMemory
     }
 }
 
 impl<T: Drop> From<AllocFailed<T>> for WordsError {
-    ghost from_gives = { λ _ f. f ≡ NoMemory };
+    ghost from_gives = { λ _ f. f ≡ OutOfMemory };
 
     fn from(_refused: AllocFailed<T>) -> WordsError {
-        WordsError::NoMemory
+        WordsError::OutOfMemory
     }
 }
 
@@ -64,7 +64,7 @@ impl From<clap::Error> for WordsError {
 
     fn from(error: clap::Error) -> WordsError {
         match error.kind() {
-            ErrorKind::OutOfMemory => WordsError::NoMemory,
+            ErrorKind::OutOfMemory => WordsError::OutOfMemory,
             _ => WordsError::Usage(error),
         }
     }

@@ -1,10 +1,13 @@
 -- Links over channels.
-use Rattle.std.specs.Prelude.{ℕ, List, Result, Ok, Err}
+use Rattle.std.specs.Prelude.{◌≡◌, ℕ, List, Result, Ok, Err}
 use Rattle.std.specs.Arc.{arc_value}
 use Rattle.crossbeam_channel.specs.declared.err.RecvError.{RecvError}
 use Rattle.crossbeam_channel.specs.declared.err.SendError.{SendError}
 use Rattle.crossbeam_channel.specs.declared.err.SendError.TheVariants.{Disconnected, OutOfMemory}
 use Rattle.cluster_core.specs.declared.channel_links.ChannelLink.{ChannelLink}
+use Rattle.message_core.specs.declared.messages.Message.{Message}
+use Rattle.cluster_core.specs.declared.channel_links.Job.{Job}
+use Rattle.cluster_core.specs.declared.channel_links.Job.TheVariants.{Serve, Stop}
 use Rattle.cluster_core.specs.declared.channel_links.Mailbox.{Mailbox}
 use Rattle.peer_core.specs.Links.{MayAnswer}
 use Rattle.peer_core.specs.declared.errors.LinkError.{LinkError}
@@ -38,3 +41,8 @@ sent_as (Err (Disconnected item)) = Err Closed
 abbrev pub heard_as : {T : Type 0} → Result T RecvError → Result T LinkError
 heard_as (Ok item) = Ok item
 heard_as (Err error) = Err Closed
+
+-- the job is to answer the message
+abbrev pub Carries : Message → Job → Type 0
+Carries message (Serve copy to) = copy ≡ message
+Carries message Stop = ⊥

@@ -5,12 +5,15 @@ ghost use Rattle.std.specs.Arc.{arc_value};
 ghost use Rattle.node_core.specs.Workers.{IsCrew};
 ghost use Rattle.locked_node.specs.Passes.{Fits, opening_of, passes_of};
 ghost use Rattle.cluster_core.specs.Channels.{any_answer, IsChannelFault, failures_of, reached_by};
-ghost use Rattle.cluster_core.specs.Clusters.{address_in, AreAll, AreApart, AreFresh, given_to, HasNoNode, HasNoPost, HasRound, IsGivenUp, IsNotStarted, IsOfSeat, IsRoundBy, NoneHas, Seats, IsStarted};
+ghost use Rattle.cluster_core.specs.Clusters.{address_in, AreAll, AreApart, AreFresh, given_to, HasNoNode, HasNoPost, IsAbandoned, IsNotStarted, IsOfSeat, NodeDoes, NoneHas, SeatDoes, Seats, IsStarted};
 ghost use Rattle.cluster_core.specs.Working.{HasWorked, IsMessageServed, Repeats, ServesOnce};
 ghost use Rattle.peer_core.specs.Acts.{Makes};
-ghost use Rattle.peer_core.specs.Errors.{IsRoundRefusal};
+ghost use Rattle.peer_core.specs.Correcting.{IsCorrectingRound};
+ghost use Rattle.peer_core.specs.Errors.{IsHealRefusal, IsRoundRefusal};
+ghost use Rattle.peer_core.specs.Healing.{IsHealing, after_round};
 ghost use Rattle.peer_core.specs.Members.{Done};
 ghost use Rattle.peer_core.specs.Parts.{let_in};
+ghost use Rattle.peer_core.specs.Rounds.{IsRound};
 ghost use Rattle.peer_core.specs.Serving.{Serves};
 
 use crate::channel_links::{ChannelLink, Job, Mailbox, ask_one, mailbox_of, put};
@@ -21,7 +24,9 @@ use hash_ring::PointHash;
 use locked_node::{LockedNode, NodePass};
 use message_core::Message;
 use node_core::{MAX_WORKERS, NodeState};
-use peer_core::{ClusterError, Handler, LinkError, Member, Round, gossip_round};
+use peer_core::{
+    ClusterError, Handler, Healing, LinkError, Member, Round, correcting_round, gossip_round, heal,
+};
 use std::alloc::{AllocError, AllocFailed, Global};
 use std::fmt;
 use std::marker::Model;
@@ -298,7 +303,7 @@ where
     H: PointHash + Send + Sync + 'static,
     A: Handler + Send + Sync + Drop + 'static,
     requires { Fits (arc_value node) pass }
-    ensures hired { IfOk result (λ w. (w.promise.node.value ≡ arc_value node) × (given_to w ≡ pass)) }
+    ensures spawned { IfOk result (λ w. (w.promise.node.value ≡ arc_value node) × (given_to w ≡ pass)) }
     ensures refused { IsOkUnless result StartError.NoThread }
 {
     let runtime = *rt;
@@ -330,8 +335,8 @@ where
     H: PointHash + Send + Sync + 'static,
     A: Handler + Send + Sync + Drop + 'static,
     requires { Fits (arc_value node.now) pass }
-    ensures hired { IfOk result (λ w. (w.promise.node.value ≡ arc_value node.now) × (given_to w ≡ pass)) }
-    ensures given_up { IfErr result IsGivenUp }
+    ensures spawned { IfOk result (λ w. (w.promise.node.value ≡ arc_value node.now) × (given_to w ≡ pass)) }
+    ensures abandoned { IfErr result IsAbandoned }
 {
     let (node, link, handler, jobs) = worker_parts(node, posts, handler, outlet)?;
     start_work(rt, alloc, node, pass, link, handler, jobs)
@@ -353,9 +358,9 @@ where
     H: PointHash + Send + Sync + 'static,
     A: Handler + Send + Sync + Drop + 'static,
     requires { All (Fits (arc_value node.now)) passes.items }
-    ensures hired { IfOk result (λ ws. All (λ w. w.promise.node.value ≡ arc_value node.now) ws.items) }
+    ensures spawned { IfOk result (λ ws. All (λ w. w.promise.node.value ≡ arc_value node.now) ws.items) }
     ensures given { IfOk result (λ ws. map given_to ws.items ≡ passes.items) }
-    ensures given_up { IfErr result IsGivenUp }
+    ensures abandoned { IfErr result IsAbandoned }
 {
     let mut workers = Vec::with_capacity(alloc, passes.len())?;
     for pass in passes {
@@ -387,7 +392,7 @@ where
     A: Handler + Send + Sync + Drop + 'static,
     requires { workers ≤ 16 }
     ensures serves { IfOk result (Seats workers (arc_value posts.now).items node) }
-    ensures given_up { IfErr result IsGivenUp }
+    ensures abandoned { IfErr result IsAbandoned }
 {
     let address = node.own().address;
     let (locked, pass, passes) = share(alloc, node, workers)?;
@@ -432,10 +437,46 @@ impl<H: PointHash> ServedNode<H> {
 
     /// One round of gossip of the node, by the pass that is kept for its rounds.
     fn round<R: Wait>(&mut self, rt: &R, alloc: Global, now: Moment) -> Result<Round, ClusterError>
-        ensures made { IsRoundBy now result self.old self.new }
+        ensures made { SeatDoes (IsRound any_answer now) result self.old self.new }
         ensures named { IfErr result IsRoundRefusal }
     {
         gossip_round(rt, alloc, &*self.node, &mut self.pass, &mut self.link, now)
+    }
+
+    /// The same, and the round corrects its target.
+    fn correcting_round<R: Wait>(
+        &mut self,
+        rt: &R,
+        alloc: Global,
+        now: Moment,
+    ) -> Result<Round, ClusterError>
+        ensures made { SeatDoes (IsCorrectingRound any_answer now) result self.old self.new }
+        ensures named { IfErr result IsRoundRefusal }
+    {
+        correcting_round(rt, alloc, &*self.node, &mut self.pass, &mut self.link, now)
+    }
+
+    /// What the node does after a round to heal a cluster whose members parted, by the pass that is kept for its rounds.
+    fn heal<R: Wait>(
+        &mut self,
+        rt: &R,
+        alloc: Global,
+        now: Moment,
+        healing: &mut Healing<'_>,
+    ) -> Result<bool, ClusterError>
+        ensures made { SeatDoes (IsHealing any_answer now healing.old.hosts (after_round healing.old).0) result self.old self.new }
+        ensures healing { healing.new ≡ (after_round healing.old).1 }
+        ensures named { IfErr result IsHealRefusal }
+    {
+        heal(
+            rt,
+            alloc,
+            &*self.node,
+            &mut self.pass,
+            &mut self.link,
+            now,
+            healing,
+        )
     }
 }
 
@@ -479,9 +520,9 @@ fn end_all<R: Threads + Wait, H: PointHash>(
 }
 
 impl<H: PointHash> From<AllocError> for StartError<H> {
-    ghost use Rattle.cluster_core.specs.declared.clusters.StartError.TheVariants.{Memory as no_memory};
+    ghost use Rattle.cluster_core.specs.declared.clusters.StartError.TheVariants.{Memory as out_of_memory};
 
-    ghost from_gives = { λ _ e. e ≡ no_memory };
+    ghost from_gives = { λ _ e. e ≡ out_of_memory };
 
     fn from(_refused: AllocError) -> StartError<H> {
         StartError::Memory
@@ -489,9 +530,9 @@ impl<H: PointHash> From<AllocError> for StartError<H> {
 }
 
 impl<H: PointHash, T: Drop> From<AllocFailed<T>> for StartError<H> {
-    ghost use Rattle.cluster_core.specs.declared.clusters.StartError.TheVariants.{Memory as no_memory};
+    ghost use Rattle.cluster_core.specs.declared.clusters.StartError.TheVariants.{Memory as out_of_memory};
 
-    ghost from_gives = { λ _ e. e ≡ no_memory };
+    ghost from_gives = { λ _ e. e ≡ out_of_memory };
 
     fn from(_refused: AllocFailed<T>) -> StartError<H> {
         StartError::Memory
@@ -543,7 +584,7 @@ impl<H: PointHash + Send + Sync + 'static> Cluster<H> {
         A: Handler + Send + Sync + Drop + 'static,
         requires { workers ≤ 16 }
         ensures serves { IfOk result (IsStarted workers nodes.items) }
-        ensures given_up { IfErr result IsGivenUp }
+        ensures abandoned { IfErr result IsAbandoned }
     {
         let handler = Arc::new(alloc, handler)?;
         let (posts, outlets) = posts_for(alloc, &nodes)?;
@@ -614,13 +655,69 @@ impl<H: PointHash> Cluster<H> {
     ) -> Result<Round, ClusterError>
         ensures nobody { HasNoNode self.old address → (result ≡ Err ClusterError.NoNode) × (self.new ≡ self.old) }
         ensures only { result ≡ Err ClusterError.NoNode → HasNoNode self.old address }
-        ensures made { ¬ HasNoNode self.old address → HasRound address now result self.old self.new }
+        ensures made { ¬ HasNoNode self.old address → NodeDoes (IsRound any_answer now) address result self.old self.new }
         ensures named { IfErr result (λ e. (e ≡ ClusterError.NoNode) ⊎ IsRoundRefusal e) }
     {
         let Some(at) = place_of(&self.seats, address) else {
             return Err(ClusterError::NoNode);
         };
         self.seats[at].round(rt, alloc, now)
+    }
+
+    /// Makes one round of gossip of the node of an address, at a moment, over its own link, and corrects its target: if
+    /// the target's Ack has another incarnation or status of the node than the node's own entry, the target gets a Join,
+    /// whose one change is that entry.
+    ///
+    /// # Errors
+    ///
+    /// - `NoNode`: no node has the address. Nothing changes.
+    /// - Any other: the error of the round.
+    pub fn correcting_round<R: Wait>(
+        &mut self,
+        rt: &R,
+        alloc: Global,
+        address: Address,
+        now: Moment,
+    ) -> Result<Round, ClusterError>
+        ensures nobody { HasNoNode self.old address → (result ≡ Err ClusterError.NoNode) × (self.new ≡ self.old) }
+        ensures only { result ≡ Err ClusterError.NoNode → HasNoNode self.old address }
+        ensures made { ¬ HasNoNode self.old address → NodeDoes (IsCorrectingRound any_answer now) address result self.old self.new }
+        ensures named { IfErr result (λ e. (e ≡ ClusterError.NoNode) ⊎ IsRoundRefusal e) }
+    {
+        match place_of(&self.seats, address) {
+            Some(at) => self.seats[at].correcting_round(rt, alloc, now),
+            None => Err(ClusterError::NoNode),
+        }
+    }
+
+    /// Heals a cluster whose members parted, for the node of an address, over its own link; to be called after each round
+    /// of that node, at its moment, with a `healing` of its own. After each tenth round the node pings one member at
+    /// random, also a faulty one, and sends a Join to one of the hosts of `healing`, at random, if it does not hold that
+    /// host as serving; after the others it does nothing. Returns whether a host answered by a Joined.
+    ///
+    /// # Errors
+    ///
+    /// - `NoNode`: no node has the address. Nothing changes.
+    /// - `Memory`: the node or its link ran out of memory.
+    /// - `PassSpent`: the pass of the node's rounds has made all its calls.
+    pub fn heal<R: Wait>(
+        &mut self,
+        rt: &R,
+        alloc: Global,
+        address: Address,
+        now: Moment,
+        healing: &mut Healing<'_>,
+    ) -> Result<bool, ClusterError>
+        ensures nobody { HasNoNode self.old address → (result ≡ Err ClusterError.NoNode) × (self.new ≡ self.old) × (healing.new ≡ healing.old) }
+        ensures only { result ≡ Err ClusterError.NoNode → HasNoNode self.old address }
+        ensures healed { ¬ HasNoNode self.old address → NodeDoes (IsHealing any_answer now healing.old.hosts (after_round healing.old).0) address result self.old self.new }
+        ensures healing { ¬ HasNoNode self.old address → healing.new ≡ (after_round healing.old).1 }
+        ensures named { IfErr result (λ e. (e ≡ ClusterError.NoNode) ⊎ IsHealRefusal e) }
+    {
+        match place_of(&self.seats, address) {
+            Some(at) => self.seats[at].heal(rt, alloc, now, healing),
+            None => Err(ClusterError::NoNode),
+        }
     }
 
     /// Ends the workers, each after the messages that it has, and gives the nodes back in the order given. After an

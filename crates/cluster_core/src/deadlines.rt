@@ -1,5 +1,5 @@
 //! Streams that are read and written until a moment at the latest.
-ghost use Rattle.std.specs.Prelude.{◌≡◌, ◌≢◌, ◌≤◌, ◌<◌, None, IfOk, IfErr};
+ghost use Rattle.std.specs.Prelude.{◌≡◌, ◌≢◌, ◌≤◌, ◌<◌, IfOk, IfErr};
 ghost use Rattle.std.specs.Duration.{as_nanos};
 ghost use Rattle.std.specs.Io.{ReadsAtMost, WritesAtMost};
 ghost use Rattle.std.specs.Io.KnownBytes.{Keeps, ReadConsumes, WriteAppends};
@@ -81,12 +81,20 @@ impl<'a, S, C> Timed<'a, S, C> {
             deadline,
         }
     }
+
+    /// The stream without a deadline.
+    pub fn into_inner(self) -> S
+        ensures { result ≡ stream_of self.entry }
+    {
+        self.stream
+    }
 }
 
 impl<'a, S: Read + OpenStream, C: Clock> Timed<'a, S, C> {
     /// Reads once, for no longer than the time that is left.
     fn read_once(&mut self, buf: &mut [u8]) -> io::Result<usize>
-        ensures { ReadsAtMost result buf.new }
+        ensures bound { ReadsAtMost result buf.new }
+        ensures bytes { ReadConsumes (S.remaining (stream_of self.old)) (S.remaining (stream_of self.new)) result buf.new }
     {
         let left = self.deadline.left()?;
         self.stream.set_read_timeout(Some(left))?;
@@ -97,22 +105,32 @@ impl<'a, S: Read + OpenStream, C: Clock> Timed<'a, S, C> {
 impl<'a, S: Write + OpenStream, C: Clock> Timed<'a, S, C> {
     /// Writes once, for no longer than the time that is left.
     fn write_once(&mut self, buf: &[u8]) -> io::Result<usize>
-        ensures { WritesAtMost result buf.now }
+        ensures bound { WritesAtMost result buf.now }
+        ensures bytes { WriteAppends (S.contents (stream_of self.old)) (S.contents (stream_of self.new)) result buf.now }
     {
         let left = self.deadline.left()?;
         self.stream.set_write_timeout(Some(left))?;
         self.stream.write(buf)
     }
+
+    /// Flushes once.
+    fn flush_once(&mut self) -> io::Result<()>
+        ensures { Keeps (S.contents (stream_of self.old)) (S.contents (stream_of self.new)) }
+    {
+        self.stream.flush()
+    }
 }
 
 /// A read that a signal interrupts is tried again until the deadline.
 impl<'a, S: Read + OpenStream, C: Clock> Read for Timed<'a, S, C> {
+    ghost remaining = { λ t. S.remaining (stream_of t) };
+
     fn read(&mut self, buf: &mut [u8]) -> io::Result<usize>
         ensures bound { ReadsAtMost result buf.new }
-        ensures bytes { ReadConsumes None None result buf.new }
+        ensures bytes { ReadConsumes (S.remaining (stream_of self.old)) (S.remaining (stream_of self.new)) result buf.new }
         ensures retried { IfErr result (λ e. error_kind e ≢ ErrorKind.Interrupted) }
     {
-        for _ in 0..u64::MAX {
+        'reads: for _ in 0..u64::MAX {
             match self.read_once(buf) {
                 Ok(count) => return Ok(count),
                 Err(fault) if fault.kind() == ErrorKind::Interrupted => {}
@@ -125,12 +143,14 @@ impl<'a, S: Read + OpenStream, C: Clock> Read for Timed<'a, S, C> {
 
 /// A write or a flush that a signal interrupts is tried again until the deadline.
 impl<'a, S: Write + OpenStream, C: Clock> Write for Timed<'a, S, C> {
+    ghost contents = { λ t. S.contents (stream_of t) };
+
     fn write(&mut self, buf: &[u8]) -> io::Result<usize>
         ensures bound { WritesAtMost result buf.now }
-        ensures bytes { WriteAppends None None result buf.now }
+        ensures bytes { WriteAppends (S.contents (stream_of self.old)) (S.contents (stream_of self.new)) result buf.now }
         ensures retried { IfErr result (λ e. error_kind e ≢ ErrorKind.Interrupted) }
     {
-        for _ in 0..u64::MAX {
+        'writes: for _ in 0..u64::MAX {
             match self.write_once(buf) {
                 Ok(count) => return Ok(count),
                 Err(fault) if fault.kind() == ErrorKind::Interrupted => {}
@@ -141,17 +161,17 @@ impl<'a, S: Write + OpenStream, C: Clock> Write for Timed<'a, S, C> {
     }
 
     fn flush(&mut self) -> io::Result<()>
-        ensures bytes { Keeps None None }
+        ensures bytes { Keeps (S.contents (stream_of self.old)) (S.contents (stream_of self.new)) }
         ensures retried { IfErr result (λ e. error_kind e ≢ ErrorKind.Interrupted) }
     {
-        for _ in 0..u64::MAX {
-            match self.stream.flush() {
+        'flushes: for _ in 0..u64::MAX {
+            match self.flush_once() {
                 Ok(()) => return Ok(()),
                 Err(fault) if fault.kind() == ErrorKind::Interrupted => {}
                 Err(fault) => return Err(fault),
             }
             if self.deadline.left().is_err() {
-                break;
+                return Err(io::Error::from(ErrorKind::TimedOut));
             }
         }
         Err(io::Error::from(ErrorKind::TimedOut))

@@ -5,16 +5,18 @@ mod channel_links;
 mod clusters;
 mod copies;
 mod deadlines;
+mod dials;
 mod seats;
 mod tcp_links;
 
 pub use channel_links::ChannelLink;
 pub use clusters::{Cluster, StartError, StopError, share};
 pub use deadlines::{Deadline, Timed};
+pub use dials::Dial;
 pub use node_core::MAX_WORKERS;
 pub use peer_core::{
     CallError, Clock, ClusterError, Handler, HandlerFault, Healing, JoinError, LeaveError, Link,
-    LinkError, Member, RejoinError, RequestError, Round, RoundError, gossip_round,
-    handle_or_forward, heal, join, refuse, serve_one,
+    LinkError, Member, RejoinError, RequestError, Round, RoundError, correcting_round,
+    gossip_round, handle_or_forward, heal, join, refuse, serve_one,
 };
-pub use tcp_links::{Limits, TcpLink, send_line, socket_address};
+pub use tcp_links::{Limits, TcpLink, send_line, send_owned_line, socket_address};

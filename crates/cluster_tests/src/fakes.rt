@@ -31,8 +31,8 @@ pub(crate) enum Mood {
 pub(crate) struct Fake {
     first: Mood,
     later: Mood,
-    /// Whom the first call was for.
-    pub(crate) asked: Option<Address>,
+    /// Whom the last ping was for.
+    pub(crate) pinged: Option<Address>,
     pub(crate) calls: u64,
     failures: u64,
 }
@@ -42,7 +42,7 @@ impl Fake {
         Fake {
             first,
             later,
-            asked: None,
+            pinged: None,
             calls: 0,
             failures: 0,
         }
@@ -104,6 +104,14 @@ fn answer_in(mood: Mood, alloc: Global, from: Address, asked: &Message) -> Optio
     }
 }
 
+/// Whom the last ping was for, after this message.
+fn last_pinged(earlier: Option<Address>, to: Address, message: &Message) -> Option<Address> {
+    match &message.content {
+        Content::Ping(_) => Some(to),
+        _ => earlier,
+    }
+}
+
 impl Link for Fake {
     ghost may_answer = { λ _ _ _. Unit {0} };
 
@@ -123,8 +131,8 @@ impl Link for Fake {
         if self.failures == u64::MAX {
             return Err(LinkError::Spent);
         }
+        self.pinged = last_pinged(self.pinged, to, message);
         let mood = if self.calls == 0 {
-            self.asked = Some(to);
             self.first
         } else {
             self.later

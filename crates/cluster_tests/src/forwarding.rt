@@ -247,7 +247,7 @@ fn check<R: Wait + Env + Abort>(rt: &R, alloc: Global, asked: &Asked, wanted: &C
     assert!(rt; came == *wanted);
 }
 
-const GIVEN_UP: Came = Came {
+const ABANDONED: Came = Came {
     answer: Err(ClusterError::RetriesSpent),
     sent: 4,
     moments: [0, 3_000, 9_000, 21_000],
@@ -257,9 +257,9 @@ const GIVEN_UP: Came = Came {
 /// A request for `zzzz1` at A with B, over a link that fails or answers otherwise: sent from A to B at 0, 3,000, 9,000 and 21,000, then
 /// retries spent.
 #[test]
-fn a_request_is_sent_four_times_and_given_up(rt: HostRuntime) {
-    check(&rt, rt.alloc(), &wrong(Mood::Broken), &GIVEN_UP);
-    check(&rt, rt.alloc(), &wrong(Mood::Failing), &GIVEN_UP);
+fn a_request_is_sent_four_times_and_abandoned(rt: HostRuntime) {
+    check(&rt, rt.alloc(), &wrong(Mood::Broken), &ABANDONED);
+    check(&rt, rt.alloc(), &wrong(Mood::Failing), &ABANDONED);
 }
 
 /// The same where each failure takes 100: sent at 0, 3,100, 9,200 and 21,300.
@@ -267,7 +267,7 @@ fn a_request_is_sent_four_times_and_given_up(rt: HostRuntime) {
 fn a_failure_is_noted_when_it_is_known(rt: HostRuntime) {
     let mut asked = wrong(Mood::Broken);
     asked.takes = 100;
-    let mut wanted = GIVEN_UP;
+    let mut wanted = ABANDONED;
     wanted.moments = [0, 3_100, 9_200, 21_300];
     check(&rt, rt.alloc(), &asked, &wanted);
 }

@@ -8,6 +8,8 @@ mod fakes;
 #[cfg(test)]
 mod forwarding;
 #[cfg(test)]
+mod healing;
+#[cfg(test)]
 mod interrupted;
 #[cfg(test)]
 mod members;
@@ -15,6 +17,8 @@ mod members;
 mod messages;
 #[cfg(test)]
 mod nodes;
+#[cfg(test)]
+mod posts;
 #[cfg(test)]
 mod refusals;
 #[cfg(test)]

@@ -18,7 +18,7 @@ pub(crate) fn config(max: usize) -> Config {
 }
 
 /// The node 10.0.0.`number`:1 of this configuration that starts at this incarnation and moment.
-pub(crate) fn born(
+pub(crate) fn created(
     rt: &(impl Env + Abort),
     alloc: Global,
     number: u8,
@@ -44,7 +44,7 @@ pub(crate) fn state(
     max: usize,
 ) -> NodeState<SumHash> {
     let first = Incarnation::new(7).expect(rt, "an incarnation");
-    born(rt, alloc, number, &config(max), first, 1, moment(rt, 0))
+    created(rt, alloc, number, &config(max), first, 1, moment(rt, 0))
 }
 
 /// The answer to a message, if there is one.

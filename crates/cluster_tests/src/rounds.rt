@@ -37,7 +37,7 @@ pub(crate) enum End {
 /// How a round ended, how often its link was asked, and how often that failed.
 pub(crate) type Ended = (Result<End, ClusterError>, u64, u64);
 
-/// How a round ended whose first ping was for this member.
+/// How a round ended whose last ping was for this member: one that finds an older probe first completes it.
 fn end_of(round: Round, pinged: Option<Address>) -> End {
     let (end, about) = match round {
         Round::Idle => return End::Idle,
@@ -67,7 +67,7 @@ pub(crate) fn round_in<R: Wait + Abort>(
     let mut link = Fake::new(first, later);
     let now = moment(rt, 0);
     let end = match gossip_round(rt, alloc, shared, pass, &mut link, now) {
-        Ok(round) => Ok(end_of(round, link.asked)),
+        Ok(round) => Ok(end_of(round, link.pinged)),
         Err(error) => Err(error),
     };
     (end, link.calls, link.failures())
@@ -93,7 +93,7 @@ fn check_rounds<R: Wait + Env + Abort>(rt: &R, alloc: Global, rows: &[Row]) {
     for (start, moods, wanted) in rows {
         let mut found = first_round(rt, alloc, start, *moods);
         let (end, _, _) = found;
-        if found != *wanted && end == NO_MEMORY {
+        if found != *wanted && end == OUT_OF_MEMORY {
             check_refused(rt);
             found = first_round(rt, alloc, start, *moods);
         }
@@ -123,7 +123,7 @@ static ROUNDS: [Row; 14] = [
     (AMONG_THREE, WILLING, (Ok(End::Reached), 1, 0)),
     (AMONG_THREE, BROKEN, (Ok(End::Inconclusive), 3, 3)),
     (AMONG_THREE, FAILING, (Ok(End::Inconclusive), 3, 0)),
-    (AMONG_THREE, STARVED, (NO_MEMORY, 1, 0)),
+    (AMONG_THREE, STARVED, (OUT_OF_MEMORY, 1, 0)),
     // lost, and then by a helper
     (
         AMONG_THREE,
@@ -215,7 +215,7 @@ fn take_step<R: Wait + Abort>(
     let (moods, wanted, left) = step;
     let found = round_in(rt, alloc, shared, pass, *moods);
     let (end, _, _) = found;
-    if found != *wanted && end == NO_MEMORY {
+    if found != *wanted && end == OUT_OF_MEMORY {
         return false;
     }
     assert!(rt; found == *wanted && running(rt, shared, pass) == *left);
@@ -323,7 +323,7 @@ const STRANGE: (Mood, Mood) = (Mood::Strange, Mood::Strange);
 
 const TELLING: (Mood, Mood) = (Mood::Telling, Mood::Telling);
 
-const NO_MEMORY: Result<End, ClusterError> = Err(ClusterError::Memory);
+const OUT_OF_MEMORY: Result<End, ClusterError> = Err(ClusterError::Memory);
 
 static ALL_FAILED: Scene = (
     3,
@@ -354,7 +354,7 @@ fn a_suspected_target_is_held_so(rt: HostRuntime) {
 /// The second round pings the target of the first one again, about which no helper was asked.
 static PINGED_ANEW: Scene = (
     1,
-    (STARVED, (NO_MEMORY, 1, 0), Some((1, false))),
+    (STARVED, (OUT_OF_MEMORY, 1, 0), Some((1, false))),
     Some((WILLING, (Ok(End::Reached), 2, 0), None)),
     Status::Alive,
 );
@@ -367,11 +367,11 @@ fn a_probe_of_which_nobody_was_asked_is_pinged_anew(rt: HostRuntime) {
 }
 
 /// The second round asks no helper for which the first one waits.
-static GIVEN_UP: Scene = (
+static ABANDONED: Scene = (
     3,
     (
         (Mood::Broken, Mood::Starved),
-        (NO_MEMORY, 2, 1),
+        (OUT_OF_MEMORY, 2, 1),
         Some((1, true)),
     ),
     Some((WILLING, (Ok(End::Reached), 1, 0), None)),
@@ -381,7 +381,7 @@ static GIVEN_UP: Scene = (
 /// The same once a helper is to be asked: the probe waits for a helper. The next round asks no helper of it, and probes once.
 #[test]
 fn helpers_that_a_probe_waits_for_have_failed(rt: HostRuntime) {
-    check_scene(&rt, rt.alloc(), &GIVEN_UP);
+    check_scene(&rt, rt.alloc(), &ABANDONED);
 }
 
 /// Makes a round by a pass of two turns; false where that was out of memory before they were spent.
@@ -390,7 +390,7 @@ fn spend<R: Wait + Abort>(rt: &R, alloc: Global, shared: &Shared, pass: &mut Cal
     ensures { Fits shared.now pass.new }
 {
     let ended = round_in(rt, alloc, shared, pass, WILLING);
-    if ended == (NO_MEMORY, 0, 0) {
+    if ended == (OUT_OF_MEMORY, 0, 0) {
         return false;
     }
     assert!(rt; ended == (Err(ClusterError::PassSpent), 0, 0));

@@ -152,7 +152,7 @@ fn said_in(answer: &Result<Message, LinkError>) -> Said {
 /// The answer of a link, and how often it then has failed.
 type Answered = (Said, u64);
 
-const NO_MEMORY: Said = Said::Fault(LinkError::Memory);
+const OUT_OF_MEMORY: Said = Said::Fault(LinkError::Memory);
 
 /// A peer in its own thread that answers one connection by these bytes; None if an allocation failed or the thread was
 /// not made.
@@ -220,11 +220,11 @@ fn try_call<
     let mut link = TcpLink::with_limits(rt, limits);
     let (said, failures) = answer_of(rt, alloc, &mut link, to, message);
     drop(link);
-    if said == NO_MEMORY {
+    if said == OUT_OF_MEMORY {
         let _knocked = knock(rt, to, b"");
     }
     let is_read = has_read(alloc, peer.join(rt), message)?;
-    if said == NO_MEMORY {
+    if said == OUT_OF_MEMORY {
         return None;
     }
     assert!(rt; is_read);
@@ -434,7 +434,7 @@ fn answer_again<N: Net + Clock, R: Wait + Env + Abort>(
     message: &Message,
 ) -> Answered {
     let (said, failures) = answer_of(rt, alloc, link, to, message);
-    if said == NO_MEMORY {
+    if said == OUT_OF_MEMORY {
         check_refused(rt);
         return answer_of(rt, alloc, link, to, message);
     }

@@ -7,7 +7,7 @@ ghost use Rattle.locked_node.specs.Passes.{Fits};
 
 use crate::fakes::{Echo, Fake, Mood};
 use crate::messages::{member, moment};
-use crate::nodes::{answer_in, born, config};
+use crate::nodes::{answer_in, config, created};
 use crate::shared::{Caller, Shared, again, try_share};
 use change_core::{Address, Change, Incarnation, Moment, Status};
 use cluster_core::{ClusterError, Link, LinkError, Round, gossip_round, join, serve_one};
@@ -439,7 +439,7 @@ fn restarted(
 ) -> NodeState<SumHash> {
     let next = old.own().incarnation.next().expect(rt, "an incarnation");
     let seed = world.dice.next_u64();
-    born(rt, alloc, number, &hasty(), next, seed, world.now)
+    created(rt, alloc, number, &hasty(), next, seed, world.now)
 }
 
 /// Leaves, or comes back.
@@ -618,7 +618,7 @@ fn begin(rt: &(impl Env + Abort), alloc: Global, seed: u64) -> World {
     };
     let first = Incarnation::new(7).expect(rt, "an incarnation");
     for number in 1..4 {
-        let node = born(rt, alloc, number, &hasty(), first, seed, world.now);
+        let node = created(rt, alloc, number, &hasty(), first, seed, world.now);
         world.come_back(node);
     }
     world

@@ -11,7 +11,7 @@ use wire_json::Kind;
 #[derive(Clone, Copy)]
 pub(crate) struct Start {
     pub(crate) own: Ip,
-    pub(crate) born: u64,
+    pub(crate) created: u64,
     pub(crate) weight: u8,
     pub(crate) max: usize,
 }
@@ -21,7 +21,7 @@ pub(crate) type Case = (Start, Calls);
 /// 10.0.0.1:1 at 7.
 pub(crate) const A_AT_7: Start = Start {
     own: A,
-    born: 7,
+    created: 7,
     weight: 1,
     max: 4096,
 };
@@ -29,7 +29,7 @@ pub(crate) const A_AT_7: Start = Start {
 /// 10.0.0.2:1 at 1.
 const B_AT_1: Start = Start {
     own: B,
-    born: 1,
+    created: 1,
     weight: 1,
     max: 4096,
 };
@@ -94,7 +94,7 @@ pub(crate) const EXHAUSTED: Case = (
 pub(crate) const FULL: Case = (
     Start {
         own: A,
-        born: 7,
+        created: 7,
         weight: 1,
         max: 2,
     },
@@ -140,7 +140,7 @@ pub(crate) const GREATEST: Case = (
 /// 10.0.0.1:1 at 7, with weight 2.
 pub(crate) const HEAVY_A: Start = Start {
     own: A,
-    born: 7,
+    created: 7,
     weight: 2,
     max: 4096,
 };

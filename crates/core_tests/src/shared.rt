@@ -136,11 +136,11 @@ pub(crate) fn configured<H: PointHash>(
     ensures { result.node.own ≡ address_of own 1 }
 {
     let own = address(rt, own);
-    let born = incarnation(rt, number);
+    let created = incarnation(rt, number);
     let start = moment(rt, 0);
     let made = again!(
         rt,
-        NodeState::new(alloc, *config, hash, own, born, 1, start)
+        NodeState::new(alloc, *config, hash, own, created, 1, start)
     );
     made.ok().expect(rt, "a node")
 }

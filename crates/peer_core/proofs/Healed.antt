@@ -22,6 +22,7 @@ use Rattle.locked_node.specs.Passes.{NodePass, IsCalled}
 use Rattle.peer_core.specs.declared.errors.ClusterError.{ClusterError}
 use Rattle.peer_core.specs.declared.errors.ClusterError.TheVariants as error
 use Rattle.peer_core.specs.declared.healing.Choice.{Choice}
+use Rattle.peer_core.specs.declared.healing.Draws.{Draws}
 use Rattle.peer_core.specs.declared.hearing.Heard.{Heard}
 use Rattle.peer_core.specs.declared.hearing.Heard.TheVariants as heard
 use Rattle.peer_core.specs.Acts.{Act, OfActs}
@@ -80,7 +81,7 @@ module _ {H : Type 0} where
   hears_refusal now (heard.Answer m) e acts (inl h) = takes_refusal now m e acts h
   hears_refusal now (heard.Answer m) e acts (inr t) = absurd (gives_no true e t.1.1 t.1.4)
   hears_refusal now heard.Other e acts h = absurd (gives_no false e acts h)
-  hears_refusal now heard.NoMemory e acts h = let is : e ≡ error.Memory = cc (h.1) in subst IsHealRefusal (sym is) tt
+  hears_refusal now heard.OutOfMemory e acts h = let is : e ≡ error.Memory = cc (h.1) in subst IsHealRefusal (sym is) tt
 
   asks_refusal : (Asked : Heard → OfActs H) (now : ℕ) (e : ClusterError) (acts : List (Act H)) → Next (Asks Asked) (HearsHost now) (Err e) acts → IsHealRefusal e
   asks_refusal Asked now e acts (inl h) = of_lock e h.1
@@ -90,7 +91,7 @@ module _ {H : Type 0} where
   corrected_refusal Came now true a e acts h = asks_refusal _ now e acts h
   corrected_refusal Came now false a e acts h = absurd (gives_no false e acts h)
 
-  corrects_refusal : (Came : MayAnswer) (now : ℕ) (a : Address) (x : Heard) (e : ClusterError) (acts : List (Act H)) → Corrects Came now a x (Err e) acts → IsHealRefusal e
+  pub corrects_refusal : (Came : MayAnswer) (now : ℕ) (a : Address) (x : Heard) (e : ClusterError) (acts : List (Act H)) → Corrects Came now a x (Err e) acts → IsHealRefusal e
   corrects_refusal Came now a x e acts (inl h) = of_lock e h.1
   corrects_refusal Came now a x e acts (inr t) = corrected_refusal Came now (is_misnamed t.0 x) a e t.1.1 t.1.4
 
@@ -127,19 +128,19 @@ pub corrected_as : {H : Type 0} (Came : MayAnswer) (now : ℕ) (a : Address) (is
     → known ≡ is → Does locked (CorrectsIf Came now known a) r p q → Does locked (CorrectsIf Came now is a) r p q
 corrected_as Came now a is known {locked} {p} {q} {r} e d = subst (λ (b : Bool). Does locked (CorrectsIf Came now b a) r p q) e d
 
--- whom a number chooses, of the members that the node told and of the hosts
-pub choice_is : (own : Address) (held xs ys : List Change) (hosts : List Address) (n : ℕ) (member host : Option Address) → xs ≡ held → ys ≡ held
-    → member ≡ chosen_member own xs n → host ≡ chosen_host own ys hosts n → record { member = member; host = host } ≡ choice_of own held hosts n
-choice_is own held xs ys hosts n member host is are m h =
-    let met : member ≡ chosen_member own held n = m ∙ ap (λ (zs : List Change). chosen_member own zs n) is in
-    let asked : host ≡ chosen_host own held hosts n = h ∙ ap (λ (zs : List Change). chosen_host own zs hosts n) are in cc
+-- whom the numbers choose, of the members that the node told and of the hosts
+pub choice_is : (own : Address) (held xs ys : List Change) (hosts : List Address) (d : Draws) (member host : Option Address) → xs ≡ held → ys ≡ held
+    → member ≡ chosen_member own xs d.member → host ≡ chosen_host own ys hosts d.host → record { member = member; host = host } ≡ choice_of own held hosts d
+choice_is own held xs ys hosts d member host is are m h =
+    let met : member ≡ chosen_member own held d.member = m ∙ ap (λ (zs : List Change). chosen_member own zs d.member) is in
+    let asked : host ≡ chosen_host own held hosts d.host = h ∙ ap (λ (zs : List Change). chosen_host own zs hosts d.host) are in cc
 
--- the same with the hosts and the number that are known
-pub heals_as : {H : Type 0} (Came : MayAnswer) (now : ℕ) (hosts known : List Address) (number given : Option ℕ) {locked : LockedNode H} {p q : NodePass H} {r : Result Bool ClusterError}
-    → known ≡ hosts → given ≡ number → Does locked (IsHealing Came now known given) r p q → Does locked (IsHealing Came now hosts number) r p q
-heals_as Came now hosts known number given {locked} {p} {q} {r} is e d =
-    subst (λ (hs : List Address). Does locked (IsHealing Came now hs number) r p q) is
-    (subst (λ (n : Option ℕ). Does locked (IsHealing Came now known n) r p q) e d)
+-- the same with the hosts and the numbers that are known
+pub heals_as : {H : Type 0} (Came : MayAnswer) (now : ℕ) (hosts known : List Address) (draws given : Option Draws) {locked : LockedNode H} {p q : NodePass H} {r : Result Bool ClusterError}
+    → known ≡ hosts → given ≡ draws → Does locked (IsHealing Came now known given) r p q → Does locked (IsHealing Came now hosts draws) r p q
+heals_as Came now hosts known draws given {locked} {p} {q} {r} is e d =
+    subst (λ (hs : List Address). Does locked (IsHealing Came now hs draws) r p q) is
+    (subst (λ (x : Option Draws). Does locked (IsHealing Came now known x) r p q) e d)
 
 -- the member at a place is still to be found among those from here on, at the place that is left
 abbrev pub IsAhead : Address → List Change → ℕ → ℕ → ℕ → Type 0

@@ -73,7 +73,7 @@ module _ {H : Type 0} (Came : MayAnswer) (now : ℕ) where
       let is : joined ≡ false = cc (p.1) in
       subst (λ (j : Bool). HostDid h j acts) (sym is)
       (refused_by h q sent.0 acts (e ∙ (ap (λ (zs : List (Act H)). zs ++ ys) just ∙ ap (λ (zs : List (Act H)). (applied q ∷ []) ++ zs) p.0)) sent.1 sent.2)
-  by_made h made heard.NoMemory joined acts xs ys e just sent p = let no : Ok joined ≡ Err error.Memory = p.1 in cc
+  by_made h made heard.OutOfMemory joined acts xs ys e just sent p = let no : Ok joined ≡ Err error.Memory = p.1 in cc
   by_made h (Err n) (heard.Answer m) joined acts xs ys e just sent p = cc
   by_made h (Err n) heard.Other joined acts xs ys e just sent p = cc
 
@@ -121,7 +121,7 @@ module _ {H : Type 0} (Came : MayAnswer) (now : ℕ) where
   Unasked hosts e acts = IsOfLock e ⊎ ((e ≡ error.Memory) × (LastRefused refusal.Memory acts ⊎ LastHostStarved Came hosts acts))
 
   -- there was no memory to ask a host
-  by_want : (h : Address) (made : Result Message NodeError) → IsSent Came h IsJoined made heard.NoMemory
+  by_want : (h : Address) (made : Result Message NodeError) → IsSent Came h IsJoined made heard.OutOfMemory
       → LastRefused {H = H} refusal.Memory (did call.JoinMessage (reply.JoinMessage made) ∷ [])
       ⊎ LastHostStarved {H = H} Came (h ∷ []) (did call.JoinMessage (reply.JoinMessage made) ∷ [])
   by_want h (Ok q) sent = inr (h, q, [], refl, (0, omega arith, refl), subst (λ (x : Result Message LinkError). Came h q x) sent.2 sent.1)
@@ -137,7 +137,7 @@ module _ {H : Type 0} (Came : MayAnswer) (now : ℕ) where
       by_heard (heard.Answer m) made xs ys is just sent (inl (inr p)) = absurd (let no : Err e ≡ Ok tt = p.1.4.1 in cc)
       by_heard (heard.Answer m) made xs ys is just sent (inr p) = absurd (let no : Err e ≡ Ok true = p.1.4.1 in cc)
       by_heard heard.Other made xs ys is just sent p = absurd (let no : Err e ≡ Ok false = p.1 in cc)
-      by_heard heard.NoMemory made xs ys is just sent p =
+      by_heard heard.OutOfMemory made xs ys is just sent p =
           let memory : e ≡ error.Memory = (let same : Err e ≡ Err error.Memory = p.1 in cc) in
           let one : acts ≡ did call.JoinMessage (reply.JoinMessage made) ∷ [] =
           is ∙ (ap (λ (zs : List (Act H)). zs ++ ys) just ∙ ap (λ (zs : List (Act H)). (did call.JoinMessage (reply.JoinMessage made) ∷ []) ++ zs) p.0) in

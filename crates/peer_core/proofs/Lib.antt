@@ -2,12 +2,14 @@ pub mod Acts
 pub mod Hosts
 pub mod Named
 pub mod Healed
+pub mod Corrected
 pub mod Parts
 pub mod Turns
 pub mod Hands
 pub mod Joined
 pub mod Judged
 pub mod Rests
+pub mod HealRests
 pub mod Served
 pub mod Servings
 pub mod Forwarded

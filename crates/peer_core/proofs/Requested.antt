@@ -3,7 +3,6 @@ use Rattle.std.proofs.Common.{◌≡◌, ◌≢◌, ◌∙◌, ℕ, refl, sym, a
 use Rattle.std.specs.Prelude.{◌⊎◌, Contains}
 use Rattle.std.proofs.lemmas.List.Elements.{Contains-append_left}
 use Rattle.change_core.specs.declared.addresses.Address.{Address}
-use Rattle.message_core.specs.declared.messages.Content.{Content}
 use Rattle.message_core.specs.declared.messages.Content.TheVariants as content
 use Rattle.message_core.specs.declared.messages.Message.{Message}
 use Rattle.node_core.specs.declared.errors.NodeError.{NodeError}

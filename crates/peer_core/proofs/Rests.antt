@@ -43,7 +43,7 @@ module _ {H : Type 0} (Came : MayAnswer) where
   abbrev HeardFrom : (Message → Act H) → Address → (Message → Type 0) → Heard → OfActs H
   HeardFrom tell b Wanted (heard.Answer m) s = Quiet s × (q : Message) × Contains s (tell q) × Came b q (Ok m) × Wanted m
   HeardFrom tell b Wanted heard.Other s = Quiet s × (q : Message) × (answer : Result Message LinkError) × Contains s (tell q) × Came b q answer × IsOther Wanted answer
-  HeardFrom tell b Wanted heard.NoMemory s = LastRefused refusal.Memory s ⊎ LastStarved Came s
+  HeardFrom tell b Wanted heard.OutOfMemory s = LastRefused refusal.Memory s ⊎ LastStarved Came s
 
   heard_from : (event : Event) (reply_of : Result Message NodeError → Reply) (b : Address) (Wanted : Message → Type 0) (s : List (Act H))
       (named : (n : NodeError) → refusal_in (reply_of (Err n)) ≡ Some n)
@@ -53,11 +53,11 @@ module _ {H : Type 0} (Came : MayAnswer) where
   heard_from event reply_of b Wanted s named which (Ok q) (heard.Answer m) quiet h =
       (quiet, q, Contains-push s (did event (reply_of (Ok q))), subst (λ (x : Result Message LinkError). Came b q x) h.2.0 h.1, h.2.1)
   heard_from event reply_of b Wanted s named which (Ok q) heard.Other quiet h = (quiet, q, h.0, Contains-push s (did event (reply_of (Ok q))), h.1, h.2)
-  heard_from event reply_of b Wanted s named which (Ok q) heard.NoMemory quiet h =
+  heard_from event reply_of b Wanted s named which (Ok q) heard.OutOfMemory quiet h =
       inr (b, q, did event (reply_of (Ok q)), s, refl, which q, subst (λ (x : Result Message LinkError). Came b q x) h.2 h.1)
   heard_from event reply_of b Wanted s named which (Err n) (heard.Answer m) quiet h = cc
   heard_from event reply_of b Wanted s named which (Err n) heard.Other quiet h = cc
-  heard_from event reply_of b Wanted s named which (Err n) heard.NoMemory quiet h = inl (event, reply_of (Err n), s, refl, named n ∙ ap Some h.0)
+  heard_from event reply_of b Wanted s named which (Err n) heard.OutOfMemory quiet h = inl (event, reply_of (Err n), s, refl, named n ∙ ap Some h.0)
 
   -- the word of a helper is what its answer says
   said_word : (h a : Address) (q m : Message) (before : List (Act H)) (w : Option Bool) → word_on a m.content ≡ w → w ≢ None
@@ -68,10 +68,10 @@ module _ {H : Type 0} (Came : MayAnswer) where
 
 module _ {H : Type 0} (Came : MayAnswer) where
   -- there was no memory for a question, also behind more acts before
-  why_no_memory : (start s : List (Act H)) → LastRefused refusal.Memory s ⊎ LastStarved Came s → IsWhy Came error.Memory (start ++ s)
-  why_no_memory start s (inl w) =
+  why_out_of_memory : (start s : List (Act H)) → LastRefused refusal.Memory s ⊎ LastStarved Came s → IsWhy Came error.Memory (start ++ s)
+  why_out_of_memory start s (inl w) =
       inr (inl (refusal.Memory, refl, (w.0, w.1, start ++ w.2, ap (λ (xs : List (Act H)). start ++ xs) w.3 ∙ sym (append_assoc start w.2 (did w.0 w.1 ∷ [])), w.4)))
-  why_no_memory start s (inr w) =
+  why_out_of_memory start s (inr w) =
       inr (inr (refl, (w.0, w.1, w.2, start ++ w.3, ap (λ (xs : List (Act H)). start ++ xs) w.4 ∙ sym (append_assoc start w.3 (w.2 ∷ [])), w.5, w.6)))
 
 -- a probe of this number and target was in hand at the start
@@ -181,7 +181,7 @@ module _ {H : Type 0} (Came : MayAnswer) (now : ℕ) (k : ℕ) (a : Address) (st
       rests_weaker Came now
       (λ s g. (((g.0.0, g.1), g.2), (g.0.1, g.0.2, Contains-append_right start s (asked h a g.0.1) g.0.3, g.0.4, g.0.5)))
       (tells helpers h said.Failed)
-  hears_helper helpers h heard.NoMemory = rests_fail Came now _ _ (λ s g. why_no_memory Came start s g.0)
+  hears_helper helpers h heard.OutOfMemory = rests_fail Came now _ _ (λ s g. why_out_of_memory Came start s g.0)
 
   asks_helper : (helpers : List Address) (h : Address) → Contains helpers h
       → Rests Came now start (GivenTo helpers) (AsksHelper Came now probe h) (λ o. EndsFor helpers (end_by a o))
@@ -252,7 +252,7 @@ module _ {H : Type 0} (Came : MayAnswer) (now : ℕ) (k : ℕ) (a : Address) (st
   hears_target (heard.Answer ack) = acknowledges ack
   hears_target heard.Other =
       rests_weaker Came now (λ s g. (g.0, (g.1, g.2, Contains-append_right start s (pinged a g.1) g.3, g.4, g.5))) gives_up
-  hears_target heard.NoMemory = rests_fail Came now _ _ (λ s g. why_no_memory Came start s g)
+  hears_target heard.OutOfMemory = rests_fail Came now _ _ (λ s g. why_out_of_memory Came start s g)
 
   pub probes : Rests Came now start (λ s. s ≡ []) (Probes Came now probe) Concluded
   probes =

@@ -17,7 +17,6 @@ use Rattle.node_core.specs.declared.events.Event.TheVariants as call
 use Rattle.node_core.specs.declared.events.Received.{Received}
 use Rattle.node_core.specs.declared.events.Received.TheVariants as received
 use Rattle.node_core.specs.declared.events.Reply.TheVariants as reply
-use Rattle.node_core.specs.Viewing.{Viewed}
 use Rattle.peer_core.specs.declared.errors.LinkError.{LinkError}
 use Rattle.peer_core.specs.declared.hearing.Heard.{Heard}
 use Rattle.peer_core.specs.declared.hearing.Heard.TheVariants as heard
@@ -26,7 +25,7 @@ use Rattle.peer_core.specs.Asking.{IsSent}
 use Rattle.peer_core.specs.Handling.{MayHandle}
 use Rattle.peer_core.specs.Links.{MayAnswer, IsAckOf}
 use Rattle.peer_core.specs.Provenance.{pinged, AnswersSo, IsDecidedSo, IsFound, IsMadeOf, IsReport, ServingsRest}
-use Rattle.peer_core.specs.Serving.{message_by, message_from, Answers, Finds, AnswersPingReq, Forwards, Gossips, IsDecided, PassesOn, Reaches, Reports, Says, Seeks, GivesMade, Serves, TellsRequester, Views}
+use Rattle.peer_core.specs.Serving.{message_by, message_from, Answers, Finds, AnswersPingReq, Forwards, Gossips, IsDecided, PassesOn, Reaches, Reports, Says, Seeks, GivesMade, Serves, TellsRequester}
 
 module _ {H : Type 0} where
   says_so : (told : Content) (answer : Message) (acts : List (Act H)) → Says told (Ok answer) acts → answer.content ≡ told
@@ -91,9 +90,9 @@ module _ {H : Type 0} (Came : MayAnswer) (now : ℕ) (target : Address) where
   seeks_by (Ok q) heard.Other reached acts ps ss e just sent p =
       let is : reached ≡ false = (let same : Ok (Some reached) ≡ Ok (Some false) = p.1 in cc) in
       subst (λ (b : Bool). IsFound Came now target b acts) (sym is) (q, sent.0, has_first (pinged target q) acts ps ss e just, sent.1, sent.2)
-  seeks_by made heard.NoMemory reached acts ps ss e just sent p = absurd (let same : Ok (Some reached) ≡ Ok None = p.1 in cc)
-  seeks_by (Err n) (heard.Answer ack) reached acts ps ss e just sent p = absurd (let no : heard.Answer ack ≡ heard.NoMemory = sent.1 in cc)
-  seeks_by (Err n) heard.Other reached acts ps ss e just sent p = absurd (let no : heard.Other ≡ heard.NoMemory = sent.1 in cc)
+  seeks_by made heard.OutOfMemory reached acts ps ss e just sent p = absurd (let same : Ok (Some reached) ≡ Ok None = p.1 in cc)
+  seeks_by (Err n) (heard.Answer ack) reached acts ps ss e just sent p = absurd (let no : heard.Answer ack ≡ heard.OutOfMemory = sent.1 in cc)
+  seeks_by (Err n) heard.Other reached acts ps ss e just sent p = absurd (let no : heard.Other ≡ heard.OutOfMemory = sent.1 in cc)
 
   found_later : (reached : Bool) (acts xs ys : List (Act H)) → acts ≡ xs ++ ys → IsFound Came now target reached ys → IsFound Came now target reached acts
   found_later true acts xs ys e (inl w) = inl (w.0, has_later (did call.Own (reply.Own w.0)) acts xs ys e w.1, w.2)

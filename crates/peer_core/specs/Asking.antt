@@ -16,7 +16,7 @@ use Rattle.peer_core.specs.Links.{MayAnswer, IsAckOf, IsJoined, TellsOf, IsHeard
 -- the message was sent, with this result; or out of memory to make it
 abbrev pub IsSent : MayAnswer → Address → (Message → Type 0) → Result Message NodeError → Heard → Type 0
 IsSent Came a Wanted (Ok message) h = (answer : Result Message LinkError) × Came a message answer × IsHeard Wanted answer h
-IsSent Came a Wanted (Err error) h = (error ≡ refusal.Memory) × (h ≡ heard.NoMemory)
+IsSent Came a Wanted (Err error) h = (error ≡ refusal.Memory) × (h ≡ heard.OutOfMemory)
 
 module _ {H : Type 0} where
   -- the target was pinged, with this result

@@ -1,7 +1,7 @@
 -- Healing, by which members that parted find one another again: after each tenth round a node pings one member at random, of any status but
 -- tombstone, and sends a Join to a host that it does not hold as serving. That a push and pull with a random member heals partitions is known of
 -- hashicorp/memberlist; here it is one ping.
-use Rattle.std.specs.Prelude.{◌==◌, ◌&&◌, ◌||◌, not, ℕ, zero, suc, ◌+◌, ◌-◌, ◌%◌, Bool, false, List, [], ◌∷◌, Option, Some, None, count_by, length, slice_get, nat_lt, if◌then◌else◌}
+use Rattle.std.specs.Prelude.{◌==◌, ◌&&◌, ◌||◌, not, ℕ, zero, suc, ◌-◌, ◌%◌, Bool, false, List, [], ◌∷◌, Option, Some, None, count_by, length, slice_get, nat_lt, if◌then◌else◌}
 use Rattle.std.specs.List.{list_any}
 use Rattle.change_core.specs.declared.addresses.Address.{Address}
 use Rattle.change_core.specs.declared.changes.Change.{Change}
@@ -13,6 +13,7 @@ use Rattle.node_core.specs.declared.events.Reply.TheVariants as reply
 use Rattle.rand_pcg.specs.Lcg.{Lcg}
 use Rattle.rand_pcg.specs.Pcg.{pcg32}
 use Rattle.peer_core.specs.declared.healing.Choice.{Choice}
+use Rattle.peer_core.specs.declared.healing.Draws.{Draws}
 use Rattle.peer_core.specs.Joining.{JoinsHost}
 use Rattle.peer_core.specs.Links.{MayAnswer}
 use Rattle.peer_core.specs.Meeting.{Meets}
@@ -28,11 +29,15 @@ pub record Heals : Type 0 where
 abbrev pub heals_first : Address → List Address → Heals
 heals_first own hosts = record { hosts = hosts; left = own % 10; generator = seeded own }
 
--- after a round: after each tenth the number of a meeting, drawn from the generator; and the state from then on
-abbrev pub after_round : Heals → Option ℕ × Heals
+-- the numbers of a meeting, drawn one after the other: that of the member and that of the host
+abbrev pub drawn_from : Lcg → Draws
+drawn_from g = record { member = (pcg32 g).0; host = (pcg32 (pcg32 g).1).0 }
+
+-- after a round: after each tenth the numbers of a meeting, drawn from the generator; and the state from then on
+abbrev pub after_round : Heals → Option Draws × Heals
 after_round h =
     if h.left == 0
-    then (Some (pcg32 h.generator).0, record h { left = 9; generator = (pcg32 h.generator).1 })
+    then (Some (drawn_from h.generator), record h { left = 9; generator = (pcg32 (pcg32 h.generator).1).1 })
     else (None, record h { left = h.left - 1 })
 
 -- a node may meet each member but itself and tombstones
@@ -64,15 +69,15 @@ abbrev pub chosen_host : Address → List Change → List Address → ℕ → Op
 chosen_host own held [] number = None
 chosen_host own held hosts number = unless_serving own held (slice_get hosts (number % length hosts))
 
--- the member and the host that a number chooses
-abbrev pub choice_of : Address → List Change → List Address → ℕ → Choice
-choice_of own held hosts number = record { member = chosen_member own held number; host = chosen_host own held hosts number }
+-- the member that the first number chooses, and the host that the second chooses
+abbrev pub choice_of : Address → List Change → List Address → Draws → Choice
+choice_of own held hosts draws = record { member = chosen_member own held draws.member; host = chosen_host own held hosts draws.host }
 
 module _ {H : Type 0} where
-  -- the node is asked for its own entry and for its members, and a number chooses among them
-  abbrev pub Chooses : List Address → ℕ → Part H Choice
-  Chooses hosts number =
-      Next (Calls call.Own reply.Own) (λ own. Next (Tries call.Members reply.Members) (λ held. Gives (choice_of own.address held hosts number)))
+  -- the node is asked for its own entry and for its members, and the numbers choose one of them and a host
+  abbrev pub Chooses : List Address → Draws → Part H Choice
+  Chooses hosts draws =
+      Next (Calls call.Own reply.Own) (λ own. Next (Tries call.Members reply.Members) (λ held. Gives (choice_of own.address held hosts draws)))
 
 module _ {H : Type 0} (Came : MayAnswer) (now : ℕ) where
   -- the member is met, if there is one
@@ -89,11 +94,11 @@ module _ {H : Type 0} (Came : MayAnswer) (now : ℕ) where
   abbrev pub CarriesOut : Choice → Part H Bool
   CarriesOut choice = Next (MeetsChosen choice.member) (λ met. JoinsChosen choice.host)
 
-  -- a meeting at this moment, with the member and the host that a number chooses
-  abbrev pub IsMeeting : List Address → ℕ → Part H Bool
-  IsMeeting hosts number = Next (Chooses hosts number) CarriesOut
+  -- a meeting at this moment, with the member and the host that its numbers choose
+  abbrev pub IsMeeting : List Address → Draws → Part H Bool
+  IsMeeting hosts draws = Next (Chooses hosts draws) CarriesOut
 
-  -- healing after a round: a meeting if the round has a number, else nothing
-  abbrev pub IsHealing : List Address → Option ℕ → Part H Bool
+  -- healing after a round: a meeting if there are numbers for one, else nothing
+  abbrev pub IsHealing : List Address → Option Draws → Part H Bool
   IsHealing hosts None = Gives false
-  IsHealing hosts (Some number) = IsMeeting hosts number
+  IsHealing hosts (Some draws) = IsMeeting hosts draws

@@ -15,7 +15,7 @@ module _ {H : Type 0} where
   abbrev pub HearsHost : ℕ → Heard → Part H Bool
   HearsHost now (heard.Answer joined) = Next (Takes now joined) (λ u. Gives true)
   HearsHost now heard.Other = Gives false
-  HearsHost now heard.NoMemory = Fails error.Memory
+  HearsHost now heard.OutOfMemory = Fails error.Memory
 
   -- none joined, or this number
   abbrev pub Counts : ℕ → Part H ℕ

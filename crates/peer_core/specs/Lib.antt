@@ -6,11 +6,13 @@ pub mod Parts
 pub mod Rounds
 pub mod Joining
 pub mod Meeting
+pub mod Correcting
 pub mod Healing
 pub mod Handling
 pub mod Serving
 pub mod Forwarding
 pub mod Provenance
+pub mod HealingProvenance
 pub mod Requests
 pub mod MemberErrors
 pub mod Members

@@ -72,4 +72,4 @@ IsOther Wanted (Err error) = error ≢ Memory
 abbrev pub IsHeard : (Message → Type 0) → Result Message LinkError → Heard → Type 0
 IsHeard Wanted answer (heard.Answer message) = (answer ≡ Ok message) × Wanted message
 IsHeard Wanted answer heard.Other = IsOther Wanted answer
-IsHeard Wanted answer heard.NoMemory = answer ≡ Err Memory
+IsHeard Wanted answer heard.OutOfMemory = answer ≡ Err Memory

@@ -29,7 +29,7 @@ misnames own other = false
 abbrev pub is_misnamed : Change → Heard → Bool
 is_misnamed own (heard.Answer message) = misnames own message.content
 is_misnamed own heard.Other = false
-is_misnamed own heard.NoMemory = false
+is_misnamed own heard.OutOfMemory = false
 
 module _ {H : Type 0} (Came : MayAnswer) (now : ℕ) where
   -- a member that gives the node another incarnation or status gets a Join, and any other does not

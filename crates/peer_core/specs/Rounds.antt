@@ -93,7 +93,7 @@ module _ {H : Type 0} (now : ℕ) where
   abbrev pub HearsHelper : Probe → Address → Heard → Part H NodeOutcome
   HearsHelper probe h (heard.Answer message) = Next (Takes message) (λ u. TellsWord probe.number h (said_by (word_on probe.target message.content)))
   HearsHelper probe h heard.Other = TellsWord probe.number h said.Failed
-  HearsHelper probe h heard.NoMemory = Fails error.Memory
+  HearsHelper probe h heard.OutOfMemory = Fails error.Memory
 
   -- a helper failed, and perhaps another is waited for
   abbrev pub FailsOne : ℕ → Address → Part H (Option Address)
@@ -130,7 +130,7 @@ module _ {H : Type 0} (Came : MayAnswer) (now : ℕ) where
   abbrev pub HearsTarget : Probe → Heard → Part H Round
   HearsTarget probe (heard.Answer ack) = Acknowledges now probe ack
   HearsTarget probe heard.Other = GivesUp probe
-  HearsTarget probe heard.NoMemory = Fails error.Memory
+  HearsTarget probe heard.OutOfMemory = Fails error.Memory
 
   -- the target of a probe is pinged once, and the probe completed
   abbrev pub Probes : Probe → Part H Round

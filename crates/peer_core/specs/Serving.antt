@@ -91,7 +91,7 @@ module _ {H : Type 0} where
   abbrev pub Seeks : ℕ → Heard → Part H (Option Bool)
   Seeks now (heard.Answer ack) = Next (Receives ack now) (λ received. Gives (Some true))
   Seeks now heard.Other = Gives (Some false)
-  Seeks now heard.NoMemory = Gives None
+  Seeks now heard.OutOfMemory = Gives None
 
   -- the target is the node itself, which is reached, or is pinged
   abbrev pub Reaches : MayAnswer → ℕ → Address → Address → Part H (Option Bool)

@@ -28,7 +28,7 @@ pub(crate) fn ping<R: Wait, H: PointHash, L: Link>(
 {
     let made = node.ping_to(rt, pass, target)?;
     let Ok(message) = made else {
-        return Ok(Heard::NoMemory);
+        return Ok(Heard::OutOfMemory);
     };
     let answer = link.call(rt, alloc, target, &message);
     Ok(expect_ack(answer, target))
@@ -50,7 +50,7 @@ pub(crate) fn send_ping_req<R: Wait, H: PointHash, L: Link>(
 {
     let made = node.ping_req_to(rt, pass, helper, target)?;
     let Ok(message) = made else {
-        return Ok(Heard::NoMemory);
+        return Ok(Heard::OutOfMemory);
     };
     let answer = link.call(rt, alloc, helper, &message);
     Ok(expect_verdict(answer, target))
@@ -71,7 +71,7 @@ pub(crate) fn send_join<R: Wait, H: PointHash, L: Link>(
 {
     let made = node.join_message(rt, pass)?;
     let Ok(message) = made else {
-        return Ok(Heard::NoMemory);
+        return Ok(Heard::OutOfMemory);
     };
     let answer = link.call(rt, alloc, host, &message);
     Ok(expect_joined(answer))

@@ -19,7 +19,7 @@ use std::alloc::Global;
 use std::sync::Wait;
 
 /// Brings every entry that is due to its next status.
-fn expire_all<R: Wait, H: PointHash>(
+pub(crate) fn expire_all<R: Wait, H: PointHash>(
     rt: &R,
     node: &LockedNode<H>,
     pass: &mut NodePass<H>,
@@ -155,7 +155,7 @@ fn restart_probe<R: Wait, H: PointHash, L: Link>(
 }
 
 /// Starts a probe. One that runs is completed first.
-fn start_probe<R: Wait, H: PointHash, L: Link>(
+pub(crate) fn start_probe<R: Wait, H: PointHash, L: Link>(
     rt: &R,
     alloc: Global,
     node: &LockedNode<H>,

@@ -59,8 +59,8 @@ impl<'h> Healing<'h> {
         }
     }
 
-    /// Counts a round. After each tenth it returns the number of a meeting.
-    fn after_round(&mut self) -> Option<u32>
+    /// Counts a round. After each tenth it draws the numbers of a meeting.
+    fn after_round(&mut self) -> Option<Draws>
         ensures { (result, self.new) ≡ after_round self.old }
     {
         if self.left > 0 {
@@ -68,8 +68,18 @@ impl<'h> Healing<'h> {
             return None;
         }
         self.left = ROUNDS - 1;
-        Some(self.rng.next_word())
+        let member = self.rng.next_word();
+        let host = self.rng.next_word();
+        Some(Draws { member, host })
     }
+}
+
+/// The numbers of a meeting, drawn one after the other: the first chooses the member and the second the host, so that
+/// which member is met says nothing of the host.
+#[derive(Clone, Copy)]
+pub(crate) struct Draws {
+    member: u32,
+    host: u32,
 }
 
 /// The member that a node meets and the host that it joins, if any.
@@ -146,24 +156,24 @@ fn choose_host(own: Address, members: &[Change], hosts: &[Address], number: u32)
     Some(host)
 }
 
-/// Chooses by a number a member of those that the node holds, and one of the hosts.
+/// Chooses by two numbers a member of those that the node holds, and one of the hosts.
 fn choose<R: Wait, H: PointHash>(
     rt: &R,
     node: &LockedNode<H>,
     pass: &mut NodePass<H>,
     hosts: &[Address],
-    number: u32,
+    draws: Draws,
 ) -> Result<Choice, ClusterError>
     requires { Fits node.now pass.old }
-    ensures did { Does node.now (Chooses hosts.now number) result pass.old pass.new }
+    ensures did { Does node.now (Chooses hosts.now draws) result pass.old pass.new }
     ensures fits { Fits node.now pass.new }
     ensures named { IfErr result IsHealRefusal }
 {
     let own = find_own(rt, node, pass)?;
     let members = list_members(rt, node, pass)?;
     Ok(Choice {
-        member: choose_member(own.address, members.as_slice(), number),
-        host: choose_host(own.address, members.as_slice(), hosts, number),
+        member: choose_member(own.address, members.as_slice(), draws.member),
+        host: choose_host(own.address, members.as_slice(), hosts, draws.host),
     })
 }
 
@@ -225,7 +235,7 @@ fn carry_out<R: Wait, H: PointHash, L: Link>(
     join_chosen(rt, alloc, node, pass, link, now, choice.host)
 }
 
-/// Holds a meeting by a number.
+/// Holds a meeting by its numbers.
 fn meet_by<R: Wait, H: PointHash, L: Link>(
     rt: &R,
     alloc: Global,
@@ -234,18 +244,18 @@ fn meet_by<R: Wait, H: PointHash, L: Link>(
     link: &mut L,
     now: Moment,
     hosts: &[Address],
-    number: u32,
+    draws: Draws,
 ) -> Result<bool, ClusterError>
     requires { Fits node.now pass.old }
-    ensures did { Does node.now (IsMeeting L.may_answer now hosts.now number) result pass.old pass.new }
+    ensures did { Does node.now (IsMeeting L.may_answer now hosts.now draws) result pass.old pass.new }
     ensures fits { Fits node.now pass.new }
     ensures named { IfErr result IsHealRefusal }
 {
-    let choice = choose(rt, node, pass, hosts, number)?;
+    let choice = choose(rt, node, pass, hosts, draws)?;
     carry_out(rt, alloc, node, pass, link, now, &choice)
 }
 
-/// Heals after a round: holds a meeting if it has a number.
+/// Heals after a round: holds a meeting if it has numbers for one.
 fn heal_by<R: Wait, H: PointHash, L: Link>(
     rt: &R,
     alloc: Global,
@@ -254,15 +264,15 @@ fn heal_by<R: Wait, H: PointHash, L: Link>(
     link: &mut L,
     now: Moment,
     hosts: &[Address],
-    number: Option<u32>,
+    draws: Option<Draws>,
 ) -> Result<bool, ClusterError>
     requires { Fits node.now pass.old }
-    ensures did { Does node.now (IsHealing L.may_answer now hosts.now number) result pass.old pass.new }
+    ensures did { Does node.now (IsHealing L.may_answer now hosts.now draws) result pass.old pass.new }
     ensures fits { Fits node.now pass.new }
     ensures named { IfErr result IsHealRefusal }
 {
-    match number {
-        Some(number) => meet_by(rt, alloc, node, pass, link, now, hosts, number),
+    match draws {
+        Some(draws) => meet_by(rt, alloc, node, pass, link, now, hosts, draws),
         None => Ok(false),
     }
 }
@@ -271,8 +281,10 @@ fn heal_by<R: Wait, H: PointHash, L: Link>(
 /// pings one member, chosen at random from all that it holds but itself and tombstones, and processes its Ack; so members
 /// that hold each other as faulty hear of each other again. If the Ack has another incarnation or status of the node than
 /// its own entry, the member gets a Join, whose one change is that entry. Then the node sends a Join to one of the hosts,
-/// chosen at random, if it does not hold that host as serving, and processes its Joined. After the other rounds it does
-/// nothing. Returns whether a host answered by a Joined. The random choices are used up also if there is an error.
+/// chosen at random and independently of the member, if it does not hold that host as serving, and processes its Joined.
+/// After the other rounds it does nothing. Returns whether a host answered by a Joined. The random choices are used up
+/// also if there is an error. Rounds are best made by [`correcting_round`](crate::correcting_round), which corrects
+/// members between the meetings.
 ///
 /// # Errors
 ///
@@ -297,6 +309,6 @@ pub fn heal<R: Wait, H: PointHash, L: Link>(
     ensures named { IfErr result IsHealRefusal }
 {
     let hosts = healing.hosts;
-    let number = healing.after_round();
-    heal_by(rt, alloc, node, pass, link, now, hosts, number)
+    let draws = healing.after_round();
+    heal_by(rt, alloc, node, pass, link, now, hosts, draws)
 }

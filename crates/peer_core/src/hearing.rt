@@ -14,7 +14,7 @@ pub(crate) enum Heard {
     /// Another answer, an error of the link included.
     Other,
     /// Out of memory for the request or for its answer.
-    NoMemory,
+    OutOfMemory,
 }
 
 /// Returns the Ack of the target, if the answer is one.
@@ -30,7 +30,7 @@ pub(crate) fn expect_ack(answer: Result<Message, LinkError>, target: Address) ->
                 Heard::Other
             }
         }
-        Err(LinkError::Memory) => Heard::NoMemory,
+        Err(LinkError::Memory) => Heard::OutOfMemory,
         Err(_) => Heard::Other,
     }
 }
@@ -47,7 +47,7 @@ pub(crate) fn expect_joined(answer: Result<Message, LinkError>) -> Heard
                 Heard::Other
             }
         }
-        Err(LinkError::Memory) => Heard::NoMemory,
+        Err(LinkError::Memory) => Heard::OutOfMemory,
         Err(_) => Heard::Other,
     }
 }
@@ -74,7 +74,7 @@ pub(crate) fn expect_verdict(answer: Result<Message, LinkError>, target: Address
                 Heard::Other
             }
         }
-        Err(LinkError::Memory) => Heard::NoMemory,
+        Err(LinkError::Memory) => Heard::OutOfMemory,
         Err(_) => Heard::Other,
     }
 }

@@ -55,7 +55,7 @@ pub(crate) fn take_joined<R: Wait, H: PointHash>(
             Ok(true)
         }
         Heard::Other => Ok(false),
-        Heard::NoMemory => Err(ClusterError::Memory),
+        Heard::OutOfMemory => Err(ClusterError::Memory),
     }
 }
 

@@ -1,4 +1,5 @@
 //! Theorems about the definitions, each the contract of a function that does nothing.
+ghost use Rattle.peer_core.specs.HealingProvenance.{CorrectionsRest, HealsRest};
 ghost use Rattle.peer_core.specs.MemberErrors.{AnswersAgree};
 ghost use Rattle.peer_core.specs.Provenance.{JoinsRest, RoundsRest, ServingsRest};
 ghost use Rattle.peer_core.specs.Requests.{RequestsRest};
@@ -24,6 +25,20 @@ pub fn rounds<H, L: Link>()
 /// the message that the last call made for one of the hosts.
 pub fn joins<H, L: Link>()
     ensures { JoinsRest H L.may_answer }
+{}
+
+/// Provenance of healing: all that it processes came over the link at its moment, for a ping or a Join of the node. A
+/// member that it pings was listed by the node. Its Joins are the node's own, whose one change is the node's own entry.
+/// It makes no other call that changes the node. So also if healing fails.
+pub fn healings<H, L: Link>()
+    ensures { HealsRest H L.may_answer }
+{}
+
+/// A round that corrects its target is a round, of which [`rounds`] holds, and behind it calls of the correction alone:
+/// all that the correction processes came over the link for a Join of the node. If it succeeds it returns how the round
+/// ended.
+pub fn corrections<H, L: Link>()
+    ensures { CorrectionsRest H L.may_answer }
 {}
 
 /// Provenance of an answer to a message. To a Join and a Ping it is a refusal, or the node's answer to exactly that

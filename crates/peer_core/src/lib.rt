@@ -4,6 +4,7 @@
 
 mod asking;
 mod clocks;
+mod correcting;
 mod errors;
 mod forwarding;
 mod gossiping;
@@ -22,6 +23,7 @@ mod serving;
 mod steps;
 
 pub use clocks::Clock;
+pub use correcting::correcting_round;
 pub use errors::{ClusterError, HandlerFault, LinkError};
 pub use forwarding::handle_or_forward;
 pub use gossiping::gossip_round;

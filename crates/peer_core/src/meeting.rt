@@ -52,7 +52,7 @@ fn is_misnamed(own: &Change, heard: &Heard) -> bool
 {
     match heard {
         Heard::Answer(message) => misnames(own, &message.content),
-        Heard::Other | Heard::NoMemory => false,
+        Heard::Other | Heard::OutOfMemory => false,
     }
 }
 
@@ -96,7 +96,7 @@ fn correct_if<R: Wait, H: PointHash, L: Link>(
 }
 
 /// Sends a member a Join if its answer has another incarnation or status of the node than the node's own entry.
-fn correct<R: Wait, H: PointHash, L: Link>(
+pub(crate) fn correct<R: Wait, H: PointHash, L: Link>(
     rt: &R,
     alloc: Global,
     node: &LockedNode<H>,

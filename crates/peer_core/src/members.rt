@@ -4,6 +4,7 @@ ghost use Rattle.node_core.specs.Calls.{OfView, WithView};
 ghost use Rattle.node_core.specs.declared.events.Event.TheVariants as event;
 ghost use Rattle.node_core.specs.declared.events.Reply.TheVariants as reply;
 ghost use Rattle.locked_node.specs.Passes.{Fits};
+ghost use Rattle.peer_core.specs.Correcting.{IsCorrectingRound};
 ghost use Rattle.peer_core.specs.Forwarding.{IsRequest};
 ghost use Rattle.peer_core.specs.Healing.{IsHealing, after_round};
 ghost use Rattle.peer_core.specs.Joining.{IsJoin};
@@ -14,6 +15,7 @@ ghost use Rattle.peer_core.specs.Rounds.{IsRound};
 ghost use Rattle.peer_core.specs.Serving.{Refuses, Serves};
 
 use crate::clocks::Clock;
+use crate::correcting::correcting_round;
 use crate::forwarding::handle_or_forward;
 use crate::gossiping::gossip_round;
 use crate::handlers::Handler;
@@ -127,6 +129,23 @@ impl<'m, H: PointHash, L: Link> Member<'m, H, L> {
         ensures { Done (IsRound L.may_answer now) (widened error_of_round result) self.old self.new }
     {
         gossip_round(rt, self.alloc, self.node, self.pass, self.link, now).map_err(round_error)
+    }
+
+    /// Makes one round of gossip at a moment, and corrects its target: if the target's Ack has another incarnation or
+    /// status of the node than the node's own entry, the target gets a Join, whose one change is that entry. Returns how
+    /// the round ended. It is [`correcting_round`].
+    ///
+    /// # Errors
+    ///
+    /// - `Memory`: the node or the link ran out of memory.
+    /// - `Busy`: a probe still runs after the one that was found running has ended.
+    /// - `Spent`: no probe number is left.
+    /// - `StaleProbe` or `NotAsked`: another pass ended the probe, or answered for its helper, in the meantime.
+    /// - `ForeignPass`, `PassSpent`: the lock refused the pass.
+    pub fn correcting_round<R: Wait>(&mut self, rt: &R, now: Moment) -> Result<Round, RoundError>
+        ensures { Done (IsCorrectingRound L.may_answer now) (widened error_of_round result) self.old self.new }
+    {
+        correcting_round(rt, self.alloc, self.node, self.pass, self.link, now).map_err(round_error)
     }
 
     /// Heals a cluster whose members parted; to be called after each round, at its moment. After each tenth round the node

@@ -5,7 +5,7 @@ ghost use Rattle.locked_node.specs.Passes.{Fits};
 ghost use Rattle.peer_core.specs.Asking.{Asked, Pinged};
 ghost use Rattle.peer_core.specs.Errors.{IsRoundRefusal};
 ghost use Rattle.peer_core.specs.Parts.{Asks, Does};
-ghost use Rattle.peer_core.specs.Rounds.{Acknowledges, AsksHelper, AsksHelpers, GivesUp, HearsHelper, LosesOnce, Probes, end_by, said_by};
+ghost use Rattle.peer_core.specs.Rounds.{Acknowledges, AsksHelper, AsksHelpers, GivesUp, HearsHelper, HearsTarget, LosesOnce, Probes, end_by, said_by};
 
 use crate::asking::{ping, send_ping_req};
 use crate::errors::ClusterError;
@@ -46,7 +46,7 @@ fn end_by(target: Address, outcome: NodeOutcome) -> Option<Round>
 }
 
 /// Pings a target, as a step of a round.
-fn ping_target<R: Wait, H: PointHash, L: Link>(
+pub(crate) fn ping_target<R: Wait, H: PointHash, L: Link>(
     rt: &R,
     alloc: Global,
     node: &LockedNode<H>,
@@ -123,7 +123,7 @@ fn ask_helper<R: Wait, H: PointHash, L: Link>(
     match heard {
         Heard::Answer(message) => take_word(rt, node, pass, now, probe, helper, &message),
         Heard::Other => tell_word(rt, node, pass, now, probe.number, helper, Said::Failed),
-        Heard::NoMemory => Err(ClusterError::Memory),
+        Heard::OutOfMemory => Err(ClusterError::Memory),
     }
 }
 
@@ -222,6 +222,29 @@ fn acknowledge<R: Wait, H: PointHash>(
     Ok(Round::Reached(probe.target))
 }
 
+/// Completes a probe by what was heard of its target.
+pub(crate) fn hear_target<R: Wait, H: PointHash, L: Link>(
+    rt: &R,
+    alloc: Global,
+    node: &LockedNode<H>,
+    pass: &mut NodePass<H>,
+    link: &mut L,
+    now: Moment,
+    probe: &Probe,
+    heard: &Heard,
+) -> Result<Round, ClusterError>
+    requires { Fits node.now pass.old }
+    ensures did { Does node.now (HearsTarget L.may_answer now probe.now heard.now) result pass.old pass.new }
+    ensures fits { Fits node.now pass.new }
+    ensures named { IfErr result IsRoundRefusal }
+{
+    match heard {
+        Heard::Answer(ack) => acknowledge(rt, node, pass, now, probe, ack),
+        Heard::Other => give_up(rt, alloc, node, pass, link, now, probe),
+        Heard::OutOfMemory => Err(ClusterError::Memory),
+    }
+}
+
 /// Pings the target of a running probe, and completes the probe.
 pub(crate) fn run_probe<R: Wait, H: PointHash, L: Link>(
     rt: &R,
@@ -238,9 +261,5 @@ pub(crate) fn run_probe<R: Wait, H: PointHash, L: Link>(
     ensures named { IfErr result IsRoundRefusal }
 {
     let heard = ping_target(rt, alloc, node, pass, link, probe.target)?;
-    match heard {
-        Heard::Answer(ack) => acknowledge(rt, node, pass, now, probe, &ack),
-        Heard::Other => give_up(rt, alloc, node, pass, link, now, probe),
-        Heard::NoMemory => Err(ClusterError::Memory),
-    }
+    hear_target(rt, alloc, node, pass, link, now, probe, &heard)
 }

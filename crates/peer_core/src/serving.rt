@@ -127,7 +127,7 @@ fn was_reached<R: Wait, H: PointHash>(
             Ok(Some(true))
         }
         Heard::Other => Ok(Some(false)),
-        Heard::NoMemory => Ok(None),
+        Heard::OutOfMemory => Ok(None),
     }
 }
 

@@ -1,4 +1,4 @@
-pub mod Births
+pub mod Creation
 pub mod Boxes
 pub mod Exports
 pub mod Placed

@@ -1,4 +1,4 @@
-pub mod Births
+pub mod Creation
 pub mod Codes
 pub mod Entries
 pub mod Exports

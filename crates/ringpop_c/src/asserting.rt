@@ -50,7 +50,7 @@ fn tell_expiry(
     entry: &mut RingpopEntry,
 ) -> Code
     ensures told { TellsExpiry expired ip.new port.new entry.new result }
-    ensures untouched { result ≢ Code.Done → (ip.new ≡ ip.old) × (port.new ≡ port.old) × (entry.new ≡ entry.old) }
+    ensures unchanged { result ≢ Code.Done → (ip.new ≡ ip.old) × (port.new ≡ port.old) × (entry.new ≡ entry.old) }
 {
     match expired {
         Ok(Some(change)) => tell_change(&change, ip, port, entry),
@@ -79,7 +79,7 @@ pub extern "C" fn ringpop_node_expire(
     ensures number { greatest_number < moment → result ≡ code_number Code.BadNumber }
     ensures refused { greatest_number < moment → node_in node.new ≡ node_in node.old }
     ensures step { moment ≤ greatest_number → Does (ExpiresBy moment ip.new port.new entry.new) (node_in node.old) result (node_in node.new) }
-    ensures untouched { result ≢ code_number Code.Done → (ip.new ≡ ip.old) × (port.new ≡ port.old) × (entry.new ≡ entry.old) }
+    ensures unchanged { result ≢ code_number Code.Done → (ip.new ≡ ip.old) × (port.new ≡ port.old) × (entry.new ≡ entry.old) }
 {
     let Some(moment) = Moment::new(moment) else {
         return Code::BadNumber.number();

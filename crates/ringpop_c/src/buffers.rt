@@ -21,7 +21,7 @@ pub(crate) fn put(out: &mut [u8], count: &mut usize, bytes: &[u8])
 /// Writes bytes if there is room for them; else tells their number alone.
 pub(crate) fn write(out: &mut [u8], count: &mut usize, bytes: &[u8]) -> Code
     ensures told { TellsText bytes.now (record { before = out.old; after = out.new; count = count.new }) result }
-    ensures untouched { result ≢ Code.Done → result ≢ Code.ShortBuffer → (out.new ≡ out.old) × (count.new ≡ count.old) }
+    ensures unchanged { result ≢ Code.Done → result ≢ Code.ShortBuffer → (out.new ≡ out.old) × (count.new ≡ count.old) }
 {
     if out.len() < bytes.len() {
         *count = bytes.len();
@@ -35,7 +35,7 @@ pub(crate) fn write(out: &mut [u8], count: &mut usize, bytes: &[u8]) -> Code
 pub(crate) fn is_short(out: &[u8], count: &mut usize) -> bool
     ensures short { result ≡ true → IsShort (record { before = out.now; after = out.now; count = count.new }) }
     ensures room { result ≡ false → max_line ≤ length out.now }
-    ensures untouched { result ≡ false → count.new ≡ count.old }
+    ensures unchanged { result ≡ false → count.new ≡ count.old }
 {
     if out.len() < MAX_LINE {
         *count = MAX_LINE;
@@ -48,7 +48,7 @@ pub(crate) fn is_short(out: &[u8], count: &mut usize) -> bool
 pub(crate) fn send(alloc: Global, message: &Message, out: &mut [u8], count: &mut usize) -> Code
     requires room { max_line ≤ length out.old }
     ensures line { WritesLine message.now (record { before = out.old; after = out.new; count = count.new }) result }
-    ensures untouched { result ≢ Code.Done → (out.new ≡ out.old) × (count.new ≡ count.old) }
+    ensures unchanged { result ≢ Code.Done → (out.new ≡ out.old) × (count.new ≡ count.old) }
 {
     match encode(alloc, message) {
         Ok(line) => {

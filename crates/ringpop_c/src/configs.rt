@@ -1,7 +1,7 @@
 //! The configuration of a node.
 ghost use Rattle.std.specs.Prelude.{◌≡◌};
 ghost use Rattle.node_core.specs.Configs.{standard};
-ghost use Rattle.ringpop_c.specs.Births.{config_of};
+ghost use Rattle.ringpop_c.specs.Creation.{config_of};
 
 use change_core::Weight;
 use node_core::Config;

@@ -42,7 +42,7 @@ impl RingpopEntry {
 /// Writes an entry, if there is one.
 fn tell_entry(held: Option<Entry>, entry: &mut RingpopEntry) -> Code
     ensures told { TellsEntry held entry.new result }
-    ensures untouched { result ≢ Code.Done → entry.new ≡ entry.old }
+    ensures unchanged { result ≢ Code.Done → entry.new ≡ entry.old }
 {
     let Some(held) = held else {
         return Code::Nothing;
@@ -68,7 +68,7 @@ pub extern "C" fn ringpop_node_member(
     ensures address { port ≡ 0 → result ≡ code_number Code.BadAddress }
     ensures entry { 0 < port → Looks (λ n answer. TellsEntry (option_map entry_of (greatest n.members (address_of ip port))) entry.new answer) (node_in node.old) result }
     ensures same { node_in node.new ≡ node_in node.old }
-    ensures untouched { result ≢ code_number Code.Done → entry.new ≡ entry.old }
+    ensures unchanged { result ≢ code_number Code.Done → entry.new ≡ entry.old }
 {
     let Some(address) = Address::new(ip, port) else {
         return Code::BadAddress.number();
@@ -115,7 +115,7 @@ pub extern "C" fn ringpop_node_own(
 ) -> u32
     ensures own { Looks (λ n answer. TellsChange (own_change n) ip.new port.new entry.new answer) (node_in node.old) result }
     ensures same { node_in node.new ≡ node_in node.old }
-    ensures untouched { result ≢ code_number Code.Done → (ip.new ≡ ip.old) × (port.new ≡ port.old) × (entry.new ≡ entry.old) }
+    ensures unchanged { result ≢ code_number Code.Done → (ip.new ≡ ip.old) × (port.new ≡ port.old) × (entry.new ≡ entry.old) }
 {
     with_handle!(alloc, node, |n| tell_change(&n.own(), ip, port, entry))
 }

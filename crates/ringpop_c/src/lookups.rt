@@ -18,7 +18,7 @@ use std::alloc::Global;
 /// Writes an address, if there is one.
 pub(crate) fn tell_address(address: Option<Address>, ip: &mut u32, port: &mut u16) -> Code
     ensures told { TellsAddress address ip.new port.new result }
-    ensures untouched { result ≢ Code.Done → (ip.new ≡ ip.old) × (port.new ≡ port.old) }
+    ensures unchanged { result ≢ Code.Done → (ip.new ≡ ip.old) × (port.new ≡ port.old) }
 {
     match address {
         Some(address) => {
@@ -45,7 +45,7 @@ pub extern "C" fn ringpop_node_owner(
 ) -> u32
     ensures owner { Looks (λ n answer. TellsAddress (owner_by n key.now) ip.new port.new answer) (node_in node.old) result }
     ensures same { node_in node.new ≡ node_in node.old }
-    ensures untouched { result ≢ code_number Code.Done → (ip.new ≡ ip.old) × (port.new ≡ port.old) }
+    ensures unchanged { result ≢ code_number Code.Done → (ip.new ≡ ip.old) × (port.new ≡ port.old) }
 {
     with_handle!(alloc, node, |n| tell_address(n.owner(key), ip, port))
 }
@@ -53,7 +53,7 @@ pub extern "C" fn ringpop_node_owner(
 /// Writes the members as a text.
 fn tell_members(node: &NodeState<Sha256Hash>, out: &mut [u8], count: &mut usize) -> Code
     ensures told { TellsText (digest_text node.now.node.members) (record { before = out.old; after = out.new; count = count.new }) result }
-    ensures untouched { result ≢ Code.Done → result ≢ Code.ShortBuffer → (out.new ≡ out.old) × (count.new ≡ count.old) }
+    ensures unchanged { result ≢ Code.Done → result ≢ Code.ShortBuffer → (out.new ≡ out.old) × (count.new ≡ count.old) }
 {
     let Ok(text) = node.digest_text() else {
         return Code::Memory;
@@ -77,7 +77,7 @@ pub extern "C" fn ringpop_node_members(
 ) -> u32
     ensures told { Looks (λ n answer. TellsText (digest_text n.members) (record { before = out.old; after = out.new; count = count.new }) answer) (node_in node.old) result }
     ensures same { node_in node.new ≡ node_in node.old }
-    ensures untouched { result ≢ code_number Code.Done → result ≢ code_number Code.ShortBuffer
+    ensures unchanged { result ≢ code_number Code.Done → result ≢ code_number Code.ShortBuffer
         → (out.new ≡ out.old) × (count.new ≡ count.old) }
 {
     with_handle!(alloc, node, |n| tell_members(n, out, count))
@@ -86,7 +86,7 @@ pub extern "C" fn ringpop_node_members(
 /// Writes the digest of the members.
 fn tell_digest(node: &NodeState<Sha256Hash>, out: &mut [u8], count: &mut usize) -> Code
     ensures told { TellsText (digest_of node.now.node.members).bytes (record { before = out.old; after = out.new; count = count.new }) result }
-    ensures untouched { result ≢ Code.Done → result ≢ Code.ShortBuffer → (out.new ≡ out.old) × (count.new ≡ count.old) }
+    ensures unchanged { result ≢ Code.Done → result ≢ Code.ShortBuffer → (out.new ≡ out.old) × (count.new ≡ count.old) }
 {
     let Ok(digest) = node.digest() else {
         return Code::Memory;
@@ -111,7 +111,7 @@ pub extern "C" fn ringpop_node_digest(
 ) -> u32
     ensures told { Looks (λ n answer. TellsText (digest_of n.members).bytes (record { before = out.old; after = out.new; count = count.new }) answer) (node_in node.old) result }
     ensures same { node_in node.new ≡ node_in node.old }
-    ensures untouched { result ≢ code_number Code.Done → result ≢ code_number Code.ShortBuffer
+    ensures unchanged { result ≢ code_number Code.Done → result ≢ code_number Code.ShortBuffer
         → (out.new ≡ out.old) × (count.new ≡ count.old) }
 {
     with_handle!(alloc, node, |n| tell_digest(n, out, count))
@@ -126,7 +126,7 @@ pub extern "C" fn ringpop_node_digest(
 pub extern "C" fn ringpop_node_len(alloc: Global, node: &mut RingpopNode, count: &mut usize) -> u32
     ensures told { Looks (λ n answer. TellsCount (length n.members) count.new answer) (node_in node.old) result }
     ensures same { node_in node.new ≡ node_in node.old }
-    ensures untouched { result ≢ code_number Code.Done → count.new ≡ count.old }
+    ensures unchanged { result ≢ code_number Code.Done → count.new ≡ count.old }
 {
     with_handle!(alloc, node, |n| {
         *count = n.len();

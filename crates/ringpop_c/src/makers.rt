@@ -2,7 +2,7 @@
 ghost use Rattle.std.specs.Prelude.{◌≡◌, None, IfOk, IfErr, cond, is_some};
 ghost use Rattle.change_core.specs.Address.{address_of};
 ghost use Rattle.node_core.specs.Configs.{IsConfig};
-ghost use Rattle.ringpop_c.specs.Births.{Begins, CanBegin, IsBirthFault, IsConfigFault, alone, born};
+ghost use Rattle.ringpop_c.specs.Creation.{Begins, CanBegin, IsCreationFault, IsConfigFault, alone, created};
 ghost use Rattle.ringpop_c.specs.Codes.{code_number};
 ghost use Rattle.ringpop_c.specs.Handles.{node_in};
 
@@ -24,7 +24,7 @@ fn make(
     seed: u64,
     moment: Moment,
 ) -> Result<Box<BoxedNode>, Code>
-    ensures born { IfOk result (λ b. b.value ≡ alone config own incarnation seed moment) }
+    ensures created { IfOk result (λ b. b.value ≡ alone config own incarnation seed moment) }
     ensures good { IfOk result (λ b. IsConfig config) }
     ensures refusal { IfErr result (λ fault. IsConfigFault config fault) }
 {
@@ -47,9 +47,9 @@ fn begin(
     seed: u64,
     moment: u64,
 ) -> Result<Box<BoxedNode>, Code>
-    ensures born { IfOk result (λ b. b.value ≡ born config.now (address_of ip port) incarnation seed moment) }
+    ensures created { IfOk result (λ b. b.value ≡ created config.now (address_of ip port) incarnation seed moment) }
     ensures good { IfOk result (λ b. CanBegin config.now port incarnation moment) }
-    ensures refusal { IfErr result (λ fault. IsBirthFault config.now port incarnation moment fault) }
+    ensures refusal { IfErr result (λ fault. IsCreationFault config.now port incarnation moment fault) }
 {
     let Some(own) = Address::new(ip, port) else {
         return Err(Code::BadAddress);

@@ -28,7 +28,7 @@ pub extern "C" fn ringpop_node_join(
     count: &mut usize,
 ) -> u32
     ensures step { Does (SaysBy (λ n. join_by n) (λ n. n) (record { before = out.old; after = out.new; count = count.new })) (node_in node.old) result (node_in node.new) }
-    ensures untouched { result ≢ code_number Code.Done → result ≢ code_number Code.ShortBuffer
+    ensures unchanged { result ≢ code_number Code.Done → result ≢ code_number Code.ShortBuffer
         → (out.new ≡ out.old) × (count.new ≡ count.old) }
 {
     with_handle!(alloc, node, |n| {
@@ -56,7 +56,7 @@ pub extern "C" fn ringpop_node_ping(
     ensures address { port ≡ 0 → result ≡ code_number Code.BadAddress }
     ensures refused { port ≡ 0 → node_in node.new ≡ node_in node.old }
     ensures step { 0 < port → Does (SaysBy (λ n. ping_by n (address_of ip port)) (λ n. told n (address_of ip port)) (record { before = out.old; after = out.new; count = count.new })) (node_in node.old) result (node_in node.new) }
-    ensures untouched { result ≢ code_number Code.Done → result ≢ code_number Code.ShortBuffer
+    ensures unchanged { result ≢ code_number Code.Done → result ≢ code_number Code.ShortBuffer
         → (out.new ≡ out.old) × (count.new ≡ count.old) }
 {
     let Some(target) = Address::new(ip, port) else {
@@ -92,7 +92,7 @@ pub extern "C" fn ringpop_node_ping_req(
     ensures target_stays { target_port ≡ 0 → node_in node.new ≡ node_in node.old }
     ensures step { 0 < helper_port → 0 < target_port
         → Does (SaysBy (λ n. ping_req_by n (address_of helper_ip helper_port) (address_of target_ip target_port)) (λ n. told n (address_of helper_ip helper_port)) (record { before = out.old; after = out.new; count = count.new })) (node_in node.old) result (node_in node.new) }
-    ensures untouched { result ≢ code_number Code.Done → result ≢ code_number Code.ShortBuffer
+    ensures unchanged { result ≢ code_number Code.Done → result ≢ code_number Code.ShortBuffer
         → (out.new ≡ out.old) × (count.new ≡ count.old) }
 {
     let Some(helper) = Address::new(helper_ip, helper_port) else {
@@ -132,7 +132,7 @@ pub extern "C" fn ringpop_node_ping_req_ack(
     ensures target_stays { target_port ≡ 0 → node_in node.new ≡ node_in node.old }
     ensures step { 0 < requester_port → 0 < target_port
         → Does (SaysBy (λ n. ping_req_ack_by n (address_of requester_ip requester_port) (address_of target_ip target_port) reached) (λ n. told n (address_of requester_ip requester_port)) (record { before = out.old; after = out.new; count = count.new })) (node_in node.old) result (node_in node.new) }
-    ensures untouched { result ≢ code_number Code.Done → result ≢ code_number Code.ShortBuffer
+    ensures unchanged { result ≢ code_number Code.Done → result ≢ code_number Code.ShortBuffer
         → (out.new ≡ out.old) × (count.new ≡ count.old) }
 {
     let Some(requester) = Address::new(requester_ip, requester_port) else {

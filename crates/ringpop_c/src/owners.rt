@@ -48,7 +48,7 @@ fn put(out: &mut [RingpopAddress], count: &mut usize, addresses: &[Address])
 /// Lists addresses if there is room for them; else tells their number alone.
 fn list(out: &mut [RingpopAddress], count: &mut usize, addresses: &[Address]) -> Code
     ensures told { TellsAddresses addresses.now (record { before = out.old; after = out.new; count = count.new }) result }
-    ensures untouched { result ≢ Code.Done → result ≢ Code.ShortBuffer → (out.new ≡ out.old) × (count.new ≡ count.old) }
+    ensures unchanged { result ≢ Code.Done → result ≢ Code.ShortBuffer → (out.new ≡ out.old) × (count.new ≡ count.old) }
 {
     if out.len() < addresses.len() {
         *count = addresses.len();
@@ -65,7 +65,7 @@ pub(crate) fn tell_owners(
     count: &mut usize,
 ) -> Code
     ensures told { TellsOwners named (record { before = out.old; after = out.new; count = count.new }) result }
-    ensures untouched { result ≢ Code.Done → result ≢ Code.ShortBuffer → (out.new ≡ out.old) × (count.new ≡ count.old) }
+    ensures unchanged { result ≢ Code.Done → result ≢ Code.ShortBuffer → (out.new ≡ out.old) × (count.new ≡ count.old) }
 {
     match named {
         Ok(owners) => list(out, count, owners.as_slice()),
@@ -91,7 +91,7 @@ pub extern "C" fn ringpop_node_owners(
 ) -> u32
     ensures owners { Looks (OwnersBy key.now wanted (record { before = out.old; after = out.new; count = count.new })) (node_in node.old) result }
     ensures same { node_in node.new ≡ node_in node.old }
-    ensures untouched { result ≢ code_number Code.Done → result ≢ code_number Code.ShortBuffer
+    ensures unchanged { result ≢ code_number Code.Done → result ≢ code_number Code.ShortBuffer
         → (out.new ≡ out.old) × (count.new ≡ count.old) }
 {
     with_handle!(alloc, node, |n| {

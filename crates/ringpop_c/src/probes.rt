@@ -25,7 +25,7 @@ fn tell_probe(
     port: &mut u16,
 ) -> Code
     ensures told { TellsProbe begun number.new ip.new port.new result }
-    ensures untouched { result ≢ Code.Done → (number.new ≡ number.old) × (ip.new ≡ ip.old) × (port.new ≡ port.old) }
+    ensures unchanged { result ≢ Code.Done → (number.new ≡ number.old) × (ip.new ≡ ip.old) × (port.new ≡ port.old) }
 {
     match begun {
         Ok(Some(pick)) => {
@@ -57,7 +57,7 @@ pub extern "C" fn ringpop_node_probe(
     port: &mut u16,
 ) -> u32
     ensures step { Does (ProbesBy number.new ip.new port.new) (node_in node.old) result (node_in node.new) }
-    ensures untouched { result ≢ code_number Code.Done
+    ensures unchanged { result ≢ code_number Code.Done
         → (number.new ≡ number.old) × (ip.new ≡ ip.old) × (port.new ≡ port.old) }
 {
     with_handle!(alloc, node, |n| tell_probe(n.probe(), number, ip, port))
@@ -79,7 +79,7 @@ pub extern "C" fn ringpop_node_acked(alloc: Global, node: &mut RingpopNode, numb
 /// Writes the entry of the target of a probe that was lost, if it is suspect by that, or returns the code of the error.
 fn tell_loss(loss: Result<NodeLost, NodeError>, entry: &mut RingpopEntry) -> Code
     ensures told { TellsLoss loss (record { before = entry.old; after = entry.new }) result }
-    ensures untouched { result ≢ Code.Suspected → entry.new ≡ entry.old }
+    ensures unchanged { result ≢ Code.Suspected → entry.new ≡ entry.old }
 {
     match &loss {
         Ok(NodeLost::Ask(_)) => Code::Done,
@@ -110,7 +110,7 @@ pub extern "C" fn ringpop_node_lost(
     ensures refused { greatest_number < moment → node_in node.new ≡ node_in node.old }
     ensures step { moment ≤ greatest_number
         → Does (LosesBy number moment (record { before = entry.old; after = entry.new })) (node_in node.old) result (node_in node.new) }
-    ensures untouched { result ≢ code_number Code.Suspected → entry.new ≡ entry.old }
+    ensures unchanged { result ≢ code_number Code.Suspected → entry.new ≡ entry.old }
 {
     let Some(moment) = Moment::new(moment) else {
         return Code::BadNumber.number();
@@ -121,7 +121,7 @@ pub extern "C" fn ringpop_node_lost(
 /// Writes the number and the target of a probe that runs.
 fn tell_running(running: Option<Running>, number: &mut u64, ip: &mut u32, port: &mut u16) -> Code
     ensures told { TellsRunning running number.new ip.new port.new result }
-    ensures untouched { result ≢ Code.Done → (number.new ≡ number.old) × (ip.new ≡ ip.old) × (port.new ≡ port.old) }
+    ensures unchanged { result ≢ Code.Done → (number.new ≡ number.old) × (ip.new ≡ ip.old) × (port.new ≡ port.old) }
 {
     match running {
         Some(begun) => {
@@ -149,7 +149,7 @@ pub extern "C" fn ringpop_node_running(
 ) -> u32
     ensures told { Looks (λ n answer. TellsRunning (running_of n.probing) number.new ip.new port.new answer) (node_in node.old) result }
     ensures same { node_in node.new ≡ node_in node.old }
-    ensures untouched { result ≢ code_number Code.Done
+    ensures unchanged { result ≢ code_number Code.Done
         → (number.new ≡ number.old) × (ip.new ≡ ip.old) × (port.new ≡ port.old) }
 {
     with_handle!(alloc, node, |n| tell_running(n.running(), number, ip, port))
@@ -158,7 +158,7 @@ pub extern "C" fn ringpop_node_running(
 /// Writes the number of a probe that runs, and the helper that it waits for.
 fn tell_waiting(running: Option<Running>, number: &mut u64, ip: &mut u32, port: &mut u16) -> Code
     ensures told { TellsWaiting running number.new ip.new port.new result }
-    ensures untouched { result ≢ Code.Done → (ip.new ≡ ip.old) × (port.new ≡ port.old) }
+    ensures unchanged { result ≢ Code.Done → (ip.new ≡ ip.old) × (port.new ≡ port.old) }
     ensures no_probe { running ≡ None → number.new ≡ number.old }
 {
     let Some(running) = running else {
@@ -191,7 +191,7 @@ pub extern "C" fn ringpop_node_waiting(
 ) -> u32
     ensures told { Looks (λ n answer. TellsWaiting (running_of n.probing) number.new ip.new port.new answer) (node_in node.old) result }
     ensures same { node_in node.new ≡ node_in node.old }
-    ensures untouched { result ≢ code_number Code.Done → (ip.new ≡ ip.old) × (port.new ≡ port.old) }
+    ensures unchanged { result ≢ code_number Code.Done → (ip.new ≡ ip.old) × (port.new ≡ port.old) }
     ensures no_probe { running_in (node_in node.old) ≡ None → number.new ≡ number.old }
 {
     with_handle!(alloc, node, |n| tell_waiting(n.running(), number, ip, port))
@@ -216,7 +216,7 @@ fn read_word(word: u8) -> Option<Said>
 /// error.
 fn tell_outcome(outcome: Result<NodeOutcome, NodeError>, entry: &mut RingpopEntry) -> Code
     ensures told { TellsOutcome outcome (record { before = entry.old; after = entry.new }) result }
-    ensures untouched { result ≢ Code.Suspected → entry.new ≡ entry.old }
+    ensures unchanged { result ≢ Code.Suspected → entry.new ≡ entry.old }
 {
     match outcome {
         Ok(NodeOutcome::Waiting) => Code::Waiting,
@@ -260,7 +260,7 @@ pub extern "C" fn ringpop_node_helper_said(
     ensures moment_stays { greatest_number < moment → node_in node.new ≡ node_in node.old }
     ensures step { (said : Said) → 0 < port → said_of word ≡ Some said → moment ≤ greatest_number
         → Does (HearsHelper number (address_of ip port) said moment (record { before = entry.old; after = entry.new })) (node_in node.old) result (node_in node.new) }
-    ensures untouched { result ≢ code_number Code.Suspected → entry.new ≡ entry.old }
+    ensures unchanged { result ≢ code_number Code.Suspected → entry.new ≡ entry.old }
 {
     let Some(helper) = Address::new(ip, port) else {
         return Code::BadAddress.number();

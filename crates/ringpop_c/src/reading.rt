@@ -30,7 +30,7 @@ fn number_of(content: &Content) -> u8
 /// Writes the kind of a message, and its source.
 fn tell_source(message: &Message, kind: &mut u8, ip: &mut u32, port: &mut u16) -> Code
     ensures told { TellsSource message.now kind.new ip.new port.new result }
-    ensures untouched { result ≢ Code.Done → (kind.new ≡ kind.old) × (ip.new ≡ ip.old) × (port.new ≡ port.old) }
+    ensures unchanged { result ≢ Code.Done → (kind.new ≡ kind.old) × (ip.new ≡ ip.old) × (port.new ≡ port.old) }
 {
     *kind = number_of(&message.content);
     *ip = message.source.ip();
@@ -54,7 +54,7 @@ pub extern "C" fn ringpop_line_source(
     port: &mut u16,
 ) -> u32
     ensures told { ReadsLine (λ message answer. TellsSource message kind.new ip.new port.new answer) line.now result }
-    ensures untouched { result ≢ code_number Code.Done → (kind.new ≡ kind.old) × (ip.new ≡ ip.old) × (port.new ≡ port.old) }
+    ensures unchanged { result ≢ code_number Code.Done → (kind.new ≡ kind.old) × (ip.new ≡ ip.old) × (port.new ≡ port.old) }
 {
     match decode(alloc, line) {
         Ok(message) => tell_source(&message, kind, ip, port).number(),
@@ -65,7 +65,7 @@ pub extern "C" fn ringpop_line_source(
 /// Writes the target that a message asks to ping.
 fn tell_target(message: &Message, ip: &mut u32, port: &mut u16) -> Code
     ensures told { TellsTarget message.now.content ip.new port.new result }
-    ensures untouched { result ≢ Code.Done → (ip.new ≡ ip.old) × (port.new ≡ port.old) }
+    ensures unchanged { result ≢ Code.Done → (ip.new ≡ ip.old) × (port.new ≡ port.old) }
 {
     match &message.content {
         Content::PingReq(_, target) => {
@@ -91,7 +91,7 @@ pub extern "C" fn ringpop_line_target(
     port: &mut u16,
 ) -> u32
     ensures told { ReadsLine (λ message answer. TellsTarget message.content ip.new port.new answer) line.now result }
-    ensures untouched { result ≢ code_number Code.Done → (ip.new ≡ ip.old) × (port.new ≡ port.old) }
+    ensures unchanged { result ≢ code_number Code.Done → (ip.new ≡ ip.old) × (port.new ≡ port.old) }
 {
     match decode(alloc, line) {
         Ok(message) => tell_target(&message, ip, port).number(),
@@ -102,7 +102,7 @@ pub extern "C" fn ringpop_line_target(
 /// Writes the target of a helper's report, and whether it was reached.
 fn tell_reached(message: &Message, ip: &mut u32, port: &mut u16, reached: &mut bool) -> Code
     ensures told { TellsReached message.now.content ip.new port.new reached.new result }
-    ensures untouched { result ≢ Code.Done → (ip.new ≡ ip.old) × (port.new ≡ port.old) × (reached.new ≡ reached.old) }
+    ensures unchanged { result ≢ Code.Done → (ip.new ≡ ip.old) × (port.new ≡ port.old) × (reached.new ≡ reached.old) }
 {
     match &message.content {
         Content::PingReqAck(_, about, said) => {
@@ -130,7 +130,7 @@ pub extern "C" fn ringpop_line_reached(
     reached: &mut bool,
 ) -> u32
     ensures told { ReadsLine (λ message answer. TellsReached message.content ip.new port.new reached.new answer) line.now result }
-    ensures untouched { result ≢ code_number Code.Done → (ip.new ≡ ip.old) × (port.new ≡ port.old) × (reached.new ≡ reached.old) }
+    ensures unchanged { result ≢ code_number Code.Done → (ip.new ≡ ip.old) × (port.new ≡ port.old) × (reached.new ≡ reached.old) }
 {
     match decode(alloc, line) {
         Ok(message) => tell_reached(&message, ip, port, reached).number(),

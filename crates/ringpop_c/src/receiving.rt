@@ -21,7 +21,7 @@ use wire_json::decode;
 fn tell(alloc: Global, received: &Received, out: &mut [u8], count: &mut usize) -> Code
     requires room { max_line ≤ length out.old }
     ensures told { TellsReceived received.now (record { before = out.old; after = out.new; count = count.new }) result }
-    ensures untouched { result ≢ Code.Done → result ≢ Code.ShortBuffer → (out.new ≡ out.old) × (count.new ≡ count.old) }
+    ensures unchanged { result ≢ Code.Done → result ≢ Code.ShortBuffer → (out.new ≡ out.old) × (count.new ≡ count.old) }
 {
     match received {
         Received::Done(_) => Code::Nothing,
@@ -46,7 +46,7 @@ fn receive(
 ) -> Code
     requires room { max_line ≤ length out.old }
     ensures step { ReceivesBy message.now moment (record { before = out.old; after = out.new; count = count.new }) node.old.node result node.new.node }
-    ensures untouched { result ≢ Code.Done → result ≢ Code.ShortBuffer → (out.new ≡ out.old) × (count.new ≡ count.old) }
+    ensures unchanged { result ≢ Code.Done → result ≢ Code.ShortBuffer → (out.new ≡ out.old) × (count.new ≡ count.old) }
 {
     let received = node.receive(message, moment);
     tell(alloc, &received, out, count)
@@ -62,7 +62,7 @@ fn hear(
     count: &mut usize,
 ) -> Code
     ensures step { HearsBy line.now moment (record { before = out.old; after = out.new; count = count.new }) node.old.node result node.new.node }
-    ensures untouched { result ≢ Code.Done → result ≢ Code.ShortBuffer → (out.new ≡ out.old) × (count.new ≡ count.old) }
+    ensures unchanged { result ≢ Code.Done → result ≢ Code.ShortBuffer → (out.new ≡ out.old) × (count.new ≡ count.old) }
 {
     if is_short(out, count) {
         return Code::ShortBuffer;
@@ -99,7 +99,7 @@ pub extern "C" fn ringpop_node_receive(
     ensures number { greatest_number < moment → result ≡ code_number Code.BadNumber }
     ensures refused { greatest_number < moment → node_in node.new ≡ node_in node.old }
     ensures step { moment ≤ greatest_number → Does (HearsBy line.now moment (record { before = out.old; after = out.new; count = count.new })) (node_in node.old) result (node_in node.new) }
-    ensures untouched { result ≢ code_number Code.Done → result ≢ code_number Code.ShortBuffer
+    ensures unchanged { result ≢ code_number Code.Done → result ≢ code_number Code.ShortBuffer
         → (out.new ≡ out.old) × (count.new ≡ count.old) }
 {
     let Some(moment) = Moment::new(moment) else {

@@ -95,7 +95,7 @@ pub extern "C" fn ringpop_view_own(
 ) -> u32
     ensures own { LooksView (λ v answer. TellsAddress (Some v.own) ip.new port.new answer) (view_in view.old) result }
     ensures same { view_in view.new ≡ view_in view.old }
-    ensures untouched { result ≢ code_number Code.Done → (ip.new ≡ ip.old) × (port.new ≡ port.old) }
+    ensures unchanged { result ≢ code_number Code.Done → (ip.new ≡ ip.old) × (port.new ≡ port.old) }
 {
     with_handle!(alloc, view, |v| tell_address(Some(v.own()), ip, port))
 }
@@ -115,7 +115,7 @@ pub extern "C" fn ringpop_view_owner(
 ) -> u32
     ensures owner { LooksView (λ v answer. TellsAddress (view_owner v key.now) ip.new port.new answer) (view_in view.old) result }
     ensures same { view_in view.new ≡ view_in view.old }
-    ensures untouched { result ≢ code_number Code.Done → (ip.new ≡ ip.old) × (port.new ≡ port.old) }
+    ensures unchanged { result ≢ code_number Code.Done → (ip.new ≡ ip.old) × (port.new ≡ port.old) }
 {
     with_handle!(alloc, view, |v| tell_address(v.owner(key), ip, port))
 }
@@ -138,7 +138,7 @@ pub extern "C" fn ringpop_view_owners(
 ) -> u32
     ensures owners { LooksView (ViewOwnersBy key.now wanted (record { before = out.old; after = out.new; count = count.new })) (view_in view.old) result }
     ensures same { view_in view.new ≡ view_in view.old }
-    ensures untouched { result ≢ code_number Code.Done → result ≢ code_number Code.ShortBuffer
+    ensures unchanged { result ≢ code_number Code.Done → result ≢ code_number Code.ShortBuffer
         → (out.new ≡ out.old) × (count.new ≡ count.old) }
 {
     with_handle!(alloc, view, |v| {

@@ -18,7 +18,7 @@ use std::{env, io};
 fn given_words(rt: &(impl Env + Alloc<A = Global>)) -> Result<Vec<String>, WordsError> {
     let given = match env::args(rt) {
         Ok(given) => given,
-        Err(error) if error.kind() == ErrorKind::OutOfMemory => return Err(WordsError::NoMemory),
+        Err(error) if error.kind() == ErrorKind::OutOfMemory => return Err(WordsError::OutOfMemory),
         Err(_) => return Err(words_not_text(rt.alloc())),
     };
     let mut words = Vec::with_capacity(rt.alloc(), given.len())?;
@@ -48,8 +48,8 @@ fn run<
     let alloc = rt.alloc();
     let given = given_words(rt)?;
     let words = read_words(alloc, given.as_slice())?;
-    let mut reader = BufReader::new(alloc, rt.reader()).map_err(|_| WordsError::NoMemory)?;
-    let mut writer = BufWriter::new(alloc, io::writer(rt)).map_err(|_| WordsError::NoMemory)?;
+    let mut reader = BufReader::new(alloc, rt.reader()).map_err(|_| WordsError::OutOfMemory)?;
+    let mut writer = BufWriter::new(alloc, io::writer(rt)).map_err(|_| WordsError::OutOfMemory)?;
     words_run(rt, alloc, &words, &mut reader, &mut writer)
 }
 

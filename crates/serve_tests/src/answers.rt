@@ -33,7 +33,7 @@ const UNEXPECTED: Ended = Err(TellError::Asked(AskError::Unexpected));
 
 const NO_ANSWER: Ended = Err(TellError::Asked(AskError::NoAnswer));
 
-const NO_MEMORY: Ended = Err(TellError::Asked(AskError::NoMemory));
+const OUT_OF_MEMORY: Ended = Err(TellError::Asked(AskError::OutOfMemory));
 
 const CANNOT_WRITE: Ended = Err(TellError::Asked(AskError::CannotWrite));
 
@@ -105,7 +105,7 @@ fn ask<R: Wait + Env + Abort>(
     let (outcome, _, _) = asked;
     match outcome {
         Err(TellError::AtLine(_, LineError::OutOfMemory)) => {}
-        Err(TellError::Asked(AskError::NoMemory)) if ended != NO_MEMORY => {}
+        Err(TellError::Asked(AskError::OutOfMemory)) if ended != OUT_OF_MEMORY => {}
         _ => return asked,
     }
     check_refused(rt);
@@ -118,7 +118,7 @@ fn check<R: Wait + Env + Abort>(rt: &R, alloc: Global, row: &Row, ended: Ended, 
     let (question, answers, _, _) = row;
     let (outcome, is_written, calls) = ask(rt, alloc, row, ended, wanted);
     assert!(rt; outcome == ended && is_written);
-    let may_ask_nobody = ended == NO_MEMORY && matches!(question, Question::Ask);
+    let may_ask_nobody = ended == OUT_OF_MEMORY && matches!(question, Question::Ask);
     assert!(rt; calls == answers.len() || may_ask_nobody && calls == 0);
 }
 
@@ -181,7 +181,7 @@ const ASKS: [Row; 8] = [
     ),
     (Question::Ask, &[Answer::Nobody], UNEXPECTED, ""),
     (Question::Ask, &[Answer::Broken], NO_ANSWER, ""),
-    (Question::Ask, &[Answer::Starved], NO_MEMORY, ""),
+    (Question::Ask, &[Answer::Starved], OUT_OF_MEMORY, ""),
 ];
 
 /// `ask` of a peer that replies `hi`, or an empty text: that and a newline. That is not the owner, refuses, says another thing, or can't
@@ -217,7 +217,12 @@ const MEMBERS: [Row; 11] = [
         "",
     ),
     (Question::Members(true), &[Answer::Broken], NO_ANSWER, ""),
-    (Question::Members(true), &[Answer::Starved], NO_MEMORY, ""),
+    (
+        Question::Members(true),
+        &[Answer::Starved],
+        OUT_OF_MEMORY,
+        "",
+    ),
 ];
 
 /// `members` of a peer that tells of no member, of itself, or of (A,7,alive) and (B,3,suspect) with weight 2: what `fold` writes; their
@@ -420,7 +425,7 @@ const TOLD: [Row; 6] = [
     (
         Question::Tell(1, SECOND, ALL),
         &[Answer::Starved],
-        NO_MEMORY,
+        OUT_OF_MEMORY,
         "",
     ),
 ];

@@ -42,7 +42,7 @@ fn tells(rt: &(impl Env + Abort), alloc: Global, fault: Fault, text: &str) {
 /// Errors of subcommands, and the error text.
 const FAULTS: [(SubcommandError, &str); 8] = [
     (
-        SubcommandError::Run(RunError::NoMemory),
+        SubcommandError::Run(RunError::OutOfMemory),
         "ringpop: out of memory\n",
     ),
     (
@@ -94,7 +94,7 @@ const CLUSTER_FAULTS: [(ClusterCommandError, &str); 16] = [
         "ringpop: cannot write\n",
     ),
     (
-        ClusterCommandError::Serve(ServeError::NoMemory),
+        ClusterCommandError::Serve(ServeError::OutOfMemory),
         "ringpop: out of memory\n",
     ),
     (
@@ -122,7 +122,7 @@ const CLUSTER_FAULTS: [(ClusterCommandError, &str); 16] = [
         "ringpop: cannot write\n",
     ),
     (
-        ClusterCommandError::Ask(AskError::NoMemory),
+        ClusterCommandError::Ask(AskError::OutOfMemory),
         "ringpop: out of memory\n",
     ),
     (
@@ -159,7 +159,7 @@ fn tells_what_the_machine_refused(rt: HostRuntime) {
     tells(
         &rt,
         rt.alloc(),
-        Fault::from(WordsError::NoMemory),
+        Fault::from(WordsError::OutOfMemory),
         "ringpop: out of memory\n",
     );
     let refused = Fault::from(WordsError::BadAddress);

@@ -14,7 +14,7 @@ mod limits;
 #[cfg(test)]
 mod lines;
 #[cfg(test)]
-mod pairs;
+mod names;
 #[cfg(test)]
 mod peers;
 #[cfg(test)]
@@ -27,5 +27,6 @@ mod runs;
 mod servers;
 #[cfg(test)]
 mod shared;
+#[cfg(test)]
 #[cfg(test)]
 mod talks;

@@ -72,7 +72,7 @@ fn what_is_no_message_is_refused(rt: HostRuntime) {
         workers: 1,
         ..plan_at(29_177, TALKS.len() as u64)
     };
-    assert!(&rt; serves(&rt, alloc, &plan, &TALKS, Ok(())));
+    assert!(&rt; serves(&rt, alloc, &plan, &TALKS));
     drop(turn);
 }
 
@@ -121,6 +121,6 @@ fn a_slow_peer_is_left_at_the_limit(rt: HostRuntime) {
         line: Some(LIMIT),
         ..plan_at(29_177, SPARE)
     };
-    assert!(&rt; serves(&rt, alloc, &plan, &SLOW, Ok(())));
+    assert!(&rt; serves(&rt, alloc, &plan, &SLOW));
     drop(turn);
 }

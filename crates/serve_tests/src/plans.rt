@@ -12,11 +12,6 @@ pub(crate) struct Plan {
     pub(crate) port: u16,
     pub(crate) requests: u64,
     pub(crate) workers: u32,
-    /// Milliseconds, an hour at most.
-    pub(crate) period: u64,
-    pub(crate) sum: bool,
-    /// The port of the host that it joins, if any.
-    pub(crate) host: Option<u16>,
     /// How long it waits for a line, in milliseconds; none for the standard waits.
     pub(crate) line: Option<u64>,
     /// What its writer takes, and nothing else.
@@ -34,9 +29,6 @@ pub(crate) fn plan_at(port: u16, requests: u64) -> Plan {
         port,
         requests,
         workers: 2,
-        period: 0,
-        sum: false,
-        host: None,
         line: Some(PATIENCE),
         page: WRITTEN,
         tries: 1,
@@ -51,17 +43,9 @@ pub(crate) fn local(port: u16) -> Option<Address> {
 /// The arguments of a plan; None if out of memory, or there are no such words.
 pub(crate) fn words_of(alloc: Global, plan: &Plan) -> Option<ServeWords> {
     let (address, incarnation, weight) = (local(plan.port)?, Incarnation::new(1)?, Weight::new(1)?);
-    let (requests, workers, period) = (plan.requests, plan.workers, plan.period);
+    let (requests, workers) = (plan.requests, plan.workers);
     let are_words = requests >= 1 && requests <= MAX_REQUESTS && workers >= 1 && workers <= 16;
-    if !are_words || period > 3_600_000 {
-        return None;
-    }
-    let hosts = match plan.host {
-        Some(port) => Vec::from_slice(alloc, &[local(port)?]).ok()?,
-        None => Vec::new(alloc),
-    };
-    if hosts.len() > 1 {
-        drop(hosts);
+    if !are_words {
         return None;
     }
     Some(ServeWords {
@@ -69,13 +53,13 @@ pub(crate) fn words_of(alloc: Global, plan: &Plan) -> Option<ServeWords> {
         incarnation,
         requests,
         workers,
-        period,
+        period: 0,
         replicas: 100,
         weight,
         per_message: 64,
         piggyback: 15,
-        heal: plan.host.is_some(),
-        sum: plan.sum,
-        hosts,
+        heal: false,
+        sum: false,
+        hosts: Vec::new(alloc),
     })
 }

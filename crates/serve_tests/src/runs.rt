@@ -111,7 +111,7 @@ fn come_to<
 /// The command of the arguments; read again if an allocation failed.
 fn read(rt: &(impl Env + Abort), alloc: Global, words: &'static [&'static str]) -> Words<'static> {
     let read = match read_words(alloc, words) {
-        Err(WordsError::NoMemory) => {
+        Err(WordsError::OutOfMemory) => {
             check_refused(rt);
             read_words(alloc, words)
         }

@@ -37,10 +37,10 @@ macro_rules! again {
 pub(crate) use again;
 
 /// How often a test tries again what may still happen, a millisecond apart.
-pub(crate) const TRIES: u32 = 1_000_000;
+const TRIES: u32 = 1_000_000;
 
 /// More time for each call of a link than it needs on a busy machine.
-pub(crate) fn patient() -> Limits {
+fn patient() -> Limits {
     let patience = Duration::from_millis(PATIENCE);
     Limits {
         ping: patience,
@@ -50,7 +50,7 @@ pub(crate) fn patient() -> Limits {
 }
 
 /// How a server ended, and how much of its page was not written.
-pub(crate) type Ended = (Result<(), ServeError>, usize);
+type Ended = (Result<(), ServeError>, usize);
 
 /// Serves once.
 fn serve_once<R: Net<Listener = TcpListener, Stream = TcpStream> + Runtime>(
@@ -143,14 +143,11 @@ pub(crate) fn start<R: Net<Listener = TcpListener, Stream = TcpStream> + Runtime
     })
 }
 
-/// Waits until a server has ended without help; whether it has. It is not waited for once the other one has ended.
-pub(crate) fn ends<C: Clock>(clock: &C, server: &Running, other: &Running) -> bool {
+/// Waits until a server has ended without help; whether it has.
+fn ends<C: Clock>(clock: &C, server: &Running) -> bool {
     for _ in 0..TRIES {
         if server.has_ended() {
             return true;
-        }
-        if other.has_ended() {
-            return server.has_ended();
         }
         thread::sleep(clock, Duration::from_millis(1));
     }
@@ -225,7 +222,7 @@ fn drain<R: Net<Listener = TcpListener, Stream = TcpStream> + Clock>(
 }
 
 /// How a server ends that is knocked at until it does; None if it does not.
-pub(crate) fn stop<R: Net<Listener = TcpListener, Stream = TcpStream> + Runtime>(
+fn stop<R: Net<Listener = TcpListener, Stream = TcpStream> + Runtime>(
     rt: &R,
     server: Running,
 ) -> Option<Ended> {
@@ -236,25 +233,14 @@ pub(crate) fn stop<R: Net<Listener = TcpListener, Stream = TcpStream> + Runtime>
     Some(server.thread.join(rt))
 }
 
-/// Whether a server that is stopped ended so, with all of its page written.
-pub(crate) fn stops_so<R: Net<Listener = TcpListener, Stream = TcpStream> + Runtime>(
-    rt: &R,
-    server: Running,
-    outcome: Result<(), ServeError>,
-) -> bool {
-    stop(rt, server) == Some((outcome, 0))
-}
-
-/// Whether a server ended so, with all of its page written, by itself where it had what it was to have; else it is stopped, and that is
-/// false.
-pub(crate) fn ends_so<R: Net<Listener = TcpListener, Stream = TcpStream> + Runtime>(
+/// Whether a server ended with all of its page written, by itself where it had what it was to have; else it is stopped, and that is false.
+pub(crate) fn ends_well<R: Net<Listener = TcpListener, Stream = TcpStream> + Runtime>(
     rt: &R,
     server: Running,
     is_served: bool,
-    outcome: Result<(), ServeError>,
 ) -> bool {
-    let has_ended = is_served && ends(rt, &server, &server);
-    stops_so(rt, server, outcome) && has_ended
+    let has_ended = is_served && ends(rt, &server);
+    stop(rt, server) == Some((Ok(()), 0)) && has_ended
 }
 
 /// Waits for the turn of a test, since all tests of all processes use the same ports, and keeps it; none where it never comes.

@@ -1,7 +1,7 @@
 //! What peers say to a server, line by line, and what it makes of that.
 use crate::plans::Plan;
-use crate::shared::{Running, again, connect, ends_so, spend, start};
-use cli_net::{Runtime, ServeError};
+use crate::shared::{Running, again, connect, ends_well, spend, start};
+use cli_net::Runtime;
 use std::alloc::Global;
 use std::env::Env;
 use std::io::{ErrorKind, Read, Write};
@@ -135,7 +135,7 @@ fn hears<C: Clock>(clock: &C, stream: &mut TcpStream, talk: &Talk) -> Rest {
 }
 
 /// Whether a peer receives what it has to, and no earlier. One that receives nothing talks again, as often as it may.
-pub(crate) fn is_heard<R: Net<Listener = TcpListener, Stream = TcpStream> + Clock>(
+fn is_heard<R: Net<Listener = TcpListener, Stream = TcpStream> + Clock>(
     rt: &R,
     server: &Running,
     talk: &Talk,
@@ -202,19 +202,18 @@ fn makes_all<R: Net<Listener = TcpListener, Stream = TcpStream> + Clock>(
     spend(rt, server, requests)
 }
 
-/// Whether a server so planned makes of all talks what it is to make of them, if there are any, and ends so, with all of its page written.
+/// Whether a server so planned makes of all talks what it is to make of them, and ends with all of its page written.
 fn serves_once<R: Net<Listener = TcpListener, Stream = TcpStream> + Runtime>(
     rt: &R,
     alloc: Global,
     plan: &Plan,
     talks: &[Talk],
-    outcome: Result<(), ServeError>,
 ) -> bool {
     let Some(server) = start(rt, alloc, plan) else {
         return false;
     };
-    let is_served = talks.is_empty() || makes_all(rt, alloc, &server, plan.requests, talks);
-    ends_so(rt, server, is_served, outcome)
+    let is_served = makes_all(rt, alloc, &server, plan.requests, talks);
+    ends_well(rt, server, is_served)
 }
 
 /// The same, and another server if an allocation failed.
@@ -223,7 +222,6 @@ pub(crate) fn serves<R: Net<Listener = TcpListener, Stream = TcpStream> + Runtim
     alloc: Global,
     plan: &Plan,
     talks: &[Talk],
-    outcome: Result<(), ServeError>,
 ) -> bool {
-    again!(rt, serves_once(rt, alloc, plan, talks, outcome))
+    again!(rt, serves_once(rt, alloc, plan, talks))
 }

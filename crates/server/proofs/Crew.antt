@@ -1,9 +1,8 @@
 -- The workers of a server, taken and put back one by one from the end.
-use Rattle.std.proofs.Common.{◌≡◌, ◌≢◌, ◌∙◌, refl, sym, ap, subst, append_assoc, append-nil, ℕ, List, [], ◌∷◌, ◌++◌, true, false, All, Option}
+use Rattle.std.proofs.Common.{◌≡◌, ◌≢◌, ◌∙◌, refl, sym, ap, subst, append_assoc, append-nil, ℕ, List, [], ◌∷◌, ◌++◌, All}
 use Rattle.std.specs.Prelude.{map, reverse}
 use Rattle.std.specs.List.{AllZip}
 use Rattle.std.specs.declared.thread.PromisedHandle.{PromisedHandle}
-use Rattle.std.proofs.lemmas.Bool.{true≢false}
 use Rattle.std.proofs.lemmas.List.{reverse-append, reverse-reverse}
 use Rattle.std.proofs.lemmas.List.Elements.{All-cons, All-head, All-nil, All-push, All-tail}
 use Rattle.indexmap.proofs.SetLemmas.{AllZip-push}
@@ -12,10 +11,10 @@ use Rattle.locked_node.specs.Passes.{NodePass}
 use Rattle.peer_core.specs.Acts.{Makes}
 use Rattle.server.proofs.Worked.{no_rounds}
 use Rattle.peer_core.specs.Handling.{MayHandle}
-use Rattle.server.specs.Running.{AreWorkersOf, IsTimerOf, makes_rounds, rounds_pass, worker_passes}
+use Rattle.server.specs.Running.{AreWorkersOf, IsTimerOf, rounds_pass, timer_period, worker_passes}
 use Rattle.server.specs.Threads.{AreBack, IsTimer, IsTimerBack, IsWorker, IsWorkerBack, ServeAlone}
-use Rattle.server.specs.Working.{AreRounds, IsConnection, Repeats}
-use Rattle.server.specs.declared.healing.HealingPlan.{HealingPlan}
+use Rattle.server.specs.Working.{AreRounds, IsConnection, Repeats, RoundTimes, hosts_of}
+use Rattle.server.specs.declared.servers.Server.{Server}
 use Rattle.server.specs.declared.promises.WorkerPromise.{WorkerPromise}
 use Rattle.server.specs.declared.promises.Timer.{Timer}
 use Rattle.server.specs.declared.promises.Timer.TheVariants.{Resting, Running}
@@ -79,22 +78,25 @@ all_reversed P [] h = All-nil P
 all_reversed P (x ∷ xs) h =
     subst (λ (ys : List _). All P ys) (sym (reverse-append (x ∷ []) xs)) (All-push P (reverse xs) x (all_reversed P xs (All-tail P x xs h)) (All-head P x xs h))
 
-module _ {H : Type 0} where
+module _ {H A R : Type 0} where
   -- what is known of a timer that was started
-  pub timer_is : (node : LockedNode H) (healing : Option HealingPlan) (period : ℕ) (pass : NodePass H) (timer : Timer H) → IsTimer node healing period pass timer
-      → IsTimerOf node healing timer × ((rounds_pass timer ≡ pass) × ((period ≡ 0 → makes_rounds timer ≡ false) × (period ≢ 0 → makes_rounds timer ≡ true)))
-  timer_is node healing period pass (Resting kept) is = (tt, (is.1, ((λ _. refl), λ some. absurd (some is.0))))
-  timer_is node healing period pass (Running thread) is = ((is.1, is.2), (is.3, ((λ none. absurd (is.0 none)), λ _. refl)))
+  pub timer_is : (server : Server H A) (period : ℕ) (pass : NodePass H) (timer : Timer H A R) → IsTimer server period pass timer
+      → IsTimerOf server timer × ((rounds_pass timer ≡ pass) × (timer_period timer ≡ period))
+  timer_is server period pass (Resting kept) is = (tt, (is.1, sym is.0))
+  timer_is server period pass (Running thread) is = (((λ none. is.0 (sym is.2 ∙ none)), is.1), (is.3, is.2))
 
   -- what came back from the thread of the rounds, or was kept
-  pub timer_back : (node : LockedNode H) (healing : Option HealingPlan) (timer : Timer H) (back : NodePass H) → IsTimerOf node healing timer → IsTimerBack timer back
-      → Makes node (AreRounds healing) (rounds_pass timer) back × (makes_rounds timer ≡ false → back ≡ rounds_pass timer)
-  timer_back node healing (Resting kept) back of same =
-      (subst (λ (p : NodePass H). Makes node (AreRounds healing) kept p) (sym same) (no_rounds node healing kept), λ _. same)
-  timer_back node healing (Running thread) back of made = (
-    subst (λ (n : LockedNode H). Makes n (AreRounds healing) thread.promise.pass.value back) of.0
-        (subst (λ (x : Option HealingPlan). Makes thread.promise.node.value (AreRounds x) thread.promise.pass.value back) of.1 made),
-    λ no. absurd (true≢false no),
+  pub timer_back : (Time : RoundTimes) (server : Server H A) (timer : Timer H A R) (back : NodePass H) → IsTimerOf server timer → IsTimerBack Time timer back
+      → Makes server.node (AreRounds Time (timer_period timer) (hosts_of server.hosts) server.healing) (rounds_pass timer) back
+      × (timer_period timer ≡ 0 → back ≡ rounds_pass timer)
+  timer_back Time server (Resting kept) back of same = (
+    subst (λ (p : NodePass H). Makes server.node (AreRounds Time 0 (hosts_of server.hosts) server.healing) kept p) (sym same)
+        (no_rounds server.node Time 0 (hosts_of server.hosts) server.healing kept),
+    λ _. same,
+  )
+  timer_back Time server (Running thread) back of made = (
+    subst (λ (s : Server H A). Makes s.node (AreRounds Time thread.promise.period.value (hosts_of s.hosts) s.healing) thread.promise.pass.value back) of.1 made,
+    λ none. absurd (of.0 none),
   )
 
 module _ {H A : Type 0} where

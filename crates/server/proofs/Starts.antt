@@ -12,7 +12,8 @@ use Rattle.locked_node.specs.declared.node.LockedNode.{LockedNode}
 use Rattle.locked_node.specs.Passes.{Fits, NodePass, opening_of}
 use Rattle.cluster_core.specs.Clusters.{AreAll}
 use Rattle.server.specs.Running.{Started}
-use Rattle.server.specs.Starting.{IsBorn, IsHealedAs, IsNotBorn, IsStarted, start_error}
+use Rattle.server.specs.Starting.{IsCreated, IsHealedAs, IsNotCreated, IsStarted, start_error}
+use Rattle.server.specs.Working.{hosts_of}
 use Rattle.server.specs.declared.healing.HealingPlan.{HealingPlan}
 use Rattle.server.specs.declared.servers.Server.{Server}
 use Rattle.server.specs.declared.starting.Settings.{Settings}
@@ -22,14 +23,14 @@ error_in d (Ok a) = d
 error_in d (Err e) = e
 
 -- the node was refused for the first bad field, or for memory
-pub not_born : {H : Type 0} (settings : Settings) (bad : Option ConfigField) → bad_field settings.config ≡ bad → (made : Result (Seen H) NodeError) (e : NodeError)
+pub not_created : {H : Type 0} (settings : Settings) (bad : Option ConfigField) → bad_field settings.config ≡ bad → (made : Result (Seen H) NodeError) (e : NodeError)
     → ((f : ConfigField) → (made ≡ Err (node.BadConfig f)) ↔ (bad_field settings.config ≡ Some f)) → (bad_field settings.config ≡ None → e ≡ node.Memory)
-    → made ≡ Err e → IsNotBorn settings (start_error e)
+    → made ≡ Err e → IsNotCreated settings (start_error e)
 unfolding error_in
-not_born settings None is made e named memory came = subst (λ (x : NodeError). IsNotBorn settings (start_error x)) (sym (memory is)) is
-not_born settings (Some f) is made e named memory came =
+not_created settings None is made e named memory came = subst (λ (x : NodeError). IsNotCreated settings (start_error x)) (sym (memory is)) is
+not_created settings (Some f) is made e named memory came =
     let same : e ≡ node.BadConfig f = ap (error_in e) (sym came ∙ (named f).1 is) in
-    subst (λ (x : NodeError). IsNotBorn settings (start_error x)) (sym same) is
+    subst (λ (x : NodeError). IsNotCreated settings (start_error x)) (sym same) is
 
 module _ {H : Type 0} (locked : LockedNode H) (n handles : ℕ) (given : List (NodePass H)) (rounds : NodePass H) where
   -- the first of the passes and the others are all of them
@@ -54,24 +55,24 @@ module _ {H : Type 0} (locked : LockedNode H) (n handles : ℕ) (given : List (N
 pub healed_by : (heals : Bool) (own : Address) (hosts : List Address) (plan given : Option HealingPlan) → given ≡ plan → IsHealedAs heals own hosts plan → IsHealedAs heals own hosts given
 healed_by heals own hosts plan given e h = subst (λ (x : Option HealingPlan). IsHealedAs heals own hosts x) (sym e) h
 
-module _ {H A : Type 0} (hash_of : H → List ℕ → ℕ) (hash : H) (answers : A) (settings : Settings) (born : Seen H) (locked : LockedNode H) (server : Server H A)
+module _ {H A : Type 0} (hash_of : H → List ℕ → ℕ) (hash : H) (answers : A) (settings : Settings) (created : Seen H) (locked : LockedNode H) (server : Server H A)
     (workers handles : List (NodePass H)) (rounds : NodePass H) (running : Started H A) where
   -- what was started is what the settings ask for
-  pub started_by : IsBorn hash_of hash settings born → opening_of locked ≡ born → server.node ≡ locked → server.handler ≡ answers → server.timeouts ≡ settings.timeouts
-      → IsHealedAs settings.heals settings.address [] server.healing
+  pub started_by : IsCreated hash_of hash settings created → opening_of locked ≡ created → server.node ≡ locked → server.handler ≡ answers → server.timeouts ≡ settings.timeouts
+      → IsHealedAs settings.heals settings.address settings.hosts.now server.healing → hosts_of server.hosts ≡ settings.hosts.now
       → length workers ≡ settings.workers → length handles ≡ settings.handles → AreAll locked (workers ++ handles ++ rounds ∷ []) → All (Fits locked) handles
       → (running.server ≡ server) × (running.rounds ≡ rounds) × (running.workers ≡ workers)
-      → (settings.period ≡ 0 → running.has_rounds ≡ false) → (settings.period ≢ 0 → running.has_rounds ≡ true) → IsStarted hash_of hash answers settings running handles
-  started_by is opened its answered waits heals count left all fits same resting timed =
+      → running.period ≡ settings.period → IsStarted hash_of hash answers settings running handles
+  started_by is opened its answered waits heals joins count left all fits same period =
       let node : running.server.node ≡ locked = ap (λ (s : Server H A). s.node) same.0 ∙ its in record {
-        born = subst (λ (x : Seen H). IsBorn hash_of hash settings x) (sym (ap opening_of node ∙ opened)) is;
+        created = subst (λ (x : Seen H). IsCreated hash_of hash settings x) (sym (ap opening_of node ∙ opened)) is;
         handler = ap (λ (s : Server H A). s.handler) same.0 ∙ answered;
         timeouts = ap (λ (s : Server H A). s.timeouts) same.0 ∙ waits;
-        healing = subst (λ (s : Server H A). IsHealedAs settings.heals settings.address [] s.healing) (sym same.0) heals;
+        healing = subst (λ (s : Server H A). IsHealedAs settings.heals settings.address settings.hosts.now s.healing) (sym same.0) heals;
+        hosts = ap (λ (s : Server H A). hosts_of s.hosts) same.0 ∙ joins;
         workers = ap length same.2 ∙ count;
         count = left;
-        resting = resting;
-        timed = timed;
+        period = period;
         all = subst (λ (x : LockedNode H). AreAll x (running.workers ++ handles ++ running.rounds ∷ [])) (sym node)
             (subst (λ (ws : List (NodePass H)). AreAll locked (ws ++ handles ++ running.rounds ∷ [])) (sym same.2)
             (subst (λ (r : NodePass H). AreAll locked (workers ++ handles ++ r ∷ [])) (sym same.1) all));

@@ -1,5 +1,5 @@
 -- The settings of a start of a node and its server, and its result.
-use Rattle.std.specs.Prelude.{◌≡◌, ◌≢◌, Bool, true, false, ℕ, ◌+◌, ◌*◌, ◌^◌, ◌≤◌, ◌<◌, List, ◌∷◌, [], ◌++◌, Option, Some, None, length, All}
+use Rattle.std.specs.Prelude.{◌≡◌, Bool, true, false, ℕ, ◌+◌, ◌*◌, ◌^◌, ◌≤◌, ◌<◌, List, ◌∷◌, [], ◌++◌, Option, Some, None, length, All}
 use Rattle.change_core.specs.declared.addresses.Address.{Address}
 use Rattle.detector_core.specs.Choices.{seeded}
 use Rattle.node_core.specs.Configs.{bad_field, standard}
@@ -13,6 +13,7 @@ use Rattle.locked_node.specs.Passes.{NodePass, Fits, opening_of}
 use Rattle.cluster_core.specs.Clusters.{AreAll}
 use Rattle.server.specs.Running.{Started}
 use Rattle.server.specs.Timeouts.{AreStandardTimeouts}
+use Rattle.server.specs.Working.{hosts_of}
 use Rattle.server.specs.declared.errors.ServerError.{ServerError}
 use Rattle.server.specs.declared.errors.ServerError.TheVariants as server
 use Rattle.server.specs.declared.healing.HealingPlan.{HealingPlan}
@@ -28,6 +29,7 @@ pub record AreStandardFor (a i : ℕ) (settings : Settings) : Type 0 where
   pub counts : (settings.workers ≡ 4) × (settings.handles ≡ 1)
   pub period : settings.period ≡ 200
   pub heals : settings.heals ≡ true
+  pub hosts : settings.hosts.now ≡ []
   pub timeouts : AreStandardTimeouts settings.timeouts
 
 -- a node of this address heals so, with these hosts, or does not heal
@@ -45,15 +47,15 @@ abbrev pub AreCountsInRange : Settings → Type 0
 AreCountsInRange settings = IsCrew settings.workers × (settings.handles ≤ 1000)
 
 -- the new node that the settings ask for, alone at moment 0
-abbrev pub IsBorn : {H : Type 0} → (H → List ℕ → ℕ) → H → Settings → Seen H → Type 0
-IsBorn hash_of hash settings node =
+abbrev pub IsCreated : {H : Type 0} → (H → List ℕ → ℕ) → H → Settings → Seen H → Type 0
+IsCreated hash_of hash settings node =
     node ≡ seen_of hash_of (newborn hash settings.config settings.address settings.incarnation 0 (seeded (seed_of settings.address settings.incarnation)))
 
 -- the error if there is no such node
-abbrev pub IsNotBorn : Settings → StartError → Type 0
-IsNotBorn settings (error.BadConfig field) = bad_field settings.config ≡ Some field
-IsNotBorn settings error.Memory = bad_field settings.config ≡ None
-IsNotBorn settings other = ⊥
+abbrev pub IsNotCreated : Settings → StartError → Type 0
+IsNotCreated settings (error.BadConfig field) = bad_field settings.config ≡ Some field
+IsNotCreated settings error.Memory = bad_field settings.config ≡ None
+IsNotCreated settings other = ⊥
 
 -- a start's error for an error of the node
 abbrev pub start_error : NodeError → StartError
@@ -73,16 +75,16 @@ abbrev pub error_of_server : ServerError → StartError
 error_of_server server.NoThread = error.NoThread
 error_of_server server.Memory = error.Memory
 
--- The server's node was made by the settings; its handler answers, and it waits and heals as they say. The passes of its workers, the
+-- The server's node was made by the settings; its handler answers, and it waits, heals, joins hosts and makes rounds as they say. The passes of its workers, the
 -- handles and the pass of its rounds are all that the node has.
 pub record IsStarted {H A : Type 0} (hash_of : H → List ℕ → ℕ) (hash : H) (answers : A) (settings : Settings) (running : Started H A) (handles : List (NodePass H)) : Type 0 where
-  pub born : IsBorn hash_of hash settings (opening_of running.server.node)
+  pub created : IsCreated hash_of hash settings (opening_of running.server.node)
   pub handler : running.server.handler ≡ answers
   pub timeouts : running.server.timeouts ≡ settings.timeouts
-  pub healing : IsHealedAs settings.heals settings.address [] running.server.healing
+  pub healing : IsHealedAs settings.heals settings.address settings.hosts.now running.server.healing
+  pub hosts : hosts_of running.server.hosts ≡ settings.hosts.now
   pub workers : length running.workers ≡ settings.workers
   pub count : length handles ≡ settings.handles
-  pub resting : settings.period ≡ 0 → running.has_rounds ≡ false
-  pub timed : settings.period ≢ 0 → running.has_rounds ≡ true
+  pub period : running.period ≡ settings.period
   pub all : AreAll running.server.node (running.workers ++ handles ++ running.rounds ∷ [])
   pub fits : All (Fits running.server.node) handles

@@ -1,13 +1,13 @@
 -- The threads of a server, by the passes that they were given and give back.
-use Rattle.std.specs.Prelude.{◌≡◌, ◌≢◌, ℕ, List, ◌++◌, Option}
+use Rattle.std.specs.Prelude.{◌≡◌, ◌≢◌, ℕ, List, ◌++◌}
 use Rattle.std.specs.List.{AllZip}
 use Rattle.std.specs.declared.thread.PromisedHandle.{PromisedHandle}
 use Rattle.locked_node.specs.declared.node.LockedNode.{LockedNode}
 use Rattle.locked_node.specs.Passes.{NodePass}
 use Rattle.peer_core.specs.Handling.{MayHandle}
 use Rattle.peer_core.specs.Acts.{Makes}
-use Rattle.server.specs.Working.{AreRounds, IsConnection, Repeats}
-use Rattle.server.specs.declared.healing.HealingPlan.{HealingPlan}
+use Rattle.server.specs.Working.{AreRounds, IsConnection, Repeats, RoundTimes, hosts_of}
+use Rattle.server.specs.declared.servers.Server.{Server}
 use Rattle.server.specs.declared.promises.WorkerPromise.{WorkerPromise}
 use Rattle.server.specs.declared.promises.Timer.{Timer}
 use Rattle.server.specs.declared.promises.Timer.TheVariants.{Resting, Running}
@@ -30,13 +30,16 @@ module _ {H : Type 0} where
   abbrev pub ServeAlone : (H → List ℕ → ℕ) → MayHandle → LockedNode H → List (NodePass H) → List (NodePass H) → Type 0
   ServeAlone hash_of Handles node old new = AllZip (Makes node (Repeats (IsConnection hash_of Handles))) old new
 
-  -- if the period is 0 no thread makes rounds, and the pass for them is kept; else a thread of the node was given it, to heal so
-  abbrev pub IsTimer : LockedNode H → Option HealingPlan → ℕ → NodePass H → Timer H → Type 0
-  IsTimer node healing period pass (Resting kept) = (period ≡ 0) × (kept ≡ pass)
-  IsTimer node healing period pass (Running rounds) =
-      (period ≢ 0) × (rounds.promise.node.value ≡ node) × (rounds.promise.healing.value ≡ healing) × (rounds.promise.pass.value ≡ pass)
+module _ {H A R : Type 0} where
+  -- if the period is 0 no thread makes rounds, and the pass for them is kept; else a thread of the server was given it, with this period
+  abbrev pub IsTimer : Server H A → ℕ → NodePass H → Timer H A R → Type 0
+  IsTimer server period pass (Resting kept) = (period ≡ 0) × (kept ≡ pass)
+  IsTimer server period pass (Running rounds) =
+      (period ≢ 0) × (rounds.promise.server.value ≡ server) × (rounds.promise.period.value ≡ period) × (rounds.promise.pass.value ≡ pass)
 
-  -- by the pass that came back rounds were made alone, and what heals after them
-  abbrev pub IsTimerBack : Timer H → NodePass H → Type 0
-  IsTimerBack (Resting kept) back = back ≡ kept
-  IsTimerBack (Running rounds) back = Makes rounds.promise.node.value (AreRounds rounds.promise.healing.value) rounds.promise.pass.value back
+  -- by the pass that came back the server's rounds were made alone, with the period of the thread
+  abbrev pub IsTimerBack : RoundTimes → Timer H A R → NodePass H → Type 0
+  IsTimerBack Time (Resting kept) back = back ≡ kept
+  IsTimerBack Time (Running rounds) back =
+      let server = rounds.promise.server.value in
+      Makes server.node (AreRounds Time rounds.promise.period.value (hosts_of server.hosts) server.healing) rounds.promise.pass.value back

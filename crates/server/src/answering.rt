@@ -1,5 +1,5 @@
 //! The answers of a server to inputs.
-ghost use Rattle.std.specs.Prelude.{◌≡◌, ◌≤◌, Ok, IfOk, IfErr, IfNone, IfSome, length};
+ghost use Rattle.std.specs.Prelude.{◌≡◌, ◌≤◌, ◌<◌, Ok, IfOk, IfErr, IfNone, IfSome, length, vec_capacity, vec_len};
 ghost use Rattle.wire_json.specs.Lines.{IsLine, max_line};
 ghost use Rattle.wire_json.specs.Messages.{MessageForm};
 ghost use Rattle.locked_node.specs.Passes.{Fits};
@@ -87,20 +87,38 @@ fn answer<R: Wait, H: PointHash, L: Link, A: Handler>(
     }
 }
 
-/// Returns the line of an answer, or the reason why it has none: `Failed` if it is too long, else `Memory`.
+/// Returns the line with room for its newline; None if out of memory for that.
+fn with_room(line: Vec<u8>) -> Option<Vec<u8>>
+    ensures same { IfSome result (λ v. v.items ≡ line.items) }
+    ensures room { IfSome result (λ v. vec_len v < vec_capacity v) }
+{
+    let mut line = line;
+    match line.reserve_exact(1) {
+        Ok(()) => Some(line),
+        Err(_) => None,
+    }
+}
+
+/// Returns the line of an answer, with room for its newline, or the reason why it has none: `Failed` if it is too long,
+/// else `Memory`.
 fn own_line(alloc: Global, answer: &Message) -> Result<Vec<u8>, Reason>
     ensures line { IfOk result (λ v. v.items ≡ line_text answer.now) }
     ensures short { IfOk result (λ v. length v.items ≤ max_line) }
+    ensures room { IfOk result (λ v. vec_len v < vec_capacity v) }
     ensures reason { IfErr result (IsUnsent answer.now) }
 {
     match encode(alloc, answer) {
-        Ok(line) => Ok(line),
+        Ok(line) => match with_room(line) {
+            Some(line) => Ok(line),
+            None => Err(Reason::Memory),
+        },
         Err(WireError::LineTooLong) => Err(Reason::Failed),
         Err(_) => Err(Reason::Memory),
     }
 }
 
-/// Returns the line of a refusal; None if the lock refuses the call for it, or out of memory for its line.
+/// Returns the line of a refusal, with room for its newline; None if the lock refuses the call for it, or out of memory
+/// for its line.
 fn refusal_line<R: Wait, H: PointHash>(
     rt: &R,
     alloc: Global,
@@ -110,19 +128,23 @@ fn refusal_line<R: Wait, H: PointHash>(
 ) -> Option<Vec<u8>>
     requires { Fits node.now pass.old }
     ensures refusal { IfSome result (λ v. Makes node.now (IsRefusalLine reason v.items) pass.old pass.new) }
+    ensures room { IfSome result (λ v. vec_len v < vec_capacity v) }
     ensures silent { IfNone result (IsTried (Refuses reason) node.now pass.old pass.new) }
     ensures fits { Fits node.now pass.new }
 {
     let Ok(refusal) = refuse(rt, node, pass, reason) else {
         return None;
     };
-    match encode(alloc, &refusal) {
-        Ok(line) => Some(line),
-        Err(_) => None,
+    let Ok(line) = encode(alloc, &refusal) else {
+        return None;
+    };
+    match with_room(line) {
+        Some(line) => Some(line),
+        None => None,
     }
 }
 
-/// Returns the line of an answer, or of the refusal in its stead if it has none.
+/// Returns the line of an answer, with room for its newline, or of the refusal in its stead if it has none.
 fn line_of<R: Wait, H: PointHash>(
     rt: &R,
     alloc: Global,
@@ -132,6 +154,7 @@ fn line_of<R: Wait, H: PointHash>(
 ) -> Option<Vec<u8>>
     requires { Fits node.now pass.old }
     ensures sent { IfSome result (λ v. Makes node.now (IsSentAs answer.now v.items) pass.old pass.new) }
+    ensures room { IfSome result (λ v. vec_len v < vec_capacity v) }
     ensures silent { IfNone result (IsTried (SendsNothing answer.now) node.now pass.old pass.new) }
     ensures fits { Fits node.now pass.new }
 {
@@ -141,11 +164,11 @@ fn line_of<R: Wait, H: PointHash>(
     }
 }
 
-/// Returns the line, without its newline, that goes back for an input at a moment. To a line that is a message it is
-/// that of the answer of `serve_one`, requests by the handler; to any other line, and to one that was too long, a
-/// refusal `malformed`; and `memory` if out of memory for reading a line. If the answer's line would have more than
-/// 1,048,576 bytes it is that of a refusal `failed`, if out of memory for it that of a refusal `memory`, by another
-/// call of the node.
+/// Returns the line that goes back for an input at a moment, without its newline but with room for it. To a line that is
+/// a message it is that of the answer of `serve_one`, requests by the handler; to any other line, and to one that was
+/// too long, a refusal `malformed`; and `memory` if out of memory for reading a line. If the answer's line would have
+/// more than 1,048,576 bytes it is that of a refusal `failed`, if out of memory for it that of a refusal `memory`, by
+/// another call of the node.
 ///
 /// None if the connection has to be closed without an answer: if the input needs none, if the lock refused a call, and
 /// if out of memory even for a refusal.
@@ -161,6 +184,7 @@ pub fn respond<R: Wait, H: PointHash, L: Link, A: Handler>(
 ) -> Option<Vec<u8>>
     requires { Fits node.now pass.old }
     ensures sent { IfSome result (λ v. Makes node.now (Responds H.hash_of L.may_answer A.may_handle now input.now v.items) pass.old pass.new) }
+    ensures room { IfSome result (λ v. vec_len v < vec_capacity v) }
     ensures silent { IfNone result (IsSilent H.hash_of L.may_answer A.may_handle now input.now node.now pass.old pass.new) }
     ensures fits { Fits node.now pass.new }
 {

@@ -1,12 +1,12 @@
 //! One connection of a server: one line in and one line out.
 ghost use Rattle.locked_node.specs.Passes.{Fits};
 ghost use Rattle.peer_core.specs.Acts.{Makes};
-ghost use Rattle.server.specs.Working.{IsConnection};
+ghost use Rattle.server.specs.Working.{IsConnection, IsConnectionOver};
 
 use crate::answering::respond;
 use crate::inputs::hear;
 use crate::servers::Server;
-use cluster_core::{Deadline, TcpLink, Timed, send_line};
+use cluster_core::{Deadline, TcpLink, Timed, send_owned_line};
 use hash_ring::PointHash;
 use locked_node::NodePass;
 use peer_core::Handler;
@@ -16,8 +16,9 @@ use std::net::{Net, OpenStream};
 use std::sync::Wait;
 use std::time::Clock;
 
-/// Serves one connection: its line has to arrive within the limit, and its answer's line has to be taken within it,
-/// from the start of each. Any part that the other side does not take is lost.
+/// Serves one connection, and returns it: its line has to arrive within the limit, and its answer's line has to be taken
+/// within it, from the start of each. Nothing is written but the answer's line and a newline; nothing at all where no
+/// answer is due. None if the answer was not taken whole, and if the clock failed.
 pub fn serve_connection<
     R: Net + Wait + Clock,
     H: PointHash,
@@ -30,13 +31,14 @@ pub fn serve_connection<
     alloc: Global,
     link: &mut TcpLink<R>,
     stream: S,
-)
+) -> Option<S>
     requires { Fits server.now.node pass.old }
     ensures made { Makes server.now.node (IsConnection H.hash_of A.may_handle) pass.old pass.new }
+    ensures over { Makes server.now.node (IsConnectionOver S.remaining S.contents H.hash_of A.may_handle stream result) pass.old pass.new }
     ensures fits { Fits server.now.node pass.new }
 {
     let Ok(deadline) = Deadline::after(rt, server.timeouts.line) else {
-        return;
+        return None;
     };
     let mut stream = Timed::new(stream, deadline);
     let input = hear(alloc, &mut stream);
@@ -51,10 +53,13 @@ pub fn serve_connection<
         now,
         &input,
     ) else {
-        return;
+        return Some(stream.into_inner());
     };
     let Ok(deadline) = Deadline::after(rt, server.timeouts.line) else {
-        return;
+        return None;
     };
-    let _sent = send_line(alloc, stream.until(deadline), line.as_slice());
+    match send_owned_line(stream.until(deadline), line) {
+        Ok(stream) => Some(stream.into_inner()),
+        Err(_) => None,
+    }
 }

@@ -1,19 +1,20 @@
 //! The part of a server that its threads share, and the work of each of them.
-ghost use Rattle.std.specs.Prelude.{◌≡◌, Some};
+ghost use Rattle.std.specs.Prelude.{◌≡◌, None, Some};
 ghost use Rattle.locked_node.specs.Passes.{Fits};
 ghost use Rattle.cluster_core.specs.Sockets.{limits_of};
 ghost use Rattle.peer_core.specs.Acts.{Makes};
-ghost use Rattle.server.specs.Working.{AreRounds, IsConnection, IsOneRound, Repeats};
+ghost use Rattle.server.specs.Working.{IsConnection, Repeats, hosts_of};
 
 use crate::connections::serve_connection;
 use crate::healing::HealingPlan;
 use crate::runtimes::Runtime;
 use crate::stopwatches::Stopwatch;
 use crate::timeouts::Timeouts;
+use change_core::Address;
 use cluster_core::{Deadline, TcpLink};
 use hash_ring::PointHash;
 use locked_node::{LockedNode, NodePass};
-use peer_core::{Handler, Healing, gossip_round, heal};
+use peer_core::Handler;
 use std::alloc::Global;
 use std::net::{IpAddr, Ipv4Addr, Net, SocketAddr, TcpListener, TcpStream};
 use std::sync::atomic::{AtomicBool, AtomicU64, Ordering};
@@ -38,6 +39,8 @@ pub struct Server<H: PointHash, A> {
     pub timeouts: Timeouts,
     /// How it heals a cluster whose members parted; `None`: it does not.
     pub healing: Option<HealingPlan>,
+    /// The hosts that it joins while it makes rounds, until one of them has answered; `None`: it joins none.
+    pub hosts: Option<Vec<Address>>,
     listener: TcpListener,
     /// The number of connections that are left to be served.
     connections_left: AtomicU64,
@@ -50,7 +53,7 @@ pub struct Server<H: PointHash, A> {
 }
 
 impl<H: PointHash, A> Server<H, A> {
-    /// Makes a server of this number of connections; none has been served yet.
+    /// Makes a server of this number of connections; none has been served yet. It joins no hosts.
     pub fn new(
         node: LockedNode<H>,
         handler: A,
@@ -65,6 +68,7 @@ impl<H: PointHash, A> Server<H, A> {
         ensures stopwatch { result.stopwatch ≡ stopwatch }
         ensures timeouts { result.timeouts ≡ timeouts }
         ensures healing { result.healing ≡ healing }
+        ensures hosts { result.hosts ≡ None }
     {
         Server {
             node,
@@ -72,12 +76,38 @@ impl<H: PointHash, A> Server<H, A> {
             stopwatch,
             timeouts,
             healing,
+            hosts: None,
             listener,
             connections_left: AtomicU64::new(connections),
             waiting: AtomicU64::new(0),
             starting: Mutex::new(()),
             is_ending: AtomicBool::new(false),
             wake: Parker::new(),
+        }
+    }
+
+    /// Returns the server with these hosts: while it makes rounds it joins them, at once and then, as long as none has answered by
+    /// a Joined, again between two rounds, not sooner than a second after the time before. Of more than 4,096 hosts it joins the
+    /// first 4,096.
+    pub fn joining(mut self, hosts: Vec<Address>) -> Self
+        ensures node { result.node ≡ self.node }
+        ensures handler { result.handler ≡ self.handler }
+        ensures stopwatch { result.stopwatch ≡ self.stopwatch }
+        ensures timeouts { result.timeouts ≡ self.timeouts }
+        ensures healing { result.healing ≡ self.healing }
+        ensures hosts { result.hosts ≡ Some hosts }
+    {
+        self.hosts = Some(hosts);
+        self
+    }
+
+    /// Returns the hosts that it joins while it makes rounds.
+    pub(crate) fn hosts(&self) -> &[Address]
+        ensures { result.now ≡ hosts_of self.now.hosts }
+    {
+        match &self.hosts {
+            Some(hosts) => hosts.as_slice(),
+            None => &[],
         }
     }
 
@@ -171,7 +201,7 @@ impl<H: PointHash, A> Server<H, A> {
 
     /// Rests for a whole period, also if it is woken before, or until the server ends; whether rounds are still made. If the
     /// clock fails it rests once.
-    fn rest<R: Wait + Clock>(&self, rt: &R, period: Duration) -> bool {
+    pub(crate) fn rest<R: Wait + Clock>(&self, rt: &R, period: Duration) -> bool {
         let Ok(deadline) = Deadline::after(rt, period) else {
             return self.park(rt, period);
         };
@@ -225,76 +255,4 @@ pub fn work<R: Net + Wait + Clock + Copy, H: PointHash, A: Handler>(
 {
     let mut link = TcpLink::with_limits(*rt, server.timeouts.links);
     work_over(server, pass, rt, alloc, &mut link);
-}
-
-/// Makes rounds alone until the server ends, over a link with its own limits.
-fn make_rounds_over<R: Net + Wait + Clock, H: PointHash, A>(
-    server: &Server<H, A>,
-    pass: &mut NodePass<H>,
-    rt: &R,
-    alloc: Global,
-    link: &mut TcpLink<R>,
-    period: Duration,
-)
-    requires fits { Fits server.now.node pass.old }
-    requires limits { limits_of link.old ≡ server.now.timeouts.links }
-    ensures made { Makes server.now.node (Repeats IsOneRound) pass.old pass.new }
-    ensures fits { Fits server.now.node pass.new }
-{
-    for _ in rt.forever() {
-        if !server.rest(rt, period) {
-            return;
-        }
-        let now = server.stopwatch.moment(rt);
-        let _round = gossip_round(rt, alloc, &server.node, pass, link, now);
-    }
-}
-
-/// Makes rounds until the server ends, and heals after each as the plan says, over a link with its own limits.
-fn make_healing_rounds_over<R: Net + Wait + Clock, H: PointHash, A>(
-    server: &Server<H, A>,
-    plan: &HealingPlan,
-    pass: &mut NodePass<H>,
-    rt: &R,
-    alloc: Global,
-    link: &mut TcpLink<R>,
-    period: Duration,
-)
-    requires fits { Fits server.now.node pass.old }
-    requires limits { limits_of link.old ≡ server.now.timeouts.links }
-    ensures made { Makes server.now.node (AreRounds (Some plan.now)) pass.old pass.new }
-    ensures fits { Fits server.now.node pass.new }
-{
-    let mut healing = Healing::new(plan.own, plan.hosts.as_slice());
-    for _ in rt.forever() {
-        if !server.rest(rt, period) {
-            return;
-        }
-        let now = server.stopwatch.moment(rt);
-        let _made = gossip_round(rt, alloc, &server.node, pass, link, now);
-        let _healed = heal(rt, alloc, &server.node, pass, link, now, &mut healing);
-    }
-}
-
-/// Makes rounds until the server ends, each `period` milliseconds after the one before has ended, and never sooner. After
-/// each it heals, if the server has a plan for that. A round that fails does not end them.
-pub fn make_rounds<R: Net + Wait + Clock + Copy, H: PointHash, A>(
-    server: &Server<H, A>,
-    pass: &mut NodePass<H>,
-    rt: &R,
-    alloc: Global,
-    period: u64,
-)
-    requires { Fits server.now.node pass.old }
-    ensures made { Makes server.now.node (AreRounds server.now.healing) pass.old pass.new }
-    ensures fits { Fits server.now.node pass.new }
-{
-    let mut link = TcpLink::with_limits(*rt, server.timeouts.links);
-    let period = Duration::from_millis(period);
-    match &server.healing {
-        Some(plan) => {
-            make_healing_rounds_over(server, plan, pass, rt, alloc, &mut link, period);
-        }
-        None => make_rounds_over(server, pass, rt, alloc, &mut link, period),
-    }
 }

@@ -3,7 +3,7 @@ ghost use Rattle.std.specs.Prelude.{◌≡◌, ◌↔◌, ◌++◌, ◌∷◌, [
 ghost use Rattle.std.specs.List.{All};
 ghost use Rattle.cluster_core.specs.Clusters.{AreAll};
 ghost use Rattle.locked_node.specs.Passes.{Fits, opening_of};
-ghost use Rattle.server.specs.Starting.{AreCountsInRange, AreStandardFor, IsBorn, IsHealedAs, IsNotBorn, IsNotStarted, IsStarted, seed_of, start_error};
+ghost use Rattle.server.specs.Starting.{AreCountsInRange, AreStandardFor, IsCreated, IsHealedAs, IsNotCreated, IsNotStarted, IsStarted, seed_of, start_error};
 
 use crate::errors::ServerError;
 use crate::healing::HealingPlan;
@@ -27,7 +27,7 @@ pub const MAX_HANDLES: u32 = 1_000;
 
 /// The settings with which a node and its server are started.
 #[derive(Clone, Copy, Debug)]
-pub struct Settings {
+pub struct Settings<'a> {
     /// The address at which the server listens, and by which other nodes name the node.
     pub address: Address,
     /// The version of the node's own state, greater than at any earlier start at this address: as the milliseconds since 1970 are.
@@ -45,11 +45,16 @@ pub struct Settings {
     /// Whether members that parted are met again: after each tenth round the node pings one member at random, whatever it
     /// holds it as.
     pub heals: bool,
+    /// The hosts that the node joins while it makes rounds: at once, and again between two rounds, not sooner than a second after
+    /// the time before, as long as none of them has answered by a Joined. Of more than 4,096 the first 4,096 are joined. If members
+    /// that parted are met again, hosts that the node does not hold as serving are joined again, too. With none the node joins no
+    /// host by itself.
+    pub hosts: &'a [Address],
 }
 
-impl Settings {
+impl<'a> Settings<'a> {
     /// The standard configuration, but up to 256 changes a message; 4 workers, one handle, a round each 200 milliseconds, the
-    /// standard timeouts, and healing. More changes a message let a cluster whose nodes start together agree sooner.
+    /// standard timeouts, healing, and no hosts. More changes a message let a cluster whose nodes start together agree sooner.
     pub fn new(address: Address, incarnation: Incarnation) -> Self
         ensures { AreStandardFor address incarnation result }
     {
@@ -65,6 +70,7 @@ impl Settings {
             period: 200,
             timeouts: Timeouts::standard(),
             heals: true,
+            hosts: &[],
         }
     }
 
@@ -130,10 +136,10 @@ fn start_error(error: NodeError) -> StartError
 fn node_of<H: PointHash>(
     alloc: Global,
     hash: H,
-    settings: &Settings,
+    settings: &Settings<'_>,
 ) -> Result<NodeState<H>, StartError>
-    ensures born { IfOk result (IsBorn H.hash_of hash settings.now) }
-    ensures refused { IfErr result (IsNotBorn settings.now) }
+    ensures created { IfOk result (IsCreated H.hash_of hash settings.now) }
+    ensures refused { IfErr result (IsNotCreated settings.now) }
 {
     let made = NodeState::new(
         alloc,
@@ -150,11 +156,24 @@ fn node_of<H: PointHash>(
     }
 }
 
-/// How the server heals, with no hosts, if the settings ask for it.
-fn plan_of(alloc: Global, settings: &Settings) -> Option<HealingPlan>
-    ensures { IsHealedAs settings.now.heals settings.now.address [] result }
+/// Copies the hosts of the settings.
+fn hosts_of(alloc: Global, settings: &Settings<'_>) -> Result<Vec<Address>, StartError>
+    ensures copied { IfOk result (λ hosts. hosts.items ≡ settings.now.hosts.now) }
+    ensures refusal { IsOkUnless result StartError.Memory }
 {
-    HealingPlan::of(settings.heals, settings.address, Vec::new(alloc))
+    match Vec::from_slice(alloc, settings.hosts) {
+        Ok(hosts) => Ok(hosts),
+        Err(_) => Err(StartError::Memory),
+    }
+}
+
+/// How the server heals, with the hosts of the settings, if they ask for it.
+fn plan_of(alloc: Global, settings: &Settings<'_>) -> Result<Option<HealingPlan>, StartError>
+    ensures heals { IfOk result (IsHealedAs settings.now.heals settings.now.address settings.now.hosts.now) }
+    ensures refusal { IsOkUnless result StartError.Memory }
+{
+    let hosts = hosts_of(alloc, settings)?;
+    Ok(HealingPlan::of(settings.heals, settings.address, hosts))
 }
 
 /// Shares the node by the settings: returns it with the pass of its rounds, those of its workers, and the handles.
@@ -165,7 +184,7 @@ fn plan_of(alloc: Global, settings: &Settings) -> Option<HealingPlan>
 fn share_out<H: PointHash>(
     alloc: Global,
     node: NodeState<H>,
-    settings: &Settings,
+    settings: &Settings<'_>,
 ) -> Result<
     (
         LockedNode<H>,
@@ -197,7 +216,8 @@ fn share_out<H: PointHash>(
 
 /// Starts a node and its server: it listens at the address of the settings, serves each connection by one line in and one line
 /// out, requests by the handler, and makes rounds, until it is stopped. The handles are for the service's own threads: each makes
-/// its calls of the node by one, as a [`Member`](peer_core::Member) does. To be known to others the node has to join one of them.
+/// its calls of the node by one, as a [`Member`](peer_core::Member) does. To be known to others the node has to join one of them: by a
+/// member's `join`, or by the hosts of the settings.
 ///
 /// # Errors
 ///
@@ -215,29 +235,31 @@ pub fn start<
     alloc: Global,
     hash: H,
     handler: A,
-    settings: &Settings,
-) -> Result<(Running<H, A>, Vec<NodePass<H>>), StartError>
+    settings: &Settings<'_>,
+) -> Result<(Running<H, A, R>, Vec<NodePass<H>>), StartError>
     ensures started { IfOk result (λ r. IsStarted H.hash_of hash handler settings.now r.0 r.1.items) }
     ensures refused { IfErr result (IsNotStarted settings.now) }
 {
-    let born = node_of(alloc, hash, settings)?;
+    let created = node_of(alloc, hash, settings)?;
     if !settings.are_counts_in_range() {
         return Err(StartError::BadCount);
     }
     let Ok(listener) = TcpListener::bind(rt, socket_address(settings.address)) else {
         return Err(StartError::CannotListen);
     };
-    let (node, rounds, workers, handles) = share_out(alloc, born, settings)?;
-    let stopwatch = Stopwatch::start(rt);
+    let (node, rounds, workers, handles) = share_out(alloc, created, settings)?;
+    let hosts = hosts_of(alloc, settings)?;
+    let healing = plan_of(alloc, settings)?;
     let server = Server::new(
         node,
         handler,
-        stopwatch,
+        Stopwatch::start(rt),
         settings.timeouts,
-        plan_of(alloc, settings),
+        healing,
         listener,
         u64::MAX,
-    );
+    )
+    .joining(hosts);
     let running = Running::start(rt, alloc, server, rounds, workers, settings.period)?;
     Ok((running, handles))
 }

@@ -6,12 +6,14 @@ ghost use Rattle.std.specs.Vec.{vec_capacity};
 ghost use Rattle.locked_node.specs.Passes.{Fits};
 ghost use Rattle.peer_core.specs.Acts.{Makes};
 ghost use Rattle.server.specs.Threads.{AreBack, IsTimer, IsTimerBack, IsWorker, ServeAlone};
-ghost use Rattle.server.specs.Working.{AreRounds, IsConnection, Repeats};
+ghost use Rattle.server.specs.Working.{AreRounds, IsConnection, Repeats, hosts_of};
 
 use crate::errors::ServerError;
 use crate::promises::{RoundsPromise, Timer, WorkerPromise};
+use crate::round_clocks::RoundClock;
+use crate::rounds::make_rounds;
 use crate::runtimes::Runtime;
-use crate::servers::{Server, make_rounds, work};
+use crate::servers::{Server, work};
 use hash_ring::PointHash;
 use locked_node::NodePass;
 use peer_core::Handler;
@@ -38,8 +40,8 @@ fn work_by<R: Net + Wait + Clock + Copy, H: PointHash, A: Handler + Drop>(
     pass
 }
 
-/// Makes rounds by a pass, and what heals after them, and gives it back.
-fn make_rounds_by<R: Net + Wait + Clock + Copy, H: PointHash, A: Drop>(
+/// Makes rounds by a pass, and what is done between them, and gives it back.
+fn make_rounds_by<R: Net + RoundClock + Copy, H: PointHash, A: Drop>(
     rt: R,
     alloc: Global,
     server: Arc<Server<H, A>, Global>,
@@ -47,7 +49,7 @@ fn make_rounds_by<R: Net + Wait + Clock + Copy, H: PointHash, A: Drop>(
     period: u64,
 ) -> NodePass<H>
     requires { Fits (arc_value server).node pass }
-    ensures { Makes (arc_value server).node (AreRounds (arc_value server).healing) pass result }
+    ensures { Makes (arc_value server).node (AreRounds R.times period (hosts_of (arc_value server).hosts) (arc_value server).healing) pass result }
 {
     make_rounds(&*server, &mut pass, &rt, alloc, period);
     pass
@@ -92,9 +94,9 @@ fn start_rounds<
     server: &Arc<Server<H, A>, Global>,
     pass: NodePass<H>,
     period: u64,
-) -> Result<Timer<H>, ServerError>
+) -> Result<Timer<H, A, R>, ServerError>
     requires { Fits (arc_value server.now).node pass }
-    ensures started { IfOk result (IsTimer (arc_value server.now).node (arc_value server.now).healing period pass) }
+    ensures started { IfOk result (IsTimer (arc_value server.now) period pass) }
 {
     if period == 0 {
         return Ok(Timer::Resting(pass));
@@ -102,9 +104,10 @@ fn start_rounds<
     let server = Arc::try_clone(server)?;
     let host = *rt;
     let promise = RoundsPromise {
-        node: Snapshot::of(&server.node),
-        healing: Snapshot::of(&server.healing),
+        server: Snapshot::of(&*server),
+        period: Snapshot::of(&period),
         pass: Snapshot::of(&pass),
+        clock: PhantomData,
     };
     let started = thread::spawn_with(rt, promise, move || {
         make_rounds_by(host, alloc, server, pass, period)
@@ -116,8 +119,11 @@ fn start_rounds<
 }
 
 /// Waits for the thread that makes rounds, if any does. The pass of the rounds.
-pub(crate) fn end_timer<R: Threads, H: PointHash>(rt: &R, timer: Timer<H>) -> NodePass<H>
-    ensures { IsTimerBack timer result }
+pub(crate) fn end_timer<R: Threads + RoundClock, H: PointHash, A>(
+    rt: &R,
+    timer: Timer<H, A, R>,
+) -> NodePass<H>
+    ensures { IsTimerBack R.times timer result }
 {
     match timer {
         Timer::Resting(pass) => pass,
@@ -166,12 +172,12 @@ pub(crate) fn start_all<
     passes: &mut Vec<NodePass<H>>,
     period: u64,
     workers: &mut Vec<PromisedHandle<NodePass<H>, WorkerPromise<H, A>>>,
-) -> Result<Timer<H>, ServerError>
+) -> Result<Timer<H, A, R>, ServerError>
     requires timer { Fits (arc_value server.now).node timer }
     requires passes { All (Fits (arc_value server.now).node) passes.old.items }
     requires none { workers.old.items ≡ [] }
     requires room { vec_len passes.old ≤ vec_capacity workers.old }
-    ensures timer { IfOk result (IsTimer (arc_value server.now).node (arc_value server.now).healing period timer) }
+    ensures timer { IfOk result (IsTimer (arc_value server.now) period timer) }
     ensures workers { OnOk result (AllZip (IsWorker (arc_value server.now).node) (reverse passes.old.items) workers.new.items) }
     ensures all { OnOk result (passes.new.items ≡ []) }
     ensures back { vec_len passes.new + vec_len workers.new ≤ vec_capacity passes.new }

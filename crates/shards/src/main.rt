@@ -65,7 +65,7 @@ fn start_node<R: Net<Listener = TcpListener, Stream = TcpStream> + Runtime>(
     alloc: Global,
     address: Address,
     incarnation: Incarnation,
-) -> anyhow::Result<(Running<Sha256Hash, Trips>, NodePass<Sha256Hash>)>
+) -> anyhow::Result<(Running<Sha256Hash, Trips, R>, NodePass<Sha256Hash>)>
     ensures { IfOk result (λ r. Fits r.0.server.node r.1) }
 {
     let settings = Settings::new(address, incarnation);

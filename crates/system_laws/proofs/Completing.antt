@@ -57,7 +57,7 @@ use Rattle.peer_core.specs.Provenance.{last_of, later_of, begun_by, shown_by, un
 use Rattle.peer_core.specs.Rounds.{IsRound}
 use Rattle.peer_core.proofs.Acts.{made_none}
 use Rattle.peer_core.proofs.Rests.{rounds_rest}
-use Rattle.system_laws.specs.Completeness.{GossipRound, ProbesAlone, IsNotReached, MembersAreProbed, calls_in, PassesProbe, RoundsMade}
+use Rattle.system_laws.specs.Completeness.{BeginsNone, GossipRound, ProbesAlone, IsNotReached, MembersAreProbed, calls_in, PassesProbe, RoundsMade}
 use Rattle.system_laws.proofs.Sharing.{In-mapped, In-from_mapped}
 
 -- lists
@@ -122,6 +122,12 @@ module _ {H : Type 0} where
   begun_shown (OfEvent event.Probe, WithReply (reply.Probe (Ok (Some q)))) p is = let same : q ≡ p = cc in ap (λ (x : Probe). Some (unasked x.number x.target)) same
   begun_shown (OfEvent event.Probe, WithReply (reply.Probe (Ok None))) p is = cc
   begun_shown other p is = cc
+
+  -- only a call that asks for a probe begins one
+  begun_call : (act : Act H) (p : Probe) → begun_by act ≡ Some p → act.0 ≡ OfEvent event.Probe
+  begun_call (OfEvent event.Probe, WithReply (reply.Probe (Ok (Some q)))) p is = refl
+  begun_call (OfEvent event.Probe, WithReply (reply.Probe (Ok None))) p is = cc
+  begun_call other p is = cc
 
 abbrev AtMostOne : List Probe → Type 0
 AtMostOne ps = (ps ≡ []) ⊎ ((p : Probe) × (ps ≡ p ∷ []))
@@ -484,6 +490,15 @@ module _ {H : Type 0} (Came : MayAnswer) where
       by_act (OfEvent (event.HelperSaid j h s t), WithReply (reply.HelperSaid (Ok answered.Inconclusive))) parts ends = inr ends.2
       by_act other parts ends = elim ends [ ]
 
+  -- calls between rounds begin no probe
+  none_between : (entries : List (CallEntry H)) → BeginsNone entries → begun (acts_of entries) ≡ []
+  none_between [] none = refl
+  none_between (e ∷ es) none = by_call (begun_by (e.call, e.answer)) refl (none_between es (λ x h. none x (inr h)))
+    where
+      by_call : (o : Option Probe) → begun_by (e.call, e.answer) ≡ o → begun (acts_of es) ≡ [] → cons_option (begun_by (e.call, e.answer)) (begun (acts_of es)) ≡ []
+      by_call None is rest = ap (λ o. cons_option o (begun (acts_of es))) is ∙ rest
+      by_call (Some p) is rest = absurd (none e (inl refl) (begun_call (e.call, e.answer) p is))
+
   -- the probes of rounds, one of each
 
   record Probed (rounds : List (GossipRound H)) : Type 0 where
@@ -492,14 +507,19 @@ module _ {H : Type 0} (Came : MayAnswer) where
     pub as_many : length probes ≡ length rounds
     pub each : (p : Probe) → In p probes → (r : GossipRound H) × In r rounds × (one : ProbesOne r) × (one.probe ≡ p)
 
-  probed : (rounds : List (GossipRound H)) → ((r : GossipRound H) → In r rounds → ProbesOne r) → Probed rounds
+  begun_both : (xs ys : List (CallEntry H)) → begun (acts_of (xs ++ ys)) ≡ begun (acts_of xs) ++ begun (acts_of ys)
+  begun_both xs ys = ap begun (map-both (λ (e : CallEntry H). (e.call, e.answer)) xs ys) ∙ filter_map-both begun_by (acts_of xs) (acts_of ys)
+
+  probed : (rounds : List (GossipRound H)) → ((r : GossipRound H) → In r rounds → BeginsNone r.between × ProbesOne r) → Probed rounds
   probed [] ones = record { probes = []; all = refl; as_many = refl; each = λ p h. absurd h }
   probed (r ∷ rs) ones =
-      let one = ones r (inl refl) in
+      let one = (ones r (inl refl)).1 in
       let rest = probed rs (λ s h. ones s (inr h)) in
       record {
         probes = one.probe ∷ rest.probes;
-        all = ap begun (map-both (λ (e : CallEntry H). (e.call, e.answer)) r.entries (calls_in rs)) ∙ filter_map-both begun_by (rounds_acts r) (acts_of (calls_in rs))
+        all = begun_both r.between (r.entries ++ calls_in rs)
+            ∙ ap (λ (l : List Probe). l ++ begun (acts_of (r.entries ++ calls_in rs))) (none_between r.between (ones r (inl refl)).0)
+            ∙ begun_both r.entries (calls_in rs)
             ∙ ap (λ (l : List Probe). l ++ begun (acts_of (calls_in rs))) one.only ∙ ap (λ (l : List Probe). one.probe ∷ l) rest.all;
         as_many = ap suc rest.as_many;
         each = λ p h. elim h [
@@ -510,15 +530,16 @@ module _ {H : Type 0} (Came : MayAnswer) where
 
   In-calls : (rounds : List (GossipRound H)) (r : GossipRound H) (e : CallEntry H) → In r rounds → In e r.entries → In e (calls_in rounds)
   In-calls [] r e h k = absurd h
-  In-calls (s ∷ rs) r e (inl is) k = in_append_left e s.entries (calls_in rs) (subst (λ (x : GossipRound H). In e x.entries) is k)
-  In-calls (s ∷ rs) r e (inr h) k = in_append_right e s.entries (calls_in rs) (In-calls rs r e h k)
+  In-calls (s ∷ rs) r e (inl is) k =
+      in_append_right e s.between (s.entries ++ calls_in rs) (in_append_left e s.entries (calls_in rs) (subst (λ (x : GossipRound H). In e x.entries) is k))
+  In-calls (s ∷ rs) r e (inr h) k = in_append_right e s.between (s.entries ++ calls_in rs) (in_append_right e s.entries (calls_in rs) (In-calls rs r e h k))
 
 pub members_are_probed : {H : Type 0} (hash_of : H → List ℕ → ℕ) (Came : MayAnswer) → MembersAreProbed hash_of Came
 members_are_probed {H} hash_of Came n a members old last history rounds kept legal made are_rounds alone there enough not_reached =
     let ones : (r : GossipRound H) → In r rounds → ProbesOne Came r =
-    λ r h. probes_one Came r (are_rounds r h) (λ e k asked answers. empty (nobody hash_of n members old last history e legal alone
+    λ r h. probes_one Came r (are_rounds r h).1 (λ e k asked answers. empty (nobody hash_of n members old last history e legal alone
     (subst (λ (es : List (CallEntry H)). In e es) (sym made) (In-calls Came rounds r e h k)) asked answers)) in
-    let all = probed Came rounds ones in
+    let all = probed Came rounds (λ r h. ((are_rounds r h).0, ones r h)) in
     let picks = picks_of hash_of n members old last history legal alone in
     let same : map (λ (p : Picked). p.probe) picks.0 ≡ all.probes = picks.2 ∙ ap (λ (es : List (CallEntry H)). begun (acts_of es)) made ∙ all.all in
     let many : length picks.0 ≡ length rounds = sym (length-map picks.0 (λ (p : Picked). p.probe)) ∙ ap length same ∙ all.as_many in
@@ -528,7 +549,7 @@ members_are_probed {H} hash_of Came n a members old last history rounds kept leg
     let of = all.each pick.0.probe in_probes in (
       of.0,
       of.1,
-      found Came of.0 a of.2 (are_rounds of.0 of.1) (ap (λ (p : Probe). p.target) of.3 ∙ pick.2) (not_reached of.0 of.1)
+      found Came of.0 a of.2 (are_rounds of.0 of.1).1 (ap (λ (p : Probe). p.target) of.3 ∙ pick.2) (not_reached of.0 of.1)
           (λ e k j h t s called answers. word_in hash_of n old last history e j h t s legal (subst (λ (es : List (CallEntry H)). In e es) (sym made) (In-calls Came rounds of.0 e of.1 k)) called answers),
     )
   where
@@ -544,13 +565,16 @@ append-cancel (x ∷ xs) ys zs e = append-cancel xs ys zs cc
 module _ {H : Type 0} (hash_of : H → List ℕ → ℕ) (Came : MayAnswer) where
   all_made : (locked : LockedNode H) (p q : NodePass H) (rounds : List (GossipRound H)) → RoundsMade Came locked p rounds q → Made locked p q (calls_in rounds)
   all_made locked p q [] made = subst (λ (x : NodePass H). Made locked p x []) (sym made) (made_none locked p)
-  all_made locked p q (r ∷ rs) (mid, one, is, rest) = made_in_turn locked p mid q r.entries (calls_in rs) one (all_made locked mid q rs rest)
+  all_made locked p q (r ∷ rs) (start, mid, others, none, one, is, rest) =
+      made_in_turn locked p start q r.between (r.entries ++ calls_in rs) others
+      (made_in_turn locked start mid q r.entries (calls_in rs) one (all_made locked mid q rs rest))
 
   each_round : (locked : LockedNode H) (p q : NodePass H) (rounds : List (GossipRound H)) → RoundsMade Came locked p rounds q
-      → (r : GossipRound H) → In r rounds → IsRound Came r.now (Ok r.round) (acts_of r.entries)
+      → (r : GossipRound H) → In r rounds → BeginsNone r.between × IsRound Came r.now (Ok r.round) (acts_of r.entries)
   each_round locked p q [] made r h = absurd h
-  each_round locked p q (s ∷ rs) (mid, one, is, rest) r (inl e) = subst (λ (x : GossipRound H). IsRound Came x.now (Ok x.round) (acts_of x.entries)) (sym e) is
-  each_round locked p q (s ∷ rs) (mid, one, is, rest) r (inr h) = each_round locked mid q rs rest r h
+  each_round locked p q (s ∷ rs) (start, mid, others, none, one, is, rest) r (inl e) =
+      subst (λ (x : GossipRound H). BeginsNone x.between × IsRound Came x.now (Ok x.round) (acts_of x.entries)) (sym e) (none, is)
+  each_round locked p q (s ∷ rs) (start, mid, others, none, one, is, rest) r (inr h) = each_round locked mid q rs rest r h
 
   pub passes_probe : PassesProbe hash_of Came
   passes_probe locked p q a members old last since rounds opened seen legal all made alone there enough not_reached =

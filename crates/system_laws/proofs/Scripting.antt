@@ -37,7 +37,7 @@ use Rattle.cli_core.specs.Input.{lines_of}
 use Rattle.change_core.specs.Digest.{digest_digits}
 use Rattle.cli_core.specs.ScriptAnswers.{answer_text, owners_text}
 use Rattle.cli_core.specs.ScriptRuns.{AnswersAll}
-use Rattle.cli_core.specs.Simulated.{Simulated, Obeys, NodeAnswers, GoesOn, Comes, beginning, born_in, node_at, with_node, of_itself}
+use Rattle.cli_core.specs.Simulated.{Simulated, Obeys, NodeAnswers, GoesOn, Comes, beginning, created_in, node_at, with_node, of_itself}
 use Rattle.system_laws.specs.Scripts.{Played, IsPlay, RunsArePlays, ScriptsAgree, IsLook, output_of, log_asked, log_delivered, log_delivered_to, log_after, log_at}
 
 module _ {H : Type 0} (hash_of : H → List ℕ → ℕ) where
@@ -190,7 +190,7 @@ module _ {H : Type 0} (hash_of : H → List ℕ → ℕ) where
       (ap (λ (ns : List (Node H)). node_at ns a) (new_is ∙ is) ∙ at_with old.nodes b a before after there stepped.own)
       (λ k. subst (λ (x : ℕ). IsOf old x (one x) after) (sym k) stepped) (good a)
 
-  newborn_is : (s : Simulated H) (b : Birth) → IsOf s b.address (birth b.address b.incarnation b.weight ∷ []) (born_in s b)
+  newborn_is : (s : Simulated H) (b : Birth) → IsOf s b.address (birth b.address b.incarnation b.weight ∷ []) (created_in s b)
   newborn_is s b = record { own = refl; holds = sym (members-IsMemberList (birth b.address b.incarnation b.weight ∷ []) (tt, tt)); hashed = refl; points = refl }
 
   abbrev logs_after : Simulated H → Command → Answer → (ℕ → List Change) → ℕ → List Change
@@ -220,10 +220,10 @@ module _ {H : Type 0} (hash_of : H → List ℕ → ℕ) where
 
   by_command : (old new : Simulated H) (c : Command) (ans : Answer) → Obeys hash_of old c ans new → Obeyed old c ans new
   by_command old new (Makes b) answer.Done (absent, few, is) logs good =
-      let same : SameKind old new = same_kind old new (old.nodes ++ born_in old b ∷ []) old.messages old.moment is in (
-        λ a. chosen old new a b.address (born_in old b) (logs a) (birth b.address b.incarnation b.weight ∷ []) same
-            (ap (λ (s : Simulated H). node_at s.nodes a) is ∙ at_more old.nodes (born_in old b) a (λ k. subst (λ (x : ℕ). node_at old.nodes x ≡ None) k absent))
-            (λ k. subst (λ (x : ℕ). IsOf old x (birth b.address b.incarnation b.weight ∷ []) (born_in old b)) (sym k) (newborn_is old b)) (good a),
+      let same : SameKind old new = same_kind old new (old.nodes ++ created_in old b ∷ []) old.messages old.moment is in (
+        λ a. chosen old new a b.address (created_in old b) (logs a) (birth b.address b.incarnation b.weight ∷ []) same
+            (ap (λ (s : Simulated H). node_at s.nodes a) is ∙ at_more old.nodes (created_in old b) a (λ k. subst (λ (x : ℕ). node_at old.nodes x ≡ None) k absent))
+            (λ k. subst (λ (x : ℕ). IsOf old x (birth b.address b.incarnation b.weight ∷ []) (created_in old b)) (sym k) (newborn_is old b)) (good a),
         same,
       )
   by_command old new (At moment) answer.Done is logs good =

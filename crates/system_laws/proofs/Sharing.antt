@@ -11,7 +11,7 @@ use Rattle.turn_lock.specs.declared.kept.Turn.{Turn}
 use Rattle.locked_node.specs.History.{CallEntry, History, LegalHistory}
 use Rattle.cluster_laws.proofs.Rising.{world_after-append, all-append}
 use Rattle.cluster_laws.proofs.Witnessing.{none_without_witness}
-use Rattle.system_laws.specs.Sharing.{SharedNode, NodeCall, IsOrder, IsWorldRun, TellTheTruth, SharedNodesAreWorlds, AreApart, AllCome, ComesBy, born, starts, address_of, calls_at, made_by, all_made, events_of, events_of_call, events_of_calls, world_of}
+use Rattle.system_laws.specs.Sharing.{SharedNode, NodeCall, IsOrder, IsWorldRun, TellTheTruth, SharedNodesAreWorlds, AreApart, AllCome, ComesBy, created, starts, address_of, calls_at, made_by, all_made, events_of, events_of_call, events_of_calls, world_of}
 
 pub In-mapped : {X Y : Type 0} (f : X → Y) (x : X) (xs : List X) → In x xs → In (f x) (map f xs)
 In-mapped f x [] h = absurd h
@@ -49,7 +49,7 @@ module _ {H : Type 0} (hash_of : H → List ℕ → ℕ) where
 
   -- a world with these nodes begun: they are as they were born, all others as before, and no message was made
   record Begun (w : World H) (nodes : Nodes) (after : World H) : Type 0 where
-    pub there : (n : SharedNode hash_of) → In n nodes → after.nodes (address_of n) ≡ Some (born n.birth)
+    pub there : (n : SharedNode hash_of) → In n nodes → after.nodes (address_of n) ≡ Some (created n.birth)
     pub others : (a : ℕ) → (In a (map (λ (n : SharedNode hash_of). address_of n) nodes) → ⊥) → after.nodes a ≡ w.nodes a
     pub messages : after.messages ≡ w.messages
     pub may : MayAllHappen hash_of w (starting nodes)
@@ -59,18 +59,18 @@ module _ {H : Type 0} (hash_of : H → List ℕ → ℕ) where
       → Begun w nodes (world_after w (starting nodes))
   all_begin [] w apart absent = record { there = λ n h. absurd h; others = λ a h. refl; messages = refl; may = tt }
   all_begin (n ∷ ns) w apart absent =
-      let placed : ℕ → Option (Node H) = placed_at (address_of n) (born n.birth) w.nodes in
+      let placed : ℕ → Option (Node H) = placed_at (address_of n) (created n.birth) w.nodes in
       let not_n : (m : SharedNode hash_of) → In m ns → address_of m ≡ address_of n → ⊥ =
       λ m h e. apart.0 (subst (λ (a : ℕ). In a (map (λ (x : SharedNode hash_of). address_of x) ns)) e (In-mapped (λ (x : SharedNode hash_of). address_of x) m ns h)) in
       let rest = all_begin ns (happens w (starts n.birth)) apart.1
-      (λ m h. at_other (address_of n) (born n.birth) w.nodes (address_of m) (not_n m h) ∙ absent m (inr h)) in
+      (λ m h. at_other (address_of n) (created n.birth) w.nodes (address_of m) (not_n m h) ∙ absent m (inr h)) in
       record {
         there = λ m h. elim h [
-          | inl e ↦ subst (λ (x : SharedNode hash_of). (world_after w (starting (n ∷ ns))).nodes (address_of x) ≡ Some (born x.birth)) (sym e)
-              (rest.others (address_of n) apart.0 ∙ at_own (address_of n) (born n.birth) w.nodes)
+          | inl e ↦ subst (λ (x : SharedNode hash_of). (world_after w (starting (n ∷ ns))).nodes (address_of x) ≡ Some (created x.birth)) (sym e)
+              (rest.others (address_of n) apart.0 ∙ at_own (address_of n) (created n.birth) w.nodes)
           | inr k ↦ rest.there m k
         ];
-        others = λ a h. rest.others a (λ k. h (inr k)) ∙ at_other (address_of n) (born n.birth) w.nodes a (λ k. h (inl k));
+        others = λ a h. rest.others a (λ k. h (inr k)) ∙ at_other (address_of n) (created n.birth) w.nodes a (λ k. h (inl k));
         messages = rest.messages;
         may = (absent n (inl refl), rest.may);
       }
@@ -197,9 +197,9 @@ module _ {H : Type 0} (hash_of : H → List ℕ → ℕ) where
     run : RunsFrom started calls nodes
     run = runs calls started nodes
         (λ n h. (
-          born n.birth,
+          created n.birth,
           begun.there n h,
-          subst (λ (es : List (CallEntry H)). LegalCalls (born n.birth) es n.now) (sym (order.each n h)) (legal_calls (born n.birth) n.now n.history n.legal),
+          subst (λ (es : List (CallEntry H)). LegalCalls (created n.birth) es n.now) (sym (order.each n h)) (legal_calls (created n.birth) n.now n.history n.legal),
         ))
         order.no_other (subst (λ (ms : List Message). AllCome ms calls) (sym begun.messages) order.come)
 

@@ -8,7 +8,7 @@ use Rattle.locked_node.specs.declared.node.LockedNode.{LockedNode}
 use Rattle.locked_node.specs.History.{CallEntry}
 use Rattle.locked_node.specs.Passes.{NodePass, HasSeenLegal, IsClosed, opening_of}
 use Rattle.system_laws.specs.Reading.{StillThere, read}
-use Rattle.system_laws.specs.Sharing.{Birth, SharedNode, born}
+use Rattle.system_laws.specs.Sharing.{Birth, SharedNode, created}
 
 -- a locked node that was closed, and was made with a node that had just begun
 pub record ClosedNode {H : Type 0} (hash_of : H → List ℕ → ℕ) : Type 0 where
@@ -17,7 +17,7 @@ pub record ClosedNode {H : Type 0} (hash_of : H → List ℕ → ℕ) : Type 0 w
   pub node : Seen H
   pub closed : IsClosed hash_of locked passes node
   pub birth : Birth H
-  pub just_begun : (opening_of locked).node ≡ born birth
+  pub just_begun : (opening_of locked).node ≡ created birth
 
 -- a closed node is a shared node, by the one history that closing gives
 abbrev pub ClosedNodesAreShared : {H : Type 0} → (H → List ℕ → ℕ) → Type 0

@@ -23,16 +23,21 @@ use Rattle.peer_core.specs.Acts.{acts_of, did}
 use Rattle.peer_core.specs.Links.{MayAnswer, IsAckOf}
 use Rattle.peer_core.specs.Rounds.{IsRound}
 
--- a round of gossip: its moment, how it ended, and the calls that it made of the node
+-- a round of gossip: the calls that its pass made since the round before, its own moment, how it ended, and the calls that it made of the node
 pub record GossipRound (H : Type 0) : Type 0 where
+  pub between : List (CallEntry H)
   pub now : ℕ
   pub round : Round
   pub entries : List (CallEntry H)
 
--- the calls of these rounds, one round after another
+-- the calls of these rounds and those between them, in their order
 abbrev pub calls_in : {H : Type 0} → List (GossipRound H) → List (CallEntry H)
 calls_in [] = []
-calls_in (r ∷ rs) = r.entries ++ calls_in rs
+calls_in (r ∷ rs) = r.between ++ (r.entries ++ calls_in rs)
+
+-- none of these calls begins a probe
+abbrev pub BeginsNone : {H : Type 0} → List (CallEntry H) → Type 0
+BeginsNone {H} entries = (e : CallEntry H) → In e entries → e.call ≡ OfEvent call.Probe → ⊥
 
 -- in a history from this node, only this pass begins probes, and whenever it does these are the members that can be pinged
 abbrev pub ProbesAlone : {H : Type 0} → ℕ → List ℕ → Node H → History H → Type 0
@@ -48,22 +53,23 @@ pub record IsNotReached {H : Type 0} (a : ℕ) (r : GossipRound H) : Type 0 wher
 abbrev pub IsFound : {H : Type 0} → ℕ → List (GossipRound H) → Type 0
 IsFound {H} a rounds = (r : GossipRound H) × In r rounds × ((r.round ≡ Suspected a) ⊎ (r.round ≡ Inconclusive a))
 
--- where one pass makes 2n - 1 rounds, none of them refused, and no other call, and n members can be pinged all the while, a member that is not
--- reached is found
+-- where one pass makes 2n - 1 rounds, none of them refused, and begins no probe between them, and n members can be pinged all the while, a member
+-- that is not reached is found
 abbrev pub MembersAreProbed : {H : Type 0} → (H → List ℕ → ℕ) → MayAnswer → Type 0
 MembersAreProbed {H} hash_of Came =
     (n a : ℕ) (members : List ℕ) (old last : Node H) (history : History H) (rounds : List (GossipRound H))
     → IsNode old → LegalHistory hash_of old history last → entries_of n history ≡ calls_in rounds
-    → ((r : GossipRound H) → In r rounds → IsRound Came r.now (Ok r.round) (acts_of r.entries))
+    → ((r : GossipRound H) → In r rounds → BeginsNone r.between × IsRound Came r.now (Ok r.round) (acts_of r.entries))
     → ProbesAlone n members old history → Contains members a → 2 * length members - 1 ≤ length rounds
     → ((r : GossipRound H) → In r rounds → IsNotReached a r)
     → IsFound a rounds
 
--- a pass made these rounds, one after another, and was this one after the last
+-- a pass made these rounds and the calls between them, and was this one after the last
 abbrev pub RoundsMade : {H : Type 0} → MayAnswer → LockedNode H → NodePass H → List (GossipRound H) → NodePass H → Type 0
 RoundsMade Came locked old [] new = new ≡ old
 RoundsMade {H} Came locked old (r ∷ rs) new =
-    (mid : NodePass H) × Made locked old mid r.entries × IsRound Came r.now (Ok r.round) (acts_of r.entries) × RoundsMade Came locked mid rs new
+    (start mid : NodePass H) × Made locked old start r.between × BeginsNone r.between × Made locked start mid r.entries
+    × IsRound Came r.now (Ok r.round) (acts_of r.entries) × RoundsMade Came locked mid rs new
 
 -- the same of rounds that a pass of a locked node made, in the part of the history that it has seen since: as many calls of `gossip_round`
 abbrev pub PassesProbe : {H : Type 0} → (H → List ℕ → ℕ) → MayAnswer → Type 0

@@ -21,8 +21,8 @@ pub record Birth (H : Type 0) : Type 0 where
   pub generator : Lcg
 
 -- the node that began so
-abbrev pub born : {H : Type 0} → Birth H → Node H
-born b = newborn b.hash b.config b.own b.incarnation b.moment b.generator
+abbrev pub created : {H : Type 0} → Birth H → Node H
+created b = newborn b.hash b.config b.own b.incarnation b.moment b.generator
 
 -- the event that it begins
 abbrev pub starts : {H : Type 0} → Birth H → WorldEvent H
@@ -33,7 +33,7 @@ pub record SharedNode {H : Type 0} (hash_of : H → List ℕ → ℕ) : Type 0 w
   pub birth : Birth H
   pub history : History H
   pub now : Node H
-  pub legal : LegalHistory hash_of (born birth) history now
+  pub legal : LegalHistory hash_of (created birth) history now
 
 -- a call of the node at an address
 pub record NodeCall (H : Type 0) : Type 0 where

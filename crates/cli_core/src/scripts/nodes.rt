@@ -2,7 +2,7 @@
 ghost use Rattle.std.specs.Prelude.{◌≡◌, ◌<◌, ◌≤◌, ◌⊎◌, None, IfOk, IfErr, IfSome, OnErr};
 ghost use Rattle.hash_ring.specs.Points.{IsReplicas};
 ghost use Rattle.node_core.specs.Node.{own_change};
-ghost use Rattle.cli_core.specs.Simulated.{GoesOn, IsPlace, NodeAnswers, NodeLacks, Pings, Receives, born, node_at, nodes_in, with_node};
+ghost use Rattle.cli_core.specs.Simulated.{GoesOn, IsPlace, NodeAnswers, NodeLacks, Pings, Receives, created, node_at, nodes_in, with_node};
 
 use crate::scripts::answers::Answer;
 use crate::scripts::asked::ask;
@@ -128,7 +128,7 @@ pub fn newborn<H: PointHash>(
     birth: &Birth,
 ) -> Result<NodeState<H>, ScriptError>
     requires { IsReplicas replicas }
-    ensures born { IfOk result (λ n. n.node ≡ born hash replicas moment birth.now) }
+    ensures created { IfOk result (λ n. n.node ≡ created hash replicas moment birth.now) }
     ensures fault { IfErr result (λ f. f ≡ ScriptError.OutOfMemory) }
 {
     let mut config = Config::standard();

@@ -22,7 +22,7 @@ pub struct Page<'a> {
     /// Whether it keeps more than its last line.
     pub keeps_all: bool,
     /// Whether a line was written, though it may not be kept, that ends with `out of memory`.
-    pub found_no_memory: bool,
+    pub found_out_of_memory: bool,
     /// Where it counts at each flush the lines that are on it by then: those are shown.
     pub shown: Option<&'a AtomicU64>,
 }
@@ -36,7 +36,7 @@ impl<'a> Page<'a> {
             lines: 0,
             can_flush: true,
             keeps_all: true,
-            found_no_memory: false,
+            found_out_of_memory: false,
             shown: None,
         }
     }
@@ -64,7 +64,7 @@ impl<'a> Write for Page<'a> {
                 self.len += 1;
                 if byte == b'\n' {
                     self.lines = self.lines.saturating_add(1);
-                    self.found_no_memory |= self.as_slice().ends_with(b"Memory\n");
+                    self.found_out_of_memory |= self.as_slice().ends_with(b"Memory\n");
                 }
                 Ok(1)
             }

@@ -45,7 +45,7 @@ pub fn read<'a>(
     words: &'a [&'a str],
 ) -> Result<Words<'a>, WordsError> {
     match read_words(alloc, words) {
-        Err(WordsError::NoMemory) => {
+        Err(WordsError::OutOfMemory) => {
             check_refused(rt);
             read_words(alloc, words)
         }

@@ -236,7 +236,7 @@ fn refuses_words(rt: HostRuntime) {
 #[test]
 fn refuses_words_that_are_not_text(rt: HostRuntime) {
     let fault = match words_not_text(rt.alloc()) {
-        WordsError::NoMemory => {
+        WordsError::OutOfMemory => {
             check_refused(&rt);
             words_not_text(rt.alloc())
         }

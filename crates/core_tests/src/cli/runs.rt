@@ -43,7 +43,7 @@ fn is_refused_memory(
     page: &Page<'_>,
 ) -> bool {
     let is_placed = match ended {
-        Err(SubcommandError::Run(RunError::NoMemory)) => {
+        Err(SubcommandError::Run(RunError::OutOfMemory)) => {
             let reads = !matches!(subcommand, Subcommand::Hash(_));
             page.text() == "" && (!reads || reader.byte().is_none())
         }
@@ -53,7 +53,7 @@ fn is_refused_memory(
         Err(SubcommandError::Sim(SimError::AtLine(number, ScriptError::OutOfMemory))) => {
             page.lines.saturating_add(1) == number && number == reader.begun()
         }
-        _ if !page.found_no_memory => return false,
+        _ if !page.found_out_of_memory => return false,
         _ => true,
     };
     assert!(rt; is_placed);

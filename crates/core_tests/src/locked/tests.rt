@@ -267,13 +267,13 @@ fn hear_some<R: Wait + Env + Abort>(
     rt: &R,
     shared: &Shared,
     mut pass: Caller,
-    born: Ip,
+    created: Ip,
     order: &[u8],
 ) -> Caller
     requires { Fits shared.now pass }
     ensures { Fits shared.now result }
 {
-    hear(rt, shared, &mut pass, (born, 7, Status::Alive));
+    hear(rt, shared, &mut pass, (created, 7, Status::Alive));
     for i in order {
         hear(rt, shared, &mut pass, twenty(*i));
     }

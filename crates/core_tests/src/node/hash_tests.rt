@@ -106,8 +106,8 @@ fn a_weight_makes_as_many_points(rt: HostRuntime) {
     let calls = AtomicU64::new(0);
     let hash = CountingHash { calls: &calls };
     let mut node = begun(&rt, rt.alloc(), &HEAVY_A, hash);
-    let born = calls.load(Ordering::SeqCst);
+    let created = calls.load(Ordering::SeqCst);
     count_calls(&rt, rt.alloc(), &mut node, &calls, &WEIGHTY);
     drop(node);
-    assert!(rt; born == 4 || born == 8);
+    assert!(rt; created == 4 || created == 8);
 }

@@ -19,8 +19,8 @@ use wire_json::Changes;
 fn refusal(rt: &impl Abort, alloc: Global, replicas: u32) -> Option<NodeError> {
     let mut bad = config(4096);
     bad.replicas = replicas;
-    let (own, born, start) = (address(rt, A), incarnation(rt, 7), moment(rt, 0));
-    NodeState::new(alloc, bad, SumHash, own, born, 1, start).err()
+    let (own, created, start) = (address(rt, A), incarnation(rt, 7), moment(rt, 0));
+    NodeState::new(alloc, bad, SumHash, own, created, 1, start).err()
 }
 
 /// 0 and 1,001 points for each server: bad config, replicas.

@@ -23,7 +23,7 @@ pub(crate) fn begun<H: PointHash>(
 {
     let mut config = config(start.max);
     config.weight = Weight::new(start.weight).expect(rt, "a weight");
-    configured(rt, alloc, &config, hash, start.own, start.born)
+    configured(rt, alloc, &config, hash, start.own, start.created)
 }
 
 /// Whether an event has this answer. If it is refused the node is unchanged; if that was for a failed allocation it

@@ -11,13 +11,13 @@ use Rattle.cli_net.proofs.serving.serve_out.Goals as goal
 pub returns-in_err-join_hosts-clause-named : goal.returns-in_err-join_hosts-clause-named
 returns-in_err-join_hosts-clause-named g c = λ _.
     had_hosts g.H.PointHash.hash_of any_answer c.args.hash c.args.words.now c.in_ok-node.node c.in_ok-node.passes.items c.in_ok-node.timer c.join_hosts.new.pass
-    c.as_slice-hosts.result.now c.moment-now.result c.in_ok-node.ensures.born c.in_ok-node.ensures.fresh c.as_slice-hosts.ensures.value (λ none. (c.in_err-join_hosts.ensures.alone none).1)
+    c.as_slice-hosts.result.now c.moment-now.result c.in_ok-node.ensures.created c.in_ok-node.ensures.fresh c.as_slice-hosts.ensures.value (λ none. (c.in_err-join_hosts.ensures.alone none).1)
     c.in_err-join_hosts.field-0.0 c.in_err-join_hosts.ensures.alone
 
 pub returns-in_err-join_hosts-clause-entered : goal.returns-in_err-join_hosts-clause-entered
 returns-in_err-join_hosts-clause-entered g c =
     kept_out_by g.H.PointHash.hash_of any_answer c.args.hash c.args.words.now c.in_ok-node.node c.in_ok-node.passes.items c.in_ok-node.timer c.join_hosts.new.pass
-    c.as_slice-hosts.result.now c.moment-now.result c.in_ok-node.ensures.born c.in_ok-node.ensures.fresh c.as_slice-hosts.ensures.value (λ none. (c.in_err-join_hosts.ensures.alone none).1)
+    c.as_slice-hosts.result.now c.moment-now.result c.in_ok-node.ensures.created c.in_ok-node.ensures.fresh c.as_slice-hosts.ensures.value (λ none. (c.in_err-join_hosts.ensures.alone none).1)
     c.in_err-join_hosts.field-0.0 c.from_residual-in_err-join_hosts.result c.in_err-join_hosts.ensures.named c.in_err-join_hosts.ensures.joined
     c.from_residual-in_err-join_hosts.ensures.1
 
@@ -26,7 +26,7 @@ returns-in_err-listener-clause-entered g c =
     let out = c.from_residual-in_err-listener in
     let fault = c.in_err-listener.field-0.0 in
     let_in_by g.H.PointHash.hash_of any_answer c.args.hash c.args.words.now c.in_ok-node.node c.in_ok-node.passes.items c.in_ok-node.timer c.join_hosts.new.pass
-    c.as_slice-hosts.result.now c.moment-now.result c.in_ok-node.ensures.born c.in_ok-node.ensures.fresh c.as_slice-hosts.ensures.value (λ none. (c.in_ok-join_hosts.ensures.alone none).1)
+    c.as_slice-hosts.result.now c.moment-now.result c.in_ok-node.ensures.created c.in_ok-node.ensures.fresh c.as_slice-hosts.ensures.value (λ none. (c.in_ok-join_hosts.ensures.alone none).1)
     out.result (said_so MayFollow out.result fault out.ensures.1 (cannot_listen fault c.in_err-listener.ensures))
     c.in_ok-join_hosts.ensures.joined
 
@@ -35,7 +35,7 @@ returns-in_err-say_serving-clause-entered g c =
     let out = c.from_residual-in_err-say_serving in
     let fault = c.in_err-say_serving.field-0.0 in
     let_in_by g.H.PointHash.hash_of any_answer c.args.hash c.args.words.now c.in_ok-node.node c.in_ok-node.passes.items c.in_ok-node.timer c.join_hosts.new.pass
-    c.as_slice-hosts.result.now c.moment-now.result c.in_ok-node.ensures.born c.in_ok-node.ensures.fresh c.as_slice-hosts.ensures.value (λ none. (c.in_ok-join_hosts.ensures.alone none).1)
+    c.as_slice-hosts.result.now c.moment-now.result c.in_ok-node.ensures.created c.in_ok-node.ensures.fresh c.as_slice-hosts.ensures.value (λ none. (c.in_ok-join_hosts.ensures.alone none).1)
     out.result (said_so MayFollow out.result fault out.ensures.1 (cannot_begin c.args.words.now.address fault (g.W.Write.contents c.args.writer.now) (g.W.Write.contents c.say_serving.new.writer) c.in_err-say_serving.ensures.left))
     c.in_ok-join_hosts.ensures.joined
 
@@ -44,7 +44,7 @@ returns-in_err-ended-clause-entered g c =
     let out = c.from_residual-in_err-ended in
     let fault = c.in_err-ended.field-0.0 in
     let_in_by g.H.PointHash.hash_of any_answer c.args.hash c.args.words.now c.in_ok-node.node c.in_ok-node.passes.items c.in_ok-node.timer c.join_hosts.new.pass
-    c.as_slice-hosts.result.now c.moment-now.result c.in_ok-node.ensures.born c.in_ok-node.ensures.fresh c.as_slice-hosts.ensures.value (λ none. (c.in_ok-join_hosts.ensures.alone none).1)
+    c.as_slice-hosts.result.now c.moment-now.result c.in_ok-node.ensures.created c.in_ok-node.ensures.fresh c.as_slice-hosts.ensures.value (λ none. (c.in_ok-join_hosts.ensures.alone none).1)
     out.result (said_so MayFollow out.result fault out.ensures.1 (cannot_serve fault c.in_err-ended.ensures.fault))
     c.in_ok-join_hosts.ensures.joined
 
@@ -66,7 +66,7 @@ returns-in_err-say-clause-entered g c =
     let out = c.from_residual-in_err-say in
     let fault = c.in_err-say.field-0.0 in
     let_in_by g.H.PointHash.hash_of any_answer c.args.hash c.args.words.now c.in_ok-node.node c.in_ok-node.passes.items c.in_ok-node.timer c.join_hosts.new.pass
-    c.as_slice-hosts.result.now c.moment-now.result c.in_ok-node.ensures.born c.in_ok-node.ensures.fresh c.as_slice-hosts.ensures.value (λ none. (c.in_ok-join_hosts.ensures.alone none).1)
+    c.as_slice-hosts.result.now c.moment-now.result c.in_ok-node.ensures.created c.in_ok-node.ensures.fresh c.as_slice-hosts.ensures.value (λ none. (c.in_ok-join_hosts.ensures.alone none).1)
     out.result (said_so MayFollow out.result fault out.ensures.1 (cannot_end fault c.in_err-say.ensures.fault))
     c.in_ok-join_hosts.ensures.joined
 
@@ -78,15 +78,15 @@ returns-clause-served g c =
 pub returns-clause-entered : goal.returns-clause-entered
 returns-clause-entered g c =
     entered_by g.H.PointHash.hash_of any_answer c.args.hash c.args.words.now c.in_ok-node.node c.in_ok-node.passes.items c.in_ok-node.timer c.join_hosts.new.pass
-    c.as_slice-hosts.result.now c.moment-now.result c.in_ok-node.ensures.born c.in_ok-node.ensures.fresh c.as_slice-hosts.ensures.value (λ none. (c.in_ok-join_hosts.ensures.alone none).1)
+    c.as_slice-hosts.result.now c.moment-now.result c.in_ok-node.ensures.created c.in_ok-node.ensures.fresh c.as_slice-hosts.ensures.value (λ none. (c.in_ok-join_hosts.ensures.alone none).1)
     None c.in_ok-join_hosts.ensures.joined
 
 pub returns-clause-ended : goal.returns-clause-ended
 returns-clause-ended g c =
     served_by g.H.PointHash.hash_of any_answer c.args.hash c.args.words.now c.in_ok-node.node c.in_ok-node.passes.items c.in_ok-node.timer c.join_hosts.new.pass
-    c.as_slice-hosts.result.now c.moment-now.result c.in_ok-node.ensures.born c.in_ok-node.ensures.fresh c.as_slice-hosts.ensures.value (λ none. (c.in_ok-join_hosts.ensures.alone none).1)
-    c.args.timeouts (arc_value c.in_ok-ended.ended.server) c.new-server.result c.in_ok-ended.ended.rounds c.in_ok-ended.ended.workers.items
+    c.as_slice-hosts.result.now c.moment-now.result c.in_ok-node.ensures.created c.in_ok-node.ensures.fresh c.as_slice-hosts.ensures.value (λ none. (c.in_ok-join_hosts.ensures.alone none).1)
+    g.R.RoundClock.times c.args.timeouts (arc_value c.in_ok-ended.ended.server) c.new-server.result c.in_ok-ended.ended.rounds c.in_ok-ended.ended.workers.items
     c.in_ok-ended.ensures.server c.new-server.ensures.node (ap (λ (e : Echo). e.address) c.new-server.ensures.handler) c.new-server.ensures.timeouts
     (healed_by c.args.words.now.heal c.args.words.now.address c.args.words.now.hosts.items c.in_ok-healing.healing c.new-server.result.healing c.new-server.ensures.healing c.in_ok-healing.ensures.heals)
-    c.in_ok-node.ensures.count
+    c.new-server.ensures.hosts c.in_ok-node.ensures.count
     c.in_ok-node.ensures.all c.in_ok-join_hosts.ensures.joined c.in_ok-ended.ensures.rounds c.in_ok-ended.ensures.resting c.in_ok-ended.ensures.connections

@@ -37,6 +37,6 @@ pub returns-in_err-matches-clause-taken : goal.returns-in_err-matches-clause-tak
 returns-in_err-matches-clause-taken g c = λ passes.
     let words = map g.S.AsStr.text c.args.words.now in
     let error = c.in_err-matches.field-0.0 in
-    let no_memory = c.in_err-matches.ensures.passes (ap (λ (a : App). takes a words) c.in_ok-ringpop_command.ensures ∙ passes) in
+    let out_of_memory = c.in_err-matches.ensures.passes (ap (λ (a : App). takes a words) c.in_ok-ringpop_command.ensures ∙ passes) in
     handed_on c.from_residual-in_err-matches.result (fault_of_words error) (IsRefusalBy (subcommand_of ringpop_app words)) c.from_residual-in_err-matches.ensures.1
-    (subst (λ (k : ErrorKind). IsRefusalBy (subcommand_of ringpop_app words) (fault_of_kind k error)) (sym no_memory) tt)
+    (subst (λ (k : ErrorKind). IsRefusalBy (subcommand_of ringpop_app words) (fault_of_kind k error)) (sym out_of_memory) tt)

@@ -20,9 +20,9 @@ loop-pass-preserved g c = record {
   length_is = (let cut : length (into_iter_items c.loop-pass.pass-iterator) ≡ suc (length (into_iter_items c.next.new.self)) = ap length c.in-Some.ensures.steps.0 in omega (arith, c.in-Some.ensures.steps.1));
   fits = All-rest (Fits (arc_value c.args.node.now)) c.in-Some.pass (into_iter_items c.next.new.self) (into_iter_items c.loop-pass.pass-iterator) c.in-Some.ensures.steps.0 c.loop-pass.invariant.fits;
   returned = subst (λ ws. All (λ (w : _). w.promise.node.value ≡ arc_value c.args.node.now) ws) (sym c.in_ok-push-in-Ok.ensures.items)
-      (All-push (λ (w : _). w.promise.node.value ≡ arc_value c.args.node.now) c.loop-pass.workers.items c.in-Ok.worker c.loop-pass.invariant.returned c.in-Ok.ensures.hired.0);
+      (All-push (λ (w : _). w.promise.node.value ≡ arc_value c.args.node.now) c.loop-pass.workers.items c.in-Ok.worker c.loop-pass.invariant.returned c.in-Ok.ensures.spawned.0);
   given = moves given_to c.in-Some.pass (into_iter_items c.next.new.self) (into_iter_items c.loop-pass.pass-iterator) c.args.passes.items c.in-Ok.worker _ _
-      c.in-Some.ensures.steps.0 c.in_ok-push-in-Ok.ensures.items c.in-Ok.ensures.hired.1 c.loop-pass.invariant.given;
+      c.in-Some.ensures.steps.0 c.in_ok-push-in-Ok.ensures.items c.in-Ok.ensures.spawned.1 c.loop-pass.invariant.given;
 }
 
 pub returns-clause-given : goal.returns-clause-given

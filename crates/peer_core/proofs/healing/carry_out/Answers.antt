@@ -1,4 +1,3 @@
-use Rattle.peer_core.proofs.Healed.{named_choice}
 use Rattle.peer_core.proofs.Parts.{does_next, does_stop_at}
 use Rattle.peer_core.proofs.healing.carry_out.Goals as goal
 

@@ -13,6 +13,6 @@ returns-clause-did g c =
     does_next _ _ _ _ c.in_ok-own.ensures.did
     (does_next _ _ _ _ c.in_ok-members.ensures.did
     (does_as (ap Ok
-    (choice_is c.in_ok-own.own.address c.in_ok-members.members c.as_slice.result.now c.as_slice-2.result.now c.args.hosts.now c.args.number c.choose_member.result c.choose_host.result
+    (choice_is c.in_ok-own.own.address c.in_ok-members.members c.as_slice.result.now c.as_slice-2.result.now c.args.hosts.now c.args.draws c.choose_member.result c.choose_host.result
     c.as_slice.ensures c.as_slice-2.ensures c.choose_member.ensures c.choose_host.ensures))
     (does_give _ _ _)))

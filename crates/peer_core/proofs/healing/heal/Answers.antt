@@ -1,8 +1,9 @@
-use Rattle.std.proofs.Common.{Option, ap, ℕ}
+use Rattle.std.proofs.Common.{Option, ap}
+use Rattle.peer_core.specs.declared.healing.Draws.{Draws}
 use Rattle.peer_core.specs.Healing.{Heals}
 use Rattle.peer_core.proofs.Healed.{heals_as}
 use Rattle.peer_core.proofs.healing.heal.Goals as goal
 
 pub returns-clause-healed : goal.returns-clause-healed
 returns-clause-healed g c =
-    heals_as g.L.Link.may_answer c.args.now _ _ _ _ (ap (λ (h : Heals). h.hosts) c.healing.view_is) (ap (λ (o : Option ℕ × Heals). o.0) c.after_round-number.ensures) c.heal_by.ensures.did
+    heals_as g.L.Link.may_answer c.args.now _ _ _ _ (ap (λ (h : Heals). h.hosts) c.healing.view_is) (ap (λ (o : Option Draws × Heals). o.0) c.after_round-draws.ensures) c.heal_by.ensures.did

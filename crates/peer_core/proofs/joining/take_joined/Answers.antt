@@ -12,5 +12,5 @@ returns-in_ok-take-in-Answer-clause-did g c = hears_as _ _ _ c.in-Answer.is (doe
 pub returns-in-Other-clause-did : goal.returns-in-Other-clause-did
 returns-in-Other-clause-did g c = hears_as _ _ _ c.in-Other.is (does_give _ _ _)
 
-pub returns-in-NoMemory-clause-did : goal.returns-in-NoMemory-clause-did
-returns-in-NoMemory-clause-did g c = hears_as _ _ _ c.in-NoMemory.is (does_fail_memory _ _)
+pub returns-in-OutOfMemory-clause-did : goal.returns-in-OutOfMemory-clause-did
+returns-in-OutOfMemory-clause-did g c = hears_as _ _ _ c.in-OutOfMemory.is (does_fail_memory _ _)

@@ -7,5 +7,5 @@ returns-in-Answer-clause-did g c = does_next_is _ _ _ _ _ c.in_ok-heard.ensures.
 pub returns-in-Other-clause-did : goal.returns-in-Other-clause-did
 returns-in-Other-clause-did g c = does_next_is _ _ _ _ _ c.in_ok-heard.ensures.did c.in-Other.is c.tell_word.ensures.did
 
-pub returns-in-NoMemory-clause-did : goal.returns-in-NoMemory-clause-did
-returns-in-NoMemory-clause-did g c = does_next_is _ _ _ _ _ c.in_ok-heard.ensures.did c.in-NoMemory.is (does_fail_memory _ _)
+pub returns-in-OutOfMemory-clause-did : goal.returns-in-OutOfMemory-clause-did
+returns-in-OutOfMemory-clause-did g c = does_next_is _ _ _ _ _ c.in_ok-heard.ensures.did c.in-OutOfMemory.is (does_fail_memory _ _)

@@ -1,4 +1,4 @@
-use Rattle.ringpop_c.proofs.Births.{refused}
+use Rattle.ringpop_c.proofs.Creation.{refused}
 use Rattle.ringpop_c.proofs.makers.make.Goals as goal
 
 -- src/makers.rt:17:1

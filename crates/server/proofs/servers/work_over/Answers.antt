@@ -19,3 +19,12 @@ loop-preserved g c = record {
       c.serve_connection.ensures.made;
   fits = c.serve_connection.ensures.fits;
 }
+
+pub loop-preserved-in-Some-next_connection : goal.loop-preserved-in-Some-next_connection
+loop-preserved-in-Some-next_connection g c = record {
+  iterates = search rules;
+  made =
+      one_more c.args.server.now.node (IsConnection g.H.PointHash.hash_of g.A.Handler.may_handle) c.args.pass.now c.loop.pass c.serve_connection.new.pass c.loop.invariant.made
+      c.serve_connection.ensures.made;
+  fits = c.serve_connection.ensures.fits;
+}

@@ -1,8 +1,10 @@
 use Rattle.std.proofs.Common.{◌∙◌, refl, set, subst, sym, List}
 use Rattle.std.specs.Arc.{arc_value}
 use Rattle.cluster_core.specs.declared.channel_links.Mailbox.{Mailbox}
-use Rattle.cluster_core.specs.Clusters.{HasRound, SeatState}
-use Rattle.cluster_core.proofs.Crews.{has_round, same_addresses}
+use Rattle.cluster_core.specs.Channels.{any_answer}
+use Rattle.cluster_core.specs.Clusters.{NodeDoes, SeatState}
+use Rattle.peer_core.specs.Rounds.{IsRound}
+use Rattle.cluster_core.proofs.Crews.{node_did, same_addresses}
 use Rattle.cluster_core.proofs.clusters.Cluster.round.Goals as goal
 
 pub invariant_of-self : goal.invariant_of-self
@@ -17,6 +19,6 @@ returns-clause-made g c =
     let posts : List Mailbox = (arc_value c.self.inside.posts).items in
     let seats : List (SeatState _) = c.self.inside.seats.items in
     let now : List (SeatState _) = set seats c.in-Some.at c.round.new.self in
-    subst (λ s. HasRound c.args.address c.args.now c.round.result s (record { posts = posts; seats = now })) c.self.view_is
-    (has_round c.args.address c.args.now c.round.result (record { posts = posts; seats = seats }) (record { posts = posts; seats = now }) c.in-Some.at c.index_mut.result.now c.round.new.self
+    subst (λ s. NodeDoes (IsRound any_answer c.args.now) c.args.address c.round.result s (record { posts = posts; seats = now })) c.self.view_is
+    (node_did (IsRound any_answer c.args.now) c.args.address c.round.result (record { posts = posts; seats = seats }) (record { posts = posts; seats = now }) c.in-Some.at c.index_mut.result.now c.round.new.self
     (rw c.deref.ensures.value at c.in-Some.ensures.some.0) (rw c.deref.ensures.value at c.in-Some.ensures.its) c.index_mut.ensures.value c.round.ensures.made refl refl)

@@ -2,7 +2,7 @@ use Rattle.std.proofs.Common.{rules, refl, subst, ◌≡◌, IfOk, IfErr, ℕ, L
 use Rattle.std.specs.Prelude.{Result, Ok, Err}
 use Rattle.node_core.specs.Workers.{IsCrew}
 use Rattle.node_core.specs.Node.{Seen}
-use Rattle.cluster_core.specs.Clusters.{AreApart, IsGivenUp, IsNotStarted}
+use Rattle.cluster_core.specs.Clusters.{AreApart, IsAbandoned, IsNotStarted}
 use Rattle.cluster_core.specs.declared.clusters.StartError.{StartError}
 use Rattle.cluster_core.specs.declared.clusters.StartError.TheVariants.{BadCount, SameAddress, NoThread, Memory}
 use Rattle.cluster_core.proofs.clusters.Cluster.start.Goals as goal
@@ -12,13 +12,13 @@ if_ok_so (Ok a) p = p
 if_ok_so (Err e) p = tt
 
 -- who could be served and was given up was not started
-given_up_so : {H A : Type 0} (r : Result A (StartError H)) (nodes : List (Seen H)) (workers : ℕ)
-    → IfErr r IsGivenUp → IsCrew workers → AreApart nodes → IfErr r (IsNotStarted nodes workers)
-given_up_so (Ok a) nodes workers given crew apart = tt
-given_up_so (Err NoThread) nodes workers given crew apart = (crew, apart)
-given_up_so (Err Memory) nodes workers given crew apart = (crew, apart)
-given_up_so (Err (BadCount back)) nodes workers given crew apart = absurd given
-given_up_so (Err (SameAddress back)) nodes workers given crew apart = absurd given
+abandoned_so : {H A : Type 0} (r : Result A (StartError H)) (nodes : List (Seen H)) (workers : ℕ)
+    → IfErr r IsAbandoned → IsCrew workers → AreApart nodes → IfErr r (IsNotStarted nodes workers)
+abandoned_so (Ok a) nodes workers given crew apart = tt
+abandoned_so (Err NoThread) nodes workers given crew apart = (crew, apart)
+abandoned_so (Err Memory) nodes workers given crew apart = (crew, apart)
+abandoned_so (Err (BadCount back)) nodes workers given crew apart = absurd given
+abandoned_so (Err (SameAddress back)) nodes workers given crew apart = absurd given
 
 -- the same nodes are apart, or are not
 apart_so : {H : Type 0} {seen nodes : List (Seen H)} → seen ≡ nodes → AreApart seen → AreApart nodes
@@ -38,5 +38,5 @@ returns-clause-can g c =
 
 pub returns-clause-refused : goal.returns-clause-refused
 returns-clause-refused g c =
-    given_up_so c.launch.result _ _ c.launch.ensures.given_up (search rules, search rules)
+    abandoned_so c.launch.result _ _ c.launch.ensures.abandoned (search rules, search rules)
     (apart_so c.deref.ensures.value (c.has_duplicate_address.ensures.apart c.if-has_duplicate_address.false))

@@ -1,7 +1,7 @@
 use Rattle.std.proofs.Common.{refl, map}
 use Rattle.std.specs.Arc.{arc_value}
 use Rattle.cluster_core.specs.Clusters.{given_to}
-use Rattle.cluster_core.proofs.Crews.{round_of, still_all}
+use Rattle.cluster_core.proofs.Crews.{seat_did, still_all}
 use Rattle.cluster_core.proofs.seats.ServedNode.round.Goals as goal
 
 pub invariant_of-self : goal.invariant_of-self
@@ -14,4 +14,4 @@ invariant_of-self g c = record {
 
 pub returns-clause-made : goal.returns-clause-made
 returns-clause-made g c =
-    round_of c.self.view_is (record { round = rw c.deref.ensures at c.gossip_round.ensures.round; address = refl; node = refl; workers = refl })
+    seat_did _ c.self.view_is (record { did = rw c.deref.ensures at c.gossip_round.ensures.round; address = refl; node = refl; workers = refl })

@@ -9,7 +9,7 @@ invariant_of-result g c =
     let node = (arc_value c.in-Ok.server).node in (
       (crew_is node c.args.workers.items c.start_all-started.new.workers.items c.in-Ok-started.ensures.workers).1,
       (
-        (timer_is node (arc_value c.in-Ok.server).healing c.args.period c.args.rounds c.in-Ok-started.timer c.in-Ok-started.ensures.timer).0,
+        (timer_is (arc_value c.in-Ok.server) c.args.period c.args.rounds c.in-Ok-started.timer c.in-Ok-started.ensures.timer).0,
         (c.in-Ok-started.ensures.all, omega (arith, c.in-Ok-started.ensures.back)),
       ),
     )
@@ -18,14 +18,10 @@ pub returns-in-Ok-started-clause-started : goal.returns-in-Ok-started-clause-sta
 returns-in-Ok-started-clause-started g c =
     let node = (arc_value c.in-Ok.server).node in (
       c.in-Ok.ensures.ok,
-      (timer_is node (arc_value c.in-Ok.server).healing c.args.period c.args.rounds c.in-Ok-started.timer c.in-Ok-started.ensures.timer).1.0,
+      (timer_is (arc_value c.in-Ok.server) c.args.period c.args.rounds c.in-Ok-started.timer c.in-Ok-started.ensures.timer).1.0,
       (crew_is node c.args.workers.items c.start_all-started.new.workers.items c.in-Ok-started.ensures.workers).0,
     )
 
-pub returns-in-Ok-started-clause-resting : goal.returns-in-Ok-started-clause-resting
-returns-in-Ok-started-clause-resting g c =
-    (timer_is (arc_value c.in-Ok.server).node (arc_value c.in-Ok.server).healing c.args.period c.args.rounds c.in-Ok-started.timer c.in-Ok-started.ensures.timer).1.1.0
-
-pub returns-in-Ok-started-clause-timed : goal.returns-in-Ok-started-clause-timed
-returns-in-Ok-started-clause-timed g c =
-    (timer_is (arc_value c.in-Ok.server).node (arc_value c.in-Ok.server).healing c.args.period c.args.rounds c.in-Ok-started.timer c.in-Ok-started.ensures.timer).1.1.1
+pub returns-in-Ok-started-clause-period : goal.returns-in-Ok-started-clause-period
+returns-in-Ok-started-clause-period g c =
+    (timer_is (arc_value c.in-Ok.server) c.args.period c.args.rounds c.in-Ok-started.timer c.in-Ok-started.ensures.timer).1.1

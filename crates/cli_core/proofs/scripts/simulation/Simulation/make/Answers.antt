@@ -25,7 +25,7 @@ returns-clause-answer g c =
       absent_place seen c.args.birth.now.address c.place_of.result c.is_some.result c.if-is_some.false c.is_some.ensures (rw c.as_slice.ensures.value at c.place_of.ensures.none),
       few,
       ap (λ ns. simulated_of c.self.inside.hash c.self.inside.replicas c.self.inside.moment ns c.self.inside.messages.items)
-          (nodes_push seen c.push.new.self.items c.in_ok-node.node _ c.in_ok-push.ensures.items c.in_ok-node.ensures.born),
+          (nodes_push seen c.push.new.self.items c.in_ok-node.node _ c.in_ok-push.ensures.items c.in_ok-node.ensures.created),
     )
 
 pub returns-then-len-ge-MAX_NODES-clause-fault : goal.returns-then-len-ge-MAX_NODES-clause-fault

@@ -23,7 +23,7 @@ returns-clause-answer g c =
     rw (← c.self.view_is) (
       with_node (nodes_in c.self.inside.nodes.items) c.args.birth.now.address c.in_ok-node.node.node,
       restarted c.self.inside.nodes.items c.args.birth.now.address c.in-Some.place c.incarnation_at-held.result c.args.birth.now.incarnation c.in_ok-node.node.node _
-          (rw c.as_slice.ensures.value at c.in-Some.ensures.place) (rw c.as_slice-2.ensures.value at c.incarnation_at-held.ensures) above c.in_ok-node.ensures.born,
+          (rw c.as_slice.ensures.value at c.in-Some.ensures.place) (rw c.as_slice-2.ensures.value at c.incarnation_at-held.ensures) above c.in_ok-node.ensures.created,
       ap (λ ns. simulated_of c.self.inside.hash c.self.inside.replicas c.self.inside.moment ns c.self.inside.messages.items) c.put_at.ensures,
     )
 

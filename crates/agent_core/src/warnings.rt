@@ -1,0 +1,57 @@
+//! The conditions of the log's warnings.
+ghost use Rattle.std.specs.Prelude.{◌≡◌, ◌≤◌, ◌<◌, ◌/◌, ◌↔◌, IsTrue};
+ghost use Rattle.agent_core.specs.Warnings.{is_often, noted};
+
+/// The number of addresses from which on a node warns that they may run out.
+pub const MANY_ADDRESSES: usize = 3_000;
+
+/// The number of rounds in which refutations are counted together.
+const WINDOW: u32 = 50;
+
+/// The number of refuted rounds within a window at which a node warns.
+const OFTEN: u32 = 6;
+
+/// Returns whether the number of addresses used, which was `before` and is `now`, is reason for a warning: it is 3,000 or
+/// more, and has reached another hundred.
+pub fn are_many_addresses(before: usize, now: usize) -> bool
+    ensures { IsTrue result ↔ ((3000 ≤ now) × (before / 100 < now / 100)) }
+{
+    now >= MANY_ADDRESSES && before / 100 < now / 100
+}
+
+/// The rounds of the present window, 50 at most, and how many of them were refuted: the node's own entry changed in them
+/// though the node did not change it itself.
+#[derive(Clone, Copy, Debug, PartialEq, Eq)]
+pub struct Refutations {
+    pub rounds: u32,
+    pub refuted: u32,
+}
+
+impl Refutations {
+    /// Makes the count before the first round.
+    pub fn new() -> Self
+        ensures rounds { result.rounds ≡ 0 }
+        ensures refuted { result.refuted ≡ 0 }
+    {
+        Refutations {
+            rounds: 0,
+            refuted: 0,
+        }
+    }
+
+    /// Counts a round. Returns whether it is the sixth that was refuted within its window.
+    pub fn note(&mut self, is_refuted: bool) -> bool
+        ensures count { self.new ≡ noted self.old is_refuted }
+        ensures often { result ≡ is_often self.old is_refuted }
+    {
+        if self.rounds >= WINDOW {
+            *self = Refutations::new();
+        }
+        self.rounds += 1;
+        if !is_refuted {
+            return false;
+        }
+        self.refuted = self.refuted.saturating_add(1);
+        self.refuted == OFTEN
+    }
+}

@@ -1,4 +1,10 @@
 //! Responses of HTTP, from replies and refusals.
+ghost use Rattle.std.specs.Prelude.{◌≡◌, ◌++◌, OnOk};
+ghost use Rattle.http.specs.StatusCode.{IsStatusCode};
+ghost use Rattle.agent_core.specs.Packs.{unpacked};
+ghost use Rattle.agent_core.specs.Refusals.{line_of, status_of};
+ghost use Rattle.agent.specs.Replies.{IsReplied, reply_status};
+
 use agent_core::{Answer, Kind, Refusal, unpack};
 use bytes::BufMut;
 use change_core::Address;
@@ -28,7 +34,10 @@ fn put_header(
     response: &mut Response,
     name: HeaderName,
     value: &str,
-) -> Result<(), AllocError> {
+) -> Result<(), AllocError>
+    ensures status { response.new.status ≡ response.old.status }
+    ensures body { response.new.body ≡ response.old.body }
+{
     match HeaderValue::from_str(alloc, value) {
         Ok(value) => response.add_header(name, value),
         Err(_) => Ok(()),
@@ -41,7 +50,11 @@ fn put(
     response: &mut Response,
     answer: Answer<'_>,
     closes: bool,
-) -> Result<(), AllocError> {
+) -> Result<(), AllocError>
+    requires { IsStatusCode answer.status }
+    ensures status { OnOk result (response.new.status ≡ answer.entry.status) }
+    ensures body { OnOk result (response.new.body.items ≡ response.old.body.items ++ answer.entry.body.now) }
+{
     if let Ok(status) = StatusCode::from_u16(answer.status) {
         response.status = status;
     }
@@ -69,7 +82,10 @@ fn put_handled(
     owner: Address,
     text: &Text,
     closes: bool,
-) -> Result<(), AllocError> {
+) -> Result<(), AllocError>
+    ensures status { OnOk result (response.new.status ≡ (unpacked text.now).status) }
+    ensures body { OnOk result (response.new.body.items ≡ response.old.body.items ++ (unpacked text.now).body) }
+{
     let owner = format!(in alloc; "{owner}")?;
     put_header(
         alloc,
@@ -98,7 +114,10 @@ fn put_text(
     kind: Kind,
     body: &str,
     closes: bool,
-) -> Result<(), AllocError> {
+) -> Result<(), AllocError>
+    ensures status { OnOk result (response.new.status ≡ 200) }
+    ensures body { OnOk result (response.new.body.items ≡ response.old.body.items ++ body.now) }
+{
     let answer = Answer {
         status: 200,
         kind,
@@ -117,7 +136,10 @@ pub fn put_reply(
     response: &mut Response,
     reply: &Reply,
     closes: bool,
-) -> Result<(), AllocError> {
+) -> Result<(), AllocError>
+    ensures status { OnOk result (response.new.status ≡ reply_status reply.now) }
+    ensures body { OnOk result (IsReplied reply.now response.old.body.items response.new.body.items) }
+{
     match reply {
         Reply::Handled { owner, text } => put_handled(alloc, response, *owner, text, closes),
         Reply::Line(line) => put(alloc, response, Answer::line(line), closes),
@@ -138,7 +160,10 @@ pub fn put_refusal(
     response: &mut Response,
     refusal: Refusal,
     closes: bool,
-) -> Result<(), AllocError> {
+) -> Result<(), AllocError>
+    ensures status { OnOk result (response.new.status ≡ status_of refusal) }
+    ensures body { OnOk result (response.new.body.items ≡ response.old.body.items ++ line_of refusal) }
+{
     if let Refusal::BadMethod(verb) = refusal {
         put_header(
             alloc,

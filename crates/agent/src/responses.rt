@@ -1,10 +1,4 @@
 //! Responses of HTTP, from replies and refusals.
-ghost use Rattle.std.specs.Prelude.{◌≡◌, ◌++◌, OnOk};
-ghost use Rattle.http.specs.StatusCode.{IsStatusCode};
-ghost use Rattle.agent_core.specs.Packs.{unpacked};
-ghost use Rattle.agent_core.specs.Refusals.{line_of, status_of};
-ghost use Rattle.agent.specs.Replies.{IsReplied, reply_status};
-
 use agent_core::{Answer, Kind, Refusal, unpack};
 use bytes::BufMut;
 use change_core::Address;
@@ -34,10 +28,7 @@ fn put_header(
     response: &mut Response,
     name: HeaderName,
     value: &str,
-) -> Result<(), AllocError>
-    ensures status { response.new.status ≡ response.old.status }
-    ensures body { response.new.body ≡ response.old.body }
-{
+) -> Result<(), AllocError> {
     match HeaderValue::from_str(alloc, value) {
         Ok(value) => response.add_header(name, value),
         Err(_) => Ok(()),
@@ -50,11 +41,7 @@ fn put(
     response: &mut Response,
     answer: Answer<'_>,
     closes: bool,
-) -> Result<(), AllocError>
-    requires { IsStatusCode answer.status }
-    ensures status { OnOk result (response.new.status ≡ answer.entry.status) }
-    ensures body { OnOk result (response.new.body.items ≡ response.old.body.items ++ answer.entry.body.now) }
-{
+) -> Result<(), AllocError> {
     if let Ok(status) = StatusCode::from_u16(answer.status) {
         response.status = status;
     }
@@ -82,10 +69,7 @@ fn put_handled(
     owner: Address,
     text: &Text,
     closes: bool,
-) -> Result<(), AllocError>
-    ensures status { OnOk result (response.new.status ≡ (unpacked text.now).status) }
-    ensures body { OnOk result (response.new.body.items ≡ response.old.body.items ++ (unpacked text.now).body) }
-{
+) -> Result<(), AllocError> {
     let owner = format!(in alloc; "{owner}")?;
     put_header(
         alloc,
@@ -114,10 +98,7 @@ fn put_text(
     kind: Kind,
     body: &str,
     closes: bool,
-) -> Result<(), AllocError>
-    ensures status { OnOk result (response.new.status ≡ 200) }
-    ensures body { OnOk result (response.new.body.items ≡ response.old.body.items ++ body.now) }
-{
+) -> Result<(), AllocError> {
     let answer = Answer {
         status: 200,
         kind,
@@ -136,10 +117,7 @@ pub fn put_reply(
     response: &mut Response,
     reply: &Reply,
     closes: bool,
-) -> Result<(), AllocError>
-    ensures status { OnOk result (response.new.status ≡ reply_status reply.now) }
-    ensures body { OnOk result (IsReplied reply.now response.old.body.items response.new.body.items) }
-{
+) -> Result<(), AllocError> {
     match reply {
         Reply::Handled { owner, text } => put_handled(alloc, response, *owner, text, closes),
         Reply::Line(line) => put(alloc, response, Answer::line(line), closes),
@@ -160,10 +138,7 @@ pub fn put_refusal(
     response: &mut Response,
     refusal: Refusal,
     closes: bool,
-) -> Result<(), AllocError>
-    ensures status { OnOk result (response.new.status ≡ status_of refusal) }
-    ensures body { OnOk result (response.new.body.items ≡ response.old.body.items ++ line_of refusal) }
-{
+) -> Result<(), AllocError> {
     if let Refusal::BadMethod(verb) = refusal {
         put_header(
             alloc,

@@ -15,7 +15,7 @@ use Rattle.cli_words.specs.Faults.{IsRefusalOf}
 use Rattle.cli_words.specs.Whole.{IsNoAddress, IsNoAddressAt}
 use Rattle.cli_words.specs.Words.{IsNumberAt}
 use Rattle.cli_words.specs.declared.faults.WordsError.{WordsError}
-use Rattle.cli_words.specs.declared.faults.WordsError.TheVariants.{Usage, BadAddress, BadAddressAt, OutOfMemory}
+use Rattle.cli_words.specs.declared.faults.WordsError.TheVariants.{Usage, BadAddress, OutOfMemory}
 use Rattle.cli_words.proofs.Rows.{one_is}
 
 -- how a text is read as a `u64`
@@ -66,7 +66,6 @@ not_there (Some x) e is = cc
 pub refusal_of : (whole more bad worse : Type 0) → (more → whole) → (bad → worse) → (f : WordsError) → IsRefusalOf whole bad f → IsRefusalOf more worse f
 refusal_of whole more bad worse as_whole as_bad (Usage e) is = λ x. is (as_whole x)
 refusal_of whole more bad worse as_whole as_bad BadAddress is = as_bad is
-refusal_of whole more bad worse as_whole as_bad (BadAddressAt name) is = as_bad is
 refusal_of whole more bad worse as_whole as_bad OutOfMemory is = tt
 
 pub refused_of : {T : Type 0} (whole more bad worse : Type 0) → (more → whole) → (bad → worse) → (r : Result T WordsError) → IfErr r (IsRefusalOf whole bad)

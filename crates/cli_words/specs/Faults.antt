@@ -5,7 +5,7 @@ use Rattle.clap.specs.declared.error.Error.{Error}
 use Rattle.clap.specs.declared.error.kind.ErrorKind.{ErrorKind}
 use Rattle.clap.specs.declared.error.kind.ErrorKind.TheVariants.{OutOfMemory as no_room}
 use Rattle.cli_words.specs.declared.faults.WordsError.{WordsError}
-use Rattle.cli_words.specs.declared.faults.WordsError.TheVariants.{Usage, BadAddress, BadAddressAt, OutOfMemory}
+use Rattle.cli_words.specs.declared.faults.WordsError.TheVariants.{Usage, BadAddress, OutOfMemory}
 
 -- an error of the arguments is a refusal of them, unless out of memory
 abbrev pub fault_of_kind : ErrorKind → Error → WordsError
@@ -20,7 +20,6 @@ fault_of_words e = fault_of_kind (kind_of e) e
 abbrev pub IsRefusalOf : Type 0 → Type 0 → WordsError → Type 0
 IsRefusalOf whole bad (Usage e) = ¬ whole
 IsRefusalOf whole bad BadAddress = bad
-IsRefusalOf whole bad (BadAddressAt name) = bad
 IsRefusalOf whole bad OutOfMemory = Unit {0}
 
 -- the arguments are refused as usage, or out of memory
@@ -31,5 +30,4 @@ IsUsageFault = IsRefusalOf ⊥ ⊥
 abbrev pub status_of : WordsError → ℕ
 status_of (Usage e) = 2
 status_of BadAddress = 2
-status_of (BadAddressAt name) = 2
 status_of OutOfMemory = 1

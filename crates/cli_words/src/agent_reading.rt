@@ -1,5 +1,5 @@
 //! The arguments of `agent`, read from those of the command line.
-ghost use Rattle.std.specs.Prelude.{◌≡◌, ◌≤◌, Some, codes, IfErr, IfOk, IfSome, IsSome, IsTrue};
+ghost use Rattle.std.specs.Prelude.{◌≡◌, ◌≤◌, Some, codes, IfErr, IfOk, IfSome, IsSome};
 ghost use Rattle.clap.specs.Words.{first_of};
 ghost use Rattle.change_core.specs.Numbers.{greatest_number};
 ghost use Rattle.cli_words.specs.Faults.{IsRefusalOf};
@@ -14,32 +14,6 @@ use crate::words::{absent, flag, number, replicas};
 use change_core::{Address, Incarnation, MAX_MEMBERS};
 use clap::ArgMatches;
 use std::alloc::Global;
-
-/// Returns whether the argument of this name is there and is not an address.
-fn is_bad(matches: &ArgMatches<'_>, id: &str) -> bool
-    ensures { IsTrue result → IsNoAddressAt (rows_in matches.now) id.now }
-{
-    match matches.get_str(id) {
-        Some(text) => address_of(text).is_err(),
-        None => false,
-    }
-}
-
-/// Returns the name of the first argument that is not an address though it has to be one, as the help writes it: a host if
-/// it is none of the others.
-fn bad_argument(matches: &ArgMatches<'_>) -> &'static str {
-    if is_bad(matches, ADDRESS) {
-        "ADDRESS"
-    } else if is_bad(matches, BIND) {
-        "--bind"
-    } else if is_bad(matches, HTTP) {
-        "--http"
-    } else if is_bad(matches, APP) {
-        "--app"
-    } else {
-        "HOST"
-    }
-}
 
 /// Returns the level of this name, if and only if there is one.
 fn level_of(name: &str) -> Option<LogLevel>
@@ -168,17 +142,13 @@ fn words_with(matches: &ArgMatches<'_>, addresses: Addresses) -> Option<AgentWor
 ///
 /// - `Usage`: an argument is absent or not in its range, or no level of the log has the name that is given; in the form
 ///   of `clap`'s errors.
-/// - `BadAddressAt`: an argument that has to be an address is not one; the first such one is named.
+/// - `BadAddress`: an argument that has to be an address is not one.
 /// - `OutOfMemory`: out of memory.
 pub fn agent_words(alloc: Global, matches: &ArgMatches<'_>) -> Result<AgentWords, WordsError>
     ensures words { IfOk result (IsAgentAt (rows_in matches.now)) }
     ensures fault { IfErr result (IsRefusalOf (HasAgent (rows_in matches.now)) (HasBadAddress (rows_in matches.now))) }
 {
-    let addresses = match addresses_in(alloc, matches) {
-        Ok(addresses) => addresses,
-        Err(WordsError::BadAddress) => return Err(WordsError::BadAddressAt(bad_argument(matches))),
-        Err(error) => return Err(error),
-    };
+    let addresses = addresses_in(alloc, matches)?;
     match words_with(matches, addresses) {
         Some(words) => Ok(words),
         None => Err(absent(alloc)),

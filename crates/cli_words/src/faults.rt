@@ -13,8 +13,6 @@ pub enum WordsError {
     Usage(clap::Error),
     /// An argument that has to be an address is not one.
     BadAddress,
-    /// So is one of `agent`: the one of this name.
-    BadAddressAt(&'static str),
     /// Out of memory before the subcommand started.
     OutOfMemory,
 }
@@ -27,7 +25,7 @@ impl WordsError {
         ensures { result ≡ status_of self.now }
     {
         match self {
-            WordsError::Usage(_) | WordsError::BadAddress | WordsError::BadAddressAt(_) => 2,
+            WordsError::Usage(_) | WordsError::BadAddress => 2,
             WordsError::OutOfMemory => 1,
         }
     }
@@ -38,7 +36,6 @@ impl fmt::Display for WordsError {
         match self {
             WordsError::Usage(error) => write!(f, "{error}"),
             WordsError::BadAddress => writeln!(f, "ringpop: bad address"),
-            WordsError::BadAddressAt(name) => writeln!(f, "ringpop: bad address: {name}"),
             WordsError::OutOfMemory => writeln!(f, "ringpop: out of memory"),
         }
     }

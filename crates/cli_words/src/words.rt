@@ -156,7 +156,6 @@ fn words_of<'a>(alloc: Global, matches: &ArgMatches<'a>) -> Result<Words<'a>, Wo
 ///
 /// - `Usage`: `clap` refuses the arguments, or they ask for help. This comes first.
 /// - `BadAddress`: an argument that has to be an address is not one.
-/// - `BadAddressAt`: so is one of `agent`, which is named.
 /// - `OutOfMemory`: out of memory.
 pub fn read_words<'a, S: AsStr>(alloc: Global, words: &'a [S]) -> Result<Words<'a>, WordsError>
     ensures alone { length words.now ≤ 1 → result ≡ Ok (Words.Lines Subcommand.Fold) }

@@ -28,7 +28,7 @@ use Rattle.node_core.specs.Run.{log_step, log, MembersAreLog, given_in, said_in,
 use Rattle.node_core.specs.Step.{NodeStep}
 use Rattle.node_core.specs.Receiving.{AnswerStep, ReceiveStep, MakeStep}
 use Rattle.node_core.specs.Probes.{put_in, ended}
-use Rattle.node_core.specs.Taking.{TakeStep, taken_of, took_all}
+use Rattle.node_core.specs.Taking.{TakeStep, took_all}
 use Rattle.node_core.proofs.Greatest.{Agree, greatest-members, members_same}
 use Rattle.node_core.proofs.Log.{IsSettled, agree-append, agree-log_given, took_all_members, took_all-own, settled-by}
 
@@ -63,15 +63,6 @@ Follows-stopped : {H : Type 0} (old new : Node H) (given : List Sourced) (moment
 Follows-stopped old new given moment stopped settled step =
     subst (λ (cs : List Change). Follows old (log_given old.own old.members cs ++ []) new) (sym (take-map change_of stopped.taken given))
     (Follows-took old (at_moment old moment) new (take stopped.taken given) settled refl refl step.new_is)
-
--- the members after a batch are those of what it took, put into the log
-pub TakeStep_members : {H : Type 0} (old new : Node H) (given : List Sourced) (moment : ℕ) (result : Result Taken Stopped) → IsSettled old
-    → TakeStep old given moment result new → new.members ≡ members (log_given old.own old.members (taken_of given result))
-TakeStep_members old new given moment (Ok taken) settled step =
-    (Follows-TakeStep old new given moment taken settled step).members_is ∙ ap members (append-nil (log_given old.own old.members (map change_of given)))
-TakeStep_members old new given moment (Err stopped) settled step =
-    (Follows-stopped old new given moment stopped settled step).members_is
-    ∙ ap members (append-nil (log_given old.own old.members (take stopped.taken (map change_of given))))
 
 -- nothing was put in, where the members are the old ones
 Follows-kept : {H : Type 0} (old new after : Node H) → IsSettled old → after.own ≡ old.own → after.members ≡ old.members → new ≡ after → Follows old (old.members ++ []) new

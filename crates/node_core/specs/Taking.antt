@@ -70,11 +70,6 @@ pub record TakesFirst {H : Type 0} (old : Node H) (given : List Sourced) (stoppe
   pub stops : StopsFor (took_all old (take stopped.taken given)) next stopped.cause
   pub new_is : new ≡ took_all old (take stopped.taken given)
 
--- the given changes that a batch took: all, or those before the one that stopped it
-abbrev pub taken_of : List Sourced → Result Taken Stopped → List Change
-taken_of given (Ok taken) = map change_of given
-taken_of given (Err stopped) = take stopped.taken (map change_of given)
-
 -- a batch is processed whole, or up to the change that stops it, from the given moment
 abbrev pub TakeStep : {H : Type 0} → Node H → List Sourced → ℕ → Result Taken Stopped → Node H → Type 0
 TakeStep old given moment (Ok taken) new = TakesAll (at_moment old moment) given taken new

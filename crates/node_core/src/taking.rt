@@ -1,10 +1,8 @@
 //! Changes that a node is given, one after another.
 ghost use Rattle.std.specs.Prelude.{◌≡◌, ◌≤◌, length, max, IfOk, IfErr};
-ghost use Rattle.change_core.specs.Members.{members};
 ghost use Rattle.change_core.specs.Numbers.{most_members};
-ghost use Rattle.node_core.specs.Log.{log_given};
 ghost use Rattle.node_core.specs.Node.{at_moment};
-ghost use Rattle.node_core.specs.Taking.{altered_in, refuted_by, TakesOne, StopsOne, TakesAll, TakesFirst, TakeStep, taken_of};
+ghost use Rattle.node_core.specs.Taking.{altered_in, refuted_by, TakesOne, StopsOne, TakesAll, TakesFirst, TakeStep};
 
 use crate::edits::Edit;
 use crate::events::{StopCause, Stopped, Taken};
@@ -64,8 +62,6 @@ impl<H: PointHash> NodeState<H> {
     pub fn take(&mut self, changes: &[Sourced], moment: Moment) -> Result<Taken, Stopped>
         requires few { length changes.now ≤ most_members }
         ensures step { TakeStep self.old.node changes.now moment result self.new.node }
-        ensures members { self.new.node.members
-            ≡ members (log_given self.old.node.own self.old.node.members (taken_of changes.now result)) }
     {
         self.advance(moment);
         let taken = self.take_all(changes);

@@ -28,6 +28,5 @@ mod servers;
 #[cfg(test)]
 mod shared;
 #[cfg(test)]
-mod starts;
 #[cfg(test)]
 mod talks;

@@ -1,6 +1,7 @@
 """Nodes in separate processes, and what scripts ask of them."""
 import argparse
 import contextlib
+import errno
 import json
 import os
 import pathlib
@@ -121,6 +122,13 @@ def connect(port, seconds=5.0):
     stream = socket.create_connection(("127.0.0.1", port), seconds)
     stream.settimeout(seconds)
     return stream
+
+
+def check_listens_here(port):
+    """The node of this port listens at no other address of the machine, as one at 0.0.0.0 would."""
+    with socket.socket() as stream:
+        if stream.connect_ex(("127.0.0.2", port)) != errno.ECONNREFUSED:
+            raise Wrong(f"127.0.0.2:{port} is listened at")
 
 
 def rest(stream):

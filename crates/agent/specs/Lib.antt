@@ -1,2 +1,5 @@
 pub mod Calling
+pub mod Exchanges
+pub mod Replies
+pub mod Requests
 pub mod Texts

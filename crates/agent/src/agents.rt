@@ -3,6 +3,7 @@ use crate::applications::Application;
 use crate::callers::{Caller, Passes};
 use crate::counters::{Count, Counters};
 use crate::journals::Journal;
+use crate::notices::Notices;
 use crate::systems::Host;
 use change_core::{Address, Moment};
 use log::{LevelFilter, Logged};
@@ -52,6 +53,8 @@ pub struct Agent<R> {
     /// The node's address.
     pub own: Address,
     pub replicas: u32,
+    /// The number of threads that have the application answer other nodes.
+    pub hands: u32,
     pub stopwatch: Stopwatch,
     pub timeouts: Timeouts,
     pub application: Application<R>,
@@ -62,8 +65,14 @@ pub struct Agent<R> {
     pub busy: Count,
     /// The number of them that wait for a key's owner.
     pub waiting: Count,
+    /// The number of requests that are being relayed.
+    pub relaying: Count,
+    /// The moment, in milliseconds, before which the log says nothing more of owners that answer that they are none.
+    pub quiet_until: Count,
     /// The number of HTTP connections that are served.
     pub connections: Count,
+    /// What the log said last of other nodes and, at its own address, of messages to them.
+    pub notices: Notices,
     pub has_joined: Flag,
     pub has_left: Flag,
     /// Whether the node has left and the agent is to end.

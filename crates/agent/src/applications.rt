@@ -1,8 +1,11 @@
 //! The application, which answers the requests of the keys that this node owns.
-use crate::agents::Flag;
+ghost use Rattle.std.specs.Prelude.{◌≡◌, ◌≤◌, ◌*◌};
+ghost use Rattle.std.specs.Duration.{as_nanos};
+
 use crate::counters::Count;
-use crate::exchanges::{Answer, Outcome, exchange};
+use crate::exchanges::{Answer, Asked, Failure, exchange};
 use crate::journals::Journal;
+use crate::notices::Notices;
 use crate::systems::Host;
 use agent_core::{GREATEST_STATUS, LEAST_STATUS, LONGEST_BODY, Refusal, pack};
 use change_core::Address;
@@ -11,13 +14,14 @@ use http1::{Client, Limits};
 use log::{Logged, info, warn};
 use message_core::{Keys, Text, WireError};
 use peer_core::{Handler, HandlerFault};
+use server::Stopwatch;
 use std::alloc::Global;
+use std::io;
 use std::net::TcpStream;
 use std::sync::{Mutex, Wait};
 use std::time::Duration;
 
-/// The most milliseconds for connecting to the application, and again for a request and its answer. Another node waits
-/// 5,000 for an answer.
+/// The most milliseconds for a request to the application and its answer, connecting and a second try included.
 const LIMIT: u64 = 4_000;
 
 /// The most connections to the application that are kept between requests.
@@ -36,14 +40,15 @@ struct Kept {
 pub struct Application<R> {
     rt: R,
     log: Logged<R, Journal<R>>,
+    stopwatch: Stopwatch,
     own: Address,
     at: Option<Address>,
     /// The number of requests that were to be handled here.
     pub handled: Count,
-    /// The number of them that the program did not answer.
+    /// The number of them that the program did not answer, or by no answer that can be passed on.
     pub failures: Count,
-    /// Whether it did not answer the last request.
-    is_failing: Flag,
+    /// What the log said last of the program.
+    notices: Notices,
     kept: Mutex<Vec<Kept>>,
 }
 
@@ -61,16 +66,26 @@ fn handler_fault(error: WireError) -> HandlerFault {
     }
 }
 
-/// Returns the text of a Reply for an answer. If its body is too long or not UTF-8, or its status is not 200 to 599, the
-/// text is that of a 502.
-fn packed(alloc: Global, status: u16, is_json: bool, body: &[u8]) -> Result<Text, HandlerFault> {
-    let Ok(text) = str::from_utf8(body) else {
-        return refused(alloc, Refusal::ApplicationFailed);
-    };
+/// Returns the failure of a request that a time limit or an error of the system ended.
+fn no_answer(_error: io::Error) -> Failure
+    ensures { result ≡ Failure.NoAnswer }
+{
+    Failure::NoAnswer
+}
+
+/// Returns the text of a Reply for an answer. None if the answer can't be passed on: its body is too long or not UTF-8, or
+/// its status is not 200 to 599.
+fn packed(
+    alloc: Global,
+    status: u16,
+    is_json: bool,
+    body: &[u8],
+) -> Option<Result<Text, HandlerFault>> {
+    let text = str::from_utf8(body).ok()?;
     if status < LEAST_STATUS || status > GREATEST_STATUS || body.len() > LONGEST_BODY {
-        return refused(alloc, Refusal::ApplicationFailed);
+        return None;
     }
-    pack(alloc, status, is_json, text).map_err(handler_fault)
+    Some(pack(alloc, status, is_json, text).map_err(handler_fault))
 }
 
 impl<R: Host> Application<R> {
@@ -79,17 +94,19 @@ impl<R: Host> Application<R> {
         rt: R,
         alloc: Global,
         log: Logged<R, Journal<R>>,
+        stopwatch: Stopwatch,
         own: Address,
         at: Option<Address>,
     ) -> Self {
         Application {
             rt,
             log,
+            stopwatch,
             own,
             at,
             handled: Count::new(),
             failures: Count::new(),
-            is_failing: Flag::new(false),
+            notices: Notices::new(alloc),
             kept: Mutex::new(Vec::new(alloc)),
         }
     }
@@ -109,8 +126,7 @@ impl<R: Host> Application<R> {
         }
     }
 
-    fn connect(&self, at: Address) -> Option<Kept> {
-        let limit = Duration::from_millis(LIMIT);
+    fn connect(&self, at: Address, limit: Duration) -> Option<Kept> {
         let stream = TcpStream::connect_timeout(&self.rt, &socket_address(at), limit).ok()?;
         let _set = stream.set_nodelay(true);
         Some(Kept {
@@ -122,82 +138,125 @@ impl<R: Host> Application<R> {
     /// Returns whether the application accepts a connection; the echo always does.
     pub fn is_up(&self) -> bool {
         match self.at {
-            Some(at) => self.connect(at).is_some(),
+            Some(at) => self.connect(at, Duration::from_millis(LIMIT)).is_some(),
             None => true,
         }
     }
 
-    /// Sends a request over a connection, and keeps the connection if it can be used again.
+    /// Sends a request over a connection within what is left of a limit, and keeps the connection if it can be used again.
     fn exchange_over(
         &self,
         alloc: Global,
         mut connection: Kept,
-        at: Address,
-        key: &str,
-        body: &str,
-    ) -> Outcome {
+        limit: &Deadline<'_, R>,
+        asked: &Asked<'_>,
+    ) -> Result<Answer, Failure> {
         // (a second handle of the socket, since the stream with its deadline is dropped)
-        let Ok(stream) = connection.stream.try_clone() else {
-            return Outcome::Unanswered;
-        };
-        let Ok(deadline) = Deadline::after(&self.rt, Duration::from_millis(LIMIT)) else {
-            return Outcome::Broken;
-        };
+        let stream = connection.stream.try_clone().map_err(no_answer)?;
+        let left = limit.left().map_err(no_answer)?;
+        let deadline = Deadline::after(&self.rt, left).map_err(no_answer)?;
         let mut stream = Timed::new(stream, deadline);
-        let outcome = exchange(alloc, &mut connection.client, &mut stream, at, key, body);
-        if matches!(&outcome, Outcome::Answered(_)) {
+        let answer = exchange(alloc, &mut connection.client, &mut stream, asked);
+        if answer.is_ok() {
             self.keep(connection);
         }
-        outcome
+        answer
     }
 
-    /// Returns the application's answer to a request for a key; None if no whole answer came. If a kept connection fails
-    /// before a byte of the answer, the request is sent again over a new one, since the application may have closed
-    /// the kept one.
-    fn ask(&self, alloc: Global, at: Address, key: &str, body: &str) -> Option<Answer> {
+    /// Returns the application's answer to a request within a limit. If the application hung up on a kept connection, the
+    /// request is sent again over a new one, since it may have closed the kept one before. After any other failure it is
+    /// not, since the application may be at work on it.
+    fn ask(&self, alloc: Global, asked: &Asked<'_>, limit: Duration) -> Result<Answer, Failure> {
+        let deadline = Deadline::after(&self.rt, limit).map_err(no_answer)?;
         if let Some(kept) = self.take_kept() {
-            match self.exchange_over(alloc, kept, at, key, body) {
-                Outcome::Answered(answer) => return Some(answer),
-                Outcome::Broken => return None,
-                Outcome::Unanswered => {}
+            match self.exchange_over(alloc, kept, &deadline, asked) {
+                Err(Failure::HungUp) => {}
+                answer => return answer,
             }
         }
-        let connection = self.connect(at)?;
-        match self.exchange_over(alloc, connection, at, key, body) {
-            Outcome::Answered(answer) => Some(answer),
-            Outcome::Broken | Outcome::Unanswered => None,
-        }
+        let left = deadline.left().map_err(no_answer)?;
+        let connection = self.connect(asked.at, left).ok_or(Failure::NoAnswer)?;
+        self.exchange_over(alloc, connection, &deadline, asked)
     }
 
-    /// Notes that the application answered, and logs it if the request before had no answer.
+    /// Notes whether a request had no answer that can be passed on. Returns whether the log is to say so.
+    fn note(&self, at: Address, is_failing: bool) -> bool {
+        let now = self.stopwatch.moment(&self.rt);
+        self.notices.note(&self.rt, at, is_failing, now)
+    }
+
+    /// Notes an answer that was passed on, and logs it, unless the log said so last.
     fn note_answer(&self, at: Address) {
-        if self.is_failing.get() {
-            self.is_failing.set(false);
+        if self.note(at, false) {
             info!(self.log; "the application at {at} answers again");
         }
     }
 
-    /// Counts a request that the application did not answer, and logs it if the request before had an answer.
-    fn note_failure(&self, at: Address) {
+    /// Counts a request without an answer that can be passed on, and logs it, unless the log said so last.
+    fn note_failure(&self, at: Address, failure: Failure) {
         self.failures.add(1);
-        if !self.is_failing.get() {
-            self.is_failing.set(true);
-            warn!(self.log; "the application at {at} does not answer");
+        if !self.note(at, true) {
+            return;
+        }
+        match failure {
+            Failure::BadAnswer => {
+                warn!(self.log; "the application at {at} gave an answer that can't be passed on")
+            }
+            Failure::HungUp | Failure::NoAnswer => {
+                warn!(self.log; "the application at {at} does not answer")
+            }
         }
     }
 
     fn echo(&self, alloc: Global, body: &str) -> Result<Text, HandlerFault> {
         let own = self.own;
-        match format!(in alloc; "{own} {body}") {
-            Ok(text) => packed(alloc, 200, false, text.as_bytes()),
-            Err(_) => Err(HandlerFault::Memory),
+        let Ok(text) = format!(in alloc; "{own} {body}") else {
+            return Err(HandlerFault::Memory);
+        };
+        match packed(alloc, 200, false, text.as_bytes()) {
+            Some(text) => text,
+            None => refused(alloc, Refusal::ApplicationFailed),
         }
+    }
+
+    /// Returns the answer to a request, by the program within a limit or by the echo.
+    fn answer(
+        &self,
+        alloc: Global,
+        keys: &Keys,
+        body: &Text,
+        limit: Duration,
+    ) -> Result<Text, HandlerFault> {
+        self.handled.add(1);
+        let Some(at) = self.at else {
+            return self.echo(alloc, body.as_str());
+        };
+        let key = keys.get(0).ok_or(HandlerFault::Failed)?;
+        let asked = Asked {
+            at,
+            key: key.as_str(),
+            body: body.as_str(),
+        };
+        let failure = match self.ask(alloc, &asked, limit) {
+            Ok(answer) => {
+                let body = answer.body.as_slice();
+                if let Some(text) = packed(alloc, answer.status, answer.is_json, body) {
+                    self.note_answer(at);
+                    return text;
+                }
+                Failure::BadAnswer
+            }
+            Err(failure) => failure,
+        };
+        self.note_failure(at, failure);
+        // (a Reply and no error, so that the asking node does not try again)
+        refused(alloc, Refusal::ApplicationFailed)
     }
 }
 
 impl<R: Host> Handler for Application<R> {
     // An application may answer anything.
-    ghost may_handle = { λ _ _ _. Unit {0} };
+    ghost may_handle = { λ _ _ _ _. Unit {0} };
 
     fn handle<W: Wait>(
         &self,
@@ -206,22 +265,40 @@ impl<R: Host> Handler for Application<R> {
         keys: &Keys,
         body: &Text,
     ) -> Result<Text, HandlerFault> {
-        self.handled.add(1);
-        let Some(at) = self.at else {
-            return self.echo(alloc, body.as_str());
-        };
-        let key = keys.get(0).ok_or(HandlerFault::Failed)?;
-        match self.ask(alloc, at, key.as_str(), body.as_str()) {
-            Some(answer) => {
-                self.note_answer(at);
-                packed(alloc, answer.status, answer.is_json, answer.body.as_slice())
-            }
-            // (a Reply and no error, so that the asking node does not try again)
-            None => {
-                self.note_failure(at);
-                refused(alloc, Refusal::ApplicationFailed)
-            }
+        self.answer(alloc, keys, body, Duration::from_millis(LIMIT))
+    }
+}
+
+/// The application with a limit for a request and its answer.
+#[derive(Drop)]
+pub struct Limited<'a, R> {
+    application: &'a Application<R>,
+    limit: Duration,
+}
+
+impl<'a, R: Host> Limited<'a, R> {
+    /// Makes the application with this number of milliseconds for a request, or its own limit if that is less.
+    pub fn new(application: &'a Application<R>, millis: u64) -> Self
+        ensures { as_nanos result.limit ≤ LIMIT * 1_000_000 }
+    {
+        Limited {
+            application,
+            limit: Duration::from_millis(millis.min(LIMIT)),
         }
+    }
+}
+
+impl<'a, R: Host> Handler for Limited<'a, R> {
+    ghost may_handle = { λ _ _ _ _. Unit {0} };
+
+    fn handle<W: Wait>(
+        &self,
+        _rt: &W,
+        alloc: Global,
+        keys: &Keys,
+        body: &Text,
+    ) -> Result<Text, HandlerFault> {
+        self.application.answer(alloc, keys, body, self.limit)
     }
 }
 
@@ -230,7 +307,7 @@ impl<R: Host> Handler for Application<R> {
 pub struct Overloaded;
 
 impl Handler for Overloaded {
-    ghost may_handle = { λ _ _ _. Unit {0} };
+    ghost may_handle = { λ _ _ _ _. Unit {0} };
 
     fn handle<W: Wait>(
         &self,

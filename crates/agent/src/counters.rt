@@ -32,6 +32,11 @@ impl Count {
         self.0.fetch_sub(fewer, Ordering::SeqCst);
     }
 
+    /// Sets the count to a number.
+    pub fn set(&self, number: u64) {
+        self.0.store(number, Ordering::SeqCst);
+    }
+
     /// Returns the count.
     pub fn get(&self) -> u64 {
         self.0.load(Ordering::SeqCst)

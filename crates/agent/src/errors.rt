@@ -1,4 +1,5 @@
 //! The errors of an agent.
+use change_core::Address;
 use node_core::ConfigField;
 use std::alloc::{AllocError, AllocFailed};
 use thiserror::Error;
@@ -9,6 +10,9 @@ pub enum AgentError {
     /// The address for HTTP is not in 127.0.0.0/8, and `http_any` is not set.
     #[error("--http is not in 127.0.0.0/8: add --http-any")]
     NotLocal,
+    /// The node's own address has the IPv4 number 0.0.0.0, by which other nodes can't call it.
+    #[error("the node's address is 0.0.0.0: give that to --bind")]
+    NoAddress,
     /// The first field of the node's configuration that is out of its range.
     #[error("bad configuration: {0}")]
     BadConfig(ConfigField),
@@ -18,9 +22,9 @@ pub enum AgentError {
     /// The system gave no random numbers.
     #[error("no random numbers")]
     NoRandom,
-    /// An address can't be listened at.
-    #[error("cannot listen")]
-    CannotListen,
+    /// This address can't be listened at.
+    #[error("cannot listen at {0}")]
+    CannotListen(Address),
     /// The system gave no thread.
     #[error("no thread")]
     NoThread,

@@ -1,17 +1,30 @@
 //! One request to the application over HTTP/1.1, and its answer.
+ghost use Rattle.std.specs.Prelude.{◌≡◌, Err, IsFalse};
+ghost use Rattle.std.specs.IoError.{error_kind};
+ghost use Rattle.agent.specs.Exchanges.{failure_of};
+
 use bytes::{Buf, BytesMut};
 use change_core::Address;
 use http1::{BodySize, Client, Event, Header};
 use httparse::spans::{EMPTY_HEADER_SPAN, HeaderSpan, ResponseSpans, Span};
 use percent_encoding::{NON_ALPHANUMERIC, percent_encode};
 use std::alloc::{AllocError, Global};
-use std::io::{Read, Write};
+use std::io;
+use std::io::{ErrorKind, Read, Write};
 
 /// The most bytes in the body of an answer that is read.
 const LONGEST_ANSWER: usize = 1_048_576;
 
 /// The bytes that a read asks for.
 const READ_SIZE: usize = 8_192;
+
+/// A request to the application at an address.
+#[derive(Clone, Copy)]
+pub struct Asked<'a> {
+    pub at: Address,
+    pub key: &'a str,
+    pub body: &'a str,
+}
 
 /// An answer of the application.
 #[derive(Debug, Drop)]
@@ -22,15 +35,28 @@ pub struct Answer {
     pub body: Vec<u8>,
 }
 
-/// The outcome of a request to the application.
-#[derive(Debug, Drop)]
-pub enum Outcome {
-    /// The whole answer came.
-    Answered(Answer),
-    /// The connection failed or ended before a byte of an answer came.
-    Unanswered,
-    /// A part of an answer came, or one that is not HTTP/1.1 or is too long, or an allocation failed.
-    Broken,
+/// A reason why a request to the application has no answer.
+#[derive(Clone, Copy, Debug, PartialEq, Eq)]
+pub enum Failure {
+    /// The application ended or reset the connection before a byte of the answer came.
+    HungUp,
+    /// No whole answer came, for another reason: the time ran out, the connection failed, or an allocation did.
+    NoAnswer,
+    /// The answer is not HTTP/1.1, ends too early, or has more than 1,048,576 bytes.
+    BadAnswer,
+}
+
+/// Returns the failure of a request whose connection failed by this error, after a byte of the answer or before.
+fn failure_of(error: &io::Error, has_begun: bool) -> Failure
+    ensures { result ≡ failure_of (error_kind error.now) has_begun }
+{
+    if has_begun {
+        return Failure::NoAnswer;
+    }
+    match error.kind() {
+        ErrorKind::BrokenPipe | ErrorKind::ConnectionReset => Failure::HungUp,
+        _ => Failure::NoAnswer,
+    }
 }
 
 /// Writes the request into the output. Returns whether it was written whole.
@@ -63,10 +89,9 @@ fn write_request(
 fn request(
     alloc: Global,
     client: &mut Client,
-    at: Address,
-    key: &str,
-    body: &str,
+    asked: &Asked<'_>,
 ) -> Result<Option<BytesMut>, AllocError> {
+    let Asked { at, key, body } = *asked;
     let mut target = String::from_str(alloc, "/keys/")?;
     percent_encode(key.as_bytes(), NON_ALPHANUMERIC).append_to(&mut target)?;
     let host = format!(in alloc; "{at}")?;
@@ -140,24 +165,29 @@ fn take_next(
     Some(step)
 }
 
-/// Reads once. Returns the number of bytes that came, 0 at the end; None if reading or an allocation failed.
-fn read_more<S: Read>(input: &mut BytesMut, stream: &mut S) -> Option<usize> {
-    input.reserve(READ_SIZE).ok()?;
-    input.read_from(stream).ok()
+/// Reads once. Returns the number of bytes that came, 0 at the end.
+fn read_more<S: Read>(input: &mut BytesMut, stream: &mut S) -> io::Result<usize> {
+    input.reserve(READ_SIZE)?;
+    input.read_from(stream)
 }
 
-/// Returns the outcome if the connection ends here: the answer if its body lasts until the end, else `Broken` if a byte
-/// came, else `Unanswered`.
-fn end(client: &mut Client, answer: Answer, has_begun: bool) -> Outcome {
+/// Returns the answer if the connection ends here, after a byte of the answer or before, and its body lasts until the end.
+fn end(client: &mut Client, answer: Answer, has_begun: bool) -> Result<Answer, Failure>
+    ensures { result ≡ Err Failure.HungUp → IsFalse has_begun }
+{
     match client.read_eof() {
-        Ok(Event::End(_)) => Outcome::Answered(answer),
-        _ if has_begun => Outcome::Broken,
-        _ => Outcome::Unanswered,
+        Ok(Event::End(_)) => Ok(answer),
+        _ if has_begun => Err(Failure::BadAnswer),
+        _ => Err(Failure::HungUp),
     }
 }
 
-/// Reads an answer, and returns the outcome.
-fn read_answer<S: Read>(alloc: Global, client: &mut Client, stream: &mut S) -> Outcome {
+/// Reads an answer.
+fn read_answer<S: Read>(
+    alloc: Global,
+    client: &mut Client,
+    stream: &mut S,
+) -> Result<Answer, Failure> {
     let mut spans = [EMPTY_HEADER_SPAN; 64];
     let mut input = BytesMut::new(alloc);
     let mut answer = Answer {
@@ -169,36 +199,39 @@ fn read_answer<S: Read>(alloc: Global, client: &mut Client, stream: &mut S) -> O
     for _ in 0..u64::MAX {
         match take_next(client, &mut input, &mut spans, &mut answer) {
             Some(Step::Next) => {}
-            Some(Step::Whole) => return Outcome::Answered(answer),
+            Some(Step::Whole) => return Ok(answer),
             Some(Step::Read) => match read_more(&mut input, stream) {
-                Some(0) => return end(client, answer, has_begun),
-                Some(_) => has_begun = true,
-                None if has_begun => return Outcome::Broken,
-                None => return Outcome::Unanswered,
+                Ok(0) => return end(client, answer, has_begun),
+                Ok(_) => has_begun = true,
+                Err(error) => return Err(failure_of(&error, has_begun)),
             },
-            Some(Step::Ended) | None => return Outcome::Broken,
+            Some(Step::Ended) | None => return Err(Failure::BadAnswer),
         }
         if answer.body.len() > LONGEST_ANSWER {
-            return Outcome::Broken;
+            return Err(Failure::BadAnswer);
         }
     }
-    Outcome::Broken
+    Err(Failure::BadAnswer)
 }
 
-/// Sends a request for a key to the application, reads its answer, and returns the outcome.
+/// Sends a request to the application, and reads its answer.
+///
+/// # Errors
+///
+/// - `HungUp`: the application ended or reset the connection before a byte of the answer came.
+/// - `NoAnswer`: no whole answer came, for another reason.
+/// - `BadAnswer`: the answer is not HTTP/1.1, ends too early, or has more than 1,048,576 bytes.
 pub fn exchange<S: Read + Write>(
     alloc: Global,
     client: &mut Client,
     stream: &mut S,
-    at: Address,
-    key: &str,
-    body: &str,
-) -> Outcome {
-    let Ok(Some(output)) = request(alloc, client, at, key, body) else {
-        return Outcome::Broken;
+    asked: &Asked<'_>,
+) -> Result<Answer, Failure> {
+    let Ok(Some(output)) = request(alloc, client, asked) else {
+        return Err(Failure::NoAnswer);
     };
-    if stream.write_all(output.as_slice()).is_err() {
-        return Outcome::Unanswered;
+    if let Err(error) = stream.write_all(output.as_slice()) {
+        return Err(failure_of(&error, false));
     }
     read_answer(alloc, client, stream)
 }

@@ -1,10 +1,19 @@
 //! HTTP connections of clients.
+ghost use Rattle.std.specs.Prelude.{◌≡◌, codes, ◌++◌, ◌∷◌, [], IfOk, IfErr, OnOk, IsFalse};
+ghost use Rattle.http_server.specs.Response.{IsBlank};
+ghost use Rattle.agent_core.specs.declared.actions.Action.TheVariants as action;
+ghost use Rattle.agent_core.specs.declared.answers.Kind.{Kind};
+ghost use Rattle.agent.specs.Replies.{IsAnswered, IsOwnersAnswer, IsReplied, IsText, Replies};
+ghost use Rattle.agent.specs.Requests.{IsRefused, is_of_request};
+
 use crate::agents::{Agent, Phase};
 use crate::callers::Caller;
 use crate::links::{NotedHandler, NotedLink};
-use crate::responses::{Reply, put_refusal, put_reply};
+use crate::replies::Reply;
+use crate::requests::action_of;
+use crate::responses::{put_refusal, put_reply};
 use crate::systems::Host;
-use agent_core::{Action, Refusal, digest_line, members_text, metrics_text, owners_text, route};
+use agent_core::{Action, Refusal};
 use bytes::Bytes;
 use change_core::{Address, Change, Digest, MAX_MEMBERS};
 use cluster_core::{Deadline, Timed};
@@ -15,18 +24,21 @@ use message_core::{Keys, Text};
 use peer_core::ClusterError;
 use std::alloc::{AllocError, Global};
 use std::hash::RandomState;
+use std::io::ErrorKind;
 use std::net::{TcpListener, TcpStream};
 use std::sync::Arc;
 use std::sync::atomic::{AtomicBool, Ordering};
-use std::thread;
 use std::time::{Duration, Instant};
+use std::{io, thread};
 
 /// The number of threads that answer HTTP, each one connection at a time.
-pub const FRONTS: u32 = 128;
+pub const FRONTS: u32 = 256;
 
-/// The most requests that wait for a key's owner at a time, and the most connections that are kept open between requests.
-/// The other threads answer what needs no wait.
-const MOST_WAITING: u64 = 112;
+/// The most requests that wait for a key's owner at a time. The other threads answer what needs no wait.
+const MOST_WAITING: u64 = 224;
+
+/// The most connections that are kept open between requests. While there are more, others may be waiting for a thread.
+const MOST_KEPT: u64 = 240;
 
 /// The most bytes in a request's body that are read. One that is longer than 131,072 is refused with a line of text, and
 /// one that is longer than this by the HTTP server, which sends no text.
@@ -35,8 +47,8 @@ const LONGEST_READ: usize = 1_048_576;
 /// The most milliseconds from one answer of a connection to the end of its next request.
 const IDLE: u64 = 30_000;
 
-/// That limit for connections that come while the most that are kept open are served.
-const SHORT_IDLE: u64 = 2_000;
+/// The most milliseconds for which a connection may send nothing while more are served than are kept open.
+const SILENCE: u64 = 1_000;
 
 /// The most milliseconds that the client may take to receive an answer.
 const TAKEN: u64 = 5_000;
@@ -45,7 +57,9 @@ const TAKEN: u64 = 5_000;
 const REST: u64 = 10;
 
 /// Returns the refusal for an error of the node.
-fn refusal_of(error: ClusterError) -> Refusal {
+fn refusal_of(error: ClusterError) -> Refusal
+    ensures { IsFalse (is_of_request result) }
+{
     match error {
         ClusterError::Nobody => Refusal::Nobody,
         ClusterError::RetriesSpent => Refusal::OwnerSilent,
@@ -59,7 +73,9 @@ fn refusal_of(error: ClusterError) -> Refusal {
 }
 
 /// Returns the digest of these members.
-fn digest_of(alloc: Global, members: &[Change]) -> Result<Digest, Refusal> {
+fn digest_of(alloc: Global, members: &[Change]) -> Result<Digest, Refusal>
+    ensures { IfErr result (λ e. e ≡ Refusal.Memory) }
+{
     let Ok(mut table) = MemberTable::new(alloc, MAX_MEMBERS) else {
         return Err(Refusal::Memory);
     };
@@ -82,7 +98,10 @@ struct Front<'f, 'a, R> {
 
 impl<'f, 'a, R: Host> Front<'f, 'a, R> {
     /// Has the owner of a key answer a request, unless too many wait already. Returns the answer and the owner.
-    fn handle(&mut self, key: Text, body: Text) -> Result<Reply, Refusal> {
+    fn handle(&mut self, key: Text, body: Text) -> Result<Reply, Refusal>
+        ensures reply { IfOk result (Replies self.old.agent.now.own self.old.agent.now.replicas (action.Handle key body)) }
+        ensures refused { IfErr result (λ e. IsFalse (is_of_request e)) }
+    {
         if !self.agent.waiting.add_below(MOST_WAITING) {
             return Err(Refusal::Busy);
         }
@@ -92,7 +111,10 @@ impl<'f, 'a, R: Host> Front<'f, 'a, R> {
     }
 
     /// Has the owner of a key answer a request, and returns the answer and the owner.
-    fn ask_owner(&mut self, key: Text, body: Text) -> Result<Reply, Refusal> {
+    fn ask_owner(&mut self, key: Text, body: Text) -> Result<Reply, Refusal>
+        ensures reply { IfOk result IsOwnersAnswer }
+        ensures refused { IfErr result (λ e. IsFalse (is_of_request e)) }
+    {
         let agent = self.agent;
         let keys = Keys::new(self.alloc, key).map_err(|_| Refusal::Memory)?;
         let handler = NotedHandler {
@@ -118,7 +140,10 @@ impl<'f, 'a, R: Host> Front<'f, 'a, R> {
     }
 
     /// Returns the first owners of a key.
-    fn owners(&mut self, key: &Text, count: usize) -> Result<Reply, Refusal> {
+    fn owners(&mut self, key: &Text, count: usize) -> Result<Reply, Refusal>
+        ensures reply { IfOk result (Replies self.old.agent.now.own self.old.agent.now.replicas (action.Owners key.now count)) }
+        ensures refused { IfErr result (λ e. IsFalse (is_of_request e)) }
+    {
         let view = self.caller.view(&self.agent.rt).map_err(refusal_of)?;
         let Ok(owners) = view.owners(key.as_str().as_bytes(), count) else {
             return Err(Refusal::Memory);
@@ -126,61 +151,59 @@ impl<'f, 'a, R: Host> Front<'f, 'a, R> {
         if owners.as_slice().is_empty() {
             return Err(Refusal::Nobody);
         }
-        match owners_text(self.alloc, owners.as_slice()) {
-            Ok(text) => Ok(Reply::Json(text)),
-            Err(_) => Err(Refusal::Memory),
-        }
+        Reply::owners(self.alloc, owners.as_slice())
     }
 
     /// Returns the members, with their digest.
-    fn members(&mut self) -> Result<Reply, Refusal> {
+    fn members(&mut self) -> Result<Reply, Refusal>
+        ensures reply { IfOk result (Replies self.old.agent.now.own self.old.agent.now.replicas action.Members) }
+        ensures refused { IfErr result (λ e. IsFalse (is_of_request e)) }
+    {
         let members = self.caller.members(&self.agent.rt).map_err(refusal_of)?;
-        let digest = digest_of(self.alloc, members.as_slice())?;
-        let text = members_text(
-            self.alloc,
-            self.agent.own,
-            &digest,
-            self.agent.replicas,
-            members.as_slice(),
-        );
-        match text {
-            Ok(text) => Ok(Reply::Json(text)),
-            Err(_) => Err(Refusal::Memory),
-        }
+        let members = members.as_slice();
+        let digest = digest_of(self.alloc, members)?;
+        let (own, replicas) = (self.agent.own, self.agent.replicas);
+        Reply::members(self.alloc, own, &digest, replicas, members)
     }
 
     /// Returns the counts, with the members by status.
-    fn metrics(&mut self) -> Result<Reply, Refusal> {
+    fn metrics(&mut self) -> Result<Reply, Refusal>
+        ensures reply { IfOk result (Replies self.old.agent.now.own self.old.agent.now.replicas action.Metrics) }
+        ensures refused { IfErr result (λ e. IsFalse (is_of_request e)) }
+    {
         let members = self.caller.members(&self.agent.rt).map_err(refusal_of)?;
         let application = &self.agent.application;
         let counts = self
             .agent
             .counters
             .counts(application.handled.get(), application.failures.get());
-        match metrics_text(self.alloc, &counts, members.as_slice()) {
-            Ok(text) => Ok(Reply::Text(text)),
-            Err(_) => Err(Refusal::Memory),
-        }
+        Reply::metrics(self.alloc, &counts, members.as_slice())
     }
 
     /// Returns the digest of the members.
-    fn digest(&mut self) -> Result<Reply, Refusal> {
+    fn digest(&mut self) -> Result<Reply, Refusal>
+        ensures reply { IfOk result (Replies self.old.agent.now.own self.old.agent.now.replicas action.Digest) }
+        ensures refused { IfErr result (λ e. IsFalse (is_of_request e)) }
+    {
         let digest = self.caller.digest(&self.agent.rt).map_err(refusal_of)?;
-        match digest_line(self.alloc, &digest) {
-            Ok(text) => Ok(Reply::Text(text)),
-            Err(_) => Err(Refusal::Memory),
-        }
+        Reply::digest(self.alloc, &digest)
     }
 
     /// Has the node leave.
-    fn leave(&mut self) -> Result<Reply, Refusal> {
+    fn leave(&mut self) -> Result<Reply, Refusal>
+        ensures reply { IfOk result (IsText Kind.Text (codes "left" ++ 10 ∷ [])) }
+        ensures refused { IfErr result (λ e. IsFalse (is_of_request e)) }
+    {
         self.caller.leave(&self.agent.rt).map_err(refusal_of)?;
         self.agent.has_left.set(true);
         Ok(Reply::Line("left\n"))
     }
 
     /// Has the node leave, unless it has left already, and the agent end.
-    fn stop(&mut self) -> Result<Reply, Refusal> {
+    fn stop(&mut self) -> Result<Reply, Refusal>
+        ensures reply { IfOk result (IsText Kind.Text (codes "stopping" ++ 10 ∷ [])) }
+        ensures refused { IfErr result (λ e. IsFalse (is_of_request e)) }
+    {
         match self.leave() {
             Ok(_) | Err(Refusal::AlreadyLeft) => {
                 self.agent.is_stopping.set(true);
@@ -191,7 +214,10 @@ impl<'f, 'a, R: Host> Front<'f, 'a, R> {
     }
 
     /// Has the node come back, unless the agent is to end.
-    fn rejoin(&mut self) -> Result<Reply, Refusal> {
+    fn rejoin(&mut self) -> Result<Reply, Refusal>
+        ensures reply { IfOk result (IsText Kind.Text (codes "back" ++ 10 ∷ [])) }
+        ensures refused { IfErr result (λ e. IsFalse (is_of_request e)) }
+    {
         if self.agent.is_stopping.get() {
             return Err(Refusal::HasLeft);
         }
@@ -201,7 +227,10 @@ impl<'f, 'a, R: Host> Front<'f, 'a, R> {
     }
 
     /// Returns `ok` if the agent handles requests, and else why it does not.
-    fn health(&self) -> Result<Reply, Refusal> {
+    fn health(&self) -> Result<Reply, Refusal>
+        ensures reply { IfOk result (IsText Kind.Text (codes "ok" ++ 10 ∷ [])) }
+        ensures refused { IfErr result (λ e. IsFalse (is_of_request e)) }
+    {
         match self.agent.phase() {
             Phase::Joining => Err(Refusal::NotJoined),
             Phase::Left => Err(Refusal::HasLeft),
@@ -211,7 +240,10 @@ impl<'f, 'a, R: Host> Front<'f, 'a, R> {
     }
 
     /// Performs an action, and returns its reply.
-    fn act(&mut self, action: Action) -> Result<Reply, Refusal> {
+    fn act(&mut self, action: Action) -> Result<Reply, Refusal>
+        ensures reply { IfOk result (Replies self.old.agent.now.own self.old.agent.now.replicas action) }
+        ensures refused { IfErr result (λ e. IsFalse (is_of_request e)) }
+    {
         match action {
             Action::Handle { key, body } => self.handle(key, body),
             Action::Owners { key, count } => self.owners(&key, count),
@@ -227,15 +259,11 @@ impl<'f, 'a, R: Host> Front<'f, 'a, R> {
     }
 
     /// Returns the reply to a request.
-    fn reply(&mut self, request: &Request<Bytes>) -> Result<Reply, Refusal> {
-        let method = request.method().as_str();
-        // (so that a page of another site can't make a browser change anything here)
-        if method != "GET" && request.headers().contains_key("origin") {
-            return Err(Refusal::CrossSite);
-        }
-        let uri = request.uri();
-        let body = request.body().as_slice();
-        let action = route(self.alloc, method, uri.path(), uri.query(), body)?;
+    fn reply(&mut self, request: &Request<Bytes>) -> Result<Reply, Refusal>
+        ensures reply { IfOk result (IsReplied self.old.agent.now.own self.old.agent.now.replicas request.now) }
+        ensures refused { IfErr result (IsRefused request.now) }
+    {
+        let action = action_of(self.alloc, request)?;
         self.act(action)
     }
 
@@ -254,12 +282,20 @@ impl<'f, 'a, R: Host> Front<'f, 'a, R> {
         }
     }
 
+    /// Returns whether the connection is closed after the answer: the agent is to end, or others may wait for a thread.
+    fn closes(&self) -> bool {
+        self.agent.is_stopping.get() || is_crowded(self.agent)
+    }
+
     /// Writes the reply to a request, or its refusal, and counts it.
     fn answer(
         &mut self,
         request: &Request<Bytes>,
         response: &mut Response,
-    ) -> Result<(), AllocError> {
+    ) -> Result<(), AllocError>
+        requires { IsBlank response.old }
+        ensures { OnOk result (IsAnswered self.old.agent.now.own self.old.agent.now.replicas request.now response.new) }
+    {
         let start = Instant::now(&self.agent.rt).ok();
         let reply = self.reply(request);
         if request.uri().path().starts_with("/keys/") {
@@ -268,10 +304,10 @@ impl<'f, 'a, R: Host> Front<'f, 'a, R> {
         if matches!(&reply, Err(Refusal::Memory)) {
             self.agent.counters.allocation_failures.add(1);
         }
-        let closes = self.agent.is_stopping.get() || is_crowded(self.agent);
+        let closes = self.closes();
         match &reply {
             Ok(reply) => put_reply(self.alloc, response, reply, closes),
-            Err(refusal) => put_refusal(self.alloc, response, *refusal, closes),
+            Err(refusal) => put_refusal(response, *refusal, closes),
         }
     }
 }
@@ -295,22 +331,36 @@ impl<'f, 'a, R: Host> Service for Front<'f, 'a, R> {
     }
 }
 
-/// Returns whether each connection is closed after its next answer, so that others are served: more than 112 are.
+/// Returns whether each connection is closed after its next answer, and also if it sends nothing for a second, so that
+/// others are served: more than 240 are.
 fn is_crowded<R: Host>(agent: &Agent<R>) -> bool {
-    agent.connections.get() > MOST_WAITING
+    agent.connections.get() > MOST_KEPT
 }
 
-/// Returns the most milliseconds that a connection may take for its next request.
-fn idle<R: Host>(agent: &Agent<R>) -> u64 {
-    if is_crowded(agent) { SHORT_IDLE } else { IDLE }
+/// Returns the deadline after so much time from now.
+fn limit<R: Host>(agent: &Agent<R>, time: Duration) -> Option<Deadline<'_, R>> {
+    Deadline::after(&agent.rt, time).ok()
 }
 
-/// Returns the deadline of a connection this many milliseconds from now.
-fn limit<R: Host>(agent: &Agent<R>, millis: u64) -> Option<Deadline<'_, R>> {
-    Deadline::after(&agent.rt, Duration::from_millis(millis)).ok()
+/// Returns whether a read failed only since nothing came in its time.
+fn is_silence(error: &io::Error) -> bool {
+    matches!(error.kind(), ErrorKind::WouldBlock | ErrorKind::TimedOut)
 }
 
-/// Serves one connection, request after request, until it is done or a time limit has passed.
+/// Reads once. Returns whether the connection lasts: it did not fail, and something came if many are served.
+fn read<R: Host>(
+    agent: &Agent<R>,
+    connection: &mut Connection,
+    stream: &mut Timed<'_, TcpStream, R>,
+) -> bool {
+    match connection.read_from(stream) {
+        Ok(_) => true,
+        Err(error) => is_silence(&error) && !is_crowded(agent),
+    }
+}
+
+/// Serves one connection, request after request, until it is done, a time limit has passed, or it sends nothing for a second
+/// while many are served.
 fn serve_connection<R: Host>(
     front: &mut Front<'_, '_, R>,
     keys: RandomState,
@@ -323,7 +373,8 @@ fn serve_connection<R: Host>(
         ..Config::default()
     };
     let mut connection = Connection::new(front.alloc, keys, config);
-    let mut stream = Timed::new(stream, limit(agent, idle(agent))?);
+    let mut end = limit(agent, Duration::from_millis(IDLE))?;
+    let mut stream = Timed::new(stream, limit(agent, Duration::from_millis(SILENCE))?);
     let mut writes = false;
     for _ in agent.rt.forever() {
         connection.advance(front);
@@ -332,13 +383,24 @@ fn serve_connection<R: Host>(
         }
         let wants = connection.wants_write();
         if wants != writes {
-            stream = stream.until(limit(agent, if wants { TAKEN } else { idle(agent) })?);
+            end = limit(
+                agent,
+                Duration::from_millis(if wants { TAKEN } else { IDLE }),
+            )?;
             writes = wants;
         }
-        if !wants {
-            connection.read_from(&mut stream).ok()?;
-        } else if connection.write_to(&mut stream).ok()? == 0 {
-            return None;
+        let left = end.left().ok()?;
+        if wants {
+            stream = stream.until(limit(agent, left)?);
+            if connection.write_to(&mut stream).ok()? == 0 {
+                return None;
+            }
+        } else {
+            let silence = Duration::from_millis(SILENCE);
+            stream = stream.until(limit(agent, left.min(silence))?);
+            if !read(agent, &mut connection, &mut stream) {
+                return None;
+            }
         }
     }
     unreachable!()

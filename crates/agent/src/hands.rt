@@ -1,18 +1,59 @@
 //! The hands of an agent, the threads that have the application answer the requests of other nodes.
 use crate::agents::Agent;
+use crate::applications::Limited;
 use crate::callers::Caller;
-use crate::peers::{Job, answer};
+use crate::links::NotedHandler;
+use crate::peers::{Job, line_for, send_back};
+use crate::relays::{millis_left, relay};
 use crate::systems::Host;
 use cluster_core::TcpLink;
 use crossbeam_channel::Receiver;
 use std::alloc::Global;
 use std::sync::Arc;
+use std::sync::atomic::{AtomicBool, Ordering};
 
-/// The most milliseconds that a request waits in the queue. The node that sent it waits 5,000 for an answer.
-const LONGEST_WAIT: u64 = 4_000;
+/// Returns the line of this node's own answer to a request, for which the application has what is left of the limit, and
+/// whether the application was asked: it is if this node owns the request by its view.
+fn own_answer<R: Host>(
+    agent: &Agent<R>,
+    alloc: Global,
+    caller: &mut Caller,
+    link: &mut TcpLink<R>,
+    job: &Job,
+) -> (Option<Vec<u8>>, bool) {
+    let application = Limited::new(&agent.application, millis_left(agent, job.since));
+    let handler = NotedHandler {
+        handler: &application,
+        was_asked: AtomicBool::new(false),
+    };
+    let line = line_for(agent, alloc, caller, link, &handler, &job.input);
+    (line, handler.was_asked.load(Ordering::SeqCst))
+}
 
-/// Answers the requests of the queue, until the queue has no sender. One that waited longer than the limit is dropped,
-/// since the node that sent it would get the answer too late.
+/// Answers a request over its connection. One that this node does not own is relayed to the owner; if that fails, this node
+/// answers again, since it may own it by now.
+fn serve_request<R: Host>(
+    agent: &Agent<R>,
+    alloc: Global,
+    caller: &mut Caller,
+    link: &mut TcpLink<R>,
+    job: Job,
+) {
+    let (mut line, was_asked) = own_answer(agent, alloc, caller, link, &job);
+    if !was_asked {
+        line = match relay(agent, alloc, caller, &job) {
+            Some(reply) => Some(reply),
+            None => own_answer(agent, alloc, caller, link, &job).0,
+        };
+        agent.renew(caller);
+    }
+    if let Some(line) = line {
+        send_back(agent, alloc, job.stream, line.as_slice());
+    }
+}
+
+/// Answers the requests of the queue, until the queue has no sender. A request for which no time is left is dropped, since
+/// the node that sent it would get the answer too late.
 pub fn serve_requests<R: Host>(
     agent: Arc<Agent<R>, Global>,
     alloc: Global,
@@ -25,16 +66,8 @@ pub fn serve_requests<R: Host>(
         let Ok(job) = jobs.recv(&agent.rt) else {
             return;
         };
-        let waited = agent.now().number().saturating_sub(job.since.number());
-        if waited <= LONGEST_WAIT {
-            answer(
-                agent,
-                alloc,
-                &mut caller,
-                &mut link,
-                &agent.application,
-                job,
-            );
+        if millis_left(agent, job.since) > 0 {
+            serve_request(agent, alloc, &mut caller, &mut link, job);
         }
     }
 }

@@ -1,33 +1,106 @@
-//! A link that notes the node that it called last, and a handler that notes whether it was called, so that a reply can
+//! A link that notes the node that gave its last answer, and a handler that notes whether it was called, so that a reply can
 //! name the node that gave it.
+ghost use Rattle.std.specs.Prelude.{◌≡◌, ◌↔◌, ◌⊎◌, IsTrue};
+
 use crate::agents::Agent;
 use crate::systems::Host;
 use change_core::Address;
-use cluster_core::TcpLink;
-use log::warn;
+use cluster_core::{Limits, TcpLink};
+use forward_core::MAX_SENDS;
+use log::{info, warn};
 use message_core::{Content, Keys, Message, Text};
 use peer_core::{Handler, HandlerFault, Link, LinkError};
 use std::alloc::Global;
 use std::sync::Wait;
 use std::sync::atomic::{AtomicBool, Ordering};
 
-/// A link of an agent. It notes the node that it called last, counts the requests sent and the calls that failed, and
-/// logs each failure.
+/// The milliseconds after a warning that an owner answers that it is not one, in which there is no other.
+const QUIET: u64 = 10_000;
+
+/// Returns whether a call failed by this node's own link, which says nothing of the other node.
+fn is_own(error: LinkError) -> bool
+    ensures { IsTrue result ↔ ((error ≡ LinkError.Memory) ⊎ (error ≡ LinkError.Spent)) }
+{
+    matches!(error, LinkError::Memory | LinkError::Spent)
+}
+
+/// A link of an agent. It notes the node that gave the last answer, counts the requests sent and the calls that failed, and
+/// logs that a node does not answer, that it does again, and that this node's own link fails.
 #[derive(Drop)]
 pub struct NotedLink<'a, R> {
     agent: &'a Agent<R>,
     link: TcpLink<R>,
-    /// The node that it called last.
+    /// The node that gave the answer to the last call; None if there was none. A reply may be another node's than the one
+    /// called, which relayed the request.
     pub last: Option<Address>,
+    /// The number of requests in a row whose owner, by this node's view, answered that it is not.
+    disowned: u32,
 }
 
 impl<'a, R: Host> NotedLink<'a, R> {
     /// Makes a link of this agent, with its time limits.
     pub fn new(agent: &'a Agent<R>) -> Self {
+        NotedLink::with_limits(agent, agent.timeouts.links)
+    }
+
+    /// Makes a link of this agent with these time limits.
+    pub fn with_limits(agent: &'a Agent<R>, limits: Limits) -> Self {
         NotedLink {
             agent,
-            link: TcpLink::with_limits(agent.rt, agent.timeouts.links),
+            link: TcpLink::with_limits(agent.rt, limits),
             last: None,
+            disowned: 0,
+        }
+    }
+
+    /// Returns how many requests in a row were answered so, with this answer of their owner by this node's view: it is not
+    /// the owner. Warns, once in ten seconds at most, if there are as many as there are sends of a request.
+    fn disowned_with(&self, owner: Address, answer: &Result<Message, LinkError>) -> u32 {
+        let disowned = match answer {
+            Ok(message) if matches!(&message.content, Content::NotOwner) => {
+                self.disowned.saturating_add(1)
+            }
+            _ => 0,
+        };
+        let now = self.agent.now().number();
+        if disowned >= MAX_SENDS && now >= self.agent.quiet_until.get() {
+            self.agent.quiet_until.set(now.saturating_add(QUIET));
+            warn!(self.agent.log(); "{owner} does not own what this node's members give it: members or --replicas differ");
+        }
+        disowned
+    }
+
+    /// Counts a failed call of a node, and logs it, or that the node answers, unless the log said so last.
+    fn note(&self, to: Address, answer: &Result<Message, LinkError>) {
+        let Agent {
+            rt,
+            own,
+            notices,
+            ..
+        } = self.agent;
+        let now = self.agent.now();
+        if answer.is_err() {
+            self.agent.counters.link_failures.add(1);
+        }
+        match answer {
+            Ok(_) => {
+                if notices.note(rt, to, false, now) {
+                    info!(self.agent.log(); "{to} answers again");
+                }
+                if notices.note(rt, *own, false, now) {
+                    info!(self.agent.log(); "messages are sent again");
+                }
+            }
+            Err(error) if is_own(*error) => {
+                if notices.note(rt, *own, true, now) {
+                    warn!(self.agent.log(); "messages fail at this node: {error}");
+                }
+            }
+            Err(error) => {
+                if notices.note(rt, to, true, now) {
+                    warn!(self.agent.log(); "{to} did not answer: {error}");
+                }
+            }
         }
     }
 }
@@ -51,16 +124,16 @@ impl<'a, R: Host> Link for NotedLink<'a, R> {
         to: Address,
         message: &Message,
     ) -> Result<Message, LinkError> {
-        self.last = Some(to);
         let answer = self.link.call(rt, alloc, to, message);
-        let counters = &self.agent.counters;
+        self.last = match &answer {
+            Ok(message) => Some(message.source),
+            Err(_) => None,
+        };
         if matches!(&message.content, Content::Forward(_, _)) {
-            counters.forwards.add(1);
+            self.agent.counters.forwards.add(1);
+            self.disowned = self.disowned_with(to, &answer);
         }
-        if let Err(error) = &answer {
-            counters.link_failures.add(1);
-            warn!(self.agent.log(); "{to} did not answer: {error}");
-        }
+        self.note(to, &answer);
         answer
     }
 }
@@ -73,7 +146,7 @@ pub struct NotedHandler<'a, A> {
 }
 
 impl<'a, A: Handler> Handler for NotedHandler<'a, A> {
-    ghost may_handle = { A.may_handle };
+    ghost may_handle = { λ noted. A.may_handle noted.handler.now };
 
     fn handle<R: Wait>(
         &self,

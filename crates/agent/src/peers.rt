@@ -20,7 +20,7 @@ use wire_json::decode;
 /// The milliseconds that a thread rests before it tries again.
 const REST: u64 = 10;
 
-/// An input of another node, the connection that waits for its answer, and the moment at which it came.
+/// An input of another node, the connection that waits for its answer, and the moment at which the connection came.
 #[derive(Drop)]
 pub struct Job {
     pub input: Input,
@@ -28,8 +28,30 @@ pub struct Job {
     pub since: Moment,
 }
 
-/// Answers an input over its connection. If sending the answer fails, the answer is lost.
-pub fn answer<R: Host, A: Handler>(
+/// Returns the line that answers an input; None if it needs no answer, or none could be made.
+pub fn line_for<R: Host, A: Handler>(
+    agent: &Agent<R>,
+    alloc: Global,
+    caller: &mut Caller,
+    link: &mut TcpLink<R>,
+    handler: &A,
+    input: &Input,
+) -> Option<Vec<u8>> {
+    let now = agent.now();
+    let line = caller.respond(&agent.rt, alloc, link, handler, now, input);
+    agent.renew(caller);
+    line
+}
+
+/// Sends a line over a connection. If that fails, the line is lost.
+pub fn send_back<R: Host>(agent: &Agent<R>, alloc: Global, stream: TcpStream, line: &[u8]) {
+    if let Ok(deadline) = Deadline::after(&agent.rt, agent.timeouts.line) {
+        let _sent = send_line(alloc, Timed::new(stream, deadline), line);
+    }
+}
+
+/// Answers an input over its connection.
+fn answer<R: Host, A: Handler>(
     agent: &Agent<R>,
     alloc: Global,
     caller: &mut Caller,
@@ -37,17 +59,10 @@ pub fn answer<R: Host, A: Handler>(
     handler: &A,
     job: Job,
 ) {
-    let Job { input, stream, .. } = job;
-    let now = agent.now();
-    let line = caller.respond(&agent.rt, alloc, link, handler, now, &input);
-    agent.renew(caller);
-    let Some(line) = line else {
-        return;
-    };
-    let Ok(deadline) = Deadline::after(&agent.rt, agent.timeouts.line) else {
-        return;
-    };
-    let _sent = send_line(alloc, Timed::new(stream, deadline), line.as_slice());
+    let line = line_for(agent, alloc, caller, link, handler, &job.input);
+    if let Some(line) = line {
+        send_back(agent, alloc, job.stream, line.as_slice());
+    }
 }
 
 /// Returns whether an input is a request of a key.
@@ -83,12 +98,13 @@ fn serve_connection<R: Host>(
     hands: &Sender<Job>,
     stream: TcpStream,
 ) {
+    let since = agent.now();
     let input = listen_to(agent, alloc, &stream);
     let is_request = is_request(alloc, &input);
     let job = Job {
         input,
         stream,
-        since: agent.now(),
+        since,
     };
     if !is_request {
         return answer(agent, alloc, caller, link, &agent.application, job);

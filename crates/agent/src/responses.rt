@@ -1,5 +1,15 @@
 //! Responses of HTTP, from replies and refusals.
-use agent_core::{Answer, Kind, Refusal, unpack};
+ghost use Rattle.std.specs.Prelude.{◌≡◌, [], ◌∷◌, ◌++◌, OnOk, IfOk};
+ghost use Rattle.change_core.specs.Address.{address_text};
+ghost use Rattle.http.specs.StatusCode.{IsStatusCode};
+ghost use Rattle.http_header.specs.FieldValue.{plain_value};
+ghost use Rattle.http_server.specs.Response.{IsBlank, IsResponse, fields_of};
+ghost use Rattle.agent_core.specs.Packs.{unpacked};
+ghost use Rattle.agent_core.specs.Refusals.{kind_name};
+ghost use Rattle.agent.specs.Replies.{ShowsRefusal, ShowsReply, allowed_methods, answered_kind, closing, fields_for, owner_field, reply_body, reply_kind, reply_status};
+
+use crate::replies::Reply;
+use agent_core::{Answer, Kind, Refusal, Verb, unpack};
 use bytes::BufMut;
 use change_core::Address;
 use http::{HeaderName, HeaderValue, StatusCode};
@@ -7,107 +17,85 @@ use http_server::Response;
 use message_core::Text;
 use std::alloc::{AllocError, Global};
 
-/// A reply to a request: an application's answer with its own status, or one with status 200.
-#[derive(Debug, Drop)]
-pub enum Reply {
-    /// An application's answer, as `pack` makes it, and the node that owns the key.
-    Handled { owner: Address, text: Text },
-    /// One line of text.
-    Line(&'static str),
-    /// Text.
-    Text(String),
-    /// JSON.
-    Json(String),
-    /// The page that shows the ring, as HTML.
-    Page,
-}
-
-/// Adds a header with this value. If the text can't be the value of a header, no header is added.
-fn put_header(
-    alloc: Global,
-    response: &mut Response,
-    name: HeaderName,
-    value: &str,
-) -> Result<(), AllocError> {
-    match HeaderValue::from_str(alloc, value) {
-        Ok(value) => response.add_header(name, value),
-        Err(_) => Ok(()),
+/// Adds the field that says that the connection is closed after the response, if it is.
+fn put_closing(response: &mut Response, closes: bool) -> Result<(), AllocError>
+    ensures status { response.new.status ≡ response.old.status }
+    ensures body { response.new.body ≡ response.old.body }
+    ensures fields { OnOk result (fields_of response.new ≡ fields_of response.old ++ closing closes) }
+{
+    if !closes {
+        return Ok(());
     }
+    let close = HeaderValue::from_static("close");
+    response.add_header(HeaderName::from_static("connection"), close)
 }
 
-/// Writes an answer. If `closes`, a header tells the client that the connection is closed after it.
-fn put(
-    alloc: Global,
-    response: &mut Response,
-    answer: Answer<'_>,
-    closes: bool,
-) -> Result<(), AllocError> {
+/// Writes an answer into a blank response. If `closes`, a header tells the client that the connection is closed after it.
+fn put(response: &mut Response, answer: Answer<'_>, closes: bool) -> Result<(), AllocError>
+    requires blank { IsBlank response.old }
+    requires code { IsStatusCode answer.status }
+    ensures { OnOk result (IsResponse answer.entry.status (fields_for closes answer.entry.kind) answer.entry.body.now response.new) }
+{
     if let Ok(status) = StatusCode::from_u16(answer.status) {
         response.status = status;
     }
-    if closes {
-        put_header(
-            alloc,
-            response,
-            HeaderName::from_static("connection"),
-            "close",
-        )?;
-    }
-    put_header(
-        alloc,
-        response,
-        HeaderName::from_static("content-type"),
-        answer.kind.name(),
-    )?;
+    put_closing(response, closes)?;
+    let kind = HeaderValue::from_static(answer.kind.name());
+    response.add_header(HeaderName::from_static("content-type"), kind)?;
     response.body.put_slice(answer.body.as_bytes())
 }
 
-/// Writes the answer of an application, with a header that names the owner.
+/// Returns the header value that names an address.
+fn value_of(alloc: Global, address: Address) -> Result<HeaderValue, AllocError>
+    ensures { IfOk result (λ value. value ≡ plain_value (address_text address)) }
+{
+    let text = format!(in alloc; "{address}")?;
+    HeaderValue::from_string(text).map_err(|_| AllocError)
+}
+
+/// Returns the kind of an application's answer.
+fn kind_of(is_json: bool) -> Kind
+    ensures { result ≡ answered_kind is_json }
+{
+    if is_json { Kind::Json } else { Kind::Text }
+}
+
+/// Writes the answer of an application into a blank response, with a header that names the owner.
 fn put_handled(
     alloc: Global,
     response: &mut Response,
     owner: Address,
     text: &Text,
     closes: bool,
-) -> Result<(), AllocError> {
-    let owner = format!(in alloc; "{owner}")?;
-    put_header(
-        alloc,
-        response,
-        HeaderName::from_static("x-ringpop-owner"),
-        owner.as_str(),
-    )?;
+) -> Result<(), AllocError>
+    requires { IsBlank response.old }
+    ensures { OnOk result (ShowsReply (Reply.Handled owner text.now) closes response.new) }
+{
     let packed = unpack(text.as_str());
-    let kind = if packed.is_json {
-        Kind::Json
-    } else {
-        Kind::Text
-    };
     let answer = Answer {
         status: packed.status,
-        kind,
+        kind: kind_of(packed.is_json),
         body: packed.body,
     };
-    put(alloc, response, answer, closes)
+    put(response, answer, closes)?;
+    let owner = value_of(alloc, owner)?;
+    response.add_header(HeaderName::from_static("x-ringpop-owner"), owner)
 }
 
-/// Writes a text with status 200.
-fn put_text(
-    alloc: Global,
-    response: &mut Response,
-    kind: Kind,
-    body: &str,
-    closes: bool,
-) -> Result<(), AllocError> {
+/// Writes a text with status 200 into a blank response.
+fn put_text(response: &mut Response, kind: Kind, body: &str, closes: bool) -> Result<(), AllocError>
+    requires { IsBlank response.old }
+    ensures { OnOk result (IsResponse 200 (fields_for closes kind) body.now response.new) }
+{
     let answer = Answer {
         status: 200,
         kind,
         body,
     };
-    put(alloc, response, answer, closes)
+    put(response, answer, closes)
 }
 
-/// Writes a reply into a response. If `closes`, a header tells the client that the connection is closed after it.
+/// Writes a reply into a blank response. If `closes`, a header tells the client that the connection is closed after it.
 ///
 /// # Errors
 ///
@@ -117,35 +105,46 @@ pub fn put_reply(
     response: &mut Response,
     reply: &Reply,
     closes: bool,
-) -> Result<(), AllocError> {
+) -> Result<(), AllocError>
+    requires { IsBlank response.old }
+    ensures { OnOk result (ShowsReply reply.now closes response.new) }
+{
     match reply {
         Reply::Handled { owner, text } => put_handled(alloc, response, *owner, text, closes),
-        Reply::Line(line) => put(alloc, response, Answer::line(line), closes),
-        Reply::Text(text) => put_text(alloc, response, Kind::Text, text.as_str(), closes),
-        Reply::Json(text) => put_text(alloc, response, Kind::Json, text.as_str(), closes),
-        Reply::Page => put(alloc, response, Answer::page(), closes),
+        Reply::Line(line) => put(response, Answer::line(line), closes),
+        Reply::Text(text) => put_text(response, Kind::Text, text.as_str(), closes),
+        Reply::Json(text) => put_text(response, Kind::Json, text.as_str(), closes),
+        Reply::Page => put(response, Answer::page(), closes),
     }
 }
 
-/// Writes a refusal into a response: its status, its line of text and, for `BadMethod`, the method that the path takes. If
-/// `closes`, a header tells the client that the connection is closed after it.
+/// Returns the header value that names the methods of a path with this method. A path with GET takes HEAD too.
+fn allowed(verb: Verb) -> HeaderValue
+    ensures { result ≡ plain_value (allowed_methods verb) }
+{
+    match verb {
+        Verb::Get => HeaderValue::from_static("GET, HEAD"),
+        Verb::Post => HeaderValue::from_static("POST"),
+    }
+}
+
+/// Writes a refusal into a blank response: its status, its line of text and, for `BadMethod`, the methods that the path
+/// takes. If `closes`, a header tells the client that the connection is closed after it.
 ///
 /// # Errors
 ///
 /// - `AllocError`: out of memory. A part of the refusal is written.
 pub fn put_refusal(
-    alloc: Global,
     response: &mut Response,
     refusal: Refusal,
     closes: bool,
-) -> Result<(), AllocError> {
+) -> Result<(), AllocError>
+    requires { IsBlank response.old }
+    ensures { OnOk result (ShowsRefusal refusal closes response.new) }
+{
+    put(response, Answer::refused(refusal), closes)?;
     if let Refusal::BadMethod(verb) = refusal {
-        put_header(
-            alloc,
-            response,
-            HeaderName::from_static("allow"),
-            verb.name(),
-        )?;
+        response.add_header(HeaderName::from_static("allow"), allowed(verb))?;
     }
-    put(alloc, response, Answer::refused(refusal), closes)
+    Ok(())
 }

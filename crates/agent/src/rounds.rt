@@ -4,7 +4,7 @@ use crate::callers::Caller;
 use crate::changes::{is_refuted, log_changes};
 use crate::links::NotedLink;
 use crate::systems::Host;
-use agent_core::{Refutations, are_many_addresses};
+use agent_core::{Notice, Refutations, are_many_addresses};
 use change_core::{Address, Change, Digest, MAX_MEMBERS, Moment};
 use log::{info, warn};
 use node_core::ChangeList;
@@ -38,6 +38,9 @@ struct Rounds<'a, R> {
     members: Option<ChangeList>,
     digest: Option<Digest>,
     refutations: Refutations,
+    /// What the log said last of the rounds, and of healing.
+    round_notice: Notice,
+    healing_notice: Notice,
 }
 
 /// Joins by a host. Returns whether the host answered.
@@ -126,15 +129,24 @@ impl<'a, R: Host> Rounds<'a, R> {
         }
     }
 
+    /// Logs that a round failed, or that rounds succeed again, unless the log said so last.
+    fn log_errors(&mut self, round: &Result<Round, ClusterError>, now: Moment) {
+        if !self.round_notice.note(round.is_err(), now) {
+            return;
+        }
+        match round {
+            Ok(_) => info!(self.agent.log(); "rounds succeed again"),
+            Err(error) => warn!(self.agent.log(); "a round failed: {error}"),
+        }
+    }
+
     /// Makes one round of gossip, counts it, and logs its error and how the members changed.
     fn make(&mut self) {
         let agent = self.agent;
         let now = agent.now();
         let round = self.gossip(now);
         agent.counters.add_round(&round);
-        if let Err(error) = &round {
-            warn!(agent.log(); "a round failed: {error}");
-        }
+        self.log_errors(&round, now);
         self.log(&round);
         agent.renew(&mut self.caller);
         self.heal(now);
@@ -150,8 +162,11 @@ impl<'a, R: Host> Rounds<'a, R> {
         let healed = self
             .caller
             .heal(&agent.rt, self.alloc, link, now, &mut self.healing);
-        if let Err(error) = healed {
-            warn!(agent.log(); "healing failed: {error}");
+        if self.healing_notice.note(healed.is_err(), now) {
+            match healed {
+                Ok(_) => info!(agent.log(); "healing succeeds again"),
+                Err(error) => warn!(agent.log(); "healing failed: {error}"),
+            }
         }
         agent.renew(&mut self.caller);
     }
@@ -205,6 +220,8 @@ pub fn make_rounds<R: Host>(
         members: None,
         digest: None,
         refutations: Refutations::new(),
+        round_notice: Notice::new(),
+        healing_notice: Notice::new(),
     };
     let mut last: u64 = 0;
     for _ in agent.rt.forever() {

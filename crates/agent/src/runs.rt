@@ -2,7 +2,7 @@
 ghost use Rattle.std.specs.Prelude.{◌++◌, ◌∷◌, [], IfOk, OnOk};
 ghost use Rattle.std.specs.Io.KnownBytes.{Appends};
 ghost use Rattle.agent.specs.Texts.{agent_text, serving_line};
-ghost use Rattle.wire_json.specs.Input.{AppendsFront};
+ghost use Rattle.wire_json.specs.Input.{AppendsPrefix};
 
 use crate::agents::{Agent, Flag};
 use crate::applications::Application;
@@ -13,6 +13,7 @@ use crate::fronts::{FRONTS, serve_http};
 use crate::hands::serve_requests;
 use crate::journals::Journal;
 use crate::links::NotedLink;
+use crate::notices::Notices;
 use crate::peers::{Job, serve_peers};
 use crate::rounds::{join_hosts, make_rounds};
 use crate::settings::Settings;
@@ -106,9 +107,14 @@ fn passes_of<R: System>(rt: &R, alloc: Global, settings: &Settings) -> Result<Pa
 }
 
 /// Makes the application of the settings.
-fn application_of<R: System>(rt: &R, alloc: Global, settings: &Settings) -> Application<R> {
+fn application_of<R: System>(
+    rt: &R,
+    alloc: Global,
+    stopwatch: Stopwatch,
+    settings: &Settings,
+) -> Application<R> {
     let log = Journal::new(*rt, settings.address).at(settings.level);
-    Application::new(*rt, alloc, log, settings.address, settings.app)
+    Application::new(*rt, alloc, log, stopwatch, settings.address, settings.app)
 }
 
 /// Makes the state that the threads of an agent share.
@@ -118,19 +124,24 @@ fn agent_of<R: System>(
     settings: &Settings,
 ) -> Result<Arc<Agent<R>, Global>, AgentError> {
     let passes = passes_of(rt, alloc, settings)?;
+    let stopwatch = Stopwatch::start(rt);
     let agent = Agent {
         rt: *rt,
         level: settings.level,
         own: settings.address,
         replicas: settings.replicas,
-        stopwatch: Stopwatch::start(rt),
+        hands: settings.hands,
+        stopwatch,
         timeouts: Timeouts::standard(),
-        application: application_of(rt, alloc, settings),
+        application: application_of(rt, alloc, stopwatch, settings),
         passes: Mutex::new(passes),
         counters: Counters::new(),
         busy: Count::new(),
         waiting: Count::new(),
+        relaying: Count::new(),
+        quiet_until: Count::new(),
         connections: Count::new(),
+        notices: Notices::new(alloc),
         has_joined: Flag::new(settings.hosts.is_empty()),
         has_left: Flag::new(false),
         is_stopping: Flag::new(false),
@@ -146,10 +157,10 @@ fn listen<R: System>(
     alloc: Global,
     address: Address,
 ) -> Result<Arc<TcpListener, Global>, AgentError> {
-    let listener = TcpListener::bind(rt, socket_address(address)).map_err(
-        |_| AgentError::CannotListen,
-    )?;
-    Ok(Arc::new(alloc, listener)?)
+    match TcpListener::bind(rt, socket_address(address)) {
+        Ok(listener) => Ok(Arc::new(alloc, listener)?),
+        Err(_) => Err(AgentError::CannotListen(address)),
+    }
 }
 
 /// Returns the node with a pass for another thread.
@@ -233,7 +244,7 @@ fn start_rounds<R: System>(
 /// Writes a line and flushes.
 fn say<W: Write>(writer: &mut W, text: &str) -> Result<(), AgentError>
     ensures said { OnOk result (Appends (W.contents writer.old) (W.contents writer.new) (text.now ++ 10 ∷ [])) }
-    ensures front { AppendsFront (W.contents writer.old) (W.contents writer.new) (text.now ++ 10 ∷ []) }
+    ensures prefix { AppendsPrefix (W.contents writer.old) (W.contents writer.new) (text.now ++ 10 ∷ []) }
 {
     write_line(writer, text.as_bytes()).map_err(|_| AgentError::CannotWrite)
 }
@@ -241,7 +252,7 @@ fn say<W: Write>(writer: &mut W, text: &str) -> Result<(), AgentError>
 /// Writes the line that the node at an address serves, and flushes.
 fn say_serving<W: Write>(alloc: Global, address: Address, writer: &mut W) -> Result<(), AgentError>
     ensures said { OnOk result (Appends (W.contents writer.old) (W.contents writer.new) (serving_line address)) }
-    ensures front { AppendsFront (W.contents writer.old) (W.contents writer.new) (serving_line address) }
+    ensures prefix { AppendsPrefix (W.contents writer.old) (W.contents writer.new) (serving_line address) }
 {
     let text = format!(in alloc; "serving {address}")?;
     say(writer, text.as_str())
@@ -298,9 +309,15 @@ fn set_up<R: System>(
     if !settings.is_http_local() && !settings.http_any {
         return Err(AgentError::NotLocal);
     }
+    if settings.address.ip() == 0 {
+        return Err(AgentError::NoAddress);
+    }
     let agent = agent_of(rt, alloc, &settings)?;
     if !settings.is_http_local() {
         warn!(agent.log(); "HTTP is answered beyond this machine, and nobody is asked who they are");
+    }
+    if settings.app.is_none() {
+        warn!(agent.log(); "no --app: requests of this node's keys are echoed");
     }
     start(rt, alloc, &agent, settings)?;
     Ok(agent)
@@ -315,9 +332,10 @@ fn set_up<R: System>(
 /// Threads that were started before the error keep running until the program ends. A prefix of the two lines is written.
 ///
 /// - `NotLocal`: the address for HTTP is not in 127.0.0.0/8, and `http_any` is not set. This is checked first.
+/// - `NoAddress`: the node's own address is 0.0.0.0 with a port. This is checked second.
 /// - `NoClock`: no incarnation is given, and the system has no clock, or its clock gives no time since 1970.
 /// - `BadConfig`: a field of the node's configuration is out of its range.
-/// - `CannotListen`: an address can't be listened at, that for other nodes or that for HTTP.
+/// - `CannotListen`: this address can't be listened at, that for other nodes or that for HTTP.
 /// - `NoRandom`: the system gave no random numbers for the threads that answer HTTP.
 /// - `NoThread`: the system gave no thread.
 /// - `CannotWrite`: the writer failed.
@@ -331,7 +349,7 @@ pub fn run<R: System, W: Write>(
     writer: &mut W,
 ) -> Result<(), AgentError>
     ensures served { OnOk result (Appends (W.contents writer.old) (W.contents writer.new) (agent_text settings.address)) }
-    ensures front { AppendsFront (W.contents writer.old) (W.contents writer.new) (agent_text settings.address) }
+    ensures prefix { AppendsPrefix (W.contents writer.old) (W.contents writer.new) (agent_text settings.address) }
 {
     let own = settings.address;
     let agent = set_up(rt, alloc, settings)?;

@@ -31,16 +31,16 @@ abbrev pub joined : {A : Type 0} → (A → List ℕ) → List A → ℕ → Lis
 joined text xs i = join_with_byte 44 (map text (take i xs))
 
 -- the first item is appended to the text before the list
-pub grows-first : {A : Type 0} (text : A → List ℕ) (xs : List A) (i : ℕ) (x : A) (front old new : List ℕ) → i ≡ 0 → i < length xs → x ≡ get_or xs i x
-    → old ≡ front ++ joined text xs i → new ≡ old ++ text x → new ≡ front ++ joined text xs (i + 1)
-grows-first text xs i x front old new z l e was now =
-    now ∙ ap (λ w. w ++ text x) (was ∙ ap (λ k. front ++ joined text xs k) z) ∙ append_assoc front [] (text x)
-    ∙ ap (λ w. front ++ w) (joined-first text xs i x z l e)
+pub grows-first : {A : Type 0} (text : A → List ℕ) (xs : List A) (i : ℕ) (x : A) (prefix old new : List ℕ) → i ≡ 0 → i < length xs → x ≡ get_or xs i x
+    → old ≡ prefix ++ joined text xs i → new ≡ old ++ text x → new ≡ prefix ++ joined text xs (i + 1)
+grows-first text xs i x prefix old new z l e was now =
+    now ∙ ap (λ w. w ++ text x) (was ∙ ap (λ k. prefix ++ joined text xs k) z) ∙ append_assoc prefix [] (text x)
+    ∙ ap (λ w. prefix ++ w) (joined-first text xs i x z l e)
 
 -- a comma and a later item are appended
-pub grows-more : {A : Type 0} (text : A → List ℕ) (xs : List A) (i : ℕ) (x : A) (front old new : List ℕ) → 0 < i → i < length xs → x ≡ get_or xs i x
-    → old ≡ front ++ joined text xs i → new ≡ (old ++ 44 ∷ []) ++ text x → new ≡ front ++ joined text xs (i + 1)
-grows-more text xs i x front old new p l e was now =
-    now ∙ ap (λ w. (w ++ 44 ∷ []) ++ text x) was ∙ append_assoc (front ++ joined text xs i) (44 ∷ []) (text x)
-    ∙ append_assoc front (joined text xs i) (44 ∷ text x)
-    ∙ ap (λ w. front ++ w) (joined-more text xs i x p l e)
+pub grows-more : {A : Type 0} (text : A → List ℕ) (xs : List A) (i : ℕ) (x : A) (prefix old new : List ℕ) → 0 < i → i < length xs → x ≡ get_or xs i x
+    → old ≡ prefix ++ joined text xs i → new ≡ (old ++ 44 ∷ []) ++ text x → new ≡ prefix ++ joined text xs (i + 1)
+grows-more text xs i x prefix old new p l e was now =
+    now ∙ ap (λ w. (w ++ 44 ∷ []) ++ text x) was ∙ append_assoc (prefix ++ joined text xs i) (44 ∷ []) (text x)
+    ∙ append_assoc prefix (joined text xs i) (44 ∷ text x)
+    ∙ ap (λ w. prefix ++ w) (joined-more text xs i x p l e)

@@ -19,11 +19,11 @@ abbrev pub is_within : ℕ → ℕ → ℕ → Bool
 is_within least greatest x = nat_le least x && nat_le x greatest
 
 -- the status and whether the body is JSON, if a text starts with a mark, a status from 200 to 599 and a space
-abbrev pub front_of : List ℕ → Option (ℕ × Bool)
-front_of (mark ∷ hundreds ∷ tens ∷ ones ∷ space ∷ body) =
+abbrev pub header_of : List ℕ → Option (ℕ × Bool)
+header_of (mark ∷ hundreds ∷ tens ∷ ones ∷ space ∷ body) =
     cond (is_within 1 2 mark && (is_within 50 53 hundreds && (is_within 48 57 tens && (is_within 48 57 ones && (space == 32)))))
     (Some (100 * (hundreds - 48) + 10 * (tens - 48) + (ones - 48), mark == 2)) None
-front_of other = None
+header_of other = None
 
 -- an answer that a text represents
 pub record Unpacked : Type 0 where
@@ -34,8 +34,8 @@ pub record Unpacked : Type 0 where
 -- the answer of a text with such a start: the rest is the body; without one the whole text is the body, and the status is 200
 abbrev pub behind : List ℕ → Option (ℕ × Bool) → Unpacked
 behind text None = record { status = 200; is_json = false; body = text }
-behind text (Some front) = record { status = front.0; is_json = front.1; body = drop 5 text }
+behind text (Some header) = record { status = header.0; is_json = header.1; body = drop 5 text }
 
 -- the answer that a text represents; every text represents one
 abbrev pub unpacked : List ℕ → Unpacked
-unpacked text = behind text (front_of text)
+unpacked text = behind text (header_of text)

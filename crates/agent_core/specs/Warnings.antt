@@ -1,6 +1,7 @@
 -- The conditions of the log's warnings.
-use Rattle.std.specs.Prelude.{◌+◌, ◌==◌, ◌&&◌, nat_le, min, Bool, cond, ℕ}
+use Rattle.std.specs.Prelude.{◌+◌, ◌==◌, ◌&&◌, nat_le, min, Bool, not, cond, ℕ}
 use Rattle.agent_core.specs.declared.warnings.Refutations.{Refutations}
+use Rattle.agent_core.specs.declared.warnings.Notice.{Notice}
 
 -- the window to which the next round belongs: after 50 rounds another begins
 abbrev pub window : Refutations → Refutations
@@ -17,3 +18,19 @@ noted r is_refuted = noted_in (window r) is_refuted
 -- whether that round is the sixth that was refuted within its window
 abbrev pub is_often : Refutations → Bool → Bool
 is_often r is_refuted = is_refuted && ((noted r is_refuted).refuted == 6)
+
+-- whether a state is not the one that the log said last
+abbrev pub differs : Notice → Bool → Bool
+differs notice is_failing = cond notice.is_failing (not is_failing) is_failing
+
+-- whether the log says a state at a moment: it said the opposite last, and its ten seconds of silence are over
+abbrev pub is_news : Notice → Bool → ℕ → Bool
+is_news notice is_failing now = differs notice is_failing && nat_le notice.quiet_until now
+
+-- what the log has said then
+abbrev pub told : Notice → Bool → ℕ → Notice
+told notice is_failing now = cond (is_news notice is_failing now) (record { is_failing = is_failing; quiet_until = now + 10000 }) notice
+
+-- whether a notice says no more than a new one
+abbrev pub is_over : Notice → ℕ → Bool
+is_over notice now = not notice.is_failing && nat_le notice.quiet_until now

@@ -24,4 +24,4 @@ pub use refusals::{Part, Refusal};
 pub use routes::{LONGEST_KEY, MOST_OWNERS, route};
 pub use texts::{digest_line, members_text, owners_text};
 pub use verbs::Verb;
-pub use warnings::{MANY_ADDRESSES, Refutations, are_many_addresses};
+pub use warnings::{MANY_ADDRESSES, Notice, Refutations, are_many_addresses};

@@ -1,6 +1,6 @@
 //! An application's answer (its status, whether it is JSON, and its body) as the one text that a Reply carries.
 ghost use Rattle.std.specs.Prelude.{◌≡◌, ◌<◌, ◌≤◌, IfOk, IfSome, IsOkUnless, OnSome, length, slice_index, string_bytes};
-ghost use Rattle.agent_core.specs.Packs.{front_of, is_marked, marked, packed, unpacked};
+ghost use Rattle.agent_core.specs.Packs.{header_of, is_marked, marked, packed, unpacked};
 
 use message_core::{Text, WireError};
 use std::alloc::{AllocError, Global};
@@ -64,8 +64,8 @@ pub fn pack(alloc: Global, status: u16, is_json: bool, body: &str) -> Result<Tex
 
 /// Returns the status that a text starts with, and whether the body after it is JSON; None if no mark, status from 200
 /// to 599 and space come first.
-fn front_of(text: &[u8]) -> Option<(u16, bool)>
-    ensures front { result ≡ front_of text.now }
+fn header_of(text: &[u8]) -> Option<(u16, bool)>
+    ensures header { result ≡ header_of text.now }
     ensures range { IfSome result (λ r. (200 ≤ r.0) × (r.0 ≤ 599)) }
     ensures space { OnSome result ((4 < length text.now) × (slice_index text.now 4 ≡ 32)) }
 {
@@ -95,7 +95,7 @@ pub fn unpack(text: &str) -> Packed<'_>
     ensures is_json { result.is_json ≡ (unpacked text.now).is_json }
     ensures body { result.body.now ≡ (unpacked text.now).body }
 {
-    match front_of(text.as_bytes()) {
+    match header_of(text.as_bytes()) {
         Some((status, is_json)) => Packed {
             status,
             is_json,

@@ -1,6 +1,8 @@
 //! The conditions of the log's warnings.
-ghost use Rattle.std.specs.Prelude.{◌≡◌, ◌≤◌, ◌<◌, ◌/◌, ◌↔◌, IsTrue};
-ghost use Rattle.agent_core.specs.Warnings.{is_often, noted};
+ghost use Rattle.std.specs.Prelude.{◌≡◌, ◌≤◌, ◌<◌, ◌/◌, ◌↔◌, IsTrue, false};
+ghost use Rattle.agent_core.specs.Warnings.{is_news, is_often, is_over, noted, told};
+
+use change_core::Moment;
 
 /// The number of addresses from which on a node warns that they may run out.
 pub const MANY_ADDRESSES: usize = 3_000;
@@ -10,6 +12,9 @@ const WINDOW: u32 = 50;
 
 /// The number of refuted rounds within a window at which a node warns.
 const OFTEN: u32 = 6;
+
+/// The milliseconds after a line about a node, a service or a task for which the log says nothing more of it.
+const QUIET: u64 = 10_000;
 
 /// Returns whether the number of addresses used, which was `before` and is `now`, is reason for a warning: it is 3,000 or
 /// more, and has reached another hundred.
@@ -53,5 +58,50 @@ impl Refutations {
         }
         self.refuted = self.refuted.saturating_add(1);
         self.refuted == OFTEN
+    }
+}
+
+/// A record of what the log said last of a node, a service or a task that can fail.
+#[derive(Clone, Copy, Debug, PartialEq, Eq)]
+pub struct Notice {
+    /// Whether it said that it fails.
+    pub is_failing: bool,
+    /// The number of the moment before which it says nothing more.
+    pub quiet_until: u64,
+}
+
+impl Notice {
+    /// Makes the notice of one of which the log has said nothing.
+    pub fn new() -> Self
+        ensures failing { result.is_failing ≡ false }
+        ensures quiet { result.quiet_until ≡ 0 }
+    {
+        Notice {
+            is_failing: false,
+            quiet_until: 0,
+        }
+    }
+
+    /// Notes whether it fails at a moment. Returns whether the log is to say so: the log said the opposite last, ten
+    /// seconds before or earlier.
+    pub fn note(&mut self, is_failing: bool, now: Moment) -> bool
+        ensures notice { self.new ≡ told self.old is_failing now }
+        ensures news { result ≡ is_news self.old is_failing now }
+    {
+        if is_failing == self.is_failing || now.number() < self.quiet_until {
+            return false;
+        }
+        *self = Notice {
+            is_failing,
+            quiet_until: now.number() + QUIET,
+        };
+        true
+    }
+
+    /// Returns whether the notice says no more than a new one: it does not fail, and the log may say so if it does.
+    pub fn is_over(&self, now: Moment) -> bool
+        ensures { result ≡ is_over self.now now }
+    {
+        !self.is_failing && now.number() >= self.quiet_until
     }
 }

@@ -1,4 +1,5 @@
-use agent_core::{Refutations, are_many_addresses};
+use agent_core::{Notice, Refutations, are_many_addresses};
+use change_core::Moment;
 
 /// A number of addresses, a later one, and whether the later one is reason for a warning.
 const ADDRESSES: [(usize, usize, bool); 6] = [
@@ -20,5 +21,31 @@ fn warns(rt: HostRuntime) {
         let is_often = refutations.note(round % 10 == 0 || round > 50);
         // The 50th round ends the first window, with five of its rounds refuted.
         assert!(rt; is_often == (round == 56), "{round}");
+    }
+}
+
+/// The milliseconds of a moment, whether a node fails then, and whether the log is to say so.
+const FAILURES: [(u64, bool, bool); 10] = [
+    (0, false, false),
+    (5, true, true),
+    (6, true, false),
+    (7, false, false),
+    (10_004, false, false),
+    (10_005, false, true),
+    (10_006, true, false),
+    (20_005, true, true),
+    (40_000, true, false),
+    (40_001, false, true),
+];
+
+#[test]
+fn tells_a_change_that_lasts(rt: HostRuntime) {
+    let mut notice = Notice::new();
+    for (at, is_failing, wanted) in &FAILURES {
+        let Some(now) = Moment::new(*at) else {
+            unreachable!()
+        };
+        assert!(rt; notice.note(*is_failing, now) == *wanted, "{at}");
+        assert!(rt; notice.is_over(now) == (*at < 5), "{at}");
     }
 }

@@ -14,7 +14,7 @@ use Rattle.change_core.proofs.Precedence.{Exceeds-true, exceeds-true, exceeds-fa
 use Rattle.change_core.proofs.Members.{None-greatest, unnamed-greatest, IsGreatest-greatest, greatest-members, IsMemberList-members, members-IsMemberList, members-same, members-append, members-replaced, Contains-member_list}
 use Rattle.change_core.proofs.News.{members-no_news, members-inserted_at, gap_for, greatest-news}
 use Rattle.change_core.proofs.Serving.{serving-greatest, greatest-serving}
-use Rattle.change_core.proofs.DigestTexts.{change_text-front}
+use Rattle.change_core.proofs.DigestTexts.{change_text-prefix}
 
 -- of two changes about one address one overrides the other, or they are the same
 pub Overrides-total : (c d : Change) → c.address ≡ d.address → (c ≡ d) ⊎ (Overrides c d ⊎ Overrides d c)
@@ -71,14 +71,14 @@ IsReplaced-newer cs c d e o =
   where
     replaced : (i : ℕ) → i < length (members cs) → get_or (members cs) i d ≡ d → IsReplaced (members cs) d c (members (cs ++ c ∷ []))
     replaced i l at =
-        let front : List Change = take i (members cs) in
+        let prefix : List Change = take i (members cs) in
         let back : List Change = drop (suc i) (members cs) in
-        let was : members cs ≡ front ++ d ∷ back = sym (take-append-drop i (members cs)) ∙ ap (λ ds. front ++ ds) (drop-cons (members cs) i d l) ∙ ap (λ x. front ++ x ∷ back) at in
+        let was : members cs ≡ prefix ++ d ∷ back = sym (take-append-drop i (members cs)) ∙ ap (λ ds. prefix ++ ds) (drop-cons (members cs) i d l) ∙ ap (λ x. prefix ++ x ∷ back) at in
         record {
-          before = front;
+          before = prefix;
           after = back;
           was = was;
-          is = sym (members-append cs (c ∷ [])) ∙ ap (λ ds. members (ds ++ c ∷ [])) was ∙ members-replaced front back c d (subst IsMemberList was (IsMemberList-members cs)) o;
+          is = sym (members-append cs (c ∷ [])) ∙ ap (λ ds. members (ds ++ c ∷ [])) was ∙ members-replaced prefix back c d (subst IsMemberList was (IsMemberList-members cs)) o;
         }
 
 pub members-overridden : (cs : List Change) (c d : Change) → greatest cs c.address ≡ Some d → (Overrides c d → ⊥) → members (cs ++ c ∷ []) ≡ members cs
@@ -179,4 +179,4 @@ greatest-log_one own log held given e refuted =
 
 -- no other change has the text
 pub same_from_change_text : (c d : Change) → change_text c ≡ change_text d → c ≡ d
-same_from_change_text c d e = (change_text-front c d [] [] tt tt (append-nil (change_text c) ∙ e ∙ sym (append-nil (change_text d)))).0
+same_from_change_text c d e = (change_text-prefix c d [] [] tt tt (append-nil (change_text c) ∙ e ∙ sym (append-nil (change_text d)))).0

@@ -68,8 +68,8 @@ fn put(bytes: &mut [u8; ADDRESS_BYTES], len: usize, byte: u8) -> usize
 #[tactic(auto, using(crate::proofs::DecimalTexts::upto_step, crate::proofs::DecimalTexts::upto_none))]
 fn put_digit(bytes: &mut [u8; ADDRESS_BYTES], len: usize, number: u16) -> usize
     requires room { len < 21 }
-    ensures digits { (front : List ℕ) → take len bytes.old ≡ front ++ upto (number / 10)
-        → take result bytes.new ≡ front ++ upto number }
+    ensures digits { (prefix : List ℕ) → take len bytes.old ≡ prefix ++ upto (number / 10)
+        → take result bytes.new ≡ prefix ++ upto number }
     ensures len { result ≤ len + 1 }
 {
     if number == 0 {

@@ -45,8 +45,8 @@ pub parted : (before left : List (List ℕ)) (cs : List Sourced) → AreChangeLi
 parted [] left cs p = ([], cs, refl, tt, p)
 parted (l ∷ before) left [] p = absurd p
 parted (l ∷ before) left (c ∷ cs) p =
-    let (xs, ys, e, front, back) = parted before left cs p.1 in
-    (c ∷ xs, ys, ap (λ ds. c ∷ ds) e, (p.0, front), back)
+    let (xs, ys, e, prefix, back) = parted before left cs p.1 in
+    (c ∷ xs, ys, ap (λ ds. c ∷ ds) e, (p.0, prefix), back)
 
 -- one change more comes to no fewer members
 no_fewer_one : (cs : List Change) (c : Change) → length (members cs) ≤ length (members (cs ++ c ∷ []))
@@ -102,8 +102,8 @@ outside_anywhere m n LineOutOfMemory h = tt
 pub no_fault_before : (before left : List (List ℕ)) (held now : List Change) (f : LineError) → ComeTo before held → ComeTo (before ++ left) now → IsFaultAt held left f
     → IsOutside (AtLine 0 f)
 no_fault_before before left held now f p q is =
-    let (xs, ys, all, front, back) = parted before left q.heard q.read in
-    let same : xs ≡ p.heard = one_heard before xs p.heard front p.read in
+    let (xs, ys, all, prefix, back) = parted before left q.heard q.read in
+    let same : xs ≡ p.heard = one_heard before xs p.heard prefix p.read in
     let are : held ≡ members (map change_of xs) = p.are_members ∙ ap (λ cs. members (map change_of cs)) (sym same) in
     let split : map change_of q.heard ≡ map change_of xs ++ map change_of ys = ap (map change_of) all ∙ map-append change_of xs ys in
     let total : length now ≡ length (members (map change_of xs ++ map change_of ys)) = ap length (q.are_members ∙ ap members split) in

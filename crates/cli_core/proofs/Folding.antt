@@ -11,7 +11,7 @@ use Rattle.change_core.specs.Numbers.{greatest_number, most_members}
 use Rattle.change_core.proofs.Members.{members-append, IsMemberList-members}
 use Rattle.wire_json.specs.Forms.{ChangeFault}
 use Rattle.wire_json.specs.Lines.{Faults}
-use Rattle.wire_json.specs.Input.{AppendsFront}
+use Rattle.wire_json.specs.Input.{AppendsPrefix}
 use Rattle.message_core.specs.declared.errors.WireError.{WireError}
 use Rattle.message_core.specs.declared.errors.WireError.TheVariants.{LineTooLong, BadJson, NotObject, UnknownKind, MissingField, BadField, TooMany, Io, Memory}
 use Rattle.cli_core.specs.declared.faults.LineError.{LineError}
@@ -163,10 +163,10 @@ pub written : (text : List Change → List ℕ) (known old new : Option (List �
 written text None old new held output p e a = tt
 written text (Some input) old new held output p e a = (text held, RunsTo-text text input held p, rw e at a)
 
-pub front_written : (text : List Change → List ℕ) (known old new : Option (List ℕ)) (held : List Change) (output : List ℕ) → ComesTo known held
-    → output ≡ text held → AppendsFront old new output → Leaves text CannotWrite known old new
-front_written text None old new held output p e a = tt
-front_written text (Some input) old new held output p e a = (text held, RunsTo-text text input held p, rw e at a)
+pub prefix_written : (text : List Change → List ℕ) (known old new : Option (List ℕ)) (held : List Change) (output : List ℕ) → ComesTo known held
+    → output ≡ text held → AppendsPrefix old new output → Leaves text CannotWrite known old new
+prefix_written text None old new held output p e a = tt
+prefix_written text (Some input) old new held output p e a = (text held, RunsTo-text text input held p, rw e at a)
 
 -- the members that an input comes to are such a list
 held_members : (input : List ℕ) (held : List Change) → IsHeard input held → IsMemberList held
@@ -177,4 +177,4 @@ pub left_by : (text : List Change → List ℕ) (known old new : Option (List �
 left_by text known old new held output (AtLine number fault) p e h = absurd h
 left_by text known old new held output OutOfMemory p e h = h
 left_by text None old new held output CannotWrite p e h = tt
-left_by text (Some input) old new held output CannotWrite p e h = front_written text (Some input) old new held output p (e (held_members input held p)) h
+left_by text (Some input) old new held output CannotWrite p e h = prefix_written text (Some input) old new held output p (e (held_members input held p)) h

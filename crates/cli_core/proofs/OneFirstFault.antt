@@ -11,17 +11,17 @@ use Rattle.wire_json.proofs.Uniqueness.{sound_line}
 use Rattle.cli_core.proofs.Exact.{one_come_to, no_fault_before, outside_anywhere}
 
 -- two ways to part a list: at one place, or one front stands before the other
-fronts : (as' bs cs ds : List (List ℕ)) → as' ++ bs ≡ cs ++ ds
+prefixes : (as' bs cs ds : List (List ℕ)) → as' ++ bs ≡ cs ++ ds
     → ((as' ≡ cs) × (bs ≡ ds))
     ⊎ (((x : List ℕ) × (xs : List (List ℕ)) × (cs ≡ as' ++ x ∷ xs) × (bs ≡ x ∷ (xs ++ ds)))
     ⊎ ((x : List ℕ) × (xs : List (List ℕ)) × (as' ≡ cs ++ x ∷ xs) × (ds ≡ x ∷ (xs ++ bs))))
-fronts [] bs [] ds e = inl (refl, e)
-fronts [] bs (c ∷ cs) ds e = inr (inl (c, cs, refl, e))
-fronts (a ∷ as') bs [] ds e = inr (inr (a, as', refl, sym e))
-fronts (a ∷ as') bs (c ∷ cs) ds e =
+prefixes [] bs [] ds e = inl (refl, e)
+prefixes [] bs (c ∷ cs) ds e = inr (inl (c, cs, refl, e))
+prefixes (a ∷ as') bs [] ds e = inr (inr (a, as', refl, sym e))
+prefixes (a ∷ as') bs (c ∷ cs) ds e =
     let first : a ≡ c = cc in
     let later : as' ++ bs ≡ cs ++ ds = cc in
-    elim (fronts as' bs cs ds later) [
+    elim (prefixes as' bs cs ds later) [
       | inl (p, q) ↦ inl (cc, q)
       | inr (inl (x, xs, p, q)) ↦ inr (inl (x, xs, cc, q))
       | inr (inr (x, xs, p, q)) ↦ inr (inr (x, xs, cc, q))
@@ -58,12 +58,12 @@ too_early before left later x xs held now f p q e rest first is =
 pub one_first_fault : (input : List ℕ) (m n : ℕ) (e f : LineError) → IsFirstFault input m e → IsFirstFault input n f
     → (IsOutside (AtLine m e) → ⊥) → (IsOutside (AtLine n f) → ⊥) → AtLine m e ≡ AtLine n f
 one_first_fault input m n e f p q own other =
-    elim (fronts p.before p.left q.before q.left (sym p.lines ∙ q.lines)) [
-      | inl (front, back) ↦
-          let held : p.held ≡ q.held = one_come_to q.before p.held q.held (subst (λ ls. ComeTo ls p.held) front p.come_to) q.come_to in
+    elim (prefixes p.before p.left q.before q.left (sym p.lines ∙ q.lines)) [
+      | inl (prefix, back) ↦
+          let held : p.held ≡ q.held = one_come_to q.before p.held q.held (subst (λ ls. ComeTo ls p.held) prefix p.come_to) q.come_to in
           let is : IsFaultAt q.held q.left e = subst (λ h. IsFaultAt h q.left e) held (subst (λ ls. IsFaultAt p.held ls e) back p.is) in
           let fault : e ≡ f = one_fault_at q.held q.left e f is q.is (inside_anywhere m 0 e own) (inside_anywhere n 0 f other) in
-          let line : m ≡ n = p.place ∙ ap (λ ls. length ls + 1) front ∙ sym q.place in
+          let line : m ≡ n = p.place ∙ ap (λ ls. length ls + 1) prefix ∙ sym q.place in
           cc
       | inr (inl (x, xs, e1, e2)) ↦ absurd (inside_anywhere m 0 e own (too_early p.before p.left q.before x xs p.held q.held e p.come_to q.come_to e1 (xs ++ q.left) e2 p.is))
       | inr (inr (x, xs, e1, e2)) ↦ absurd (inside_anywhere n 0 f other (too_early q.before q.left p.before x xs q.held p.held f q.come_to p.come_to e1 (xs ++ p.left) e2 q.is))

@@ -3,7 +3,7 @@ use Rattle.std.proofs.Common.{◌≡◌, ℕ, ◌+◌, ◌≤◌, true, false, L
 use Rattle.std.specs.Prelude.{IfSome}
 use Rattle.std.specs.Io.KnownBytes.{Appends}
 use Rattle.change_core.specs.Numbers.{greatest_number}
-use Rattle.wire_json.specs.Input.{AppendsFront}
+use Rattle.wire_json.specs.Input.{AppendsPrefix}
 use Rattle.cli_core.specs.declared.scripts.faults.ScriptError.{ScriptError}
 use Rattle.cli_core.specs.declared.scripts.faults.SimError.{SimError}
 use Rattle.cli_core.specs.declared.scripts.faults.SimError.TheVariants.{AtLine, CannotWrite}
@@ -30,7 +30,7 @@ turn_done hash_of s then None left written now number v text h is a = tt
 turn_done hash_of s then (Some xs) left written now number v text h is a = let (rest, e, lines) = h in (v.items, text, rest, e, lines, is, a)
 
 pub turn_unwritten : {H : Type 0} (hash_of : H → List ℕ → ℕ) (s then : Simulated H) (known left written now : Option (List ℕ)) (number : ℕ) (v : Vec ℕ Global) (text : List ℕ)
-    → IfSome known (λ xs. ReadsLine xs (Ok (Some v)) left) → AnswersLine hash_of s v.items text then → AppendsFront written now (text ++ 10 ∷ []) → number ≤ greatest_number
+    → IfSome known (λ xs. ReadsLine xs (Ok (Some v)) left) → AnswersLine hash_of s v.items text then → AppendsPrefix written now (text ++ 10 ∷ []) → number ≤ greatest_number
     → IfSome known (λ xs. Turns hash_of s xs written number (Err CannotWrite) then left now)
 turn_unwritten hash_of s then None left written now number v text h is a few = tt
 turn_unwritten hash_of s then (Some xs) left written now number v text h is a few = let (rest, e, lines) = h in (v.items, text, lines_of rest, then, lines, is, a, few)

@@ -3,7 +3,7 @@ use Rattle.std.specs.Prelude.{◌≡◌, ℕ, ◌≤◌, List, length, Option, I
 use Rattle.std.specs.Io.KnownBytes.{Appends, Keeps}
 use Rattle.change_core.specs.declared.changes.Change.{Change}
 use Rattle.change_core.specs.Numbers.{greatest_number}
-use Rattle.wire_json.specs.Input.{AppendsFront}
+use Rattle.wire_json.specs.Input.{AppendsPrefix}
 use Rattle.cli_core.specs.declared.faults.RunError.{RunError}
 use Rattle.cli_core.specs.declared.faults.RunError.TheVariants.{AtLine, OutOfMemory, CannotWrite}
 use Rattle.cli_core.specs.Input.{lines_of}
@@ -24,10 +24,10 @@ Writes text known old new = IfSome known (λ input. (output : List ℕ) × RunsT
 abbrev pub Leaves : (List Change → List ℕ) → RunError → Option (List ℕ) → Option (List ℕ) → Option (List ℕ) → Type 0
 Leaves text (AtLine number fault) known old new = Keeps old new
 Leaves text OutOfMemory known old new = Keeps old new
-Leaves text CannotWrite known old new = IfSome known (λ input. (output : List ℕ) × RunsTo text input output × AppendsFront old new output)
+Leaves text CannotWrite known old new = IfSome known (λ input. (output : List ℕ) × RunsTo text input output × AppendsPrefix old new output)
 
 -- the part of this output that is written at an error: nothing if out of memory, a prefix of it if the writer failed
 abbrev pub LeavesPart : List ℕ → RunError → Option (List ℕ) → Option (List ℕ) → Type 0
 LeavesPart output (AtLine number fault) old new = ⊥
 LeavesPart output OutOfMemory old new = Keeps old new
-LeavesPart output CannotWrite old new = AppendsFront old new output
+LeavesPart output CannotWrite old new = AppendsPrefix old new output

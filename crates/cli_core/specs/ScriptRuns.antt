@@ -4,7 +4,7 @@ use Rattle.message_core.specs.declared.errors.WireError.{WireError}
 use Rattle.message_core.specs.declared.errors.WireError.TheVariants.{LineTooLong, Memory}
 use Rattle.std.specs.Io.KnownBytes.{Appends}
 use Rattle.change_core.specs.Numbers.{greatest_number}
-use Rattle.wire_json.specs.Input.{AppendsFront}
+use Rattle.wire_json.specs.Input.{AppendsPrefix}
 use Rattle.wire_json.specs.Lines.{max_line}
 use Rattle.cli_core.specs.declared.scripts.answers.Answer.{Answer}
 use Rattle.cli_core.specs.declared.scripts.lines.Command.{Command}
@@ -97,7 +97,7 @@ Completes hash_of start known old new = IfSome known (λ input. (output : List �
 abbrev pub Stops : {H : Type 0} → (H → List ℕ → ℕ) → Simulated H → SimError → Option (List ℕ) → Option (List ℕ) → Option (List ℕ) → Type 0
 Stops hash_of start (AtLine number f) known old new = IfSome known (λ input. (output : List ℕ) × IsStoppedAt hash_of start input number f output × Appends old new output)
 Stops hash_of start CannotWrite known old new =
-    IfSome known (λ input. (output text : List ℕ) × (written : Option (List ℕ)) × IsCutAfter hash_of start input output text × Appends old written output × AppendsFront written new (text ++ 10 ∷ []))
+    IfSome known (λ input. (output text : List ℕ) × (written : Option (List ℕ)) × IsCutAfter hash_of start input output text × Appends old written output × AppendsPrefix written new (text ++ 10 ∷ []))
 
 -- a script's error for an error of reading
 abbrev pub fault_of_read : WireError → ScriptError
@@ -112,7 +112,7 @@ Turns hash_of old xs written number (Ok true) new rest now =
     (line text left : List ℕ) × (rest ≡ Some left) × (lines_of xs ≡ line ∷ lines_of left) × AnswersLine hash_of old line text new × Appends written now (text ++ 10 ∷ [])
 Turns hash_of old xs written number (Err (AtLine n f)) new rest now = (n ≡ number) × IsRefusedAt hash_of old (lines_of xs) f × IsCountedLine n f × (now ≡ written)
 Turns {H} hash_of old xs written number (Err CannotWrite) new rest now =
-    (line text : List ℕ) × (left : List (List ℕ)) × (then : Simulated H) × (lines_of xs ≡ line ∷ left) × AnswersLine hash_of old line text then × AppendsFront written now (text ++ 10 ∷ []) × (number ≤ greatest_number)
+    (line text : List ℕ) × (left : List (List ℕ)) × (then : Simulated H) × (lines_of xs ≡ line ∷ left) × AnswersLine hash_of old line text then × AppendsPrefix written now (text ++ 10 ∷ []) × (number ≤ greatest_number)
 
 -- by the sum of the bytes, or by SHA-256's first eight: all lines have answers
 abbrev pub CompletesBy : Bool → ℕ → Option (List ℕ) → Option (List ℕ) → Option (List ℕ) → Type 0

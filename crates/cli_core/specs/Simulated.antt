@@ -13,7 +13,7 @@ use Rattle.node_core.specs.declared.events.Reply.TheVariants as reply
 use Rattle.node_core.specs.Configs.{standard}
 use Rattle.node_core.specs.Node.{Node, Seen, own_change}
 use Rattle.node_core.specs.Step.{NodeStep}
-use Rattle.node_core.specs.World.{newborn}
+use Rattle.node_core.specs.World.{initial_node}
 use Rattle.message_core.specs.declared.messages.Message.{Message}
 use Rattle.cli_core.specs.declared.scripts.messages.Sent.{Sent}
 use Rattle.cli_core.specs.declared.scripts.answers.Answer.{Answer}
@@ -74,7 +74,7 @@ message_of messages (suc n) = slice_get messages n
 -- a new node, at a moment: standard, apart from its points of the ring and its weight
 abbrev pub created : {H : Type 0} → H → ℕ → ℕ → Birth → Node H
 created hash replicas moment birth =
-    newborn hash (record standard { replicas = replicas; weight = birth.weight }) birth.address birth.incarnation moment (seeded 0)
+    initial_node hash (record standard { replicas = replicas; weight = birth.weight }) birth.address birth.incarnation moment (seeded 0)
 
 -- the same in a script
 abbrev pub created_in : {H : Type 0} → Simulated H → Birth → Node H

@@ -1,27 +1,29 @@
 -- How a server's node enters its cluster.
-use Rattle.std.proofs.Common.{◌≡◌, ◌≢◌, ℕ, ◌-◌, ◌^◌, ◌∙◌, refl, sym, ap, subst, List, [], ◌∷◌, ◌++◌, Option, Some, None, Result, Ok, Err, inl, inr, ◌⊎◌, Vec, IfErr, IsOk, IsErrAnd, length}
-use Rattle.std.specs.Global.{Global}
+use Rattle.std.proofs.Common.{append-nil, ◌≡◌, ◌≢◌, ℕ, ◌-◌, ◌^◌, ◌∙◌, refl, sym, ap, subst, List, [], ◌∷◌, ◌++◌, Option, Some, None, Result, Ok, Err, inl, inr, ◌⊎◌, IfErr, IfOk, IsOk, IsErrAnd, OnOk, length}
 use Rattle.std.proofs.lemmas.Bool.{false≢true}
 use Rattle.std.proofs.lemmas.List.Elements.{All-pop}
 use Rattle.change_core.specs.declared.addresses.Address.{Address}
 use Rattle.locked_node.specs.declared.node.LockedNode.{LockedNode}
-use Rattle.locked_node.specs.Passes.{NodePass, IsNew, opening_of}
+use Rattle.locked_node.specs.Passes.{NodePass, IsClosed, IsNew, opening_of}
 use Rattle.peer_core.specs.Links.{MayAnswer}
+use Rattle.node_core.specs.Node.{Seen}
 use Rattle.peer_core.specs.Acts.{Makes}
 use Rattle.cluster_core.specs.Clusters.{AreAll, AreFresh}
-use Rattle.cli_net.specs.Service.{HasEntered, HasServed, IsCreated, IsJoinedTo, IsThreadFault, LeavesServing, TellsEntry}
-use Rattle.server.specs.Threads.{ServeAlone}
-use Rattle.cli_net.specs.Echoes.{MayEcho}
+use Rattle.cli_net.specs.Service.{HasEnded, HasEntered, HasServed, IsCreated, IsEndFault, IsJoinedTo, IsThreadFault, LeavesServing, TellsEntry, end_fault}
 use Rattle.cli_net.specs.declared.echoes.Echo.{Echo}
 use Rattle.server.specs.Starting.{IsHealedAs}
+use Rattle.server.specs.Threads.{ServeTogether}
 use Rattle.server.specs.Working.{AreRounds, RoundTimes, hosts_of}
+use Rattle.cli_net.specs.Echoes.{MayEcho}
 use Rattle.cli_net.specs.declared.faults.ServeError.{ServeError}
 use Rattle.cli_net.specs.declared.faults.ServeError.TheVariants as serve
+use Rattle.server.specs.declared.errors.EndError.{EndError}
+use Rattle.server.specs.declared.errors.EndError.TheVariants as end
 use Rattle.server.specs.declared.servers.Server.{Server}
 use Rattle.server.specs.declared.timeouts.Timeouts.{Timeouts}
 use Rattle.cli_core.specs.declared.words.ServeWords.{ServeWords}
 
--- what may end a server that was let in
+-- the errors of a server whose node joined
 abbrev pub MayFollow : ServeError → Type 0
 MayFollow serve.NoneJoined = ⊥
 MayFollow other = Unit {0}
@@ -33,6 +35,8 @@ pub cannot_serve : (e : ServeError) → IsThreadFault e → MayFollow e
 cannot_serve serve.NoneJoined h = h
 cannot_serve serve.CannotListen h = tt
 cannot_serve serve.NoThread h = tt
+cannot_serve serve.StillHeld h = tt
+cannot_serve serve.Miscounted h = tt
 cannot_serve serve.CannotWrite h = tt
 cannot_serve serve.OutOfMemory h = tt
 
@@ -40,11 +44,40 @@ pub cannot_begin : (a : ℕ) (e : ServeError) (old new : Option (List ℕ)) → 
 cannot_begin a serve.NoneJoined old new h = h
 cannot_begin a serve.CannotListen old new h = tt
 cannot_begin a serve.NoThread old new h = tt
+cannot_begin a serve.StillHeld old new h = tt
+cannot_begin a serve.Miscounted old new h = tt
 cannot_begin a serve.CannotWrite old new h = tt
 cannot_begin a serve.OutOfMemory old new h = tt
 
 pub cannot_end : (e : ServeError) → e ≡ serve.CannotWrite → MayFollow e
 cannot_end e is = subst MayFollow (sym is) tt
+
+-- an end for which there was memory is a fault of the end
+pub cannot_close : {T : Type 0} (r : Result T EndError) (e : EndError) (fault : ServeError) → r ≡ Err e → (r ≡ Err end.Memory → ⊥) → fault ≡ end_fault e → IsEndFault fault
+cannot_close r end.ForeignPass fault is memory so = subst IsEndFault (sym so) tt
+cannot_close r end.MissingPass fault is memory so = subst IsEndFault (sym so) tt
+cannot_close r end.StillHeld fault is memory so = subst IsEndFault (sym so) tt
+cannot_close r end.Memory fault is memory so = absurd (memory is)
+
+abbrev IsOther : ServeError → Type 0
+IsOther serve.Miscounted = ⊥
+IsOther other = Unit {0}
+
+is_other : (e : EndError) → IsOther (end_fault e)
+is_other end.ForeignPass = tt
+is_other end.MissingPass = tt
+is_other end.StillHeld = tt
+is_other end.Memory = tt
+
+abbrev EndsOtherwise : {T : Type 0} → Result T ServeError → Type 0
+EndsOtherwise (Ok t) = Unit {0}
+EndsOtherwise (Err e) = IsOther e
+
+-- the fault of an end is no other number of connections
+pub counted_well : {T : Type 0} (e : EndError) (fault : ServeError) (r : Result T ServeError) → fault ≡ end_fault e → r ≡ Err fault → r ≡ Err serve.Miscounted → ⊥
+counted_well {T} e fault r so was is =
+    let Otherwise : Result T ServeError → Type 0 = λ x. EndsOtherwise x in
+    subst Otherwise is (subst Otherwise (sym was) (subst IsOther (sym so) (is_other e)))
 
 module _ {H : Type 0} (hash_of : H → List ℕ → ℕ) (Came : MayAnswer) (hash : H) (words : ServeWords) (node : LockedNode H) (passes : List (NodePass H)) (timer new : NodePass H)
     (hosts : List Address) (now : ℕ) (created : IsCreated hash_of hash words (opening_of node)) (fresh : AreFresh node (passes ++ timer ∷ [])) (same : hosts ≡ words.hosts.items)
@@ -69,6 +102,8 @@ module _ {H : Type 0} (hash_of : H → List ℕ → ℕ) (Came : MayAnswer) (has
   let_in_by (Err serve.NoneJoined) after joined = absurd after
   let_in_by (Err serve.CannotListen) after joined = entered_by None joined
   let_in_by (Err serve.NoThread) after joined = entered_by None joined
+  let_in_by (Err serve.StillHeld) after joined = entered_by None joined
+  let_in_by (Err serve.Miscounted) after joined = entered_by None joined
   let_in_by (Err serve.CannotWrite) after joined = entered_by None joined
   let_in_by (Err serve.OutOfMemory) after joined = tt
 
@@ -88,25 +123,47 @@ module _ {H : Type 0} (hash_of : H → List ℕ → ℕ) (Came : MayAnswer) (has
   pub had_hosts : (e : ServeError) → (hosts ≡ [] → IsOk {T = Unit {0}} (Err e) × (new ≡ timer)) → words.hosts.items ≢ []
   had_hosts e never none = false≢true (never (same ∙ none)).0
 
-  -- it entered, and then its threads served
-  pub served_by : (Time : RoundTimes) (timeouts : Timeouts) (server it : Server H Echo) (last : NodePass H) (workers : List (NodePass H)) → server ≡ it → it.node ≡ node → it.handler.address ≡ words.address
-      → it.timeouts ≡ timeouts → IsHealedAs words.heal words.address words.hosts.items it.healing → it.hosts ≡ None → length passes ≡ words.workers → AreAll node (passes ++ timer ∷ []) → (hosts ≢ [] → IsJoinedTo Came node hosts now None timer new)
-      → Makes it.node (AreRounds Time words.period (hosts_of it.hosts) it.healing) new last → (words.period ≡ 0 → last ≡ new) → ServeAlone hash_of MayEcho it.node passes workers
-      → HasServed Time hash_of Came hash timeouts words server last workers
+  -- it entered, and then its threads served and it was closed
+  pub served_by : (Time : RoundTimes) (timeouts : Timeouts) (server : Server H Echo) (closed : Seen H) → server.node ≡ node → server.handler.address ≡ words.address
+      → server.timeouts ≡ timeouts → IsHealedAs words.heal words.address words.hosts.items server.healing → server.hosts ≡ None → server.connections ≡ words.requests
+      → length passes ≡ words.workers
+      → AreAll node (passes ++ timer ∷ []) → (hosts ≢ [] → IsJoinedTo Came node hosts now None timer new)
+      → HasEnded Time hash_of server words.period new passes closed → HasServed Time hash_of Came hash timeouts words closed
   unfolding entered_by
-  served_by Time timeouts server it last workers is its own waiting healing none count all joined rounds resting connections =
-      subst (λ (s : Server H Echo). HasServed Time hash_of Came hash timeouts words s last workers) (sym is) (record {
-        entry = entered_by None joined;
-        crew = passes;
-        its = sym its;
-        own = own;
-        waiting = waiting;
-        healing = healing;
-        count = count;
-        all = subst (λ (x : LockedNode H). AreAll x (passes ++ timer ∷ [])) (sym its) all;
-        fresh = subst (λ (x : LockedNode H). AreFresh x (passes ++ timer ∷ [])) (sym its) fresh;
-        hosts = none;
-        rounds = subst (λ (x : Option (Vec Address Global)). Makes it.node (AreRounds Time words.period (hosts_of x) it.healing) new last) none rounds;
-        resting = resting;
-        connections = connections;
-      })
+  served_by Time timeouts server closed its own waiting healing none requests count all joined ended = record {
+    entry = entered_by None joined;
+    crew = passes;
+    server = server;
+    its = sym its;
+    own = own;
+    waiting = waiting;
+    healing = healing;
+    count = count;
+    all = subst (λ (x : LockedNode H). AreAll x (passes ++ timer ∷ [])) (sym its) all;
+    fresh = subst (λ (x : LockedNode H). AreFresh x (passes ++ timer ∷ [])) (sym its) fresh;
+    hosts = none;
+    requests = requests;
+    ended = ended;
+  }
+
+-- the node of a server that was closed with the passes that came back
+pub ended_by : {H : Type 0} (Time : RoundTimes) (hash_of : H → List ℕ → ℕ) (server it : Server H Echo) (period : ℕ) (timer rounds : NodePass H) (crew workers : List (NodePass H))
+    (n : ℕ) (r : Result (Seen H) ServeError) → it ≡ server → Makes server.node (AreRounds Time period (hosts_of server.hosts) server.healing) timer rounds → (period ≡ 0 → rounds ≡ timer)
+    → ServeTogether hash_of (MayEcho server.handler.address) server.node crew workers n → OnOk r (n ≡ it.connections) → IfOk r (IsClosed hash_of it.node (workers ++ rounds ∷ []))
+    → IfOk r (HasEnded Time hash_of server period timer crew)
+ended_by Time hash_of server it period timer rounds crew workers n (Err e) its made resting served count closed = tt
+ended_by Time hash_of server it period timer rounds crew workers n (Ok node) its made resting served count closed = record {
+  of_timer = rounds;
+  of_workers = workers;
+  rounds = made;
+  resting = resting;
+  connections =
+      subst (λ (k : ℕ). ServeTogether hash_of (MayEcho server.handler.address) server.node crew workers k) (count ∙ ap (λ (s : Server _ Echo). s.connections) its) served;
+  closed = subst (λ (s : Server _ Echo). IsClosed hash_of s.node (workers ++ rounds ∷ []) node) its closed;
+}
+
+-- there are no handles
+pub closed_alone : {H : Type 0} (hash_of : H → List ℕ → ℕ) (locked : LockedNode H) (workers handles : List (NodePass H)) (rounds : NodePass H) (node : Seen H) → handles ≡ []
+    → IsClosed hash_of locked (workers ++ handles ++ rounds ∷ []) node → IsClosed hash_of locked (workers ++ rounds ∷ []) node
+closed_alone hash_of locked workers handles rounds node none closed =
+    subst (λ (ps : List (NodePass _)). IsClosed hash_of locked (ps ++ rounds ∷ []) node) (ap (λ (hs : List (NodePass _)). workers ++ hs) none ∙ append-nil workers) closed

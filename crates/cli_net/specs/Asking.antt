@@ -3,7 +3,7 @@ use Rattle.std.specs.Prelude.{◌≡◌, ℕ, List, [], ◌∷◌, ◌++◌, Opt
 use Rattle.std.specs.Io.KnownBytes.{Appends, Keeps}
 use Rattle.change_core.specs.declared.addresses.Address.{Address}
 use Rattle.change_core.specs.Address.{address_of}
-use Rattle.wire_json.specs.Input.{AppendsFront}
+use Rattle.wire_json.specs.Input.{AppendsPrefix}
 use Rattle.message_core.specs.declared.messages.Content.{Content}
 use Rattle.message_core.specs.declared.messages.Content.TheVariants as content
 use Rattle.message_core.specs.declared.messages.Message.{Message}
@@ -66,5 +66,5 @@ WritesReply Came old new = (text : List ℕ) × Came text × Appends old new (te
 
 -- the output of a reply at an error: a prefix of its line if one came and the writer failed, else none
 abbrev pub LeavesReply : (List ℕ → Type 0) → (AskError → Type 0) → AskError → Option (List ℕ) → Option (List ℕ) → Type 0
-LeavesReply Came Failed fault.CannotWrite old new = (text : List ℕ) × Came text × AppendsFront old new (text ++ 10 ∷ [])
+LeavesReply Came Failed fault.CannotWrite old new = (text : List ℕ) × Came text × AppendsPrefix old new (text ++ 10 ∷ [])
 LeavesReply Came Failed other old new = Failed other × Keeps old new

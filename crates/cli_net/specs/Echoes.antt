@@ -8,8 +8,8 @@ use Rattle.peer_core.specs.declared.errors.HandlerFault.TheVariants.{Failed, Mem
 abbrev pub echo_text : ℕ → List ℕ → List ℕ
 echo_text a body = address_text a ++ 32 ∷ body
 
--- the echo of some node, or out of memory for it
-abbrev pub MayEcho : MayHandle
-MayEcho keys body (Ok text) = (a : ℕ) × (text ≡ echo_text a body)
-MayEcho keys body (Err Memory) = Unit {0}
-MayEcho keys body (Err Failed) = ⊥
+-- the echo of the node at this address, or out of memory for it
+abbrev pub MayEcho : ℕ → MayHandle
+MayEcho a keys body (Ok text) = text ≡ echo_text a body
+MayEcho a keys body (Err Memory) = Unit {0}
+MayEcho a keys body (Err Failed) = ⊥

@@ -1,5 +1,6 @@
 pub mod Asking
 pub mod Commands
+pub mod Dialled
 pub mod Echoes
 pub mod Membership
 pub mod Owning

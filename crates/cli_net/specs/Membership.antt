@@ -9,7 +9,7 @@ use Rattle.change_core.specs.declared.changes.Change.{Change}
 use Rattle.change_core.specs.declared.changes.Sourced.{Sourced}
 use Rattle.change_core.specs.Members.{digest_text, members}
 use Rattle.wire_json.specs.Forms.{change_data}
-use Rattle.wire_json.specs.Input.{AppendsFront}
+use Rattle.wire_json.specs.Input.{AppendsPrefix}
 use Rattle.message_core.specs.declared.messages.Content.{Content}
 use Rattle.message_core.specs.declared.messages.Content.TheVariants as content
 use Rattle.message_core.specs.declared.messages.News.{News}
@@ -79,7 +79,7 @@ membership_text false news = fold_text (told_members news)
 
 -- the part of a text that is written at an error: none if out of memory, a prefix of it if the writer failed
 abbrev pub LeavesText : List ℕ → AskError → Option (List ℕ) → Option (List ℕ) → Type 0
-LeavesText text fault.CannotWrite old new = AppendsFront old new text
+LeavesText text fault.CannotWrite old new = AppendsPrefix old new text
 LeavesText text fault.OutOfMemory old new = Keeps old new
 LeavesText text other old new = ⊥
 
@@ -90,5 +90,5 @@ module _ (May : MayAnswer) (to : Address) (changes : List Sourced) (text : News 
 
   -- the output at an error: a prefix of that text if one came and the writer failed, else none
   abbrev pub IsUnwritten : AskError → Option (List ℕ) → Option (List ℕ) → Type 0
-  IsUnwritten fault.CannotWrite old new = (news : News) × IsSeen May to changes news × AppendsFront old new (text news)
+  IsUnwritten fault.CannotWrite old new = (news : News) × IsSeen May to changes news × AppendsPrefix old new (text news)
   IsUnwritten other old new = IsNotSeen May to changes other × Keeps old new

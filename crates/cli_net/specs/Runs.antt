@@ -1,7 +1,8 @@
 -- What the program's words read and write: a subcommand's lines, what a command that speaks to nodes tells, or what an agent says.
 use Rattle.std.specs.Prelude.{◌≡◌, ℕ, List, Option}
 use Rattle.std.specs.Io.KnownBytes.{Appends}
-use Rattle.wire_json.specs.Input.{AppendsFront}
+use Rattle.wire_json.specs.Input.{AppendsPrefix}
+use Rattle.peer_core.specs.Links.{MayAnswer}
 use Rattle.agent.specs.Texts.{agent_text}
 use Rattle.server.specs.Working.{any_times}
 use Rattle.cli_core.specs.Subcommands.{Finishes, Fails, Reads}
@@ -12,17 +13,17 @@ use Rattle.cli_words.specs.declared.words.Words.{Words}
 use Rattle.cli_words.specs.declared.words.Words.TheVariants.{Lines, Cluster, Agent}
 
 -- the output for the known input, if the command of the arguments succeeds
-abbrev pub WordsFinish : Words → Option (List ℕ) → Option (List ℕ) → Option (List ℕ) → Type 0
-WordsFinish (Lines subcommand) known old new = Finishes subcommand known old new
-WordsFinish (Cluster command) known old new = CommandFinishes any_times command known old new
-WordsFinish (Agent words) known old new = Appends old new (agent_text words.address)
+abbrev pub WordsFinish : MayAnswer → Words → Option (List ℕ) → Option (List ℕ) → Option (List ℕ) → Type 0
+WordsFinish May (Lines subcommand) known old new = Finishes subcommand known old new
+WordsFinish May (Cluster command) known old new = CommandFinishes May any_times command known old new
+WordsFinish May (Agent words) known old new = Appends old new (agent_text words.address)
 
 -- why it does not, and what is written then: the fault is its own; of what an agent says a prefix
-abbrev pub WordsFail : Words → Fault → Option (List ℕ) → Option (List ℕ) → Option (List ℕ) → Type 0
-WordsFail (Lines subcommand) (fault.Subcommand e) known old new = Fails subcommand e known old new
-WordsFail (Cluster command) (fault.Cluster e) known old new = CommandFails command e known old new
-WordsFail (Agent words) (fault.Agent e) known old new = AppendsFront old new (agent_text words.address)
-WordsFail other e known old new = ⊥
+abbrev pub WordsFail : MayAnswer → Words → Fault → Option (List ℕ) → Option (List ℕ) → Option (List ℕ) → Type 0
+WordsFail May (Lines subcommand) (fault.Subcommand e) known old new = Fails subcommand e known old new
+WordsFail May (Cluster command) (fault.Cluster e) known old new = CommandFails May command e known old new
+WordsFail May (Agent words) (fault.Agent e) known old new = AppendsPrefix old new (agent_text words.address)
+WordsFail May other e known old new = ⊥
 
 -- the input that is read, if that is specified
 abbrev pub WordsRead : Words → Option (List ℕ) → Option (List ℕ) → Type 0

@@ -3,7 +3,7 @@ use Rattle.std.specs.Prelude.{◌≡◌, ◌≢◌, ◌⊎◌, ℕ, ◌*◌, ◌
 use Rattle.std.specs.Io.KnownBytes.{Appends, Keeps}
 use Rattle.change_core.specs.Address.{address_text}
 use Rattle.change_core.specs.declared.addresses.Address.{Address}
-use Rattle.wire_json.specs.Input.{AppendsFront}
+use Rattle.wire_json.specs.Input.{AppendsPrefix}
 use Rattle.detector_core.specs.Choices.{seeded}
 use Rattle.hash_ring.specs.declared.hash.Sha256Hash.{Sha256Hash}
 use Rattle.hash_ring.specs.declared.hash.SumHash.{SumHash}
@@ -11,9 +11,9 @@ use Rattle.node_core.specs.Configs.{standard}
 use Rattle.node_core.specs.declared.configs.Config.{Config}
 use Rattle.node_core.specs.Node.{Seen}
 use Rattle.node_core.specs.Parts.{seen_of}
-use Rattle.node_core.specs.World.{newborn}
+use Rattle.node_core.specs.World.{initial_node}
 use Rattle.locked_node.specs.declared.node.LockedNode.{LockedNode}
-use Rattle.locked_node.specs.Passes.{NodePass, IsNew, opening_of}
+use Rattle.locked_node.specs.Passes.{NodePass, IsClosed, IsNew, opening_of}
 use Rattle.peer_core.specs.Acts.{Makes}
 use Rattle.peer_core.specs.declared.errors.ClusterError.{ClusterError}
 use Rattle.peer_core.specs.declared.errors.ClusterError.TheVariants as error
@@ -27,10 +27,14 @@ use Rattle.server.specs.Timeouts.{AreStandardTimeouts}
 use Rattle.cli_core.specs.Owner.{hash_by}
 use Rattle.cli_net.specs.declared.faults.ServeError.{ServeError}
 use Rattle.cli_net.specs.declared.faults.ServeError.TheVariants as serve
-use Rattle.server.specs.Threads.{ServeAlone}
-use Rattle.server.specs.Working.{AreRounds, RoundTimes}
+use Rattle.server.specs.Threads.{ServeTogether}
+use Rattle.server.specs.Working.{AreRounds, RoundTimes, hosts_of}
+use Rattle.server.specs.declared.errors.EndError.{EndError}
+use Rattle.server.specs.declared.errors.EndError.TheVariants as end
 use Rattle.server.specs.declared.servers.Server.{Server}
 use Rattle.cli_net.specs.declared.echoes.Echo.{Echo}
+use Rattle.cli_net.specs.declared.serving.ServedNode.{ServedNode}
+use Rattle.cli_net.specs.declared.serving.ServedNode.TheVariants as served
 use Rattle.cli_net.specs.Echoes.{MayEcho}
 use Rattle.server.specs.declared.timeouts.Timeouts.{Timeouts}
 use Rattle.cli_core.specs.declared.words.ServeWords.{ServeWords}
@@ -42,7 +46,7 @@ config_of words = record standard { replicas = words.replicas; weight = words.we
 module _ {H : Type 0} (hash_of : H → List ℕ → ℕ) where
   -- the new node of the arguments, alone at moment 0, its incarnation its seed
   abbrev pub IsCreated : H → ServeWords → Seen H → Type 0
-  IsCreated hash words node = node ≡ seen_of hash_of (newborn hash (config_of words) words.address words.incarnation 0 (seeded words.incarnation))
+  IsCreated hash words node = node ≡ seen_of hash_of (initial_node hash (config_of words) words.address words.incarnation 0 (seeded words.incarnation))
 
 -- a server's error for the result of a join
 abbrev pub join_fault : Result ℕ ClusterError → Option ServeError
@@ -63,20 +67,33 @@ abbrev pub LeavesService : ℕ → ServeError → Option (List ℕ) → Option (
 LeavesService a serve.NoneJoined old new = Keeps old new
 LeavesService a serve.CannotListen old new = Keeps old new
 LeavesService a serve.NoThread old new = Appends old new (serving_line a)
-LeavesService a serve.CannotWrite old new = AppendsFront old new (service_text a)
+LeavesService a serve.StillHeld old new = Appends old new (serving_line a)
+LeavesService a serve.Miscounted old new = Appends old new (serving_line a)
+LeavesService a serve.CannotWrite old new = AppendsPrefix old new (service_text a)
 LeavesService a serve.OutOfMemory old new = Keeps old new ⊎ Appends old new (serving_line a)
 
 -- the output at an error of writing that a server listens
 abbrev pub LeavesServing : ℕ → ServeError → Option (List ℕ) → Option (List ℕ) → Type 0
-LeavesServing a serve.CannotWrite old new = AppendsFront old new (serving_line a)
+LeavesServing a serve.CannotWrite old new = AppendsPrefix old new (serving_line a)
 LeavesServing a serve.OutOfMemory old new = Keeps old new
 LeavesServing a other old new = ⊥
 
--- the errors of threads that do not serve to the end
+-- the errors of a server whose threads have ended
+abbrev pub IsEndFault : ServeError → Type 0
+IsEndFault serve.StillHeld = Unit {0}
+IsEndFault serve.Miscounted = Unit {0}
+IsEndFault other = ⊥
+
+-- the errors of threads that were not started, or of their end
 abbrev pub IsThreadFault : ServeError → Type 0
 IsThreadFault serve.NoThread = Unit {0}
 IsThreadFault serve.OutOfMemory = Unit {0}
-IsThreadFault other = ⊥
+IsThreadFault other = IsEndFault other
+
+-- a server's error for that of its end
+abbrev pub end_fault : EndError → ServeError
+end_fault end.Memory = serve.OutOfMemory
+end_fault other = serve.StillHeld
 
 -- The node asked these hosts to admit it, over a link that answered so, with this result.
 pub record IsJoinedTo {H : Type 0} (Came : MayAnswer) (node : LockedNode H) (hosts : List Address) (now : ℕ) (fault : Option ServeError) (old new : NodePass H) : Type 0 where
@@ -108,12 +125,23 @@ TellsEntry Entered (Err serve.NoneJoined) = Entered (Some serve.NoneJoined)
 TellsEntry Entered (Err serve.OutOfMemory) = Unit {0}
 TellsEntry Entered (Err other) = Entered None
 
--- The server's node entered so, and then only served: these are all the passes that it has, as they stand at the end; since they were made,
--- or the node had entered, rounds alone were made by that of the timer, each at a moment that the clock told after a rest for the period of the
--- words, with healing after each where the words ask for it, and none where the period is 0; and connections alone were served by each worker's.
-pub record HasServed {H : Type 0} (Time : RoundTimes) (hash_of : H → List ℕ → ℕ) (Came : MayAnswer) (hash : H) (timeouts : Timeouts) (words : ServeWords) (server : Server H Echo) (timer : NodePass H) (workers : List (NodePass H)) : Type 0 where
+-- The threads of a server ended, and its node was closed with all passes that came back, so that it is the node after one legal history of all their
+-- calls. Since they were given to the threads, rounds alone were made by that of the timer, each after a rest for the period and at a moment that the
+-- clock told, and none where the period is 0; and by the workers' as many connections were served as the server has, and nothing else was done.
+pub record HasEnded {H : Type 0} (Time : RoundTimes) (hash_of : H → List ℕ → ℕ) (server : Server H Echo) (period : ℕ) (timer : NodePass H) (workers : List (NodePass H)) (node : Seen H) : Type 0 where
+  pub of_timer : NodePass H
+  pub of_workers : List (NodePass H)
+  pub rounds : Makes server.node (AreRounds Time period (hosts_of server.hosts) server.healing) timer of_timer
+  pub resting : period ≡ 0 → of_timer ≡ timer
+  pub connections : ServeTogether hash_of (MayEcho server.handler.address) server.node workers of_workers server.connections
+  pub closed : IsClosed hash_of server.node (of_workers ++ of_timer ∷ []) node
+
+-- This is the node of a server that entered so, and then only served, as many connections as the words ask for, at its own address and with these timeouts,
+-- healing where the words ask for it. The passes of its rounds and its workers are all that it has, and were new before it entered.
+pub record HasServed {H : Type 0} (Time : RoundTimes) (hash_of : H → List ℕ → ℕ) (Came : MayAnswer) (hash : H) (timeouts : Timeouts) (words : ServeWords) (node : Seen H) : Type 0 where
   pub entry : HasEntered hash_of Came hash words None
   pub crew : List (NodePass H)
+  pub server : Server H Echo
   pub its : entry.node ≡ server.node
   pub own : server.handler.address ≡ words.address
   pub waiting : server.timeouts ≡ timeouts
@@ -122,26 +150,22 @@ pub record HasServed {H : Type 0} (Time : RoundTimes) (hash_of : H → List ℕ 
   pub all : AreAll server.node (crew ++ entry.old ∷ [])
   pub fresh : AreFresh server.node (crew ++ entry.old ∷ [])
   pub hosts : server.hosts ≡ None
-  pub rounds : Makes server.node (AreRounds Time words.period [] server.healing) entry.new timer
-  pub resting : words.period ≡ 0 → timer ≡ entry.new
-  pub connections : ServeAlone hash_of MayEcho server.node crew workers
+  pub requests : server.connections ≡ words.requests
+  pub ended : HasEnded Time hash_of server words.period entry.new crew node
 
--- there were a server of these arguments and timeouts, and passes, that satisfy that; the passes before any thread started do, too
-abbrev pub IsServed : {H : Type 0} → RoundTimes → (H → List ℕ → ℕ) → H → Timeouts → ServeWords → Type 0
-IsServed {H} Time hash_of hash timeouts words =
-    (server : Server H Echo) × (timer : NodePass H) × (workers : List (NodePass H)) × HasServed Time hash_of any_answer hash timeouts words server timer workers
+-- the same under the hash of the words: the sum of the bytes, or SHA-256's first eight
+abbrev pub ServesBy : RoundTimes → ServeWords → Timeouts → ServedNode → Type 0
+ServesBy Time words timeouts (served.Sum node) =
+    let hash : SumHash = record {} in (words.sum ≡ true) × HasServed Time (λ (h : SumHash). hash_by true) any_answer hash timeouts words node
+ServesBy Time words timeouts (served.Sha256 node) =
+    let hash : Sha256Hash = record {} in (words.sum ≡ false) × HasServed Time (λ (h : Sha256Hash). hash_by false) any_answer hash timeouts words node
 
--- the same under the sum of the bytes or under SHA-256's first eight
-abbrev pub ServesBy : RoundTimes → Bool → ServeWords → Timeouts → Type 0
-ServesBy Time true words timeouts = let hash : SumHash = record {} in IsServed Time (λ (h : SumHash). hash_by true) hash timeouts words
-ServesBy Time false words timeouts = let hash : Sha256Hash = record {} in IsServed Time (λ (h : Sha256Hash). hash_by false) hash timeouts words
-
--- the same with the standard timeouts
+-- some node was served so with the standard timeouts
 abbrev pub ServesAsStandard : RoundTimes → ServeWords → Type 0
-ServesAsStandard Time words = (timeouts : Timeouts) × AreStandardTimeouts timeouts × ServesBy Time words.sum words timeouts
+ServesAsStandard Time words = (timeouts : Timeouts) × AreStandardTimeouts timeouts × (node : ServedNode) × ServesBy Time words timeouts node
 
 -- the server of these arguments served its last connection: all is written, the node was made so, and admitted if hosts are named, before,
--- and there were a server and passes that served so
+-- and was closed after
 abbrev pub Served : RoundTimes → ServeWords → Option (List ℕ) → Option (List ℕ) → Type 0
 Served Time words old new = Appends old new (service_text words.address) × EntersBy words.sum words None × ServesAsStandard Time words
 

@@ -2,7 +2,7 @@
 ghost use Rattle.std.specs.Prelude.{◌≡◌, IfOk, OnOk};
 ghost use Rattle.std.specs.Io.KnownBytes.{Appends};
 ghost use Rattle.agent.specs.Texts.{agent_text};
-ghost use Rattle.wire_json.specs.Input.{AppendsFront};
+ghost use Rattle.wire_json.specs.Input.{AppendsPrefix};
 
 use agent::{AgentError, Settings, System, run};
 use cli_words::{AgentWords, LogLevel};
@@ -70,7 +70,7 @@ pub fn agent_run<R: System, W: Write>(
     writer: &mut W,
 ) -> Result<(), AgentError>
     ensures served { OnOk result (Appends (W.contents writer.old) (W.contents writer.new) (agent_text words.now.address)) }
-    ensures front { AppendsFront (W.contents writer.old) (W.contents writer.new) (agent_text words.now.address) }
+    ensures prefix { AppendsPrefix (W.contents writer.old) (W.contents writer.new) (agent_text words.now.address) }
 {
     let settings = settings_of(alloc, words)?;
     run(rt, alloc, settings, writer)

@@ -1,16 +1,17 @@
 //! A request to one node.
 ghost use Rattle.std.specs.Prelude.{◌≡◌, IfOk, IfErr, OnOk, IsOkUnless};
-ghost use Rattle.cluster_core.specs.Channels.{any_answer};
 ghost use Rattle.cli_net.specs.Asking.{IsNoReply, IsReply, IsUnasked, LeavesReply, WritesReply, request};
+ghost use Rattle.cli_net.specs.Dialled.{dialled};
 
+use crate::dialled::DialledLink;
 use crate::faults::AskError;
 use crate::questions::{ask_for, write_text};
 use change_core::Address;
-use cluster_core::{Link, TcpLink};
+use cli_core::AskWords;
+use cluster_core::{Dial, Link};
 use message_core::{Content, Keys, Text};
 use std::alloc::Global;
 use std::io::Write;
-use std::net::Net;
 use std::sync::Wait;
 use std::time::Clock;
 
@@ -80,17 +81,15 @@ pub fn ask_over<R: Wait, L: Link, W: Write>(
     rt: &R,
     alloc: Global,
     link: &mut L,
-    address: Address,
-    key: &str,
-    body: &str,
+    words: &AskWords<'_>,
     writer: &mut W,
 ) -> Result<(), AskError>
-    ensures replied { OnOk result (WritesReply (IsReply L.may_answer address (request key.now body.now))
+    ensures replied { OnOk result (WritesReply (IsReply L.may_answer words.now.address (request words.now.key.now words.now.body.now))
         (W.contents writer.old) (W.contents writer.new)) }
-    ensures fault { IfErr result (λ e. LeavesReply (IsReply L.may_answer address (request key.now body.now))
-        (IsUnasked L.may_answer address (request key.now body.now)) e (W.contents writer.old) (W.contents writer.new)) }
+    ensures fault { IfErr result (λ e. LeavesReply (IsReply L.may_answer words.now.address (request words.now.key.now words.now.body.now))
+        (IsUnasked L.may_answer words.now.address (request words.now.key.now words.now.body.now)) e (W.contents writer.old) (W.contents writer.new)) }
 {
-    let text = reply_of(rt, alloc, link, address, key, body)?;
+    let text = reply_of(rt, alloc, link, words.address, words.key, words.body)?;
     write_text(writer, text.as_str().as_bytes())
 }
 
@@ -100,7 +99,7 @@ pub fn ask_over<R: Wait, L: Link, W: Write>(
 /// # Errors
 ///
 /// - The errors of `ask_over`; `NoAnswer` also if the request's line is too long.
-pub fn ask_run<R: Net + Clock + Wait, W: Write>(
+pub fn ask_run<R: Dial + Clock + Wait + Copy, W: Write>(
     rt: &R,
     alloc: Global,
     address: Address,
@@ -108,11 +107,12 @@ pub fn ask_run<R: Net + Clock + Wait, W: Write>(
     body: &str,
     writer: &mut W,
 ) -> Result<(), AskError>
-    ensures replied { OnOk result (WritesReply (IsReply any_answer address (request key.now body.now))
+    ensures replied { OnOk result (WritesReply (IsReply (dialled R.leads R.Stream.contents R.Stream.remaining) address (request key.now body.now))
         (W.contents writer.old) (W.contents writer.new)) }
-    ensures fault { IfErr result (λ e. LeavesReply (IsReply any_answer address (request key.now body.now))
-        (IsUnasked any_answer address (request key.now body.now)) e (W.contents writer.old) (W.contents writer.new)) }
+    ensures fault { IfErr result (λ e. LeavesReply (IsReply (dialled R.leads R.Stream.contents R.Stream.remaining) address (request key.now body.now))
+        (IsUnasked (dialled R.leads R.Stream.contents R.Stream.remaining) address (request key.now body.now)) e (W.contents writer.old) (W.contents writer.new)) }
 {
-    let mut link = TcpLink::new(rt);
-    ask_over(rt, alloc, &mut link, address, key, body, writer)
+    let mut link = DialledLink::new(*rt);
+    let words = AskWords { address, key, body };
+    ask_over(rt, alloc, &mut link, &words, writer)
 }

@@ -1,6 +1,7 @@
 //! The commands of the program that speak to nodes, each with its arguments.
 ghost use Rattle.std.specs.Prelude.{◌≡◌, IfErr, OnOk};
 ghost use Rattle.cli_net.specs.Commands.{CommandFails, CommandFinishes, CommandReads};
+ghost use Rattle.cli_net.specs.Dialled.{dialled};
 ghost use Rattle.cli_net.specs.declared.commands.ClusterCommandError.TheVariants as fault;
 
 use crate::asking::ask_run;
@@ -10,10 +11,13 @@ use crate::owners::ask_any_run;
 use crate::serving::serve_run;
 use crate::telling::tell_run;
 use cli_core::ClusterCommand;
+use cluster_core::Dial;
 use server::Runtime;
 use std::alloc::Global;
 use std::io::{Read, Write};
 use std::net::{Net, TcpListener, TcpStream};
+use std::sync::Wait;
+use std::time::Clock;
 use thiserror::Error;
 
 /// The errors of such a command.
@@ -54,37 +58,45 @@ impl From<TellError> for ClusterCommandError {
     }
 }
 
-/// Runs the command over sockets, the reader and the writer, as `serve_run`, `ask_run`, `ask_any_run`, `members_run` or
-/// `tell_run` does. Only `tell` reads.
+/// Runs the command over sockets, the reader and the writer, as `serve_run` does, or over this network as `ask_run`,
+/// `ask_any_run`, `members_run` or `tell_run`. Only `tell` reads.
 ///
 /// # Errors
 ///
 /// - `Serve`, `Ask`, `Tell`: the error of that function.
 pub fn cluster_command_run<
     R: Net<Listener = TcpListener, Stream = TcpStream> + Runtime,
+    D: Dial + Clock + Wait + Copy,
     I: Read,
     W: Write,
 >(
     rt: &R,
+    network: &D,
     alloc: Global,
     command: &ClusterCommand<'_>,
     reader: &mut I,
     writer: &mut W,
 ) -> Result<(), ClusterCommandError>
-    ensures output { OnOk result (CommandFinishes R.times command.now
+    ensures output { OnOk result (CommandFinishes (dialled D.leads D.Stream.contents D.Stream.remaining) R.times command.now
         (I.remaining reader.old) (W.contents writer.old) (W.contents writer.new)) }
-    ensures fault { IfErr result (λ e. CommandFails command.now e
+    ensures fault { IfErr result (λ e. CommandFails (dialled D.leads D.Stream.contents D.Stream.remaining) command.now e
         (I.remaining reader.old) (W.contents writer.old) (W.contents writer.new)) }
     ensures unread { CommandReads command.now (I.remaining reader.old) (I.remaining reader.new) }
 {
     match command {
         ClusterCommand::Serve(words) => serve_run(rt, alloc, words, writer)?,
         ClusterCommand::Ask(words) => {
-            ask_run(rt, alloc, words.address, words.key, words.body, writer)?
+            ask_run(network, alloc, words.address, words.key, words.body, writer)?
         }
-        ClusterCommand::AskAny(words) => ask_any_run(rt, alloc, words, writer)?,
-        ClusterCommand::Members(words) => members_run(rt, alloc, words.host, words.lines, writer)?,
-        ClusterCommand::Tell(host) => tell_run(rt, alloc, *host, reader, writer)?,
+        ClusterCommand::AskAny(words) => ask_any_run(network, alloc, words, writer)?,
+        ClusterCommand::Members(words) => members_run(
+            network,
+            alloc,
+            words.host,
+            words.lines,
+            writer,
+        )?,
+        ClusterCommand::Tell(host) => tell_run(network, alloc, *host, reader, writer)?,
     }
     Ok(())
 }

@@ -14,10 +14,9 @@ pub struct Echo {
 }
 
 impl Handler for Echo {
-    ghost use Rattle.std.specs.Prelude.{◌≡◌, IfOk};
-    ghost use Rattle.cli_net.specs.Echoes.{MayEcho, echo_text};
+    ghost use Rattle.cli_net.specs.Echoes.{MayEcho};
 
-    ghost may_handle = { MayEcho };
+    ghost may_handle = { λ echo. MayEcho echo.address };
 
     fn handle<R: Wait>(
         &self,
@@ -26,8 +25,7 @@ impl Handler for Echo {
         _keys: &Keys,
         body: &Text,
     ) -> Result<Text, HandlerFault>
-        ensures handled { MayEcho _keys.now body.now result }
-        ensures echo { IfOk result (λ t. t ≡ echo_text self.now.address body.now) }
+        ensures handled { MayEcho self.now.address _keys.now body.now result }
     {
         let address = self.address;
         let body = body.as_str();

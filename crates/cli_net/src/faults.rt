@@ -52,6 +52,12 @@ pub enum ServeError {
     /// A thread was refused.
     #[error("no thread")]
     NoThread,
+    /// The node is still held after all threads have ended. No run meets it.
+    #[error("a node is still held")]
+    StillHeld,
+    /// Another number of connections than asked for was served when all threads have ended. No run meets it.
+    #[error("connections miscounted")]
+    Miscounted,
     /// The writer failed.
     #[error("cannot write")]
     CannotWrite,

@@ -5,6 +5,7 @@
 mod agents;
 mod asking;
 mod commands;
+mod dialled;
 mod echoes;
 mod faults;
 mod looks;
@@ -27,5 +28,5 @@ pub use owners::{ask_any_over, ask_any_run};
 pub use program_errors::Fault;
 pub use runs::words_run;
 pub use server::Runtime;
-pub use serving::{serve_run, serve_within};
+pub use serving::{ServedNode, serve_run, serve_within};
 pub use telling::{tell_over, tell_run};

@@ -8,19 +8,19 @@ ghost use Rattle.serde_json.specs.Written.{compact_text};
 ghost use Rattle.wire_json.specs.Forms.{change_data};
 ghost use Rattle.cli_core.specs.Changes.{change_of};
 ghost use Rattle.cli_core.specs.Fold.{fold_text};
-ghost use Rattle.cluster_core.specs.Channels.{any_answer};
+ghost use Rattle.cli_net.specs.Dialled.{dialled};
 ghost use Rattle.cli_net.specs.Membership.{IsNotSeen, IsSeen, IsUnwritten, LeavesText, WritesSeen, change_line, membership_text, told_members};
 
+use crate::dialled::DialledLink;
 use crate::faults::AskError;
 use crate::questions::{join_with, write_text};
 use change_core::{Address, MAX_MEMBERS, Sourced};
 use cli_core::fold_text;
-use cluster_core::{Link, TcpLink};
+use cluster_core::{Dial, Link};
 use member_core::{MemberError, MemberTable};
 use message_core::{Changes, News};
 use std::alloc::Global;
 use std::io::Write;
-use std::net::Net;
 use std::sync::Wait;
 use std::time::Clock;
 use wire_json::encode_change;
@@ -181,18 +181,18 @@ pub fn members_over<R: Wait, L: Link, W: Write>(
 /// # Errors
 ///
 /// - The errors of `members_over`.
-pub fn members_run<R: Net + Clock + Wait, W: Write>(
+pub fn members_run<R: Dial + Clock + Wait + Copy, W: Write>(
     rt: &R,
     alloc: Global,
     host: Address,
     lines: bool,
     writer: &mut W,
 ) -> Result<(), AskError>
-    ensures written { OnOk result (WritesSeen any_answer host [] (membership_text lines)
+    ensures written { OnOk result (WritesSeen (dialled R.leads R.Stream.contents R.Stream.remaining) host [] (membership_text lines)
         (W.contents writer.old) (W.contents writer.new)) }
-    ensures fault { IfErr result (λ e. IsUnwritten any_answer host [] (membership_text lines) e
+    ensures fault { IfErr result (λ e. IsUnwritten (dialled R.leads R.Stream.contents R.Stream.remaining) host [] (membership_text lines) e
         (W.contents writer.old) (W.contents writer.new)) }
 {
-    let mut link = TcpLink::new(rt);
+    let mut link = DialledLink::new(*rt);
     members_over(rt, alloc, &mut link, host, lines, writer)
 }

@@ -5,22 +5,22 @@ ghost use Rattle.change_core.specs.Members.{IsMemberList};
 ghost use Rattle.hash_ring.specs.Points.{IsReplicas, owner};
 ghost use Rattle.hash_ring.specs.Serving.{servers_of};
 ghost use Rattle.cli_core.specs.Owner.{hash_by};
-ghost use Rattle.cluster_core.specs.Channels.{any_answer};
 ghost use Rattle.cli_net.specs.Asking.{LeavesReply, WritesReply};
+ghost use Rattle.cli_net.specs.Dialled.{dialled};
 ghost use Rattle.cli_net.specs.Owning.{IsAnswered, IsNoOwner, IsOwner, IsUnanswered, IsUnnamed};
 
 use crate::asking::reply_of;
+use crate::dialled::DialledLink;
 use crate::faults::AskError;
 use crate::looks::look_only;
 use crate::questions::write_text;
 use change_core::{Address, Change};
 use cli_core::{AskAnyWords, ring_of};
-use cluster_core::{Link, TcpLink};
+use cluster_core::{Dial, Link};
 use hash_ring::{PointHash, Sha256Hash, SumHash};
 use message_core::{Reason, Text};
 use std::alloc::Global;
 use std::io::Write;
-use std::net::Net;
 use std::sync::Wait;
 use std::time::Clock;
 
@@ -138,20 +138,20 @@ pub fn ask_any_over<R: Wait, L: Link, W: Write>(
 /// # Errors
 ///
 /// - The errors of `ask_any_over`.
-pub fn ask_any_run<R: Net + Clock + Wait, W: Write>(
+pub fn ask_any_run<R: Dial + Clock + Wait + Copy, W: Write>(
     rt: &R,
     alloc: Global,
     words: &AskAnyWords<'_>,
     writer: &mut W,
 ) -> Result<(), AskError>
     ensures answered { OnOk result (WritesReply
-        (IsAnswered any_answer words.now.host (hash_by words.now.sum) words.now.replicas words.now.key.now words.now.body.now)
+        (IsAnswered (dialled R.leads R.Stream.contents R.Stream.remaining) words.now.host (hash_by words.now.sum) words.now.replicas words.now.key.now words.now.body.now)
         (W.contents writer.old) (W.contents writer.new)) }
     ensures fault { IfErr result (λ e. LeavesReply
-        (IsAnswered any_answer words.now.host (hash_by words.now.sum) words.now.replicas words.now.key.now words.now.body.now)
-        (IsUnanswered any_answer words.now.host (hash_by words.now.sum) words.now.replicas words.now.key.now words.now.body.now)
+        (IsAnswered (dialled R.leads R.Stream.contents R.Stream.remaining) words.now.host (hash_by words.now.sum) words.now.replicas words.now.key.now words.now.body.now)
+        (IsUnanswered (dialled R.leads R.Stream.contents R.Stream.remaining) words.now.host (hash_by words.now.sum) words.now.replicas words.now.key.now words.now.body.now)
         e (W.contents writer.old) (W.contents writer.new)) }
 {
-    let mut link = TcpLink::new(rt);
+    let mut link = DialledLink::new(*rt);
     ask_any_over(rt, alloc, &mut link, words, writer)
 }

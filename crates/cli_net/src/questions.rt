@@ -1,7 +1,7 @@
 //! One question to a running node, by no member: from 0.0.0.0:1 at incarnation 0.
 ghost use Rattle.std.specs.Prelude.{◌≡◌, ◌∷◌, ◌++◌, [], IfOk, IfErr, OnOk, IsOkUnless};
 ghost use Rattle.std.specs.Io.KnownBytes.{Appends};
-ghost use Rattle.wire_json.specs.Input.{AppendsFront};
+ghost use Rattle.wire_json.specs.Input.{AppendsPrefix};
 ghost use Rattle.cli_net.specs.Asking.{Asked, unsourced};
 ghost use Rattle.cli_net.specs.Membership.{IsNotTold, IsTold};
 
@@ -86,7 +86,7 @@ pub fn join_with<R: Wait, L: Link>(
 /// - `CannotWrite`: the writer failed. A prefix of them is written.
 pub fn write_text<W: Write>(writer: &mut W, line: &[u8]) -> Result<(), AskError>
     ensures ok { OnOk result (Appends (W.contents writer.old) (W.contents writer.new) (line.now ++ 10 ∷ [])) }
-    ensures front { AppendsFront (W.contents writer.old) (W.contents writer.new) (line.now ++ 10 ∷ []) }
+    ensures prefix { AppendsPrefix (W.contents writer.old) (W.contents writer.new) (line.now ++ 10 ∷ []) }
     ensures refusal { IsOkUnless result AskError.CannotWrite }
 {
     write_line(writer, line).map_err(|_| AskError::CannotWrite)

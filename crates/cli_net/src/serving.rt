@@ -1,17 +1,18 @@
 //! A node over sockets, from its words to its last connection.
-ghost use Rattle.std.specs.Prelude.{◌≡◌, ◌≢◌, ◌++◌, ◌∷◌, [], Err, IfErr, IfOk, OnOk, IsOkUnless};
+ghost use Rattle.std.specs.Prelude.{◌≡◌, ◌≢◌, ◌<◌, ◌++◌, ◌∷◌, [], true, false, Err, IfErr, IfOk, OnOk, IsOkUnless, vec_len};
 ghost use Rattle.std.specs.Arc.{arc_value};
+ghost use Rattle.std.specs.Vec.{vec_capacity};
 ghost use Rattle.std.specs.Io.KnownBytes.{Appends};
-ghost use Rattle.wire_json.specs.Input.{AppendsFront};
+ghost use Rattle.wire_json.specs.Input.{AppendsPrefix};
 ghost use Rattle.cluster_core.specs.Channels.{any_answer};
 ghost use Rattle.std.specs.List.{All};
-ghost use Rattle.locked_node.specs.Passes.{Fits};
+ghost use Rattle.locked_node.specs.Passes.{Fits, IsClosed};
 ghost use Rattle.peer_core.specs.Acts.{Makes};
 ghost use Rattle.server.specs.Starting.{IsHealedAs};
-ghost use Rattle.server.specs.Threads.{ServeAlone};
+ghost use Rattle.server.specs.Threads.{ServeTogether};
 ghost use Rattle.server.specs.Working.{AreRounds, hosts_of};
 ghost use Rattle.cli_net.specs.Echoes.{MayEcho};
-ghost use Rattle.cli_net.specs.Service.{EntersBy, HasEntered, HasServed, IsServed, IsThreadFault, LeavesService, LeavesServing, ServesAsStandard, ServesBy, TellsEntry, service_text, serving_line};
+ghost use Rattle.cli_net.specs.Service.{EntersBy, HasEnded, HasEntered, HasServed, IsEndFault, IsThreadFault, LeavesService, LeavesServing, ServesAsStandard, ServesBy, TellsEntry, end_fault, service_text, serving_line};
 
 use crate::echoes::Echo;
 use crate::faults::ServeError;
@@ -21,7 +22,10 @@ use cli_core::ServeWords;
 use cluster_core::{TcpLink, socket_address};
 use hash_ring::{PointHash, Sha256Hash, SumHash};
 use locked_node::NodePass;
-use server::{Ended, HealingPlan, Running, Runtime, Server, ServerError, Stopwatch, Timeouts};
+use node_core::NodeState;
+use server::{
+    EndError, Ended, HealingPlan, Running, Runtime, Server, ServerError, Stopwatch, Timeouts,
+};
 use std::alloc::Global;
 use std::io::Write;
 use std::net::{Net, TcpListener, TcpStream};
@@ -37,7 +41,7 @@ fn listen<R: Net>(rt: &R, address: Address) -> Result<R::Listener, ServeError>
 /// Writes a line and flushes.
 fn say<W: Write>(writer: &mut W, text: &str) -> Result<(), ServeError>
     ensures said { OnOk result (Appends (W.contents writer.old) (W.contents writer.new) (text.now ++ 10 ∷ [])) }
-    ensures front { AppendsFront (W.contents writer.old) (W.contents writer.new) (text.now ++ 10 ∷ []) }
+    ensures prefix { AppendsPrefix (W.contents writer.old) (W.contents writer.new) (text.now ++ 10 ∷ []) }
     ensures fault { IsOkUnless result ServeError.CannotWrite }
 {
     write_line(writer, text.as_bytes()).map_err(|_| ServeError::CannotWrite)
@@ -65,8 +69,38 @@ fn plan_of(alloc: Global, words: &ServeWords) -> Result<Option<HealingPlan>, Ser
     Ok(HealingPlan::of(words.heal, words.address, hosts))
 }
 
+/// Returns the error of a server for that of its end.
+fn fault_of(error: EndError) -> ServeError
+    ensures { result ≡ end_fault error }
+{
+    match error {
+        EndError::Memory => ServeError::OutOfMemory,
+        _ => ServeError::StillHeld,
+    }
+}
+
+/// Closes the node with all passes that came back, if as many connections were served as were asked for. The errors are
+/// `Miscounted` and `StillHeld`.
+fn close<H: PointHash>(alloc: Global, ended: Ended<H, Echo>) -> Result<NodeState<H>, ServeError>
+    requires rounds { Fits (arc_value ended.server).node ended.rounds }
+    requires workers { All (Fits (arc_value ended.server).node) ended.workers.items }
+    requires room { vec_len ended.workers < vec_capacity ended.workers }
+    ensures closed { IfOk result (IsClosed H.hash_of (arc_value ended.server).node (ended.workers.items ++ ended.rounds ∷ [])) }
+    ensures count { OnOk result (ended.connections ≡ (arc_value ended.server).connections) }
+    ensures miscounted { result ≡ Err ServeError.Miscounted → ended.connections ≢ (arc_value ended.server).connections }
+    ensures fault { IfErr result IsEndFault }
+{
+    if ended.connections != ended.server.connections as u128 {
+        return Err(ServeError::Miscounted);
+    }
+    match ended.close(Vec::new(alloc)) {
+        Ok(node) => Ok(node),
+        Err(error) => Err(fault_of(error)),
+    }
+}
+
 /// Serves until the last connection, by threads with these passes. The errors are `NoThread` and `OutOfMemory`.
-fn serve_all<
+fn run_threads<
     R: Net<Listener = TcpListener, Stream = TcpStream> + Runtime,
     H: PointHash + Send + Sync + 'static,
 >(
@@ -82,7 +116,9 @@ fn serve_all<
     ensures server { IfOk result (λ r. arc_value r.server ≡ server) }
     ensures rounds { IfOk result (λ r. Makes server.node (AreRounds R.times period (hosts_of server.hosts) server.healing) timer r.rounds) }
     ensures resting { IfOk result (λ r. period ≡ 0 → r.rounds ≡ timer) }
-    ensures connections { IfOk result (λ r. ServeAlone H.hash_of MayEcho server.node workers.items r.workers.items) }
+    ensures connections { IfOk result (λ r. ServeTogether H.hash_of (MayEcho server.handler.address) server.node workers.items r.workers.items r.connections) }
+    ensures room { IfOk result (λ r. vec_len r.workers < vec_capacity r.workers) }
+    ensures fits { IfOk result (λ r. Fits (arc_value r.server).node r.rounds × All (Fits (arc_value r.server).node) r.workers.items) }
     ensures fault { IfErr result IsThreadFault }
 {
     match Running::start(rt, alloc, server, timer, workers, period) {
@@ -92,8 +128,32 @@ fn serve_all<
     }
 }
 
-/// Does as `serve_within`, under a hash. Returns the server, with the passes of its rounds and of its workers.
-fn serve_out<
+/// Serves until the last connection, and closes the node with all its passes. The errors are `NoThread` and `OutOfMemory`, before
+/// any was served, and `StillHeld` and `Miscounted`.
+fn serve_all<
+    R: Net<Listener = TcpListener, Stream = TcpStream> + Runtime,
+    H: PointHash + Send + Sync + 'static,
+>(
+    rt: &R,
+    alloc: Global,
+    server: Server<H, Echo>,
+    timer: NodePass<H>,
+    workers: Vec<NodePass<H>>,
+    period: u64,
+) -> Result<NodeState<H>, ServeError>
+    requires timer { Fits server.node timer }
+    requires workers { All (Fits server.node) workers.items }
+    ensures ended { IfOk result (HasEnded R.times H.hash_of server period timer workers.items) }
+    ensures fault { IfErr result IsThreadFault }
+{
+    match run_threads(rt, alloc, server, timer, workers, period) {
+        Ok(ended) => close(alloc, ended),
+        Err(fault) => Err(fault),
+    }
+}
+
+/// Does as `serve_within`, under a hash. Returns the node, closed.
+fn serve_by<
     R: Net<Listener = TcpListener, Stream = TcpStream> + Runtime,
     H: PointHash + Send + Sync + 'static,
     W: Write,
@@ -104,12 +164,12 @@ fn serve_out<
     timeouts: Timeouts,
     words: &ServeWords,
     writer: &mut W,
-) -> Result<Ended<H, Echo>, ServeError>
+) -> Result<NodeState<H>, ServeError>
     ensures served { OnOk result (Appends (W.contents writer.old) (W.contents writer.new) (service_text words.now.address)) }
     ensures left { IfErr result (λ e. LeavesService words.now.address e (W.contents writer.old) (W.contents writer.new)) }
     ensures named { result ≡ Err ServeError.NoneJoined → words.now.hosts.items ≢ [] }
     ensures entered { TellsEntry (HasEntered H.hash_of any_answer hash words.now) result }
-    ensures ended { IfOk result (λ r. HasServed R.times H.hash_of any_answer hash timeouts words.now (arc_value r.server) r.rounds r.workers.items) }
+    ensures serves { IfOk result (HasServed R.times H.hash_of any_answer hash timeouts words.now) }
 {
     let healing = plan_of(alloc, words)?;
     let stopwatch = Stopwatch::start(rt);
@@ -132,71 +192,100 @@ fn serve_out<
         words.requests,
     );
     say_serving(alloc, words.address, writer)?;
-    let ended = serve_all(rt, alloc, server, timer, passes, words.period)?;
+    let closed = serve_all(rt, alloc, server, timer, passes, words.period)?;
     say(writer, "done")?;
-    Ok(ended)
+    Ok(closed)
 }
 
-/// `serve_within` under a hash.
-fn serve_by<
-    R: Net<Listener = TcpListener, Stream = TcpStream> + Runtime,
-    H: PointHash + Send + Sync + 'static,
-    W: Write,
->(
+/// A node that has served its last connection, closed, under the hash of its words.
+#[derive(Drop)]
+pub enum ServedNode {
+    /// Under the sum of the bytes.
+    Sum(NodeState<SumHash>),
+    /// Under SHA-256's first eight bytes.
+    Sha256(NodeState<Sha256Hash>),
+}
+
+/// `serve_within` under the sum of the bytes.
+fn serve_by_sum<R: Net<Listener = TcpListener, Stream = TcpStream> + Runtime, W: Write>(
     rt: &R,
     alloc: Global,
-    hash: H,
     timeouts: Timeouts,
     words: &ServeWords,
     writer: &mut W,
-) -> Result<(), ServeError>
+) -> Result<ServedNode, ServeError>
+    requires { words.now.sum ≡ true }
     ensures served { OnOk result (Appends (W.contents writer.old) (W.contents writer.new) (service_text words.now.address)) }
     ensures left { IfErr result (λ e. LeavesService words.now.address e (W.contents writer.old) (W.contents writer.new)) }
     ensures named { result ≡ Err ServeError.NoneJoined → words.now.hosts.items ≢ [] }
-    ensures entered { TellsEntry (HasEntered H.hash_of any_answer hash words.now) result }
-    ensures serves { OnOk result (IsServed R.times H.hash_of hash timeouts words.now) }
+    ensures entered { TellsEntry (EntersBy true words.now) result }
+    ensures serves { IfOk result (ServesBy R.times words.now timeouts) }
 {
-    match serve_out(rt, alloc, hash, timeouts, words, writer) {
-        Ok(_ended) => Ok(()),
+    match serve_by(rt, alloc, SumHash, timeouts, words, writer) {
+        Ok(node) => Ok(ServedNode::Sum(node)),
         Err(fault) => Err(fault),
     }
 }
 
-/// Joins the hosts, if any, listens, writes `serving` and the address, serves the given number of connections, and
-/// writes `done`. Each connection carries one line in and one line out; the answer to a request is the node's address,
-/// a space and the body. Between two rounds are the given milliseconds. After the last connection a round that is under
-/// way is waited for, 8.5 seconds at most with the standard timeouts.
+/// `serve_within` under SHA-256's first eight bytes.
+fn serve_by_sha256<R: Net<Listener = TcpListener, Stream = TcpStream> + Runtime, W: Write>(
+    rt: &R,
+    alloc: Global,
+    timeouts: Timeouts,
+    words: &ServeWords,
+    writer: &mut W,
+) -> Result<ServedNode, ServeError>
+    requires { words.now.sum ≡ false }
+    ensures served { OnOk result (Appends (W.contents writer.old) (W.contents writer.new) (service_text words.now.address)) }
+    ensures left { IfErr result (λ e. LeavesService words.now.address e (W.contents writer.old) (W.contents writer.new)) }
+    ensures named { result ≡ Err ServeError.NoneJoined → words.now.hosts.items ≢ [] }
+    ensures entered { TellsEntry (EntersBy false words.now) result }
+    ensures serves { IfOk result (ServesBy R.times words.now timeouts) }
+{
+    match serve_by(rt, alloc, Sha256Hash, timeouts, words, writer) {
+        Ok(node) => Ok(ServedNode::Sha256(node)),
+        Err(fault) => Err(fault),
+    }
+}
+
+/// Joins the hosts, if any, listens, writes `serving` and the address, serves the given number of connections, closes
+/// the node, and writes `done`. Each connection carries one line in and one line out; the answer to a request is the
+/// node's address, a space and the body. Between two rounds are the given milliseconds. After the last connection a
+/// round that is under way is waited for: with the standard timeouts 8.5 seconds at most, 20.25 if the node heals.
+/// Returns the node after one legal history of all calls since it was made: its join, rounds and connections.
 ///
 /// # Errors
 ///
 /// The first step that fails ends it, in the order above.
 ///
-/// - `OutOfMemory`: out of memory, in any step.
+/// - `OutOfMemory`: out of memory, in any step before the first connection.
 /// - `NoneJoined`: hosts were named and none admitted the node.
 /// - `CannotListen`: the address can't be listened at.
 /// - `CannotWrite`: the writer failed, before any thread runs or after all have ended.
 /// - `NoThread`: a thread could not be made. None has served, and those that were started have ended.
+/// - `StillHeld`: a thread holds the node after all have ended. No run meets it.
+/// - `Miscounted`: another number of connections was served when all threads have ended. No run meets it.
 pub fn serve_within<R: Net<Listener = TcpListener, Stream = TcpStream> + Runtime, W: Write>(
     rt: &R,
     alloc: Global,
     timeouts: Timeouts,
     words: &ServeWords,
     writer: &mut W,
-) -> Result<(), ServeError>
+) -> Result<ServedNode, ServeError>
     ensures served { OnOk result (Appends (W.contents writer.old) (W.contents writer.new) (service_text words.now.address)) }
     ensures left { IfErr result (λ e. LeavesService words.now.address e (W.contents writer.old) (W.contents writer.new)) }
     ensures named { result ≡ Err ServeError.NoneJoined → words.now.hosts.items ≢ [] }
     ensures entered { TellsEntry (EntersBy words.now.sum words.now) result }
-    ensures serves { OnOk result (ServesBy R.times words.now.sum words.now timeouts) }
+    ensures serves { IfOk result (ServesBy R.times words.now timeouts) }
 {
     if words.sum {
-        serve_by(rt, alloc, SumHash, timeouts, words, writer)
+        serve_by_sum(rt, alloc, timeouts, words, writer)
     } else {
-        serve_by(rt, alloc, Sha256Hash, timeouts, words, writer)
+        serve_by_sha256(rt, alloc, timeouts, words, writer)
     }
 }
 
-/// Does as `serve_within`, with the standard timeouts.
+/// Does as `serve_within`, with the standard timeouts, and drops the node.
 ///
 /// # Errors
 ///
@@ -213,5 +302,8 @@ pub fn serve_run<R: Net<Listener = TcpListener, Stream = TcpStream> + Runtime, W
     ensures entered { TellsEntry (EntersBy words.now.sum words.now) result }
     ensures serves { OnOk result (ServesAsStandard R.times words.now) }
 {
-    serve_within(rt, alloc, Timeouts::standard(), words, writer)
+    match serve_within(rt, alloc, Timeouts::standard(), words, writer) {
+        Ok(_node) => Ok(()),
+        Err(fault) => Err(fault),
+    }
 }

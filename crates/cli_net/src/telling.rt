@@ -2,21 +2,21 @@
 ghost use Rattle.std.specs.Prelude.{◌≡◌, ◌≤◌, ◌+◌, true, Err, IfErr, IfOk, IfSome, IsOkUnless, OnOk, length, string_bytes};
 ghost use Rattle.change_core.specs.Numbers.{most_members};
 ghost use Rattle.change_core.specs.Numeral.{number_text};
-ghost use Rattle.cluster_core.specs.Channels.{any_answer};
+ghost use Rattle.cli_net.specs.Dialled.{dialled};
 ghost use Rattle.cli_net.specs.Membership.{IsUnwritten, WritesSeen};
 ghost use Rattle.cli_net.specs.Telling.{Gives, HearsChange, IsNoNews, IsUntold, TakesTurn, Tells, count_line};
 ghost use Rattle.cli_net.specs.declared.faults.AskError.{AskError};
 
+use crate::dialled::DialledLink;
 use crate::faults::{AskError, TellError};
 use crate::looks::look;
 use crate::questions::write_text;
 use change_core::{Address, MAX_MEMBERS, Sourced};
 use cli_core::LineError;
-use cluster_core::{Link, TcpLink};
+use cluster_core::{Dial, Link};
 use message_core::Changes;
 use std::alloc::Global;
 use std::io::{Read, Write};
-use std::net::Net;
 use std::sync::Wait;
 use std::time::Clock;
 use wire_json::{decode_change, read_line};
@@ -132,17 +132,17 @@ pub fn tell_over<R: Wait, L: Link, I: Read, W: Write>(
 /// # Errors
 ///
 /// - The errors of `tell_over`.
-pub fn tell_run<R: Net + Clock + Wait, I: Read, W: Write>(
+pub fn tell_run<R: Dial + Clock + Wait + Copy, I: Read, W: Write>(
     rt: &R,
     alloc: Global,
     host: Address,
     reader: &mut I,
     writer: &mut W,
 ) -> Result<(), TellError>
-    ensures told { OnOk result (Tells any_answer host (I.remaining reader.old) (W.contents writer.old) (W.contents writer.new)) }
-    ensures fault { IfErr result (λ e. IsUntold any_answer host (I.remaining reader.old) e
+    ensures told { OnOk result (Tells (dialled R.leads R.Stream.contents R.Stream.remaining) host (I.remaining reader.old) (W.contents writer.old) (W.contents writer.new)) }
+    ensures fault { IfErr result (λ e. IsUntold (dialled R.leads R.Stream.contents R.Stream.remaining) host (I.remaining reader.old) e
         (W.contents writer.old) (W.contents writer.new)) }
 {
-    let mut link = TcpLink::new(rt);
+    let mut link = DialledLink::new(*rt);
     tell_over(rt, alloc, &mut link, host, reader, writer)
 }

@@ -1,6 +1,6 @@
 -- What is given in the words is one thing at most, and why they are refused.
 use Rattle.std.proofs.Common.{◌≡◌, ◌∙◌, ◌<◌, ◌≤◌, ℕ, Bool, List, Result, Ok, Err, Option, Some, None, IfErr, IfSome, IsErrAnd, IsSome, IsSomeAnd}
-use Rattle.std.proofs.Common.{ap, arith, get_or, length, map, refl, subst, sym}
+use Rattle.std.proofs.Common.{◌≢◌, ap, arith, codes, get_or, length, map, refl, subst, sym}
 use Rattle.std.proofs.Math.Dec.{leb}
 use Rattle.std.proofs.lemmas.Bool.{le-leb}
 use Rattle.std.proofs.lemmas.List.{get_or-map, length-map}
@@ -11,11 +11,11 @@ use Rattle.std.specs.Str.Parse.{ExplainsUnsignedError, HasUnsignedDigitsIfOk, Pa
 use Rattle.std.specs.declared.num.ParseIntError.{ParseIntError}
 use Rattle.clap.specs.Words.{ReadsOne, Row, Text, first_of, one_text, rows_of}
 use Rattle.clap.specs.declared.parser.matches.Found.{Found}
-use Rattle.cli_words.specs.Faults.{IsRefusalOf}
-use Rattle.cli_words.specs.Whole.{IsNoAddress, IsNoAddressAt}
+use Rattle.cli_words.specs.Faults.{IsRefusalOf, fault_at}
+use Rattle.cli_words.specs.Whole.{HasAgent, HasBadAddress, IsAgentRefusal, IsBadArgument, IsNoAddress, IsNoAddressAt, IsRefusalBy, IsWhole}
 use Rattle.cli_words.specs.Words.{IsNumberAt}
 use Rattle.cli_words.specs.declared.faults.WordsError.{WordsError}
-use Rattle.cli_words.specs.declared.faults.WordsError.TheVariants.{Usage, BadAddress, OutOfMemory}
+use Rattle.cli_words.specs.declared.faults.WordsError.TheVariants.{Usage, BadAddress, BadAddressAt, OutOfMemory}
 use Rattle.cli_words.proofs.Rows.{one_is}
 
 -- how a text is read as a `u64`
@@ -66,6 +66,7 @@ not_there (Some x) e is = cc
 pub refusal_of : (whole more bad worse : Type 0) → (more → whole) → (bad → worse) → (f : WordsError) → IsRefusalOf whole bad f → IsRefusalOf more worse f
 refusal_of whole more bad worse as_whole as_bad (Usage e) is = λ x. is (as_whole x)
 refusal_of whole more bad worse as_whole as_bad BadAddress is = as_bad is
+refusal_of whole more bad worse as_whole as_bad (BadAddressAt argument) is = is
 refusal_of whole more bad worse as_whole as_bad OutOfMemory is = tt
 
 pub refused_of : {T : Type 0} (whole more bad worse : Type 0) → (more → whole) → (bad → worse) → (r : Result T WordsError) → IfErr r (IsRefusalOf whole bad)
@@ -83,3 +84,34 @@ pub bad_address : (rows : List Row) (name text : Text) (whole : Type 0) → firs
 bad_address rows name text whole first f is =
     let none : IsNoAddressAt rows name = subst (λ (o : Option Text). IsSomeAnd o IsNoAddress) (sym first) is.1 in
     subst (λ (g : WordsError). IsRefusalOf whole (IsNoAddressAt rows name) g) (sym is.0) none
+
+-- an error of one of `agent`'s arguments, which it names
+pub named_as : (whole more bad : Type 0) (rows : List Row) (argument : Bor Text) → (more → whole) → (bad → IsBadArgument rows argument.now) → (f : WordsError)
+    → IsRefusalOf whole bad f → IsAgentRefusal more rows (fault_at argument f)
+named_as whole more bad rows argument as_whole as_bad (Usage e) is = λ x. is (as_whole x)
+named_as whole more bad rows argument as_whole as_bad BadAddress is = as_bad is
+named_as whole more bad rows argument as_whole as_bad (BadAddressAt other) is = absurd is
+named_as whole more bad rows argument as_whole as_bad OutOfMemory is = tt
+
+-- an error of `agent`'s arguments is one of the subcommand of that name
+pub refused_agent : (rows : List Row) (name : Text) → name ≡ codes "agent" → (f : WordsError) → IsAgentRefusal (HasAgent rows) rows f → IsRefusalBy (Some (name, rows)) f
+refused_agent rows name is_agent (Usage e) is = λ has. is (has.agent is_agent)
+refused_agent rows name is_agent BadAddress is = absurd is
+refused_agent rows name is_agent (BadAddressAt argument) is = (is_agent, is)
+refused_agent rows name is_agent OutOfMemory is = tt
+
+-- and so is an error of another subcommand's
+pub refused_other : (rows : List Row) (name : Text) → name ≢ codes "agent" → (f : WordsError) → IsRefusalOf (IsWhole name rows) (HasBadAddress rows) f
+    → IsRefusalBy (Some (name, rows)) f
+refused_other rows name is_other (Usage e) is = is
+refused_other rows name is_other BadAddress is = (is_other, is)
+refused_other rows name is_other (BadAddressAt argument) is = absurd is
+refused_other rows name is_other OutOfMemory is = tt
+
+-- and so is the error with which it was read
+pub named_by : {T U : Type 0} (whole more bad : Type 0) (rows : List Row) (argument : Bor Text) → (more → whole) → (bad → IsBadArgument rows argument.now)
+    → (read : Result T WordsError) → IfErr read (IsRefusalOf whole bad) → (f : WordsError) → IsErrAnd read (λ e. f ≡ fault_at argument e)
+    → (r : Result U WordsError) → IsErrAnd r (λ e. e ≡ f) → IfErr r (IsAgentRefusal more rows)
+named_by whole more bad rows argument as_whole as_bad (Ok x) is f f_is r r_is = absurd f_is
+named_by whole more bad rows argument as_whole as_bad (Err e) is f f_is r r_is =
+    handed_on r f (IsAgentRefusal more rows) r_is (subst (IsAgentRefusal more rows) (sym f_is) (named_as whole more bad rows argument as_whole as_bad e is))

@@ -7,10 +7,10 @@ use Rattle.change_core.specs.Numbers.{IsWeight, greatest_number, most_members}
 use Rattle.hash_ring.specs.Points.{IsReplicas}
 use Rattle.node_core.specs.Workers.{IsCrew}
 use Rattle.cli_core.specs.Words.{IsPerMessage, IsPiggyback, IsRequests}
-use Rattle.cli_words.specs.Faults.{IsRefusalOf}
 use Rattle.cli_words.specs.Words.{IsFlagAt, IsNumberAt, level_name}
 use Rattle.cli_words.specs.declared.agent_words.LogLevel.{LogLevel}
 use Rattle.cli_words.specs.declared.faults.WordsError.{WordsError}
+use Rattle.cli_words.specs.declared.faults.WordsError.TheVariants.{Usage, BadAddress, BadAddressAt, OutOfMemory}
 
 -- the argument of this name is there, and it is one of these numbers
 abbrev pub HasNumber : List Row → Text → (ℕ → Type 0) → Type 0
@@ -100,16 +100,28 @@ IsNoAddressAt rows name = IsSomeAnd (first_of name rows) IsNoAddress
 abbrev pub IsNoAddressAmong : List Row → Text → Type 0
 IsNoAddressAmong rows name = IsSomeAnd (all_of name rows) (Any IsNoAddress)
 
--- an option of `agent` that has to be an address is not one
-abbrev pub HasBadOption : List Row → Type 0
-HasBadOption rows = IsNoAddressAt rows (codes "bind") ⊎ (IsNoAddressAt rows (codes "http") ⊎ IsNoAddressAt rows (codes "app"))
-
 -- an argument that has to be an address is not one
 abbrev pub HasBadAddress : List Row → Type 0
-HasBadAddress rows =
-    IsNoAddressAt rows (codes "address") ⊎ (IsNoAddressAt rows (codes "host") ⊎ (IsNoAddressAmong rows (codes "host") ⊎ HasBadOption rows))
+HasBadAddress rows = IsNoAddressAt rows (codes "address") ⊎ (IsNoAddressAt rows (codes "host") ⊎ IsNoAddressAmong rows (codes "host"))
 
--- the error of the arguments, if they name this subcommand with these arguments after it
+-- the argument of `agent` that the help writes so is not an address
+pub data IsBadArgument (rows : List Row) : Text → Type 0 where
+  address : IsNoAddressAt rows (codes "address") → IsBadArgument rows (codes "ADDRESS")
+  bind : IsNoAddressAt rows (codes "bind") → IsBadArgument rows (codes "--bind")
+  http : IsNoAddressAt rows (codes "http") → IsBadArgument rows (codes "--http")
+  app : IsNoAddressAt rows (codes "app") → IsBadArgument rows (codes "--app")
+  host : IsNoAddressAmong rows (codes "host") → IsBadArgument rows (codes "HOST")
+
+-- the error of the arguments of `agent`, as of any, but a bad address is named
+abbrev pub IsAgentRefusal : Type 0 → List Row → WordsError → Type 0
+IsAgentRefusal whole rows (Usage e) = ¬ whole
+IsAgentRefusal whole rows BadAddress = ⊥
+IsAgentRefusal whole rows (BadAddressAt argument) = IsBadArgument rows argument.now
+IsAgentRefusal whole rows OutOfMemory = Unit {0}
+
+-- the error of the arguments, if they name this subcommand with these arguments after it: only `agent` names a bad address
 abbrev pub IsRefusalBy : Option (Text × List Row) → WordsError → Type 0
-IsRefusalBy named =
-    IsRefusalOf (IfSome named (λ p. IsWhole p.0 p.1)) (IsSomeAnd named (λ p. HasBadAddress p.1))
+IsRefusalBy named (Usage e) = ¬ IfSome named (λ p. IsWhole p.0 p.1)
+IsRefusalBy named BadAddress = IsSomeAnd named (λ p. (p.0 ≢ codes "agent") × HasBadAddress p.1)
+IsRefusalBy named (BadAddressAt argument) = IsSomeAnd named (λ p. (p.0 ≡ codes "agent") × IsBadArgument p.1 argument.now)
+IsRefusalBy named OutOfMemory = Unit {0}

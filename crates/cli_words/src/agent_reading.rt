@@ -1,9 +1,9 @@
 //! The arguments of `agent`, read from those of the command line.
-ghost use Rattle.std.specs.Prelude.{◌≡◌, ◌≤◌, Some, codes, IfErr, IfOk, IfSome, IsSome};
+ghost use Rattle.std.specs.Prelude.{◌≡◌, ◌≤◌, Ok, Some, codes, IfErr, IfOk, IfSome, IsErrAnd, IsSome};
 ghost use Rattle.clap.specs.Words.{first_of};
 ghost use Rattle.change_core.specs.Numbers.{greatest_number};
-ghost use Rattle.cli_words.specs.Faults.{IsRefusalOf};
-ghost use Rattle.cli_words.specs.Whole.{HasAgent, HasAgentNumbers, HasBadAddress, HasLevel, HasNumber, IsNoAddressAt};
+ghost use Rattle.cli_words.specs.Faults.{IsRefusalOf, fault_at};
+ghost use Rattle.cli_words.specs.Whole.{HasAgent, HasAgentNumbers, HasLevel, HasNumber, IsAgentRefusal, IsNoAddressAt};
 ghost use Rattle.cli_words.specs.Words.{AreAddressesAt, AreAgentNumbersAt, IsAddressAt, IsAgentAt, IsNumberAt, IsNumberIfAt, IsOptionAt, level_name, rows_in};
 
 use crate::agent_words::{AgentWords, LogLevel, MAX_HANDS, MAX_PERIOD};
@@ -41,6 +41,17 @@ fn option_at(matches: &ArgMatches<'_>, id: &str) -> Result<Option<Address>, Word
     }
 }
 
+/// Returns what was read of this argument, which is named if it is not an address.
+fn read_at<T: Drop>(argument: &'static str, read: Result<T, WordsError>) -> Result<T, WordsError>
+    ensures ok { IfOk result (λ x. read ≡ Ok x) }
+    ensures fault { IfErr result (λ f. IsErrAnd read (λ e. f ≡ fault_at argument.entry e)) }
+{
+    match read {
+        Ok(value) => Ok(value),
+        Err(error) => Err(error.at(argument)),
+    }
+}
+
 /// The addresses among the arguments of `agent`.
 #[derive(Drop)]
 struct Addresses {
@@ -52,21 +63,26 @@ struct Addresses {
 }
 
 /// Returns the addresses among the arguments of `agent`. If the first is absent, the error is `Usage`; the first argument
-/// that has to be an address and is not one is `BadAddress`.
+/// that has to be an address and is not one is named by `BadAddressAt`.
 fn addresses_in(alloc: Global, matches: &ArgMatches<'_>) -> Result<Addresses, WordsError>
     ensures address { IfOk result (λ r. IsAddressAt (rows_in matches.now) (codes "address") r.address) }
     ensures bind { IfOk result (λ r. IsOptionAt (rows_in matches.now) (codes "bind") r.bind) }
     ensures http { IfOk result (λ r. IsOptionAt (rows_in matches.now) (codes "http") r.http) }
     ensures app { IfOk result (λ r. IsOptionAt (rows_in matches.now) (codes "app") r.app) }
     ensures hosts { IfOk result (λ r. AreAddressesAt (rows_in matches.now) (codes "host") r.hosts.items) }
-    ensures fault { IfErr result (IsRefusalOf (IsSome (first_of (codes "address") (rows_in matches.now))) (HasBadAddress (rows_in matches.now))) }
+    ensures fault { IfErr result (IsAgentRefusal (IsSome (first_of (codes "address") (rows_in matches.now))) (rows_in matches.now)) }
 {
+    let address = read_at("ADDRESS", address_at(alloc, matches, ADDRESS))?;
+    let bind = read_at("--bind", option_at(matches, BIND))?;
+    let http = read_at("--http", option_at(matches, HTTP))?;
+    let app = read_at("--app", option_at(matches, APP))?;
+    let hosts = read_at("HOST", hosts_at(alloc, matches))?;
     Ok(Addresses {
-        address: address_at(alloc, matches, ADDRESS)?,
-        bind: option_at(matches, BIND)?,
-        http: option_at(matches, HTTP)?,
-        app: option_at(matches, APP)?,
-        hosts: hosts_at(alloc, matches)?,
+        address,
+        bind,
+        http,
+        app,
+        hosts,
     })
 }
 
@@ -142,11 +158,11 @@ fn words_with(matches: &ArgMatches<'_>, addresses: Addresses) -> Option<AgentWor
 ///
 /// - `Usage`: an argument is absent or not in its range, or no level of the log has the name that is given; in the form
 ///   of `clap`'s errors.
-/// - `BadAddress`: an argument that has to be an address is not one.
+/// - `BadAddressAt`: an argument that has to be an address is not one, the first such in the order of the fields.
 /// - `OutOfMemory`: out of memory.
 pub fn agent_words(alloc: Global, matches: &ArgMatches<'_>) -> Result<AgentWords, WordsError>
     ensures words { IfOk result (IsAgentAt (rows_in matches.now)) }
-    ensures fault { IfErr result (IsRefusalOf (HasAgent (rows_in matches.now)) (HasBadAddress (rows_in matches.now))) }
+    ensures fault { IfErr result (IsAgentRefusal (HasAgent (rows_in matches.now)) (rows_in matches.now)) }
 {
     let addresses = addresses_in(alloc, matches)?;
     match words_with(matches, addresses) {

@@ -13,20 +13,32 @@ pub enum WordsError {
     Usage(clap::Error),
     /// An argument that has to be an address is not one.
     BadAddress,
+    /// An argument of `agent` that has to be an address is not one: its name, as the help writes it.
+    BadAddressAt(&'static str),
     /// Out of memory before the subcommand started.
     OutOfMemory,
 }
 
 impl WordsError {
-    ghost use Rattle.cli_words.specs.Faults.{status_of};
+    ghost use Rattle.cli_words.specs.Faults.{fault_at, status_of};
 
     /// Returns the exit status: 2 if the arguments are refused, else 1.
     pub fn status(&self) -> u8
         ensures { result ≡ status_of self.now }
     {
         match self {
-            WordsError::Usage(_) | WordsError::BadAddress => 2,
+            WordsError::Usage(_) | WordsError::BadAddress | WordsError::BadAddressAt(_) => 2,
             WordsError::OutOfMemory => 1,
+        }
+    }
+
+    /// Returns the same error, but `BadAddressAt` with this argument in place of `BadAddress`.
+    pub(crate) fn at(self, argument: &'static str) -> Self
+        ensures { result ≡ fault_at argument.entry self }
+    {
+        match self {
+            WordsError::BadAddress => WordsError::BadAddressAt(argument),
+            other => other,
         }
     }
 }
@@ -36,6 +48,7 @@ impl fmt::Display for WordsError {
         match self {
             WordsError::Usage(error) => write!(f, "{error}"),
             WordsError::BadAddress => writeln!(f, "ringpop: bad address"),
+            WordsError::BadAddressAt(argument) => writeln!(f, "ringpop: bad address: {argument}"),
             WordsError::OutOfMemory => writeln!(f, "ringpop: out of memory"),
         }
     }

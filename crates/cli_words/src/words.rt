@@ -1,11 +1,12 @@
 //! The arguments of the command line.
-ghost use Rattle.std.specs.Prelude.{◌≡◌, ◌≤◌, ℕ, length, map, codes, IfErr, IfOk, IfSome, IsSome, IsSomeAnd, true};
+ghost use Rattle.std.specs.Prelude.{◌≡◌, ◌≢◌, ◌≤◌, ℕ, List, length, map, codes, IfErr, IfOk, IfSome, IsSome, IsSomeAnd, true};
+ghost use Rattle.std.specs.Borrow.{Bor};
 ghost use Rattle.clap.specs.Values.{kind_of};
 ghost use Rattle.clap.specs.Words.{subcommand_of, subcommand_rows_of, takes};
 ghost use Rattle.hash_ring.specs.Points.{IsReplicas};
 ghost use Rattle.cli_words.specs.CommandLine.{ringpop_app};
-ghost use Rattle.cli_words.specs.Faults.{IsRefusalOf, IsUsageFault};
-ghost use Rattle.cli_words.specs.Whole.{HasBadAddress, HasNumber, HasOwned, IsOfLines, IsRefusalBy, IsWhole};
+ghost use Rattle.cli_words.specs.Faults.{IsUsageFault};
+ghost use Rattle.cli_words.specs.Whole.{HasBadAddress, HasNumber, HasOwned, IsBadArgument, IsOfLines, IsRefusalBy, IsWhole};
 ghost use Rattle.cli_words.specs.Words.{AreAskedBy, AreLinesOf, AreWordsOf, IsFlagAt, IsNumberAt, IsOwnedAt, IsScriptAt, rows_in};
 
 use crate::agent_reading::agent_words;
@@ -112,15 +113,15 @@ fn lines_of<'a>(name: &str, matches: &ArgMatches<'a>) -> Option<Subcommand<'a>>
 }
 
 /// Returns the command of the subcommand of this name. The error is `Usage` only if there is no such subcommand, or one
-/// of its arguments is absent or not in its range, or there are 2^32 hosts, and `BadAddress` only if an argument that
-/// has to be an address is not one.
+/// of its arguments is absent or not in its range, or there are 2^32 hosts, and `BadAddress`, for `agent` `BadAddressAt`,
+/// only if an argument that has to be an address is not one.
 fn words_at<'a>(
     alloc: Global,
     name: &str,
     matches: &ArgMatches<'a>,
 ) -> Result<Words<'a>, WordsError>
     ensures words { IfOk result (AreWordsOf name.now (rows_in matches.now)) }
-    ensures fault { IfErr result (IsRefusalOf (IsWhole name.now (rows_in matches.now)) (HasBadAddress (rows_in matches.now))) }
+    ensures fault { IfErr result (IsRefusalBy (Some (name.now, rows_in matches.now))) }
 {
     if name == "agent" {
         let words = agent_words(alloc, matches)?;
@@ -156,12 +157,16 @@ fn words_of<'a>(alloc: Global, matches: &ArgMatches<'a>) -> Result<Words<'a>, Wo
 ///
 /// - `Usage`: `clap` refuses the arguments, or they ask for help. This comes first.
 /// - `BadAddress`: an argument that has to be an address is not one.
+/// - `BadAddressAt`: so is this argument of `agent`.
 /// - `OutOfMemory`: out of memory.
 pub fn read_words<'a, S: AsStr>(alloc: Global, words: &'a [S]) -> Result<Words<'a>, WordsError>
     ensures alone { length words.now ≤ 1 → result ≡ Ok (Words.Lines Subcommand.Fold) }
     ensures asked { 2 ≤ length words.now → IfOk result (AreAskedBy (subcommand_of ringpop_app (map S.text words.now))) }
     ensures taken { takes ringpop_app (map S.text words.now) ≡ true → IfErr result (IsRefusalBy (subcommand_of ringpop_app (map S.text words.now))) }
-    ensures address { result ≡ Err WordsError.BadAddress → IsSomeAnd (subcommand_of ringpop_app (map S.text words.now)) (λ p. HasBadAddress p.1) }
+    ensures address { result ≡ Err WordsError.BadAddress
+        → IsSomeAnd (subcommand_of ringpop_app (map S.text words.now)) (λ p. (p.0 ≢ codes "agent") × HasBadAddress p.1) }
+    ensures argument { (a : Bor (List ℕ)) → result ≡ Err (WordsError.BadAddressAt a)
+        → IsSomeAnd (subcommand_of ringpop_app (map S.text words.now)) (λ p. (p.0 ≡ codes "agent") × IsBadArgument p.1 a.now) }
 {
     if words.len() < 2 {
         return Ok(Words::Lines(Subcommand::Fold));

@@ -23,7 +23,8 @@ module _ {H : Type 0} (locked : LockedNode H) where
   pub none_yet : (One : OfActs H) (p : NodePass H) → Makes locked (Repeats One) p p
   none_yet One p = makes_as (Repeats One) (λ acts n. subst (λ (xs : List (Act H)). Repeats One xs) (sym n) Repeats.none) (makes_none locked p)
 
-  one_more : (One : OfActs H) (p q s : NodePass H) → Makes locked (Repeats One) p q → Makes locked One q s → Makes locked (Repeats One) p s
+  -- one more was made
+  pub one_more : (One : OfActs H) (p q s : NodePass H) → Makes locked (Repeats One) p q → Makes locked One q s → Makes locked (Repeats One) p s
   one_more One p q s before next =
       makes_as (Repeats One) (λ acts t. subst (λ (xs : List (Act H)). Repeats One xs) (sym t.2) (Repeats.more t.3 t.4)) (makes_then before next)
 

@@ -18,6 +18,10 @@ use Rattle.cluster_core.specs.declared.tcp_links.TcpLink.{TcpLink}
 abbrev pub IsSocketOf : Address → SocketAddr → Type 0
 IsSocketOf a socket = IsV4And (socket_ip socket) (λ ip. IsIpv4OfBits ip (ip_of a)) × (socket_port socket ≡ port_of a)
 
+-- a stream leads to the socket of the address
+abbrev pub LeadsTo : {S : Type 0} → (SocketAddr → S → Type 0) → Address → S → Type 0
+LeadsTo leads a stream = (socket : SocketAddr) × IsSocketOf a socket × leads socket stream
+
 -- a message whose line would be longer than a line may be
 abbrev pub IsTooLong : Message → Type 0
 IsTooLong message = max_line < length (compact_text (message_data message))

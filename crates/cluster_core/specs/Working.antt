@@ -1,5 +1,5 @@
 -- The effect of the workers of a node on it.
-use Rattle.std.specs.Prelude.{ℕ, List, [], ◌++◌, Result}
+use Rattle.std.specs.Prelude.{ℕ, List, [], ◌++◌, Result, IfOk}
 use Rattle.message_core.specs.declared.messages.Message.{Message}
 use Rattle.locked_node.specs.declared.node.LockedNode.{LockedNode}
 use Rattle.locked_node.specs.Passes.{NodePass}
@@ -25,10 +25,18 @@ module _ {H : Type 0} where
   IsMessageServed hash_of Handled acts =
       (message : Message) × (r : Result Message ClusterError) × Serves hash_of any_answer Handled message 0 message.content r acts
 
-  -- by this member the message was served once, at the moment 0, over a link of which nothing is known: to its answer, or to where the lock refuses the pass
+  -- by this member the message was served once, at the moment 0, over a link of which nothing is known, with this result: its answer, or where the lock
+  -- refuses the pass
+  abbrev pub ServesSo : (H → List ℕ → ℕ) → MayHandle → Message → Result Message ClusterError → Caller H → Caller H → Type 0
+  ServesSo hash_of Handled message r old new = Done (Serves hash_of any_answer Handled message 0 message.content) r old new
+
+  -- the same, with some result
   abbrev pub ServesOnce : (H → List ℕ → ℕ) → MayHandle → Message → Caller H → Caller H → Type 0
-  ServesOnce hash_of Handled message old new =
-      (r : Result Message ClusterError) × Done (Serves hash_of any_answer Handled message 0 message.content) r old new
+  ServesOnce hash_of Handled message old new = (r : Result Message ClusterError) × ServesSo hash_of Handled message r old new
+
+  -- the same, and if there is an answer, that was put where this is so
+  abbrev pub AnswersOnce : (H → List ℕ → ℕ) → MayHandle → (Message → Type 0) → Message → Caller H → Caller H → Type 0
+  AnswersOnce hash_of Handled PutIn message old new = (r : Result Message ClusterError) × ServesSo hash_of Handled message r old new × IfOk r PutIn
 
   -- by this pass messages were served so, by a handler whose results may be any, and no other call was made
   abbrev pub HasWorked : (H → List ℕ → ℕ) → LockedNode H → NodePass H → NodePass H → Type 0

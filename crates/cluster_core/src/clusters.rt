@@ -6,7 +6,7 @@ ghost use Rattle.node_core.specs.Workers.{IsCrew};
 ghost use Rattle.locked_node.specs.Passes.{Fits, opening_of, passes_of};
 ghost use Rattle.cluster_core.specs.Channels.{any_answer, IsChannelFault, failures_of, reached_by};
 ghost use Rattle.cluster_core.specs.Clusters.{address_in, AreAll, AreApart, AreFresh, given_to, HasNoNode, HasNoPost, IsAbandoned, IsNotStarted, IsOfSeat, NodeDoes, NoneHas, SeatDoes, Seats, IsStarted};
-ghost use Rattle.cluster_core.specs.Working.{HasWorked, IsMessageServed, Repeats, ServesOnce};
+ghost use Rattle.cluster_core.specs.Working.{AnswersOnce, HasWorked, IsMessageServed, Repeats, ServesOnce};
 ghost use Rattle.peer_core.specs.Acts.{Makes};
 ghost use Rattle.peer_core.specs.Correcting.{IsCorrectingRound};
 ghost use Rattle.peer_core.specs.Errors.{IsHealRefusal, IsRoundRefusal};
@@ -16,7 +16,7 @@ ghost use Rattle.peer_core.specs.Parts.{let_in};
 ghost use Rattle.peer_core.specs.Rounds.{IsRound};
 ghost use Rattle.peer_core.specs.Serving.{Serves};
 
-use crate::channel_links::{ChannelLink, Job, Mailbox, ask_one, mailbox_of, put};
+use crate::channel_links::{ChannelLink, Job, Mailbox, Outlet, ask_one, post_of};
 use crate::seats::{ServedNode, WorkerPromise};
 use change_core::{Address, Moment};
 use crossbeam_channel::{Receiver, Sender, unbounded};
@@ -100,23 +100,23 @@ fn answer_one<R: Wait, H: PointHash, A: Handler>(
     handler: &A,
     message: &Message,
 ) -> Result<Message, LockError>
-    ensures { Done (Serves H.hash_of any_answer A.may_handle message.now 0 message.now.content) (let_in result) member.old member.new }
+    ensures { Done (Serves H.hash_of any_answer (A.may_handle handler.now) message.now 0 message.now.content) (let_in result) member.old member.new }
 {
     member.serve(rt, handler, Moment::beginning(), message)
 }
 
-/// Answers a message, and sends the answer if a caller waits for it.
-fn answer_to<R: Wait, H: PointHash, A: Handler>(
+/// Answers a message, and puts the answer where the caller waits for it.
+fn answer_to<R: Wait, H: PointHash, A: Handler, O: Outlet<Message> + Drop>(
     rt: &R,
     member: &mut Member<'_, H, ChannelLink>,
     handler: &A,
     message: &Message,
-    to: &Sender<Message>,
+    to: O,
 )
-    ensures { ServesOnce H.hash_of A.may_handle message.now member.old member.new }
+    ensures { AnswersOnce H.hash_of (A.may_handle handler.now) (O.put_in to) message.now member.old member.new }
 {
     if let Ok(answer) = answer_one(rt, member, handler, message) {
-        let _sent = put(rt, to, answer);
+        let _sent = to.put(rt, answer);
     }
 }
 
@@ -127,7 +127,7 @@ fn serve_next<R: Wait, H: PointHash, A: Handler>(
     handler: &A,
     jobs: &Receiver<Job>,
 ) -> bool
-    ensures served { IsTrue result → (m : _) × ServesOnce H.hash_of A.may_handle m member.old member.new }
+    ensures served { IsTrue result → (m : _) × ServesOnce H.hash_of (A.may_handle handler.now) m member.old member.new }
     ensures ended { IsFalse result → member.new ≡ member.old }
 {
     match &jobs.recv(rt) {
@@ -150,7 +150,7 @@ fn work<R: Wait + Copy, H: PointHash, A: Handler + Drop>(
     jobs: Receiver<Job>,
 ) -> NodePass<H>
     requires { Fits (arc_value node) pass }
-    ensures made { Makes (arc_value node) (Repeats (IsMessageServed H.hash_of A.may_handle)) pass result }
+    ensures made { Makes (arc_value node) (Repeats (IsMessageServed H.hash_of (A.may_handle (arc_value handler)))) pass result }
     ensures worked { HasWorked H.hash_of (arc_value node) pass result }
     ensures fits { Fits (arc_value node) result }
 {
@@ -245,7 +245,10 @@ pub fn share<H: PointHash>(
 /// Gives one worker the job to end. If out of memory for that, it tries again.
 fn stop_worker<R: Wait>(rt: &R, post: &Mailbox) {
     for _ in rt.forever() {
-        if !matches!(put(rt, &post.jobs, Job::Stop), Err(LinkError::Memory)) {
+        if !matches!(
+            Outlet::put(&post.jobs, rt, Job::Stop),
+            Err(LinkError::Memory)
+        ) {
             break;
         }
         thread::yield_now();
@@ -254,7 +257,7 @@ fn stop_worker<R: Wait>(rt: &R, post: &Mailbox) {
 
 /// Gives this number of workers the job to end.
 fn stop_workers<R: Wait>(rt: &R, posts: &[Mailbox], address: Address, workers: usize) {
-    let Some(post) = mailbox_of(posts, address) else {
+    let Some(post) = post_of(posts, address) else {
         return;
     };
     for _ in 0..workers {
@@ -634,7 +637,7 @@ impl<H: PointHash> Cluster<H> {
         message: &Message,
     ) -> Result<Message, LinkError>
         ensures closed { HasNoPost self.now.posts to → result ≡ Err LinkError.Closed }
-        ensures nobody { HasNoNode self.now to → result ≡ Err LinkError.Closed }
+        ensures no_node { HasNoNode self.now to → result ≡ Err LinkError.Closed }
         ensures only { IfErr result IsChannelFault }
     {
         ask_one(rt, alloc, &self.posts, to, message)
@@ -653,7 +656,7 @@ impl<H: PointHash> Cluster<H> {
         address: Address,
         now: Moment,
     ) -> Result<Round, ClusterError>
-        ensures nobody { HasNoNode self.old address → (result ≡ Err ClusterError.NoNode) × (self.new ≡ self.old) }
+        ensures no_node { HasNoNode self.old address → (result ≡ Err ClusterError.NoNode) × (self.new ≡ self.old) }
         ensures only { result ≡ Err ClusterError.NoNode → HasNoNode self.old address }
         ensures made { ¬ HasNoNode self.old address → NodeDoes (IsRound any_answer now) address result self.old self.new }
         ensures named { IfErr result (λ e. (e ≡ ClusterError.NoNode) ⊎ IsRoundRefusal e) }
@@ -679,7 +682,7 @@ impl<H: PointHash> Cluster<H> {
         address: Address,
         now: Moment,
     ) -> Result<Round, ClusterError>
-        ensures nobody { HasNoNode self.old address → (result ≡ Err ClusterError.NoNode) × (self.new ≡ self.old) }
+        ensures no_node { HasNoNode self.old address → (result ≡ Err ClusterError.NoNode) × (self.new ≡ self.old) }
         ensures only { result ≡ Err ClusterError.NoNode → HasNoNode self.old address }
         ensures made { ¬ HasNoNode self.old address → NodeDoes (IsCorrectingRound any_answer now) address result self.old self.new }
         ensures named { IfErr result (λ e. (e ≡ ClusterError.NoNode) ⊎ IsRoundRefusal e) }
@@ -708,7 +711,7 @@ impl<H: PointHash> Cluster<H> {
         now: Moment,
         healing: &mut Healing<'_>,
     ) -> Result<bool, ClusterError>
-        ensures nobody { HasNoNode self.old address → (result ≡ Err ClusterError.NoNode) × (self.new ≡ self.old) × (healing.new ≡ healing.old) }
+        ensures no_node { HasNoNode self.old address → (result ≡ Err ClusterError.NoNode) × (self.new ≡ self.old) × (healing.new ≡ healing.old) }
         ensures only { result ≡ Err ClusterError.NoNode → HasNoNode self.old address }
         ensures healed { ¬ HasNoNode self.old address → NodeDoes (IsHealing any_answer now healing.old.hosts (after_round healing.old).0) address result self.old self.new }
         ensures healing { ¬ HasNoNode self.old address → healing.new ≡ (after_round healing.old).1 }

@@ -1,29 +1,27 @@
-//! Connections to addresses.
-use crate::tcp_links::socket_address;
-use change_core::Address;
+//! Connections to sockets.
 use std::io;
 use std::io::{Read, Write};
-use std::net::{Net, OpenStream, TcpStream};
+use std::net::{Net, OpenStream, SocketAddr, TcpStream};
 use std::time::Duration;
 
-/// A way to connect to an address. Each network is one; a test may have one of its own, whose streams say where they lead.
+/// A way to connect to a socket. Each network is one; a test may have one of its own, whose streams say where they lead.
 pub trait Dial {
     ghost use Rattle.std.specs.Prelude.{IfOk};
-    ghost use Rattle.change_core.specs.declared.addresses.Address.{Address};
+    ghost use Rattle.std.specs.declared.net.socket_addr.SocketAddr.{SocketAddr};
 
     /// A connection.
     type Stream: Read + Write + OpenStream + Drop;
 
-    /// Whether a stream leads to an address. Where a real stream leads is unknown to contracts, so a network says it of each.
-    ghost leads: { Address → Self.Stream → Type 0 };
+    /// Whether a stream leads to a socket. Where a real stream leads is unknown to contracts, so a network says it of each.
+    ghost leads: { SocketAddr → Self.Stream → Type 0 };
 
-    /// Connects to an address within a limit, which is more than 0.
+    /// Connects to a socket within a limit, which is more than 0.
     ///
     /// # Errors
     ///
     /// - The error of the network.
-    fn dial(&self, to: Address, limit: Duration) -> io::Result<Self::Stream>
-        ensures led { IfOk result (leads to) };
+    fn dial(&self, to: &SocketAddr, limit: Duration) -> io::Result<Self::Stream>
+        ensures led { IfOk result (leads to.now) };
 }
 
 impl<N: Net> Dial for N {
@@ -31,7 +29,7 @@ impl<N: Net> Dial for N {
 
     ghost leads = { λ _ _. Unit {0} };
 
-    fn dial(&self, to: Address, limit: Duration) -> io::Result<N::Stream> {
-        TcpStream::connect_timeout(self, &socket_address(to), limit)
+    fn dial(&self, to: &SocketAddr, limit: Duration) -> io::Result<N::Stream> {
+        TcpStream::connect_timeout(self, to, limit)
     }
 }

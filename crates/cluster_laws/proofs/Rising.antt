@@ -14,7 +14,7 @@ use Rattle.node_core.specs.Log.{log_given}
 use Rattle.node_core.specs.Node.{Node, birth}
 use Rattle.node_core.specs.Run.{given_in, said_in, log_step}
 use Rattle.node_core.specs.Step.{NodeStep}
-use Rattle.node_core.specs.World.{World, WorldEvent, Starts, Restarts, Calls, MayHappen, MayAllHappen, happens, world_after, newborn, placed_at, called}
+use Rattle.node_core.specs.World.{World, WorldEvent, Starts, Restarts, Calls, MayHappen, MayAllHappen, happens, world_after, initial_node, placed_at, called}
 use Rattle.node_core.proofs.Following.{Follows-step}
 use Rattle.node_core.proofs.Log.{IsSettled, settled-by}
 use Rattle.cluster_laws.specs.Running.{Begins, RunsOn}
@@ -81,9 +81,9 @@ module _ {H : Type 0} (hash_of : H → List ℕ → ℕ) where
 
   pub settled-happens : (w : World H) (e : WorldEvent H) → AreSettled w → MayHappen hash_of w e → AreSettled (happens w e)
   settled-happens w (Starts hash config own incarnation moment generator) are may =
-      placed_settled w own (newborn hash config own incarnation moment generator) are (members-IsMemberList (birth own incarnation config.weight ∷ []) (tt, tt))
+      placed_settled w own (initial_node hash config own incarnation moment generator) are (members-IsMemberList (birth own incarnation config.weight ∷ []) (tt, tt))
   settled-happens w (Restarts hash config own incarnation moment generator) are may =
-      placed_settled w own (newborn hash config own incarnation moment generator) are (members-IsMemberList (birth own incarnation config.weight ∷ []) (tt, tt))
+      placed_settled w own (initial_node hash config own incarnation moment generator) are (members-IsMemberList (birth own incarnation config.weight ∷ []) (tt, tt))
   settled-happens w (Calls own event reply after) are may =
       subst (λ (o : Option (Node H)). AreSettled (called w o own event reply after)) (sym may.1)
       (placed_settled w own after are (settled-step may.0 after event reply (are own may.0 may.1) may.3))
@@ -113,8 +113,8 @@ module _ {H : Type 0} (hash_of : H → List ℕ → ℕ) where
           (after, refl, rises-step old after event reply a held (are b old there) (subst (λ (n : Node H). NodeStep hash_of n event reply after) same step) g)
 
       of_event : (e : WorldEvent H) → MayHappen hash_of w e → (Begins b e → ⊥) → (new : Node H) × ((happens w e).nodes b ≡ Some new) × Rises old.members new.members a held
-      of_event (Starts hash config own incarnation moment generator) may on = still own (newborn hash config own incarnation moment generator) on
-      of_event (Restarts hash config own incarnation moment generator) may on = still own (newborn hash config own incarnation moment generator) on
+      of_event (Starts hash config own incarnation moment generator) may on = still own (initial_node hash config own incarnation moment generator) on
+      of_event (Restarts hash config own incarnation moment generator) may on = still own (initial_node hash config own incarnation moment generator) on
       of_event (Calls own event reply after) may on =
           subst (λ (o : Option (Node H)). (new : Node H) × ((called w o own event reply after).nodes b ≡ Some new) × Rises old.members new.members a held) (sym may.1)
           (of_call own event reply after may.0 may.1 may.3 (eqb b own) refl)

@@ -30,7 +30,7 @@ use Rattle.node_core.specs.Node.{Node, altered, asserts, at_moment, birth, has_d
 use Rattle.node_core.specs.Probes.{suspicion_in}
 use Rattle.node_core.specs.Run.{given_in, received_in, said_in}
 use Rattle.node_core.specs.Step.{NodeStep}
-use Rattle.node_core.specs.World.{World, WorldEvent, Starts, Restarts, Calls, Comes, MayHappen, MayAllHappen, happens, world_after, nothing, newborn, placed_at, begins, called, made_in}
+use Rattle.node_core.specs.World.{World, WorldEvent, Starts, Restarts, Calls, Comes, MayHappen, MayAllHappen, happens, world_after, nothing, initial_node, placed_at, begins, called, made_in}
 use Rattle.node_core.proofs.Listed.{address-greatest, In-greatest, In-map, In-take}
 use Rattle.node_core.proofs.Probed.{IsOfOther, running_other, unasked_other}
 use Rattle.node_core.proofs.Suspecting.{suspicion-some}
@@ -169,9 +169,9 @@ placed_stands {H} events e w own node stands apart new a n placed = by_address (
 
 -- a node begins
 
-newborn_stands : {H : Type 0} (events : List (WorldEvent H)) (hash : H) (config : Config) (own incarnation moment : ℕ) (generator : Lcg)
-    → NodeStands events own (newborn hash config own incarnation moment generator)
-newborn_stands {H} events hash config own incarnation moment generator = record {
+initial_node_stands : {H : Type 0} (events : List (WorldEvent H)) (hash : H) (config : Config) (own incarnation moment : ℕ) (generator : Lcg)
+    → NodeStands events own (initial_node hash config own incarnation moment generator)
+initial_node_stands {H} events hash config own incarnation moment generator = record {
   is_own = refl;
   listed = (tt, tt);
   itself = (birth own incarnation config.weight, ap (λ b. cond b (Some (birth own incarnation config.weight)) None) (eq-eqb own own refl), refl);
@@ -180,7 +180,7 @@ newborn_stands {H} events hash config own incarnation moment generator = record 
   timed = λ b c t other held has k. cc;
 }
   where
-    known : (c : Change) → Holds (newborn hash config own incarnation moment generator) c → HasWitness events c
+    known : (c : Change) → Holds (initial_node hash config own incarnation moment generator) c → HasWitness events c
     known c (inl (inl e)) = subst (λ (x : Change). HasWitness events x) (sym e) tt
     known c (inl (inr k)) = absurd k
     known c (inr (p, inl e, about)) = subst (λ (x : Change). HasWitness events x) (ap (λ (q : Pending). q.sourced.change) (sym e) ∙ about) tt
@@ -191,8 +191,8 @@ begins_stands : {H : Type 0} (events : List (WorldEvent H)) (e : WorldEvent H) (
     → WorldStands (events ++ e ∷ []) (begins w hash config own incarnation moment generator)
 begins_stands {H} events e w hash config own incarnation moment generator is apart stands = record {
   reached = world_after-append events (e ∷ []) nothing ∙ ap (λ (x : World H). happens x e) stands.reached ∙ is;
-  nodes = placed_stands events e w own (newborn hash config own incarnation moment generator) stands apart
-      (newborn_stands (events ++ e ∷ []) hash config own incarnation moment generator);
+  nodes = placed_stands events e w own (initial_node hash config own incarnation moment generator) stands apart
+      (initial_node_stands (events ++ e ∷ []) hash config own incarnation moment generator);
   told = λ m c h t. witness-more events (e ∷ []) c.status c (stands.told m c h t);
 }
 

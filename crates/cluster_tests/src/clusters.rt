@@ -116,7 +116,7 @@ struct Holding {
 }
 
 impl Handler for Holding {
-    ghost may_handle = { λ _ _ _. Unit {0} };
+    ghost may_handle = { λ _ _ _ _. Unit {0} };
 
     fn handle<R: Wait>(
         &self,

@@ -164,7 +164,7 @@ pub(crate) struct Echo {
 }
 
 impl Handler for Echo {
-    ghost may_handle = { λ _ _ _. Unit {0} };
+    ghost may_handle = { λ _ _ _ _. Unit {0} };
 
     fn handle<R: Wait>(
         &self,
@@ -202,7 +202,7 @@ impl Counting {
 }
 
 impl Handler for Counting {
-    ghost may_handle = { λ _ _ _. Unit {0} };
+    ghost may_handle = { λ _ _ _ _. Unit {0} };
 
     fn handle<R: Wait>(
         &self,

@@ -21,7 +21,7 @@ struct Tally {
 }
 
 impl Handler for Tally {
-    ghost may_handle = { λ _ _ _. Unit {0} };
+    ghost may_handle = { λ _ _ _ _. Unit {0} };
 
     fn handle<R: Wait>(
         &self,

@@ -209,11 +209,11 @@ nearer pingable rest left target turn = λ a has apart.
 
 -- what is first of the rest is drawn
 pub next_in-next : (pingable rest left : List ℕ) (target : ℕ) → IsNextIn pingable rest target left → next_in pingable rest ≡ Some (target, left)
-next_in-next pingable rest left target next = ap (next_in pingable) next.split ∙ after_front next.passed next.none_passed
+next_in-next pingable rest left target next = ap (next_in pingable) next.split ∙ after_prefix next.passed next.none_passed
   where
-    after_front : (passed : List ℕ) → near pingable passed ≡ [] → next_in pingable (passed ++ target ∷ left) ≡ Some (target, left)
-    after_front [] none = ap (λ b. cond b (Some (target, left)) (next_in pingable left)) (is_in-yes pingable target next.picked)
-    after_front (x ∷ xs) none = by (is_in pingable x) refl none (after_front xs)
+    after_prefix : (passed : List ℕ) → near pingable passed ≡ [] → next_in pingable (passed ++ target ∷ left) ≡ Some (target, left)
+    after_prefix [] none = ap (λ b. cond b (Some (target, left)) (next_in pingable left)) (is_in-yes pingable target next.picked)
+    after_prefix (x ∷ xs) none = by (is_in pingable x) refl none (after_prefix xs)
       where
         by : (b : Bool) → is_in pingable x ≡ b → cond b (x ∷ near pingable xs) (near pingable xs) ≡ []
             → (near pingable xs ≡ [] → next_in pingable (xs ++ target ∷ left) ≡ Some (target, left))

@@ -21,19 +21,19 @@ filter_none p (x ∷ xs) h =
     ap (λ b. cond b (x ∷ filter p xs) (filter p xs)) (h 0 x (omega arith)) ∙ filter_none p xs (All-tail (λ x. p x ≡ false) x xs h)
 
 -- the timers of lesser and of greater addresses
-below_in : (a : ℕ) (front back : List Timer) → All (λ t. t.address < a) front → All (λ t. a ≤ t.address) back → filter (λ u. nat_lt u.address a) (front ++ back) ≡ front
-below_in a front back f b =
+below_in : (a : ℕ) (prefix back : List Timer) → All (λ t. t.address < a) prefix → All (λ t. a ≤ t.address) back → filter (λ u. nat_lt u.address a) (prefix ++ back) ≡ prefix
+below_in a prefix back f b =
     let test : Timer → Bool = λ u. nat_lt u.address a in
-    filter-append test front back
-    ∙ (λ j. filter_all test front (All-weaker (λ t. t.address < a) (λ t. test t ≡ true) (λ t h. lt-ltb t.address a h) front f) j
+    filter-append test prefix back
+    ∙ (λ j. filter_all test prefix (All-weaker (λ t. t.address < a) (λ t. test t ≡ true) (λ t h. lt-ltb t.address a h) prefix f) j
     ++ filter_none test back (All-weaker (λ t. a ≤ t.address) (λ t. test t ≡ false) (λ t h. le-ltb t.address a h) back b) j)
-    ∙ append-nil front
+    ∙ append-nil prefix
 
-above_in : (a : ℕ) (front back : List Timer) → All (λ t. t.address ≤ a) front → All (λ t. a < t.address) back → filter (λ u. nat_lt a u.address) (front ++ back) ≡ back
-above_in a front back f b =
+above_in : (a : ℕ) (prefix back : List Timer) → All (λ t. t.address ≤ a) prefix → All (λ t. a < t.address) back → filter (λ u. nat_lt a u.address) (prefix ++ back) ≡ back
+above_in a prefix back f b =
     let test : Timer → Bool = λ u. nat_lt a u.address in
-    filter-append test front back
-    ∙ (λ j. filter_none test front (All-weaker (λ t. t.address ≤ a) (λ t. test t ≡ false) (λ t h. le-ltb a t.address h) front f) j
+    filter-append test prefix back
+    ∙ (λ j. filter_none test prefix (All-weaker (λ t. t.address ≤ a) (λ t. test t ≡ false) (λ t h. le-ltb a t.address h) prefix f) j
     ++ filter_all test back (All-weaker (λ t. a < t.address) (λ t. test t ≡ true) (λ t h. lt-ltb a t.address h) back b) j)
 
 -- a timer of another address stays
@@ -65,11 +65,11 @@ from_place ts i a rising place none = λ k d h.
 
 lesser_is : (ts : List Timer) (a i : ℕ) → IsPlace ts a i → filter (λ u. nat_lt u.address a) ts ≡ take i ts
 lesser_is ts a i place =
-    ap (filter (λ u. nat_lt u.address a)) (sym (take-append-drop i ts)) ∙ below_in a (take i ts) (drop i ts) place.front place.back
+    ap (filter (λ u. nat_lt u.address a)) (sym (take-append-drop i ts)) ∙ below_in a (take i ts) (drop i ts) place.prefix place.back
 
 up_to : (ts : List Timer) (a i : ℕ) (d : Timer) → IsPlace ts a i → IsTimerAt ts i a → All (λ t. t.address ≤ a) (take (i + 1) ts)
 up_to ts a i d place at =
-    All-more (λ t. t.address ≤ a) ts i d at.within (All-weaker (λ t. t.address < a) (λ t. t.address ≤ a) (λ t h. omega arith) (take i ts) place.front) (omega (arith, at.here d))
+    All-more (λ t. t.address ≤ a) ts i d at.within (All-weaker (λ t. t.address < a) (λ t. t.address ≤ a) (λ t h. omega arith) (take i ts) place.prefix) (omega (arith, at.here d))
 
 -- a timer written in the place of its address's
 pub with_timer-at : (ts : List Timer) (i : ℕ) (t : Timer) → IsAscending ts → IsPlace ts t.address i → IsTimerAt ts i t.address → set ts i t ≡ with_timer ts t
@@ -82,10 +82,10 @@ with_timer-at ts i t rising place at =
 -- a timer inserted where its address has none
 pub with_timer-between : (ts : List Timer) (i : ℕ) (t : Timer) → IsAscending ts → IsPlace ts t.address i → (i < length ts → (d : Timer) → (get_or ts i d).address ≢ t.address) → insert ts i t ≡ with_timer ts t
 with_timer-between ts i t rising place none =
-    let front : All (λ u. u.address ≤ t.address) (take i ts) = All-weaker (λ u. u.address < t.address) (λ u. u.address ≤ t.address) (λ u h. omega arith) (take i ts) place.front in
+    let prefix : All (λ u. u.address ≤ t.address) (take i ts) = All-weaker (λ u. u.address < t.address) (λ u. u.address ≤ t.address) (λ u h. omega arith) (take i ts) place.prefix in
     let greater : filter (λ u. nat_lt t.address u.address) ts ≡ drop i ts =
     ap (filter (λ u. nat_lt t.address u.address)) (sym (take-append-drop i ts))
-    ∙ above_in t.address (take i ts) (drop i ts) front (from_place ts i t.address rising place none) in
+    ∙ above_in t.address (take i ts) (drop i ts) prefix (from_place ts i t.address rising place none) in
     λ j. sym (lesser_is ts t.address i place) j ++ t ∷ sym greater j
 
 -- the timer of the address taken out
@@ -93,20 +93,20 @@ pub without_timer-at : (ts : List Timer) (i a : ℕ) (d : Timer) → IsAscending
 without_timer-at ts i a d rising place at =
     let test : Timer → Bool = λ t. not (t.address == a) in
     let x : Timer = get_or ts i d in
-    let front : filter test (take i ts) ≡ take i ts = other_stays a (take i ts) (All-weaker (λ t. t.address < a) (λ t. t.address ≢ a) (λ t h. omega arith) (take i ts) place.front) in
+    let prefix : filter test (take i ts) ≡ take i ts = other_stays a (take i ts) (All-weaker (λ t. t.address < a) (λ t. t.address ≢ a) (λ t h. omega arith) (take i ts) place.prefix) in
     let back : filter test (drop (suc i) ts) ≡ drop (suc i) ts =
     other_stays a (drop (suc i) ts) (subst (λ n. All (λ t. t.address ≢ a) (drop n ts)) (add-one i) (All-weaker (λ t. a < t.address) (λ t. t.address ≢ a) (λ t h. omega arith) (drop (i + 1) ts) (after_place ts i a rising at))) in
     let here : test x ≡ false = ap not (eq-eqb x.address a (at.here d)) in
     let middle : filter test (drop i ts) ≡ filter test (drop (suc i) ts) =
     ap (filter test) (drop-cons ts i d at.within) ∙ ap (λ b. cond b (x ∷ filter test (drop (suc i) ts)) (filter test (drop (suc i) ts))) here in
-    sym (ap (filter test) (sym (take-append-drop i ts)) ∙ filter-append test (take i ts) (drop i ts) ∙ (λ j. front j ++ (middle ∙ back) j))
+    sym (ap (filter test) (sym (take-append-drop i ts)) ∙ filter-append test (take i ts) (drop i ts) ∙ (λ j. prefix j ++ (middle ∙ back) j))
 
 -- where no timer of the address stands at its place, none runs
 pub none_runs : (ts : List Timer) (i a : ℕ) → IsAscending ts → IsPlace ts a i → (i < length ts → (d : Timer) → (get_or ts i d).address ≢ a) → All (λ t. t.address ≢ a) ts
 none_runs ts i a rising place none =
-    let front = All-weaker (λ t. t.address < a) (λ t. t.address ≢ a) (λ t h. omega arith) (take i ts) place.front in
+    let prefix = All-weaker (λ t. t.address < a) (λ t. t.address ≢ a) (λ t h. omega arith) (take i ts) place.prefix in
     let back = All-weaker (λ t. a < t.address) (λ t. t.address ≢ a) (λ t h. omega arith) (drop i ts) (from_place ts i a rising place none) in
-    subst (All (λ t. t.address ≢ a)) (take-append-drop i ts) (All-append (λ t. t.address ≢ a) (take i ts) (drop i ts) front back)
+    subst (All (λ t. t.address ≢ a)) (take-append-drop i ts) (All-append (λ t. t.address ≢ a) (take i ts) (drop i ts) prefix back)
 
 pub HasTimer-none : (ts : List Timer) (a : ℕ) → All (λ t. t.address ≢ a) ts → HasTimer ts a → ⊥
 HasTimer-none ts a none has = All-contains (λ b. b ≢ a) (map (λ t. t.address) ts) a (All-map (λ b. b ≢ a) (λ t. t.address) ts none) has refl
@@ -117,15 +117,15 @@ without_timer-between ts i a rising place none =
     sym (other_stays a ts (none_runs ts i a rising place none))
 
 -- and the timers still rise
-rising_around : (front back : List Timer) (t : Timer) → IsAscending front → IsAscending back → All (λ u. u.address < t.address) front → All (λ u. t.address < u.address) back → IsAscending (front ++ t ∷ back)
+rising_around : (prefix back : List Timer) (t : Timer) → IsAscending prefix → IsAscending back → All (λ u. u.address < t.address) prefix → All (λ u. t.address < u.address) back → IsAscending (prefix ++ t ∷ back)
 rising_around [] back t rf rb f b = AllPairs-cons (λ t u. t.address < u.address) t back b rb
-rising_around (x ∷ front) back t rf rb f b =
+rising_around (x ∷ prefix) back t rf rb f b =
     let R : Timer → Timer → Type 0 = λ t u. t.address < u.address in
     let below : x.address < t.address = f 0 x (omega arith) in
-    let after : All (R x) front = λ k d h. rf 0 (suc k) d (omega arith) (omega arith) in
+    let after : All (R x) prefix = λ k d h. rf 0 (suc k) d (omega arith) (omega arith) in
     let beyond : All (R x) (t ∷ back) = All-cons (R x) t back below (All-weaker (λ u. t.address < u.address) (R x) (λ u h. omega arith) back b) in
-    AllPairs-cons R x (front ++ t ∷ back) (All-append (R x) front (t ∷ back) after beyond)
-    (rising_around front back t (λ i j d h w. rf (suc i) (suc j) d (omega arith) (omega arith)) rb (All-tail (λ u. u.address < t.address) x front f) b)
+    AllPairs-cons R x (prefix ++ t ∷ back) (All-append (R x) prefix (t ∷ back) after beyond)
+    (rising_around prefix back t (λ i j d h w. rf (suc i) (suc j) d (omega arith) (omega arith)) rb (All-tail (λ u. u.address < t.address) x prefix f) b)
 
 pub IsAscending-with_timer : (ts : List Timer) (t : Timer) → IsAscending ts → IsAscending (with_timer ts t)
 IsAscending-with_timer ts t rising =
@@ -212,6 +212,6 @@ IsPartitionedBy-rising ts a rising i j d le within passes =
 pub IsPlace-from_point : (ts : List Timer) (a i : ℕ) → i ≤ length ts → IsPartitionPoint (λ t. nat_lt t.address a ≡ true) (λ t. nat_lt t.address a ≡ false) ts i → IsPlace ts a i
 IsPlace-from_point ts a i within point = record {
   within = within;
-  front = λ k d h. (let low : k < i = omega (arith, length-take-le i ts within) in subst (λ t. t.address < a) (sym (get_or-take i ts k d low)) (ltb-true _ a (point.0 k d (omega arith) low)));
+  prefix = λ k d h. (let low : k < i = omega (arith, length-take-le i ts within) in subst (λ t. t.address < a) (sym (get_or-take i ts k d low)) (ltb-true _ a (point.0 k d (omega arith) low)));
   back = λ k d h. subst (λ t. a ≤ t.address) (sym (get_or-drop i ts k d)) (ltb-false _ a (point.1 (i + k) d (omega arith) (omega (arith, h, length-drop i ts))));
 }

@@ -49,7 +49,7 @@ pub record GivesLeastDue (ts : List Timer) (now : ℕ) : Type 0 where
 -- the timers before the place are of lesser addresses, and the others are not
 pub record IsPlace (ts : List Timer) (a i : ℕ) : Type 0 where
   pub within : i ≤ length ts
-  pub front : All (λ t. t.address < a) (take i ts)
+  pub prefix : All (λ t. t.address < a) (take i ts)
   pub back : All (λ t. a ≤ t.address) (drop i ts)
 
 -- the timer at the place is of the address

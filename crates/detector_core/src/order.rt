@@ -92,7 +92,7 @@ pub(crate) fn pick(
         ≡ (Some (target, order.new), choices_of rng.new)) }
     ensures order { OnErr result (order.new ≡ order.old) }
     ensures choices { OnErr result (rng.new ≡ rng.old) }
-    ensures growth { OnErr result (near pingable.now order.old ≡ []) }
+    ensures out_of_memory { OnErr result (near pingable.now order.old ≡ []) }
 {
     match order.take_next(pingable) {
         Some(target) => Ok(target),

@@ -95,12 +95,12 @@ pub counted_yes : (t k i : ℕ) (xs : List Pending) (p : Pending) → i < length
     → take i xs ++ counted_along t k (drop i xs) ≡ take (i + 1) (set xs i (once_more p)) ++ counted_along t (k - 1) (drop (i + 1) (set xs i (once_more p)))
 counted_yes t k i xs p within at some may =
     let rest = drop (i + 1) xs in
-    let front : take (i + 1) (set xs i (once_more p)) ≡ take i xs ++ once_more p ∷ [] = take_more_set xs i (once_more p) within in
+    let prefix : take (i + 1) (set xs i (once_more p)) ≡ take i xs ++ once_more p ∷ [] = take_more_set xs i (once_more p) within in
     let back : drop (i + 1) (set xs i (once_more p)) ≡ rest = drop-set-lt (i + 1) xs i (once_more p) (omega arith) in
     let whole : counted_along t k (drop i xs) ≡ once_more p ∷ counted_along t (k - 1) rest = ap (counted_along t k) (drop_at xs i p at) ∙ counted_along-cons_yes t k p rest some may in
     let joined = append_assoc (take i xs) (once_more p ∷ []) (counted_along t (k - 1) rest) in
     let right : take (i + 1) (set xs i (once_more p)) ++ counted_along t (k - 1) (drop (i + 1) (set xs i (once_more p))) ≡ (take i xs ++ once_more p ∷ []) ++ counted_along t (k - 1) rest =
-    λ j. front j ++ counted_along t (k - 1) (back j) in
+    λ j. prefix j ++ counted_along t (k - 1) (back j) in
     ap (λ l. take i xs ++ l) whole ∙ sym joined ∙ sym right
 
 -- one more change that stays as it is
@@ -108,13 +108,13 @@ pub counted_no : (t k i : ℕ) (xs : List Pending) (p : Pending) → i < length 
     → take i xs ++ counted_along t k (drop i xs) ≡ take (i + 1) xs ++ counted_along t k (drop (i + 1) xs)
 counted_no t k i xs p within at may =
     let rest = drop (i + 1) xs in
-    let front : take (i + 1) xs ≡ take i xs ++ p ∷ [] =
+    let prefix : take (i + 1) xs ≡ take i xs ++ p ∷ [] =
     take_more xs i p within ∙ ap (λ y. take i xs ++ y ∷ []) (get_or_from_slice_get xs i p p at) in
     let whole : counted_along t k (drop i xs) ≡ p ∷ counted_along t k rest = ap (counted_along t k) (drop_at xs i p at) ∙ counted_along-cons_no t k p rest may in
     let joined = append_assoc (take i xs) (p ∷ []) (counted_along t k rest) in
-    ap (λ l. take i xs ++ l) whole ∙ sym joined ∙ ap (λ l. l ++ counted_along t k rest) (sym front)
+    ap (λ l. take i xs ++ l) whole ∙ sym joined ∙ ap (λ l. l ++ counted_along t k rest) (sym prefix)
 
--- the first i have been looked at, the changes in `given` were issued, and the rest is as it was
+-- the first i have been looked at, the changes in `given` were issued, and the rest is unchanged
 pub record IsIssuing (t k : ℕ) (old : List Pending) (given : List Sourced) (i : ℕ) (now : List Pending) : Type 0 where
   pub so_far : counted_along t k old ≡ take i now ++ counted_along t (k - length given) (drop i now)
   pub issued_is : issued t k old ≡ given ++ issued t (k - length given) (drop i now)

@@ -66,7 +66,7 @@ impl Gossip {
         ensures ok { OnOk result (self.new ≡ with_news self.old sourced) }
         ensures err { OnErr result (self.new ≡ self.old) }
         ensures refusal { IsOkUnless result GossipError.Memory }
-        ensures growth { OnErr result (NoneAbout sourced.change.address self.old.pending) }
+        ensures out_of_memory { OnErr result (NoneAbout sourced.change.address self.old.pending) }
     {
         pending::put(&mut self.pending, sourced)?;
         Ok(())
@@ -98,7 +98,7 @@ impl Gossip {
         ensures issued { IfOk result (λ v. v.items ≡ issued target at_most self.old.pending) }
         ensures ok { OnOk result (self.new ≡ after_issue self.old target at_most) }
         ensures err { OnErr result (self.new ≡ self.old) }
-        ensures growth { OnErr result ((0 < at_most) × (0 < length self.old.pending)) }
+        ensures out_of_memory { OnErr result ((0 < at_most) × (0 < length self.old.pending)) }
         ensures refusal { IsOkUnless result GossipError.Memory }
     {
         let issued = pending::issue_first(self.alloc, &mut self.pending, target, at_most)?;
@@ -128,7 +128,7 @@ impl Gossip {
     /// - `Memory`: out of memory for the result; never if nothing is pending.
     pub fn pending(&self) -> Result<Vec<Sourced>, GossipError>
         ensures pending { IfOk result (λ v. v.items ≡ map (λ p. p.sourced) self.now.pending) }
-        ensures growth { OnErr result (0 < length self.now.pending) }
+        ensures out_of_memory { OnErr result (0 < length self.now.pending) }
         ensures refusal { IsOkUnless result GossipError.Memory }
     {
         Ok(pending::all_of(self.alloc, &self.pending)?)

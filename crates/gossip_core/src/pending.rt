@@ -30,7 +30,7 @@ pub(crate) type PendingMap = IndexMap<Address, Pending>;
 /// All changes, in their order.
 pub(crate) fn all_of(alloc: Global, pending: &PendingMap) -> Result<Vec<Sourced>, AllocError>
     ensures items { IfOk result (λ v. v.items ≡ map (λ p. p.sourced) (values pending.now)) }
-    ensures growth { OnErr result (0 < length (values pending.now)) }
+    ensures out_of_memory { OnErr result (0 < length (values pending.now)) }
 {
     let mut changes = Vec::with_capacity(alloc, pending.len())?;
     'changes: for index in 0..pending.len() {
@@ -43,7 +43,7 @@ pub(crate) fn all_of(alloc: Global, pending: &PendingMap) -> Result<Vec<Sourced>
 pub(crate) fn put(pending: &mut PendingMap, sourced: Sourced) -> Result<(), AllocError>
     requires { IsByAddress pending.old }
     ensures ok { OnOk result (values pending.new ≡ put_pending (values pending.old) sourced) }
-    ensures growth { OnErr result (NoneAbout sourced.change.address (values pending.old)) }
+    ensures out_of_memory { OnErr result (NoneAbout sourced.change.address (values pending.old)) }
     ensures err { OnErr result (values pending.new ≡ values pending.old) }
     ensures by_address { IsByAddress pending.new }
 {
@@ -64,7 +64,7 @@ pub(crate) fn issue_first(
     ensures issued { IfOk result (λ v. v.items ≡ issued target at_most (values pending.old)) }
     ensures counted { OnOk result (values pending.new ≡ counted target at_most (values pending.old)) }
     ensures err { OnErr result (values pending.new ≡ values pending.old) }
-    ensures growth { OnErr result (0 < at_most) }
+    ensures out_of_memory { OnErr result (0 < at_most) }
     ensures some { OnErr result (0 < length (values pending.old)) }
     ensures by_address { IsByAddress pending.new }
 {

@@ -75,8 +75,8 @@ named_more_new n named new ps i x at low h e =
     ∙ ap (take n) (sym (named_new named x (drop (i + 1) ps) h) ∙ ap (λ qs. named ++ firsts named qs) (ap (λ p. p ∷ drop (i + 1) ps) at ∙ sym (drop_more ps i x low)))
 
 -- the points from i on, and then those before
-pub named_around : (n i : ℕ) (ps front back : List Point) (none some all : List Address) → none ≡ [] → front ≡ take i ps → back ≡ drop i ps → some ≡ take n (none ++ firsts none back) → all ≡ take n (some ++ firsts some front) → all ≡ take n (firsts [] (drop i ps ++ take i ps))
-named_around n i ps front back none some all e f g h k =
+pub named_around : (n i : ℕ) (ps prefix back : List Point) (none some all : List Address) → none ≡ [] → prefix ≡ take i ps → back ≡ drop i ps → some ≡ take n (none ++ firsts none back) → all ≡ take n (some ++ firsts some prefix) → all ≡ take n (firsts [] (drop i ps ++ take i ps))
+named_around n i ps prefix back none some all e f g h k =
     named_in_parts n (drop i ps) (take i ps) some all
     (h ∙ (ap (λ z. take n (z ++ firsts z back)) e ∙ ap (λ qs. take n (firsts [] qs)) g))
     (k ∙ ap (λ qs. take n (some ++ firsts some qs)) f)

@@ -61,7 +61,7 @@ module _ (a : Address) where
       let ends : at + n + 1 ≡ (kept + n) + (at + n + 1 - (kept + n)) = omega (arith, le) in
       let after : at + n + 1 ≡ at + suc n = omega arith in
       let k = at + n + 1 - (kept + n) in
-      let front : take (kept + m) copied ≡ take kept ps ++ take n rest =
+      let prefix : take (kept + m) copied ≡ take kept ps ++ take n rest =
       rw (size, pasted, span) (take-paste ps kept rest n (omega (arith, le, low)) fits)
       in
       let cut : drop (kept + n) copied ≡ drop (kept + n) ps =
@@ -73,4 +73,4 @@ module _ (a : Address) where
       let run : others rest ≡ take n rest ++ others (drop (suc n) rest) =
       filter-run rest ∙ ap (λ i. take i rest ++ others (drop (suc i) rest)) (sym first)
       in
-      rw (front, back) (append_assoc (take kept ps) (take n rest) (others (drop (suc n) rest)) ∙ ap (λ qs. take kept ps ++ qs) (sym run))
+      rw (prefix, back) (append_assoc (take kept ps) (take n rest) (others (drop (suc n) rest)) ∙ ap (λ qs. take kept ps ++ qs) (sym run))

@@ -12,7 +12,7 @@ use Rattle.hash_ring.specs.Points.{point_cmp, clockwise, point, owners, points_o
 use Rattle.hash_ring.proofs.ListMembers.{in_map, map_in, in_flat_map, flat_map_in, in_range, range_in}
 use Rattle.hash_ring.proofs.Weights.{positive_product, shares_in}
 use Rattle.change_core.specs.Ascending.{ascending, In, IsAscending}
-use Rattle.change_core.proofs.Order.{in_append, in_append_left, in_append_right, ascends_append, ascends_front, ascends_back, in_ascending, ascending_in, ascending_ascends, ascending_is}
+use Rattle.change_core.proofs.Order.{in_append, in_append_left, in_append_right, ascends_append, ascends_prefix, ascends_back, in_ascending, ascending_in, ascending_ascends, ascending_is}
 use Rattle.hash_ring.proofs.PointOrder.{by, by_exact, point_exact, less_split, less_by_hash, less_by_server, least-le, least_is_one}
 use Rattle.hash_ring.proofs.Firsts.{AreNearest, firsts_ascend, in_firsts, firsts_in}
 
@@ -96,7 +96,7 @@ module _ (from : ℕ) (small_from : from < 2 ^ 64) (lows highs : List Point)
       subst (IsAscending point_cmp) (sym (map-append (turn from) highs lows))
       (ascends_append point_exact (map (turn from) highs) (map (turn from) lows)
       (ascends_map (turn from) highs turn_high (ascends_back point_exact lows highs up))
-      (ascends_map (turn from) lows turn_low (ascends_front point_exact lows highs up))
+      (ascends_map (turn from) lows turn_low (ascends_prefix point_exact lows highs up))
       (λ y z h k.
       let p = in_map (turn from) y highs h in
       let q = in_map (turn from) z lows k in

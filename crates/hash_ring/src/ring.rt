@@ -79,7 +79,7 @@ impl<H: PointHash> Ring<H> {
         ensures made { IfOk result (λ r. r ≡ ring_of hash (H.hash_of hash) replicas (with_each servers.now []) r.room) }
         ensures refusal { IsReplicas replicas → IsOkUnless result RingError.Memory }
         ensures bad_replicas { (IsReplicas replicas → ⊥) → result ≡ Err RingError.BadReplicas }
-        ensures growth { IsReplicas replicas → OnErr result (0 < length servers.now) }
+        ensures out_of_memory { IsReplicas replicas → OnErr result (0 < length servers.now) }
     {
         // `Ring::new` refuses what is out of range.
         if servers.is_empty() || replicas < 1 || replicas > MAX_REPLICAS {
@@ -202,7 +202,7 @@ impl<H: PointHash> Ring<H> {
     pub fn owner(&self, key: &[u8]) -> Option<Address>
         ensures first { result ≡ owner (H.hash_of self.now.hash) self.now.replicas self.now.servers key.now }
         ensures nearest { IfSome result (IsNearest (H.hash_of self.now.hash) self.now.replicas self.now.servers key.now) }
-        ensures nobody { IfNone result (self.now.servers ≡ []) }
+        ensures empty { IfNone result (self.now.servers ≡ []) }
     {
         next_server(
             &self.lists.points,
@@ -220,7 +220,7 @@ impl<H: PointHash> Ring<H> {
     /// - `Memory`: out of memory; never if `count` is 0 or the ring has no servers.
     pub fn owners(&self, key: &[u8], count: usize) -> Result<Vec<Address>, RingError>
         ensures named { IfOk result (λ named. named.items ≡ take count (owners (H.hash_of self.now.hash) self.now.replicas self.now.servers key.now)) }
-        ensures growth { OnErr result ((0 < count) × (0 < length self.now.servers)) }
+        ensures out_of_memory { OnErr result ((0 < count) × (0 < length self.now.servers)) }
         ensures refusal { IsOkUnless result RingError.Memory }
     {
         let alloc = *self.lists.servers.allocator();
@@ -246,7 +246,7 @@ impl<H: PointHash> Ring<H> {
     /// - `Memory`: out of memory; never without servers.
     pub fn copy(&self) -> Result<Self, RingError>
         ensures same { IfOk result (λ ring. ring ≡ record self.now { room = ring.room }) }
-        ensures growth { OnErr result (0 < length self.now.servers) }
+        ensures out_of_memory { OnErr result (0 < length self.now.servers) }
         ensures refusal { IsOkUnless result RingError.Memory }
     {
         let alloc = *self.lists.servers.allocator();

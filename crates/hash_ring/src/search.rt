@@ -67,7 +67,7 @@ pub(crate) fn next_server(
     requires ascends { IsAscending point_cmp points.now }
     requires small { AreSmall points.now }
     ensures next { IfSome result (IsNext hash (points.now ++ late.now)) }
-    ensures nobody { IfNone result (points.now ++ late.now ≡ []) }
+    ensures empty { IfNone result (points.now ++ late.now ≡ []) }
 {
     let start = first_at(points, starts, hash);
     let first = first_around(points, start).or(late.first().copied())?;
@@ -128,7 +128,7 @@ fn owners_from(
 ) -> Result<Vec<Address>, RingError>
     requires ascends { IsAscending point_cmp points.now }
     ensures met { IfOk result (λ named. AreMet hash points.now count named.items) }
-    ensures growth { OnErr result (0 < count) }
+    ensures out_of_memory { OnErr result (0 < count) }
     ensures refusal { IsOkUnless result RingError.Memory }
 {
     let start = first_at(points, starts, hash);
@@ -146,10 +146,10 @@ fn name_around(
     named: &mut Vec<Address>,
 ) -> Result<(), AllocError>
     requires start { start ≤ length points.now }
-    requires nobody { named.old.items ≡ [] }
+    requires empty { named.old.items ≡ [] }
     requires room { count ≤ vec_capacity named.old }
     ensures named { OnOk result (named.new.items ≡ take count (firsts [] (drop start points.now ++ take start points.now))) }
-    ensures growth { OnErr result (0 < count) }
+    ensures out_of_memory { OnErr result (0 < count) }
 {
     let (before, after) = points.split_at(start);
     if count <= FEW {

@@ -98,7 +98,7 @@ impl MemberTable {
     /// - `Memory`: out of memory; never without members.
     pub fn list(&self) -> Result<Vec<Change>, MemberError>
         ensures list { IfOk result (λ v. v.items ≡ self.now.members) }
-        ensures growth { OnErr result (0 < length self.now.members) }
+        ensures out_of_memory { OnErr result (0 < length self.now.members) }
         ensures refusal { IsOkUnless result MemberError.Memory }
     {
         self.entries.list()
@@ -114,7 +114,7 @@ impl MemberTable {
         ensures text { IfOk result (λ s. string_bytes s ≡ digest_text self.now.members) }
         // No other list of changes has the text.
         ensures only { (ms : List Change) → digest_text ms ≡ digest_text self.now.members → ms ≡ self.now.members }
-        ensures growth { OnErr result (0 < length self.now.members) }
+        ensures out_of_memory { OnErr result (0 < length self.now.members) }
         ensures refusal { IsOkUnless result MemberError.Memory }
     {
         self.entries.text()
@@ -127,7 +127,7 @@ impl MemberTable {
     /// - `Memory`: out of memory for the text; never without members.
     pub fn digest(&self) -> Result<Digest, MemberError>
         ensures digest { IfOk result (λ d. d.bytes ≡ sha256 (digest_text self.now.members)) }
-        ensures growth { OnErr result (0 < length self.now.members) }
+        ensures out_of_memory { OnErr result (0 < length self.now.members) }
         ensures refusal { IsOkUnless result MemberError.Memory }
     {
         self.entries.digest()

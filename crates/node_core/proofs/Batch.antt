@@ -7,11 +7,12 @@ use Rattle.change_core.specs.declared.changes.Sourced.{Sourced}
 use Rattle.change_core.specs.Members.{greatest, members, alters}
 use Rattle.node_core.specs.declared.taking.Effect.{Effect}
 use Rattle.node_core.specs.declared.events.StopCause.{StopCause}
+use Rattle.node_core.specs.declared.events.StopCause.TheVariants.{Memory}
 use Rattle.change_core.specs.Refutation.{is_refuted, log_one}
 use Rattle.change_core.specs.Change.{change_of}
 use Rattle.node_core.specs.Log.{applied, refuted, one_if}
 use Rattle.node_core.specs.Node.{Node}
-use Rattle.node_core.specs.Taking.{alteration, took, took_all, NoneRefused, refusal, StopsFor, TakesOne, StopsOne, TakesFirst, altered_in, refuted_by}
+use Rattle.node_core.specs.Taking.{alteration, took, took_all, NoneRefused, refusal, StopsFor, TakesOne, StopsOne, TakesFirst, WantsRoomFor, StopsForRoom, altered_in, refuted_by}
 use Rattle.node_core.proofs.Greatest.{Agree, greatest-members}
 use Rattle.node_core.proofs.Log.{IsSettled, agree-log_one, took_members, altered_by-own, settled-by}
 
@@ -62,7 +63,7 @@ module _ {H : Type 0} (start : Node H) (given : List Sourced) where
   pub HasTaken-more : (n a r : ℕ) (node new : Node H) (s : Sourced) (effect : Effect) → n < length given → s ≡ get_or given n s → altered_in effect ≤ 1 → refuted_by effect ≤ 1
       → HasTaken start given n a r node → TakesOne node s effect new → HasTaken start given (n + 1) (a + altered_in effect) (r + refuted_by effect) new
   HasTaken-more n a r node new s effect within here one two so step =
-      let front : take (n + 1) given ≡ take n given ++ s ∷ [] = take_more given n s within ∙ ap (λ (x : Sourced). take n given ++ x ∷ []) (sym here) in
+      let prefix : take (n + 1) given ≡ take n given ++ s ∷ [] = take_more given n s within ∙ ap (λ (x : Sourced). take n given ++ x ∷ []) (sym here) in
       let back : drop n given ≡ s ∷ drop (n + 1) given = drop_more given n s within ∙ ap (λ (x : Sourced). x ∷ drop (n + 1) given) (sym here) in
       let members_are : new.members ≡ members (log_one node.own node.members s.change) = ap (λ (x : Node H). x.members) step.new_is ∙ took_members node s so.settled in
       let own_is : new.own ≡ node.own = ap (λ (x : Node H). x.own) step.new_is ∙ altered_by-own node (alteration node s) in
@@ -82,8 +83,8 @@ module _ {H : Type 0} (start : Node H) (given : List Sourced) where
       record {
         settled = settled-by new (log_one node.own node.members s.change) members_are;
         own_is = own_is ∙ so.own_is;
-        node_is = step.new_is ∙ ap (λ (x : Node H). took x s) so.node_is ∙ sym (took_all-push start (take n given) s) ∙ ap (took_all start) (sym front);
-        none_refused = subst (λ (ss : List Sourced). NoneRefused start ss) (sym front)
+        node_is = step.new_is ∙ ap (λ (x : Node H). took x s) so.node_is ∙ sym (took_all-push start (take n given) s) ∙ ap (took_all start) (sym prefix);
+        none_refused = subst (λ (ss : List Sourced). NoneRefused start ss) (sym prefix)
             (NoneRefused-push start (take n given) s so.none_refused (subst (λ (x : Node H). refusal x s.change ≡ None) so.node_is step.none_refused));
         applied_is = omega (arith, left, so.applied_is);
         refuted_is = omega (arith, right, so.refuted_is);
@@ -100,3 +101,11 @@ module _ {H : Type 0} (start : Node H) (given : List Sourced) where
     stops = subst (λ (x : Node H). StopsFor x s cause) so.node_is step.stops;
     new_is = step.same ∙ so.node_is;
   }
+
+  -- for lack of memory it stops where one change did
+  pub StopsForRoom-stop : (n : ℕ) (node new : Node H) (s : Sourced) (cause : StopCause) → n < length given → s ≡ get_or given n s → StopsOne node s cause new
+      → (cause ≡ Memory → WantsRoomFor node s) → StopsForRoom new given (record { taken = n; cause = cause })
+  StopsForRoom-stop n node new s cause within here step wants lack next next_is =
+      let found : Some s ≡ Some next = ap (λ (x : Sourced). Some x) here ∙ sym (slice_get-get_or given n s within) ∙ next_is in
+      let same : s ≡ next = cc in
+      subst (λ (x : Sourced). WantsRoomFor new x) same (subst (λ (x : Node H). WantsRoomFor x s) (sym step.same) (wants lack))

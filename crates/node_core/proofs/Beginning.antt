@@ -18,9 +18,9 @@ use Rattle.node_core.specs.Configs.{IsConfig}
 use Rattle.node_core.specs.Invariant.{IsNode}
 use Rattle.node_core.specs.Node.{Node, asserted_by, birth}
 use Rattle.node_core.specs.Parts.{Parts, AreParts, node_of}
-use Rattle.node_core.specs.World.{newborn}
+use Rattle.node_core.specs.World.{initial_node}
 use Rattle.node_core.proofs.Agreed.{ring_of-hash}
-use Rattle.node_core.proofs.Invariant.{newborn_kept}
+use Rattle.node_core.proofs.Invariant.{initial_node_kept}
 
 -- the server that a node alone is
 pub servers_of-birth : (own incarnation weight : ℕ) → servers_of (birth own incarnation weight ∷ []) ≡ server_of (birth own incarnation weight) ∷ []
@@ -63,18 +63,18 @@ module _ {H : Type 0} (hash_of : H → List ℕ → ℕ) (hash : H) (config : Co
     gossip_begun = b.gossip_is
         ∙ ap (λ (c : Change). with_news (untold config.piggyback) (asserted_by c.address c)) b.own_is
 
-    node_begun : node_of begun ≡ newborn hash config own incarnation moment generator
+    node_begun : node_of begun ≡ initial_node hash config own incarnation moment generator
     node_begun =
         ap (λ (c : Change). record (node_of begun) { own = c.address }) b.own_is
         ∙ ap (λ (r : RingModel H). record (node_of begun) { own = own; hash = r.hash }) b.ring_is
         ∙ ap (λ (ms : List Change). record (node_of begun) { own = own; hash = hash; members = ms }) members_begun
         ∙ ap (λ (g : Dissemination). record (node_of begun) { own = own; hash = hash; members = birth own incarnation config.weight ∷ []; gossip = g }) gossip_begun
-        ∙ ap (λ (t : TimerList). record (newborn hash config own incarnation moment generator) { timers = t.timers; probing = probing }) b.timers_are
-        ∙ ap (λ (s : ProbeState). record (newborn hash config own incarnation moment generator) { probing = s }) b.probing_is
+        ∙ ap (λ (t : TimerList). record (initial_node hash config own incarnation moment generator) { timers = t.timers; probing = probing }) b.timers_are
+        ∙ ap (λ (s : ProbeState). record (initial_node hash config own incarnation moment generator) { probing = s }) b.probing_is
 
     pub parts_begun : IsConfig config → AreParts hash_of begun
     parts_begun configured = record {
-      kept = subst (λ (n : Node H). IsNode n) (sym node_begun) (newborn_kept hash config own incarnation moment generator configured);
+      kept = subst (λ (n : Node H). IsNode n) (sym node_begun) (initial_node_kept hash config own incarnation moment generator configured);
       membership = b.membership;
       most = b.max_is;
       ring_is = ring_of-hash hash_of ring hash config.replicas (servers_of m.members)

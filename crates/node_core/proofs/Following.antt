@@ -1,6 +1,7 @@
 -- The members of a node after a run are the members of its log.
 use Rattle.std.proofs.Common.{◌≡◌, ℕ, List, [], ◌∷◌, ◌++◌, Option, Some, None, Ok, Err, Result, refl, sym, ◌∙◌, ap, map, take, subst}
 use Rattle.std.proofs.lemmas.List.{take-map}
+use Rattle.std.specs.Prelude.{IfOk, IfErr}
 use Rattle.std.proofs.Common.{append-nil}
 use Rattle.change_core.specs.declared.changes.Change.{Change}
 use Rattle.change_core.specs.declared.changes.Sourced.{Sourced}
@@ -28,7 +29,7 @@ use Rattle.node_core.specs.Run.{log_step, log, MembersAreLog, given_in, said_in,
 use Rattle.node_core.specs.Step.{NodeStep}
 use Rattle.node_core.specs.Receiving.{AnswerStep, ReceiveStep, MakeStep}
 use Rattle.node_core.specs.Probes.{put_in, ended}
-use Rattle.node_core.specs.Taking.{TakeStep, took_all}
+use Rattle.node_core.specs.Taking.{TakeStep, TakesAll, TakesFirst, taken_of, took_all}
 use Rattle.node_core.proofs.Greatest.{Agree, greatest-members, members_same}
 use Rattle.node_core.proofs.Log.{IsSettled, agree-append, agree-log_given, took_all_members, took_all-own, settled-by}
 
@@ -63,6 +64,22 @@ Follows-stopped : {H : Type 0} (old new : Node H) (given : List Sourced) (moment
 Follows-stopped old new given moment stopped settled step =
     subst (λ (cs : List Change). Follows old (log_given old.own old.members cs ++ []) new) (sym (take-map change_of stopped.taken given))
     (Follows-took old (at_moment old moment) new (take stopped.taken given) settled refl refl step.new_is)
+
+-- a batch is a step by what is known of either result
+pub TakeStep-of : {H : Type 0} (old new : Node H) (given : List Sourced) (moment : ℕ) (result : Result Taken Stopped)
+    → IfOk result (λ taken. TakesAll (at_moment old moment) given taken new) → IfErr result (λ stopped. TakesFirst (at_moment old moment) given stopped new)
+    → TakeStep old given moment result new
+TakeStep-of old new given moment (Ok taken) all first = all
+TakeStep-of old new given moment (Err stopped) all first = first
+
+-- the members after a batch are those of what it took, put into the log
+pub TakeStep_members : {H : Type 0} (old new : Node H) (given : List Sourced) (moment : ℕ) (result : Result Taken Stopped) → IsSettled old
+    → TakeStep old given moment result new → new.members ≡ members (log_given old.own old.members (taken_of given result))
+TakeStep_members old new given moment (Ok taken) settled step =
+    (Follows-TakeStep old new given moment taken settled step).members_is ∙ ap members (append-nil (log_given old.own old.members (map change_of given)))
+TakeStep_members old new given moment (Err stopped) settled step =
+    (Follows-stopped old new given moment stopped settled step).members_is
+    ∙ ap members (append-nil (log_given old.own old.members (take stopped.taken (map change_of given))))
 
 -- nothing was put in, where the members are the old ones
 Follows-kept : {H : Type 0} (old new after : Node H) → IsSettled old → after.own ≡ old.own → after.members ≡ old.members → new ≡ after → Follows old (old.members ++ []) new

@@ -48,7 +48,7 @@ use Rattle.node_core.specs.Probes.{ended, put_in, suspicion, suspicion_in, suspi
 use Rattle.node_core.specs.Receiving.{AnswerStep, ReceiveStep, MakeStep}
 use Rattle.node_core.specs.Step.{NodeStep}
 use Rattle.node_core.specs.Taking.{NoneRefused, TakeStep, altered_by, refusal, took, took_all}
-use Rattle.node_core.specs.World.{newborn}
+use Rattle.node_core.specs.World.{initial_node}
 use Rattle.node_core.proofs.Apart.{AreApart-from_each, OnePerAddress-from_apart, apart-filter, apart-counted}
 use Rattle.node_core.proofs.Configured.{limits_within}
 use Rattle.node_core.proofs.Kept.{altered_kept}
@@ -379,8 +379,8 @@ all_calls_keep_it hash_of old new OfView (WithView result) kept step = is_kept o
 all_calls_keep_it hash_of old new call answer kept step = elim step [ ]
 
 -- a node that begins meets the invariant
-pub newborn_kept : {H : Type 0} (hash : H) (config : Config) (own incarnation moment : ℕ) (generator : Lcg) → IsConfig config → IsNode (newborn hash config own incarnation moment generator)
-newborn_kept hash config own incarnation moment generator configured = record {
+pub initial_node_kept : {H : Type 0} (hash : H) (config : Config) (own incarnation moment : ℕ) (generator : Lcg) → IsConfig config → IsNode (initial_node hash config own incarnation moment generator)
+initial_node_kept hash config own incarnation moment generator configured = record {
   one_each = (tt, tt);
   few = (limits_within config configured).members;
   held = (birth own incarnation config.weight);

@@ -16,6 +16,7 @@ pub mod Invariant
 pub mod Agreeing
 pub mod Agreed
 pub mod Beginning
+pub mod Room
 pub mod Alter
 pub mod Editing
 pub mod Judge

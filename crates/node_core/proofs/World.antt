@@ -17,7 +17,7 @@ use Rattle.node_core.specs.Run.{given_in}
 use Rattle.node_core.specs.Step.{NodeStep}
 use Rattle.change_core.specs.Ascending.{In}
 use Rattle.change_core.proofs.Order.{in_append_left, in_append_right, in_append}
-use Rattle.node_core.specs.World.{World, WorldEvent, Starts, Restarts, Calls, WorldsAreTrue, IsTrueWorld, IsTrueNews, Comes, MayHappen, MayAllHappen, happens, world_after, nothing, newborn, placed_at, begins, called, IsGrounded, last_about, later, refuted_in, renewed_in, asserted_in, made_in}
+use Rattle.node_core.specs.World.{World, WorldEvent, Starts, Restarts, Calls, WorldsAreTrue, IsTrueWorld, IsTrueNews, Comes, MayHappen, MayAllHappen, happens, world_after, nothing, initial_node, placed_at, begins, called, IsGrounded, last_about, later, refuted_in, renewed_in, asserted_in, made_in}
 use Rattle.node_core.proofs.Following.{Follows-step}
 use Rattle.node_core.proofs.Sound.{IsSound, IsTold, news-more, at-more, at-grounded, last-append, last-one, sound-more}
 use Rattle.node_core.proofs.Steps.{IsSoundMessage, StepIsSound, step_sound, refuted_in-own}
@@ -62,8 +62,8 @@ placed_sound {H} w own node B ms sound about s mine made = record {
 module _ {H : Type 0} (A : List Change) (hash : H) (config : Config) (own incarnation moment : ℕ) (generator : Lcg)
     (past : (c : Change) → In c A → c.address ≡ own → c.incarnation < incarnation) (asserting : (d : Change) → In d A → asserts d.status ≡ true) where
   -- a node that begins past all that its address has asserted
-  newborn_sound : IsSound (A ++ birth own incarnation config.weight ∷ []) (newborn hash config own incarnation moment generator)
-  newborn_sound = record {
+  initial_node_sound : IsSound (A ++ birth own incarnation config.weight ∷ []) (initial_node hash config own incarnation moment generator)
+  initial_node_sound = record {
     settled = members-IsMemberList (birth own incarnation config.weight ∷ []) (tt, tt);
     held = birth own incarnation config.weight;
     held_is = ap (λ b. cond b (Some (birth own incarnation config.weight)) None) (eq-eqb own own refl);
@@ -90,8 +90,8 @@ module _ {H : Type 0} (A : List Change) (hash : H) (config : Config) (own incarn
 begins_sound : {H : Type 0} (w : World H) (hash : H) (config : Config) (own incarnation moment : ℕ) (generator : Lcg) → IsSoundWorld w
     → ((c : Change) → In c w.asserted → c.address ≡ own → c.incarnation < incarnation) → IsSoundWorld (begins w hash config own incarnation moment generator)
 begins_sound {H} w hash config own incarnation moment generator sound past =
-    let s = placed_sound w own (newborn hash config own incarnation moment generator) (birth own incarnation config.weight ∷ []) [] sound refl
-    (newborn_sound w.asserted hash config own incarnation moment generator past sound.asserting) (λ d h. of_one d h) (λ m h. absurd h) in
+    let s = placed_sound w own (initial_node hash config own incarnation moment generator) (birth own incarnation config.weight ∷ []) [] sound refl
+    (initial_node_sound w.asserted hash config own incarnation moment generator past sound.asserting) (λ d h. of_one d h) (λ m h. absurd h) in
     record { there = s.there; absent = s.absent; told = λ m h. told-more w.asserted (birth own incarnation config.weight ∷ []) m (sound.told m h); asserting = s.asserting }
   where
     of_one : (d : Change) → In d (birth own incarnation config.weight ∷ []) → d.address ≡ own

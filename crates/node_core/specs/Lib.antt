@@ -2,6 +2,7 @@ pub mod Configs
 pub mod Errors
 pub mod Node
 pub mod Edits
+pub mod Room
 pub mod Log
 pub mod Messages
 pub mod Taking

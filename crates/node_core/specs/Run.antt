@@ -1,5 +1,5 @@
 -- A run of calls, and the log that it leaves: the changes of each call, in the order of the calls.
-use Rattle.std.specs.Prelude.{◌≡◌, ℕ, Option, Some, None, Ok, Err, List, [], ◌∷◌, ◌++◌, map, take}
+use Rattle.std.specs.Prelude.{◌≡◌, ℕ, Option, Some, None, Ok, List, [], ◌∷◌, ◌++◌, map, take}
 use Rattle.change_core.specs.declared.changes.Change.{Change}
 use Rattle.change_core.specs.Change.{change_of}
 use Rattle.change_core.specs.Members.{members}
@@ -15,6 +15,7 @@ use Rattle.node_core.specs.Log.{log_given}
 use Rattle.node_core.specs.Messages.{carried}
 use Rattle.node_core.specs.Node.{Node}
 use Rattle.node_core.specs.Step.{NodeStep}
+use Rattle.node_core.specs.Taking.{taken_of}
 
 -- of the changes that a message carries, those that its receiver counts as taken
 abbrev pub received_in : List Change → Received → List Change
@@ -26,8 +27,7 @@ received_in given received.NotGossip = []
 
 -- the given changes that a call counts as taken
 abbrev pub given_in : Event → Reply → List Change
-given_in (call.Take given moment) (answer.Take (Ok taken)) = map change_of given
-given_in (call.Take given moment) (answer.Take (Err stopped)) = take stopped.taken (map change_of given)
+given_in (call.Take given moment) (answer.Take result) = taken_of given result
 given_in (call.Receive message moment) (answer.Receive result) = received_in (map change_of (carried message.content)) result
 given_in event reply = []
 

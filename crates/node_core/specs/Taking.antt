@@ -1,5 +1,5 @@
 -- The effect of given changes on a node: which alter an entry, which are refuted, and at which a batch stops.
-use Rattle.std.specs.Prelude.{◌≡◌, ℕ, ◌==◌, ◌&&◌, Bool, not, nat_lt, cond, Option, Some, None, Result, Ok, Err, List, [], ◌∷◌, length, map, take, slice_get, is_none}
+use Rattle.std.specs.Prelude.{◌≡◌, ℕ, ◌==◌, ◌&&◌, Bool, not, nat_lt, cond, Option, Some, None, Result, Ok, Err, List, [], ◌∷◌, length, map, take, slice_get, is_none, IfSome}
 use Rattle.change_core.specs.declared.changes.Change.{Change}
 use Rattle.change_core.specs.declared.changes.Sourced.{Sourced}
 use Rattle.change_core.specs.Change.{change_of}
@@ -14,6 +14,7 @@ use Rattle.node_core.specs.declared.taking.Effect.{Effect}
 use Rattle.node_core.specs.declared.taking.Effect.TheVariants.{Unaltered, Applied, Refuted}
 use Rattle.node_core.specs.Log.{applied, one_if, refuted}
 use Rattle.node_core.specs.Node.{Node, altered, asserted_by, at_moment, own_change}
+use Rattle.node_core.specs.Room.{WantsRoom}
 
 -- the alteration that a given change makes: the node's refutation, the change itself, or none
 abbrev pub alteration : {H : Type 0} → Node H → Sourced → Option Sourced
@@ -70,10 +71,23 @@ pub record TakesFirst {H : Type 0} (old : Node H) (given : List Sourced) (stoppe
   pub stops : StopsFor (took_all old (take stopped.taken given)) next stopped.cause
   pub new_is : new ≡ took_all old (take stopped.taken given)
 
+-- the given changes that a batch took: all, or those before the one that stopped it
+abbrev pub taken_of : List Sourced → Result Taken Stopped → List Change
+taken_of given (Ok taken) = map change_of given
+taken_of given (Err stopped) = take stopped.taken (map change_of given)
+
 -- a batch is processed whole, or up to the change that stops it, from the given moment
 abbrev pub TakeStep : {H : Type 0} → Node H → List Sourced → ℕ → Result Taken Stopped → Node H → Type 0
 TakeStep old given moment (Ok taken) new = TakesAll (at_moment old moment) given taken new
 TakeStep old given moment (Err stopped) new = TakesFirst (at_moment old moment) given stopped new
+
+-- what a given change would alter wants room
+abbrev pub WantsRoomFor : {H : Type 0} → Node H → Sourced → Type 0
+WantsRoomFor node given = IfSome (alteration node given) (λ s. WantsRoom node s.change)
+
+-- a batch stops for lack of memory only at a change that wants room of the node as the batch leaves it
+abbrev pub StopsForRoom : {H : Type 0} → Node H → List Sourced → Stopped → Type 0
+StopsForRoom new given stopped = stopped.cause ≡ Memory → (next : Sourced) → slice_get given stopped.taken ≡ Some next → WantsRoomFor new next
 
 -- 1 if a given change altered an entry, itself or by its refutation, and else 0
 abbrev pub altered_in : Effect → ℕ

@@ -23,8 +23,8 @@ use Rattle.node_core.specs.Run.{given_in}
 use Rattle.node_core.specs.Step.{NodeStep}
 
 -- a new node
-abbrev pub newborn : {H : Type 0} → H → Config → ℕ → ℕ → ℕ → Lcg → Node H
-newborn hash config own incarnation moment generator = record {
+abbrev pub initial_node : {H : Type 0} → H → Config → ℕ → ℕ → ℕ → Lcg → Node H
+initial_node hash config own incarnation moment generator = record {
   own = own;
   hash = hash;
   config = config;
@@ -78,7 +78,7 @@ placed_at own node nodes a = cond (a == own) (Some node) (nodes a)
 -- the world with a new node at its address, which asserts its first entry
 abbrev pub begins : {H : Type 0} → World H → H → Config → ℕ → ℕ → ℕ → Lcg → World H
 begins w hash config own incarnation moment generator = record {
-  nodes = placed_at own (newborn hash config own incarnation moment generator) w.nodes;
+  nodes = placed_at own (initial_node hash config own incarnation moment generator) w.nodes;
   messages = w.messages;
   asserted = w.asserted ++ birth own incarnation config.weight ∷ [];
 }

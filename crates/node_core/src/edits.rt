@@ -14,6 +14,7 @@ ghost use Rattle.member_core.specs.Membership.{IsMembership};
 ghost use Rattle.node_core.specs.Configs.{IsConfig};
 ghost use Rattle.node_core.specs.Edits.{entry_in, IsTimed, MayEdit};
 ghost use Rattle.node_core.specs.Node.{has_deadline, is_timed, next_status, timers_with, wait_for};
+ghost use Rattle.node_core.specs.Room.{TakesPlace};
 
 use crate::configs::Config;
 use crate::errors::NodeError;
@@ -127,7 +128,7 @@ fn edit_timers(timers: &mut Timers, own: Address, config: &Config, moment: Momen
     }
 }
 
-/// Makes room for the timer of an entry, if it needs one.
+/// Makes room for the timer of an entry, if one has to be made.
 fn reserve_timer(
     timers: &mut Timers,
     own: Address,
@@ -138,6 +139,7 @@ fn reserve_timer(
         → HasTimer timers.old.timers change.now.address }
     ensures timers { timers.new.timers ≡ timers.old.timers }
     ensures room { OnOk result (is_timed own change.now ≡ true → (0 < timers.new.room) ⊎ HasTimer timers.new.timers change.now.address) }
+    ensures out_of_memory { OnErr result ((is_timed own change.now && not (option_map_or (λ e. has_deadline e.status) held false)) ≡ true) }
     ensures refusal { IsOkUnless result NodeError.Memory }
 {
     if !wants_timer(own, change, held) {
@@ -166,6 +168,7 @@ fn make_room<H: PointHash>(
         → (0 < timers.new.room) ⊎ HasTimer timers.new.timers news.now.change.address) }
     ensures put { OnOk result (gossip.new ≡ with_news gossip.old news.now) }
     ensures err { OnErr result (gossip.new ≡ gossip.old) }
+    ensures out_of_memory { OnErr result (TakesPlace members.old.own.address members.old.members ring.old.servers gossip.old.pending news.now.change) }
     ensures refusal { IsOkUnless result NodeError.Memory }
 {
     let change = &news.change;
@@ -211,6 +214,7 @@ pub(crate) fn alter_parts<H: PointHash>(
     ensures err_members { OnErr result (members.new ≡ record members.old { room = members.new.room }) }
     ensures err_ring { OnErr result (ring.new ≡ record ring.old { room = ring.new.room }) }
     ensures err_rest { OnErr result ((timers.new.timers ≡ timers.old.timers) × (gossip.new ≡ gossip.old)) }
+    ensures out_of_memory { OnErr result (TakesPlace members.old.own.address members.old.members ring.old.servers gossip.old.pending news.now.change) }
     ensures refusal { IsOkUnless result NodeError.Memory }
 {
     make_room(members, ring, gossip, timers, news)?;

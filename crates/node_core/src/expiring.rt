@@ -1,10 +1,11 @@
 //! The entries that a node asserts by itself: of others at their deadlines, and of itself that it leaves or is back.
-ghost use Rattle.std.specs.Prelude.{◌≡◌, option_map, IfSome, OnOk, OnErr, IsOkUnless};
+ghost use Rattle.std.specs.Prelude.{◌≡◌, option_map, Err, IfSome, OnOk, OnErr, IsOkUnless};
 ghost use Rattle.member_core.specs.Membership.{judged, IsOwnAssertion};
-ghost use Rattle.node_core.specs.Asserting.{LeaveStep, RejoinStep};
+ghost use Rattle.node_core.specs.Asserting.{leaving, rejoining, LeaveStep, RejoinStep};
 ghost use Rattle.node_core.specs.Edits.{membership_of};
 ghost use Rattle.node_core.specs.Expiring.{due, expired, ExpireStep};
 ghost use Rattle.node_core.specs.Node.{altered, asserted_by, at_moment, own_change, said_by};
+ghost use Rattle.node_core.specs.Room.{WantsRoom};
 
 use crate::edits::Edit;
 use crate::errors::NodeError;
@@ -23,9 +24,10 @@ impl<H: PointHash> NodeState<H> {
     ///
     /// The node is then unchanged, its moment too.
     ///
-    /// - `Memory`: out of memory; never if none is due.
+    /// - `Memory`: out of memory; never if none is due, or a change of its address is pending.
     pub fn expire(&mut self, moment: Moment) -> Result<Option<Change>, NodeError>
         ensures step { ExpireStep self.old.node moment result self.new.node }
+        ensures out_of_memory { OnErr result (IfSome (due (at_moment self.old.node moment)) (λ entry. WantsRoom self.old.node (expired entry))) }
     {
         let Some(change) = self.due(moment) else {
             self.advance(moment);
@@ -41,9 +43,10 @@ impl<H: PointHash> NodeState<H> {
     /// # Errors
     ///
     /// - `AlreadyLeft`: the node has left.
-    /// - `Memory`: out of memory.
+    /// - `Memory`: out of memory; never if a change of its own entry is pending.
     pub fn leave(&mut self) -> Result<Change, NodeError>
         ensures step { LeaveStep self.old.node result self.new.node }
+        ensures out_of_memory { result ≡ Err NodeError.Memory → WantsRoom self.old.node (leaving self.old.node) }
     {
         let own = self.members.own();
         if own.status == Status::Leave {
@@ -66,6 +69,7 @@ impl<H: PointHash> NodeState<H> {
     /// - `Memory`: out of memory.
     pub fn rejoin(&mut self) -> Result<Change, NodeError>
         ensures step { RejoinStep self.old.node result self.new.node }
+        ensures out_of_memory { result ≡ Err NodeError.Memory → WantsRoom self.old.node (rejoining self.old.node) }
     {
         let own = self.members.own();
         if own.status != Status::Leave {
@@ -91,6 +95,7 @@ impl<H: PointHash> NodeState<H> {
         requires { judged (membership_of self.old.node) change.now ≡ Verdict.Take change.now }
         ensures ok { OnOk result (self.new.node ≡ altered (at_moment self.old.node moment) (said_by self.old.node change.now)) }
         ensures err { OnErr result (self.new ≡ self.old) }
+        ensures out_of_memory { OnErr result (WantsRoom self.old.node change.now) }
         ensures refusal { IsOkUnless result NodeError.Memory }
     {
         let before = self.moment;
@@ -110,6 +115,7 @@ impl<H: PointHash> NodeState<H> {
         requires { IsOwnAssertion (own_change self.old.node) change.now }
         ensures ok { OnOk result (self.new.node ≡ altered self.old.node (asserted_by self.old.node.own change.now)) }
         ensures err { OnErr result (self.new ≡ self.old) }
+        ensures out_of_memory { OnErr result (WantsRoom self.old.node change.now) }
         ensures refusal { IsOkUnless result NodeError.Memory }
     {
         // The proof knows the type's invariant where a field is read.

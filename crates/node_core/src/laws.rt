@@ -10,7 +10,7 @@ ghost use Rattle.node_core.specs.Invariant.{CallsKeepIt, IsNode};
 ghost use Rattle.node_core.specs.Itself.{CallsLeaveItself};
 ghost use Rattle.node_core.specs.Run.{MembersAreLog};
 ghost use Rattle.node_core.specs.Synchronisation.{NodesSynchronise, TakesGreatest};
-ghost use Rattle.node_core.specs.World.{WorldsAreTrue, newborn};
+ghost use Rattle.node_core.specs.World.{WorldsAreTrue, initial_node};
 
 use crate::configs::Config;
 use hash_ring::PointHash;
@@ -49,7 +49,7 @@ pub fn identity<H: PointHash>()
 /// A new node satisfies the invariant, and every call keeps it.
 pub fn node_invariant<H: PointHash>()
     ensures begins { (hash : H) (config : Config) (own incarnation moment : ℕ) (generator : Lcg)
-        → IsConfig config → IsNode (newborn hash config own incarnation moment generator) }
+        → IsConfig config → IsNode (initial_node hash config own incarnation moment generator) }
     ensures keeps { CallsKeepIt H.hash_of }
     // And so does the making of a view.
     ensures views { AllCallsKeepIt H.hash_of }

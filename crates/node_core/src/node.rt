@@ -11,7 +11,8 @@ ghost use Rattle.node_core.specs.Edits.{entry_in, membership_of, MayEdit};
 ghost use Rattle.node_core.specs.Invariant.{IsSeen};
 ghost use Rattle.node_core.specs.Node.{altered, asserted_by, own_change};
 ghost use Rattle.node_core.specs.Parts.{seen_of};
-ghost use Rattle.node_core.specs.World.{newborn};
+ghost use Rattle.node_core.specs.Room.{WantsRoom};
+ghost use Rattle.node_core.specs.World.{initial_node};
 
 use crate::configs::Config;
 use crate::edits::{Edit, alter_parts};
@@ -86,7 +87,7 @@ impl<H: PointHash> NodeState<H> {
         seed: u64,
         moment: Moment,
     ) -> Result<Self, NodeError>
-        ensures newborn { IfOk result (λ n. n ≡ seen_of H.hash_of (newborn hash config own incarnation moment (seeded seed))) }
+        ensures initial_node { IfOk result (λ n. n ≡ seen_of H.hash_of (initial_node hash config own incarnation moment (seeded seed))) }
         ensures bad_config { (field : ConfigField) → (result ≡ Err (NodeError.BadConfig field)) ↔ (bad_field config ≡ Some field) }
         ensures refusal { IfErr result (λ e. bad_field config ≡ None → e ≡ NodeError.Memory) }
     {
@@ -139,6 +140,7 @@ impl<H: PointHash> NodeState<H> {
         requires entry { entry_in edit ≡ Some news.now.change }
         ensures ok { OnOk result (self.new.node ≡ altered self.old.node news.now) }
         ensures err { OnErr result (self.new ≡ self.old) }
+        ensures out_of_memory { OnErr result (WantsRoom self.old.node news.now.change) }
         ensures refusal { IsOkUnless result NodeError.Memory }
     {
         let config = self.config;

@@ -21,7 +21,7 @@ pub(crate) fn list_pingable(
     requires { IsMemberList members.now }
     ensures list { IfOk result (λ v. v.items ≡ others (serving members.now) own) }
     ensures rising { IfOk result (λ v. IsStrictlyIncreasing v.items) }
-    ensures growth { OnErr result (others (serving members.now) own ≢ []) }
+    ensures out_of_memory { OnErr result (others (serving members.now) own ≢ []) }
     ensures refusal { IsOkUnless result NodeError.Memory }
 {
     let count = count_pingable(members, own);

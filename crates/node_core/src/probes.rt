@@ -154,7 +154,7 @@ impl<H: PointHash> NodeState<H> {
     ) -> Result<NodeLost, NodeError>
         requires other { target ≢ self.old.node.own }
         requires unasked { unasked_target self.old.node.probing number ≡ Some target }
-        requires nobody { helper_count self.old.node.probing (pingable self.old.node) target ≡ 0 }
+        requires no_helper { helper_count self.old.node.probing (pingable self.old.node) target ≡ 0 }
         ensures step { LostStep self.old.node number moment result self.new.node }
         ensures drawn { LostDraw self.old.node number result self.new.node }
     {
@@ -197,7 +197,7 @@ impl<H: PointHash> NodeState<H> {
         ensures change { IfOk result (λ change. change ≡ suspicion self.old.node target) }
         ensures put { IfOk result (λ change. self.new.node ≡ put_in (at_moment self.old.node moment) change) }
         ensures err { OnErr result (self.new ≡ self.old) }
-        ensures growth { OnErr result (IsSome (suspicion self.old.node target)) }
+        ensures out_of_memory { OnErr result (IsSome (suspicion self.old.node target)) }
         ensures refusal { IsOkUnless result NodeError.Memory }
     {
         let Some(change) = suspicion_of(&self.members, target) else {
@@ -212,7 +212,7 @@ impl<H: PointHash> NodeState<H> {
     fn pingable(&self) -> Result<Vec<Address>, NodeError>
         ensures list { IfOk result (λ v. v.items ≡ pingable self.now.node) }
         ensures rising { IfOk result (λ v. IsStrictlyIncreasing v.items) }
-        ensures growth { OnErr result (pingable self.now.node ≢ []) }
+        ensures out_of_memory { OnErr result (pingable self.now.node ≢ []) }
         ensures refusal { IsOkUnless result NodeError.Memory }
     {
         let own = self.members.own();

@@ -3,7 +3,7 @@ ghost use Rattle.std.specs.Prelude.{◌≡◌, ◌≤◌, ◌<◌, [], ◌∷◌
 ghost use Rattle.std.specs.Arc.{arc_value};
 ghost use Rattle.hash_ring.specs.Points.{IsReplicas, owner, owners};
 ghost use Rattle.hash_ring.specs.RingModel.{ring_of, HasRoom};
-ghost use Rattle.hash_ring.specs.Servers.{with_server, without};
+ghost use Rattle.hash_ring.specs.Servers.{shares, with_server, without};
 
 use change_core::{Address, Weight};
 use hash_ring::{PointHash, Ring, RingError};
@@ -66,6 +66,7 @@ impl<H: PointHash> SharedRing<H> {
     pub(crate) fn reserve_for(&mut self, address: Address, weight: Weight) -> Result<(), RingError>
         ensures room { OnOk result (HasRoom self.new (record { address = address; weight = weight })) }
         ensures same { self.new ≡ record self.old { room = self.new.room } }
+        ensures out_of_memory { OnErr result (shares address self.old.servers < weight) }
         ensures refusal { IsOkUnless result RingError.Memory }
     {
         self.ring.reserve_for(address, weight)
@@ -108,7 +109,7 @@ impl<H: PointHash> SharedRing<H> {
     /// Returns the first owners of a key. `Memory`: out of memory.
     pub(crate) fn owners(&self, key: &[u8], count: usize) -> Result<Vec<Address>, RingError>
         ensures named { IfOk result (λ named. named.items ≡ take count (owners (H.hash_of self.now.hash) self.now.replicas self.now.servers key.now)) }
-        ensures growth { OnErr result ((0 < count) × (0 < length self.now.servers)) }
+        ensures out_of_memory { OnErr result ((0 < count) × (0 < length self.now.servers)) }
         ensures refusal { IsOkUnless result RingError.Memory }
     {
         self.ring.owners(key, count)

@@ -29,7 +29,7 @@ pub fn run<H: PointHash>(
     ensures itself { IfOk result (λ r. IsItself node.node r.node.node) }
     ensures each { IfOk result (λ r. length r.replies ≡ length events.now) }
     ensures refused { IfErr result (λ r. r.node ≡ node) }
-    ensures growth { OnErr result (0 < length events.now) }
+    ensures out_of_memory { OnErr result (0 < length events.now) }
 {
     let Ok(mut replies) = Vec::with_capacity(alloc, events.len()) else {
         return Err(RunRefused { node });

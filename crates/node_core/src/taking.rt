@@ -1,8 +1,10 @@
 //! Changes that a node is given, one after another.
 ghost use Rattle.std.specs.Prelude.{◌≡◌, ◌≤◌, length, max, IfOk, IfErr};
+ghost use Rattle.change_core.specs.Members.{members};
 ghost use Rattle.change_core.specs.Numbers.{most_members};
+ghost use Rattle.node_core.specs.Log.{log_given};
 ghost use Rattle.node_core.specs.Node.{at_moment};
-ghost use Rattle.node_core.specs.Taking.{altered_in, refuted_by, TakesOne, StopsOne, TakesAll, TakesFirst, TakeStep};
+ghost use Rattle.node_core.specs.Taking.{altered_in, refuted_by, TakesOne, StopsOne, TakesAll, TakesFirst, TakeStep, WantsRoomFor, StopsForRoom, taken_of};
 
 use crate::edits::Edit;
 use crate::events::{StopCause, Stopped, Taken};
@@ -58,10 +60,14 @@ impl<H: PointHash> NodeState<H> {
     ///
     /// - `Exhausted`: the change calls for a refutation at an incarnation past the greatest.
     /// - `Full`: its address is unknown, and there are `max_members` members.
-    /// - `Memory`: out of memory; only for a change that would alter an entry.
+    /// - `Memory`: out of memory; only for a change that would alter an entry, and if that takes room: its address is
+    ///   unknown or has nothing pending, or it gets points in the ring or a timer.
     pub fn take(&mut self, changes: &[Sourced], moment: Moment) -> Result<Taken, Stopped>
         requires few { length changes.now ≤ most_members }
         ensures step { TakeStep self.old.node changes.now moment result self.new.node }
+        ensures members { self.new.node.members
+            ≡ members (log_given self.old.node.own self.old.node.members (taken_of changes.now result)) }
+        ensures out_of_memory { IfErr result (StopsForRoom self.new.node changes.now) }
     {
         self.advance(moment);
         let taken = self.take_all(changes);
@@ -78,8 +84,10 @@ impl<H: PointHash> NodeState<H> {
 
     fn take_all(&mut self, changes: &[Sourced]) -> Result<Taken, Stopped>
         requires few { length changes.now ≤ most_members }
+        ensures settled { members self.old.node.members ≡ self.old.node.members }
         ensures all { IfOk result (λ taken. TakesAll self.old.node changes.now taken self.new.node) }
         ensures first { IfErr result (λ stopped. TakesFirst self.old.node changes.now stopped self.new.node) }
+        ensures out_of_memory { IfErr result (StopsForRoom self.new.node changes.now) }
     {
         // The proof knows the type's invariant where a field is read.
         let _ = &self.moment;
@@ -104,6 +112,7 @@ impl<H: PointHash> NodeState<H> {
     fn take_one(&mut self, sourced: &Sourced) -> Result<Effect, StopCause>
         ensures ok { IfOk result (λ effect. TakesOne self.old.node sourced.now effect self.new.node) }
         ensures err { IfErr result (λ cause. StopsOne self.old.node sourced.now cause self.new.node) }
+        ensures out_of_memory { IfErr result (λ cause. cause ≡ StopCause.Memory → WantsRoomFor self.old.node sourced.now) }
     {
         let verdict = self.members.judge(sourced.change);
         match verdict {

@@ -45,7 +45,7 @@ module _ {H : Type 0} where
 
 module _ {H : Type 0} (Came : MayAnswer) (now : ℕ) where
   -- what came of one host
-  abbrev HostDid : Address → Bool → OfActs H
+  abbrev pub HostDid : Address → Bool → OfActs H
   HostDid h joined acts = HostAnswered Came now h joined acts × (count_by is_taking acts ≡ one_if joined)
 
   joined_by : (h : Address) (q m : Message) (r : Received) (acts : List (Act H)) → acts ≡ applied q ∷ did (call.Receive m now) (reply.Receive r) ∷ []
@@ -77,7 +77,7 @@ module _ {H : Type 0} (Came : MayAnswer) (now : ℕ) where
   by_made h (Err n) (heard.Answer m) joined acts xs ys e just sent p = cc
   by_made h (Err n) heard.Other joined acts xs ys e just sent p = cc
 
-  host_did : (h : Address) (joined : Bool) (acts : List (Act H)) → JoinsHost Came now h (Ok joined) acts → HostDid h joined acts
+  pub host_did : (h : Address) (joined : Bool) (acts : List (Act H)) → JoinsHost Came now h (Ok joined) acts → HostDid h joined acts
   host_did h joined acts (inl p) = absurd p
   host_did h joined acts (inr t) = by_made h t.1.3.0 t.0 joined acts t.1.0 t.1.1 t.1.2 t.1.3.1 t.1.3.2 t.1.4
 
@@ -116,18 +116,18 @@ module _ {H : Type 0} (Came : MayAnswer) (now : ℕ) where
         omega (arith, takings-append t.1.0 t.1.1, host.1, rest.3),
       )
 
-  -- by the lock, or for want of memory to ask one of these hosts
-  abbrev Unasked : List Address → ClusterError → OfActs H
+  -- by the lock, or out of memory when one of these hosts was asked
+  abbrev pub Unasked : List Address → ClusterError → OfActs H
   Unasked hosts e acts = IsOfLock e ⊎ ((e ≡ error.Memory) × (LastRefused refusal.Memory acts ⊎ LastHostStarved Came hosts acts))
 
-  -- there was no memory to ask a host
+  -- out of memory when a host was asked
   by_want : (h : Address) (made : Result Message NodeError) → IsSent Came h IsJoined made heard.OutOfMemory
       → LastRefused {H = H} refusal.Memory (did call.JoinMessage (reply.JoinMessage made) ∷ [])
       ⊎ LastHostStarved {H = H} Came (h ∷ []) (did call.JoinMessage (reply.JoinMessage made) ∷ [])
   by_want h (Ok q) sent = inr (h, q, [], refl, (0, omega arith, refl), subst (λ (x : Result Message LinkError). Came h q x) sent.2 sent.1)
   by_want h (Err n) sent = inl (call.JoinMessage, reply.JoinMessage (Err n), [], refl, ap Some sent.0)
 
-  host_refused : (h : Address) (e : ClusterError) (acts : List (Act H)) → JoinsHost Came now h (Err e) acts → Unasked (h ∷ []) e acts
+  pub host_refused : (h : Address) (e : ClusterError) (acts : List (Act H)) → JoinsHost Came now h (Err e) acts → Unasked (h ∷ []) e acts
   host_refused h e acts (inl p) = inl p.1
   host_refused h e acts (inr t) = by_heard t.0 t.1.3.0 t.1.0 t.1.1 t.1.2 t.1.3.1 t.1.3.2 t.1.4
     where
@@ -149,28 +149,23 @@ module _ {H : Type 0} (Came : MayAnswer) (now : ℕ) where
   unasked_first h hosts e acts (inr (m, inl w)) = inr (m, inl w)
   unasked_first h hosts e acts (inr (m, inr w)) = inr (m, inr (w.0, w.1, w.2, w.3, Contains-append_left (h ∷ []) hosts w.0 w.4, w.5))
 
-  unasked_later : (h : Address) (hosts : List Address) (e : ClusterError) (xs ys : List (Act H)) → Unasked hosts e ys → Unasked (h ∷ hosts) e (xs ++ ys)
-  unasked_later h hosts e xs ys (inl l) = inl l
-  unasked_later h hosts e xs ys (inr (m, inl w)) =
+  unasked_more : (h : Address) (hosts : List Address) (e : ClusterError) (acts : List (Act H)) → Unasked hosts e acts → Unasked (h ∷ hosts) e acts
+  unasked_more h hosts e acts (inl l) = inl l
+  unasked_more h hosts e acts (inr (m, inl w)) = inr (m, inl w)
+  unasked_more h hosts e acts (inr (m, inr w)) = inr (m, inr (w.0, w.1, w.2, w.3, Contains-append_right (h ∷ []) hosts w.0 w.4, w.5))
+
+  pub unasked_later : (hosts : List Address) (e : ClusterError) (xs ys : List (Act H)) → Unasked hosts e ys → Unasked hosts e (xs ++ ys)
+  unasked_later hosts e xs ys (inl l) = inl l
+  unasked_later hosts e xs ys (inr (m, inl w)) =
       inr (m, inl (w.0, w.1, xs ++ w.2, ap (λ (zs : List (Act H)). xs ++ zs) w.3 ∙ sym (append_assoc xs w.2 (did w.0 w.1 ∷ [])), w.4))
-  unasked_later h hosts e xs ys (inr (m, inr w)) =
-      inr (
-        m,
-        inr (
-          w.0,
-          w.1,
-          xs ++ w.2,
-          ap (λ (zs : List (Act H)). xs ++ zs) w.3 ∙ sym (append_assoc xs w.2 (applied w.1 ∷ [])),
-          Contains-append_right (h ∷ []) hosts w.0 w.4,
-          w.5,
-        ),
-      )
+  unasked_later hosts e xs ys (inr (m, inr w)) =
+      inr (m, inr (w.0, w.1, xs ++ w.2, ap (λ (zs : List (Act H)). xs ++ zs) w.3 ∙ sym (append_assoc xs w.2 (applied w.1 ∷ [])), w.4, w.5))
 
   all_refused : (n : ℕ) (hosts : List Address) (e : ClusterError) (acts : List (Act H)) → JoinsHosts Came now n hosts (Err e) acts → Unasked hosts e acts
   all_refused n [] e acts p = absurd (let no : Err e ≡ Ok n = p.1 in cc)
   all_refused n (h ∷ hosts) e acts (inl p) = unasked_first h hosts e acts (host_refused h e acts p)
   all_refused n (h ∷ hosts) e acts (inr t) =
-      subst (λ (zs : List (Act H)). Unasked (h ∷ hosts) e zs) (sym t.1.2) (unasked_later h hosts e t.1.0 t.1.1 (all_refused (n + one_if t.0) hosts e t.1.1 t.1.4))
+      subst (λ (zs : List (Act H)). Unasked (h ∷ hosts) e zs) (sym t.1.2) (unasked_more h hosts e (t.1.0 ++ t.1.1) (unasked_later hosts e t.1.0 t.1.1 (all_refused (n + one_if t.0) hosts e t.1.1 t.1.4)))
 
   more_none : (hosts : List Address) (n : ℕ) (acts xs ys : List (Act H)) → acts ≡ xs ++ ys → ys ≡ [] → CountedFrom 0 hosts n xs → CountedSo Came now hosts n acts
   more_none hosts n acts xs ys e none c =

@@ -9,7 +9,9 @@ pub mod Hands
 pub mod Joined
 pub mod Judged
 pub mod Rests
+pub mod Each
 pub mod HealRests
+pub mod CorrectionRests
 pub mod Served
 pub mod Servings
 pub mod Forwarded

@@ -70,7 +70,7 @@ module _ {H : Type 0} (hash_of : H → List ℕ → ℕ) (Came : MayAnswer) (Han
   unanswered_later : (e : ClusterError) (xs ys : List (Act H)) → Unanswered e ys → Unanswered e (xs ++ ys)
   unanswered_later e xs ys (IsUnanswered.by_lock l) = IsUnanswered.by_lock l
   unanswered_later e xs ys (IsUnanswered.diverged view c h) = IsUnanswered.diverged view (has_later (looked (Ok view)) (xs ++ ys) xs ys refl c) h
-  unanswered_later e xs ys (IsUnanswered.nobody view c h) = IsUnanswered.nobody view (has_later (looked (Ok view)) (xs ++ ys) xs ys refl c) h
+  unanswered_later e xs ys (IsUnanswered.no_owner view c h) = IsUnanswered.no_owner view (has_later (looked (Ok view)) (xs ++ ys) xs ys refl c) h
   unanswered_later e xs ys (IsUnanswered.no_reply answer f w) = IsUnanswered.no_reply answer f (owner_later answer xs ys w)
   unanswered_later e xs ys (IsUnanswered.not_handled w) = IsUnanswered.not_handled (handler_later _ xs ys w)
   unanswered_later e xs ys (IsUnanswered.handler_starved w) = IsUnanswered.handler_starved (handler_later _ xs ys w)
@@ -121,7 +121,7 @@ module _ {H : Type 0} (hash_of : H → List ℕ → ℕ) (Came : MayAnswer) (Han
   forward_refusal now old new forward.RetriesSpent view acts c k o h = absurd (subst IsOpen h.0 o)
   forward_refusal now old new forward.InFlight view acts c k o h = absurd (subst IsOpen h.0 o)
   forward_refusal now old new forward.Diverged view acts c k o h = IsUnanswered.diverged view c (subst (λ (ks : List (List ℕ)). HaveDiverged hash_of view ks) k h.1)
-  forward_refusal now old new forward.Nobody view acts c k o h = IsUnanswered.nobody view c h.1
+  forward_refusal now old new forward.Nobody view acts c k o h = IsUnanswered.no_owner view c h.1
   forward_refusal now old new forward.NotInFlight view acts c k o h = absurd h
 
   look_refused : (now : ℕ) (old new : AttemptState) (e : ClusterError) (acts : List (Act H)) → old.keys ≡ keys → IsOpen old.stage

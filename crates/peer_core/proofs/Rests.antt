@@ -67,7 +67,7 @@ module _ {H : Type 0} (Came : MayAnswer) where
   said_word h a q m before None e n c came = absurd (n refl)
 
 module _ {H : Type 0} (Came : MayAnswer) where
-  -- there was no memory for a question, also behind more acts before
+  -- out of memory for a question, also behind more acts before
   why_out_of_memory : (start s : List (Act H)) → LastRefused refusal.Memory s ⊎ LastStarved Came s → IsWhy Came error.Memory (start ++ s)
   why_out_of_memory start s (inl w) =
       inr (inl (refusal.Memory, refl, (w.0, w.1, start ++ w.2, ap (λ (xs : List (Act H)). start ++ xs) w.3 ∙ sym (append_assoc start w.2 (did w.0 w.1 ∷ [])), w.4)))
@@ -357,10 +357,10 @@ module _ {H : Type 0} (Came : MayAnswer) (now : ℕ) where
   finishes (Some running) = finishes_by running.number running.target running.waiting
   finishes None = rests_give Came now (λ u. NoneBegun) tt (λ s f. f)
 
-  -- a probe was begun, and is in hand; or nobody can be probed
+  -- a probe was begun, and is in hand; or no member can be probed
   abbrev BegunSo : Option Probe → OfActs H
   BegunSo (Some probe) s = (last_of begun_by s ≡ Some probe) × InHand (unasked probe.number probe.target) s
-  BegunSo None s = (front : List (Act H)) × (s ≡ front ++ did call.Probe (reply.Probe (Ok None)) ∷ [])
+  BegunSo None s = (prefix : List (Act H)) × (s ≡ prefix ++ did call.Probe (reply.Probe (Ok None)) ∷ [])
 
   begun_so : (probe : Option Probe) (s : List (Act H)) → BegunSo probe (s ++ did call.Probe (reply.Probe (Ok probe)) ∷ [])
   begun_so (Some probe) s =

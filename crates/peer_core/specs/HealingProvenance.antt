@@ -1,5 +1,5 @@
--- The provenance of the calls of healing and of a correction, each from the answers that came before it.
-use Rattle.std.specs.Prelude.{◌≡◌, ◌⊎◌, ℕ, Bool, List, [], ◌∷◌, ◌++◌, Contains, Option, Result, Ok, IfOk}
+-- The provenance of the calls of healing, each from the answers that came before it.
+use Rattle.std.specs.Prelude.{◌≡◌, ◌⊎◌, ℕ, Bool, List, [], Contains, Option, Result, Ok}
 use Rattle.change_core.specs.declared.addresses.Address.{Address}
 use Rattle.change_core.specs.declared.changes.Change.{Change}
 use Rattle.message_core.specs.declared.messages.Message.{Message}
@@ -8,13 +8,10 @@ use Rattle.node_core.specs.declared.events.Reply.TheVariants as reply
 use Rattle.node_core.specs.Calls.{OfEvent, WithReply}
 use Rattle.peer_core.specs.declared.errors.ClusterError.{ClusterError}
 use Rattle.peer_core.specs.declared.healing.Draws.{Draws}
-use Rattle.peer_core.specs.declared.rounds.Round.{Round}
 use Rattle.peer_core.specs.Acts.{Act, OfActs, did}
-use Rattle.peer_core.specs.Correcting.{IsCorrectingRound}
 use Rattle.peer_core.specs.Healing.{IsHealing}
 use Rattle.peer_core.specs.Links.{MayAnswer}
-use Rattle.peer_core.specs.Provenance.{applied, pinged}
-use Rattle.peer_core.specs.Rounds.{IsRound}
+use Rattle.peer_core.specs.Provenance.{applied, pinged, EachRests}
 
 module _ {H : Type 0} where
   -- the message came over the link, for a ping of the node or for a Join of it
@@ -40,25 +37,10 @@ module _ {H : Type 0} where
 
   -- each act rests on those before it
   abbrev pub AllHealRest : MayAnswer → ℕ → List (Act H) → OfActs H
-  AllHealRest Came now before [] = Unit {0}
-  AllHealRest Came now before (act ∷ acts) = HealRestsOn Came now before act × AllHealRest Came now (before ++ act ∷ []) acts
-
-  -- A round, and behind it calls of a correction, each of which rests on those before it; if all succeeds it ended as the round did.
-  pub record IsCorrected (Came : MayAnswer) (now : ℕ) (r : Result Round ClusterError) (acts : List (Act H)) : Type 0 where
-    pub round : Result Round ClusterError
-    pub first : List (Act H)
-    pub rest : List (Act H)
-    pub all : acts ≡ first ++ rest
-    pub made : IsRound Came now round first
-    pub rests : AllHealRest Came now first rest
-    pub same : IfOk r (λ end. round ≡ Ok end)
+  AllHealRest Came now before acts = EachRests (HealRestsOn Came now) before acts
 
 -- each call of healing has its provenance in those before it, also if healing fails
 abbrev pub HealsRest : Type 0 → MayAnswer → Type 0
 HealsRest H Came =
     (now : ℕ) (hosts : List Address) (draws : Option Draws) (r : Result Bool ClusterError) (acts : List (Act H))
     → IsHealing Came now hosts draws r acts → AllHealRest Came now [] acts
-
--- a round that corrects its target is a round, and behind it are calls of the correction alone
-abbrev pub CorrectionsRest : Type 0 → MayAnswer → Type 0
-CorrectionsRest H Came = (now : ℕ) (r : Result Round ClusterError) (acts : List (Act H)) → IsCorrectingRound Came now r acts → IsCorrected Came now r acts

@@ -13,6 +13,7 @@ pub mod Serving
 pub mod Forwarding
 pub mod Provenance
 pub mod HealingProvenance
+pub mod CorrectionProvenance
 pub mod Requests
 pub mod MemberErrors
 pub mod Members

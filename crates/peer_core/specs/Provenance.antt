@@ -116,9 +116,9 @@ module _ {H : Type 0} where
   -- directly before, an Ack of the target was processed, which came from it for a ping
   abbrev pub IsReached : MayAnswer → ℕ → Address → OfActs H
   IsReached Came now a before =
-      (q ack : Message) × (r : Received) × (front : List (Act H))
-      × (before ≡ front ++ did (call.Receive ack now) (reply.Receive r) ∷ [])
-      × Contains front (pinged a q)
+      (q ack : Message) × (r : Received) × (prefix : List (Act H))
+      × (before ≡ prefix ++ did (call.Receive ack now) (reply.Receive r) ∷ [])
+      × Contains prefix (pinged a q)
       × Came a q (Ok ack)
       × IsAckOf a ack
 
@@ -157,10 +157,14 @@ module _ {H : Type 0} where
   -- a round makes no other call
   RestsOn Came now before other = ⊥
 
-  -- each act rests on those before it
+  -- each act rests so on those before it
+  abbrev pub EachRests : (List (Act H) → Act H → Type 0) → List (Act H) → OfActs H
+  EachRests On before [] = Unit {0}
+  EachRests On before (act ∷ acts) = On before act × EachRests On (before ++ act ∷ []) acts
+
+  -- each act of a round rests on those before it
   abbrev pub AllRest : MayAnswer → ℕ → List (Act H) → OfActs H
-  AllRest Came now before [] = Unit {0}
-  AllRest Came now before (act ∷ acts) = RestsOn Came now before act × AllRest Came now (before ++ act ∷ []) acts
+  AllRest Came now before acts = EachRests (RestsOn Came now) before acts
 
   -- a call ended the probe of this number, about this target, in that way
   abbrev pub EndedBy : ℕ → ℕ → Address → Round → Act H → Type 0
@@ -176,19 +180,19 @@ module _ {H : Type 0} where
   -- How a round ended: its last call returned that no member can be probed; or it ended the probe that was started last, in that way.
   abbrev pub Ended : ℕ → Round → OfActs H
   Ended now round acts =
-      ((round ≡ Idle) × (front : List (Act H)) × (acts ≡ front ++ did call.Probe (reply.Probe (Ok None)) ∷ []))
-      ⊎ ((k : ℕ) × (a : Address) × (front : List (Act H)) × (act : Act H) × (acts ≡ front ++ act ∷ [])
-      × (last_of begun_by front ≡ Some (record { number = k; target = a }))
+      ((round ≡ Idle) × (prefix : List (Act H)) × (acts ≡ prefix ++ did call.Probe (reply.Probe (Ok None)) ∷ []))
+      ⊎ ((k : ℕ) × (a : Address) × (prefix : List (Act H)) × (act : Act H) × (acts ≡ prefix ++ act ∷ [])
+      × (last_of begun_by prefix ≡ Some (record { number = k; target = a }))
       × EndedBy now k a round act)
 
   -- the last call of the node has this error
   abbrev pub LastRefused : NodeError → OfActs H
-  LastRefused n acts = (event : Event) × (r : Reply) × (front : List (Act H)) × (acts ≡ front ++ did event r ∷ []) × (refusal_in r ≡ Some n)
+  LastRefused n acts = (event : Event) × (r : Reply) × (prefix : List (Act H)) × (acts ≡ prefix ++ did event r ∷ []) × (refusal_in r ≡ Some n)
 
   -- the last call made a message for this address, and the link ran out of memory for it
   abbrev pub LastStarved : MayAnswer → OfActs H
   LastStarved Came acts =
-      (a : Address) × (q : Message) × (act : Act H) × (front : List (Act H)) × (acts ≡ front ++ act ∷ [])
+      (a : Address) × (q : Message) × (act : Act H) × (prefix : List (Act H)) × (acts ≡ prefix ++ act ∷ [])
       × ((act ≡ pinged a q) ⊎ ((target : Address) × (act ≡ asked a target q)))
       × Came a q (Err fault.Memory)
 
@@ -227,7 +231,7 @@ module _ {H : Type 0} where
   -- the last call made a message for one of the hosts, and the link ran out of memory for it
   abbrev pub LastHostStarved : MayAnswer → List Address → OfActs H
   LastHostStarved Came hosts acts =
-      (h : Address) × (q : Message) × (front : List (Act H)) × (acts ≡ front ++ applied q ∷ []) × Contains hosts h × Came h q (Err fault.Memory)
+      (h : Address) × (q : Message) × (prefix : List (Act H)) × (acts ≡ prefix ++ applied q ∷ []) × Contains hosts h × Came h q (Err fault.Memory)
 
   -- the error of a join: none joined, the lock refused it, or out of memory: in the node's last reply, or in the link
   abbrev pub IsWhyNot : MayAnswer → ℕ → List Address → ClusterError → OfActs H
@@ -250,9 +254,9 @@ module _ {H : Type 0} where
   -- the answer is the node's last reply, which reports to the requester what was found of the target before
   abbrev pub IsReport : MayAnswer → Address → ℕ → Address → Message → OfActs H
   IsReport Came requester now target answer acts =
-      (reached : Bool) × (front : List (Act H))
-      × (acts ≡ front ++ did (call.PingReqAckTo requester target reached) (reply.PingReqAckTo (Ok answer)) ∷ [])
-      × IsFound Came now target reached front
+      (reached : Bool) × (prefix : List (Act H))
+      × (acts ≡ prefix ++ did (call.PingReqAckTo requester target reached) (reply.PingReqAckTo (Ok answer)) ∷ [])
+      × IsFound Came now target reached prefix
 
   -- a view of the node decides this answer to a request; or out of memory for a view
   abbrev pub IsDecidedSo : (H → List ℕ → ℕ) → MayHandle → List (List ℕ) → List ℕ → Content → OfActs H

@@ -45,7 +45,7 @@ module _ {H : Type 0} (hash_of : H → List ℕ → ℕ) (Came : MayAnswer) (Han
     -- in a view of the node two keys have different owners
     diverged : {acts : List (Act H)} (view : Viewed H) → Contains acts (looked (Ok view)) → HaveDiverged hash_of view keys → IsUnanswered error.Diverged acts
     -- in a view of the node no member serves
-    nobody : {acts : List (Act H)} (view : Viewed H) → Contains acts (looked (Ok view)) → view.servers ≡ [] → IsUnanswered error.Nobody acts
+    no_owner : {acts : List (Act H)} (view : Viewed H) → Contains acts (looked (Ok view)) → view.servers ≡ [] → IsUnanswered error.Nobody acts
     -- an answer that is a failure came from the owner
     no_reply : {acts : List (Act H)} (answer : Result Message LinkError) → IsFailure answer → IsOfOwner answer acts → IsUnanswered error.RetriesSpent acts
     -- the handler failed

@@ -5,6 +5,7 @@ ghost use Rattle.peer_core.specs.Correcting.{CorrectsAfter, HearsAndCorrects, Is
 ghost use Rattle.peer_core.specs.Errors.{IsRoundRefusal};
 ghost use Rattle.peer_core.specs.Parts.{Does};
 
+use crate::asking::Peers;
 use crate::errors::ClusterError;
 use crate::gossiping::{expire_all, start_probe};
 use crate::hearing::Heard;
@@ -21,11 +22,9 @@ use std::sync::Wait;
 
 /// Corrects the target of a round that has ended, and returns how the round ended.
 fn correct_after<R: Wait, H: PointHash, L: Link>(
-    rt: &R,
-    alloc: Global,
     node: &LockedNode<H>,
     pass: &mut NodePass<H>,
-    link: &mut L,
+    peers: &mut Peers<'_, R, L>,
     now: Moment,
     target: Address,
     heard: &Heard,
@@ -36,17 +35,15 @@ fn correct_after<R: Wait, H: PointHash, L: Link>(
     ensures fits { Fits node.now pass.new }
     ensures named { IfErr result IsRoundRefusal }
 {
-    correct(rt, alloc, node, pass, link, now, target, heard)?;
+    correct(node, pass, peers, now, target, heard)?;
     Ok(round)
 }
 
 /// Completes a probe by what was heard of its target, and corrects the target.
 fn hear_and_correct<R: Wait, H: PointHash, L: Link>(
-    rt: &R,
-    alloc: Global,
     node: &LockedNode<H>,
     pass: &mut NodePass<H>,
-    link: &mut L,
+    peers: &mut Peers<'_, R, L>,
     now: Moment,
     probe: &Probe,
     heard: &Heard,
@@ -56,17 +53,15 @@ fn hear_and_correct<R: Wait, H: PointHash, L: Link>(
     ensures fits { Fits node.now pass.new }
     ensures named { IfErr result IsRoundRefusal }
 {
-    let round = hear_target(rt, alloc, node, pass, link, now, probe, heard)?;
-    correct_after(rt, alloc, node, pass, link, now, probe.target, heard, round)
+    let round = hear_target(node, pass, peers, now, probe, heard)?;
+    correct_after(node, pass, peers, now, probe.target, heard, round)
 }
 
 /// Pings the target of a running probe, completes the probe, and corrects the target.
 fn probe_and_correct<R: Wait, H: PointHash, L: Link>(
-    rt: &R,
-    alloc: Global,
     node: &LockedNode<H>,
     pass: &mut NodePass<H>,
-    link: &mut L,
+    peers: &mut Peers<'_, R, L>,
     now: Moment,
     probe: &Probe,
 ) -> Result<Round, ClusterError>
@@ -75,8 +70,8 @@ fn probe_and_correct<R: Wait, H: PointHash, L: Link>(
     ensures fits { Fits node.now pass.new }
     ensures named { IfErr result IsRoundRefusal }
 {
-    let heard = ping_target(rt, alloc, node, pass, link, probe.target)?;
-    hear_and_correct(rt, alloc, node, pass, link, now, probe, &heard)
+    let heard = ping_target(node, pass, peers, probe.target)?;
+    hear_and_correct(node, pass, peers, now, probe, &heard)
 }
 
 /// Makes one round of gossip at a moment, as [`gossip_round`](crate::gossip_round) does, and corrects its target: if the
@@ -108,10 +103,11 @@ pub fn correcting_round<R: Wait, H: PointHash, L: Link>(
     ensures fits { Fits node.now pass.new }
     ensures named { IfErr result IsRoundRefusal }
 {
+    let mut peers = Peers::new(rt, alloc, link);
     expire_all(rt, node, pass, now)?;
-    let probe = start_probe(rt, alloc, node, pass, link, now)?;
+    let probe = start_probe(node, pass, &mut peers, now)?;
     match probe {
         None => Ok(Round::Idle),
-        Some(probe) => probe_and_correct(rt, alloc, node, pass, link, now, &probe),
+        Some(probe) => probe_and_correct(node, pass, &mut peers, now, &probe),
     }
 }

@@ -70,7 +70,7 @@ fn handle<R: Wait, A: Handler>(
     keys: &Keys,
     body: &Text,
 ) -> Result<Text, ClusterError>
-    ensures handled { IsHandled A.may_handle keys.now body.now result }
+    ensures handled { IsHandled (A.may_handle handler.now) keys.now body.now result }
     ensures named { IfErr result IsRequestRefusal }
 {
     let answer = handler.handle(rt, alloc, keys, body);
@@ -156,7 +156,7 @@ fn try_once<R: Wait, H: PointHash, L: Link, A: Handler, C: Clock>(
 ) -> Result<Tried, ClusterError>
     requires fits { Fits node.now pass.old }
     requires open { IsOpen request.attempt.stage }
-    ensures did { Does node.now (TriesOnce H.hash_of L.may_answer A.may_handle C.time request) result pass.old pass.new }
+    ensures did { Does node.now (TriesOnce H.hash_of L.may_answer (A.may_handle handler.now) C.time request) result pass.old pass.new }
     ensures fits { Fits node.now pass.new }
     ensures open { IfOk result StaysOpen }
     ensures named { IfErr result IsRequestRefusal }
@@ -208,7 +208,7 @@ pub fn handle_or_forward<R: Wait, H: PointHash, L: Link, A: Handler, C: Clock>(
     body: Text,
 ) -> Result<Text, ClusterError>
     requires { Fits node.now pass.old }
-    ensures request { Does node.now (IsRequest H.hash_of L.may_answer A.may_handle C.time keys body) result pass.old pass.new }
+    ensures request { Does node.now (IsRequest H.hash_of L.may_answer (A.may_handle handler.now) C.time keys body) result pass.old pass.new }
     ensures fits { Fits node.now pass.new }
     ensures named { IfErr result IsRequestRefusal }
 {

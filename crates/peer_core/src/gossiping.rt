@@ -5,6 +5,7 @@ ghost use Rattle.peer_core.specs.Errors.{IsRoundRefusal};
 ghost use Rattle.peer_core.specs.Parts.{Does};
 ghost use Rattle.peer_core.specs.Rounds.{Begins, BeginsAgain, Expires, FailsFrom, FailsOne, Finishes, IsRound, waited_for};
 
+use crate::asking::Peers;
 use crate::errors::ClusterError;
 use crate::links::Link;
 use crate::probing::run_probe;
@@ -108,11 +109,9 @@ fn fail_waiting<R: Wait, H: PointHash>(
 /// Completes the probe that was found running: if no helper was asked its target is pinged again, else the helpers that
 /// have not answered have failed.
 fn finish_stale_probe<R: Wait, H: PointHash, L: Link>(
-    rt: &R,
-    alloc: Global,
     node: &LockedNode<H>,
     pass: &mut NodePass<H>,
-    link: &mut L,
+    peers: &mut Peers<'_, R, L>,
     now: Moment,
     running: Option<Running>,
 ) -> Result<(), ClusterError>
@@ -125,23 +124,21 @@ fn finish_stale_probe<R: Wait, H: PointHash, L: Link>(
         return Ok(());
     };
     if let Some(helper) = running.waiting {
-        return fail_waiting(rt, node, pass, now, running.number, helper);
+        return fail_waiting(peers.rt, node, pass, now, running.number, helper);
     }
     let probe = Probe {
         number: running.number,
         target: running.target,
     };
-    let _round = run_probe(rt, alloc, node, pass, link, now, &probe)?;
+    let _round = run_probe(node, pass, peers, now, &probe)?;
     Ok(())
 }
 
 /// Completes the probe that runs, and starts another.
 fn restart_probe<R: Wait, H: PointHash, L: Link>(
-    rt: &R,
-    alloc: Global,
     node: &LockedNode<H>,
     pass: &mut NodePass<H>,
-    link: &mut L,
+    peers: &mut Peers<'_, R, L>,
     now: Moment,
 ) -> Result<Option<Probe>, ClusterError>
     requires { Fits node.now pass.old }
@@ -149,18 +146,16 @@ fn restart_probe<R: Wait, H: PointHash, L: Link>(
     ensures fits { Fits node.now pass.new }
     ensures named { IfErr result IsRoundRefusal }
 {
-    let running = find_running(rt, node, pass)?;
-    finish_stale_probe(rt, alloc, node, pass, link, now, running)?;
-    begin_probe(rt, node, pass)
+    let running = find_running(peers.rt, node, pass)?;
+    finish_stale_probe(node, pass, peers, now, running)?;
+    begin_probe(peers.rt, node, pass)
 }
 
 /// Starts a probe. One that runs is completed first.
 pub(crate) fn start_probe<R: Wait, H: PointHash, L: Link>(
-    rt: &R,
-    alloc: Global,
     node: &LockedNode<H>,
     pass: &mut NodePass<H>,
-    link: &mut L,
+    peers: &mut Peers<'_, R, L>,
     now: Moment,
 ) -> Result<Option<Probe>, ClusterError>
     requires { Fits node.now pass.old }
@@ -168,10 +163,10 @@ pub(crate) fn start_probe<R: Wait, H: PointHash, L: Link>(
     ensures fits { Fits node.now pass.new }
     ensures named { IfErr result IsRoundRefusal }
 {
-    let first = ask_for_probe(rt, node, pass)?;
+    let first = ask_for_probe(peers.rt, node, pass)?;
     match first {
         Ok(probe) => Ok(probe),
-        Err(NodeError::Busy) => restart_probe(rt, alloc, node, pass, link, now),
+        Err(NodeError::Busy) => restart_probe(node, pass, peers, now),
         Err(refused) => Err(ClusterError::from(refused)),
     }
 }
@@ -203,10 +198,11 @@ pub fn gossip_round<R: Wait, H: PointHash, L: Link>(
     ensures fits { Fits node.now pass.new }
     ensures named { IfErr result IsRoundRefusal }
 {
+    let mut peers = Peers::new(rt, alloc, link);
     expire_all(rt, node, pass, now)?;
-    let probe = start_probe(rt, alloc, node, pass, link, now)?;
+    let probe = start_probe(node, pass, &mut peers, now)?;
     match probe {
         None => Ok(Round::Idle),
-        Some(probe) => run_probe(rt, alloc, node, pass, link, now, &probe),
+        Some(probe) => run_probe(node, pass, &mut peers, now, &probe),
     }
 }

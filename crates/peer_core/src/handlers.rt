@@ -12,8 +12,9 @@ use std::sync::Wait;
 pub trait Handler {
     ghost use Rattle.peer_core.specs.Handling.{MayHandle};
 
-    /// The results that a request may have, errors included; code over any handler can show one only by calling.
-    ghost may_handle: { MayHandle };
+    /// The results that a request may have of a handler of this value, errors included; code over any handler can show one
+    /// only by calling.
+    ghost may_handle: { Self → MayHandle };
 
     /// Answers a request of these keys, 1 to 256, with this body. One request may come several times, here or at
     /// another node: the caller tries again if the answer was lost on its way. Here nothing is tried again: this result
@@ -30,5 +31,5 @@ pub trait Handler {
         keys: &Keys,
         body: &Text,
     ) -> Result<Text, HandlerFault>
-        ensures handled { may_handle keys.now body.now result };
+        ensures handled { may_handle self.now keys.now body.now result };
 }

@@ -7,6 +7,7 @@ ghost use Rattle.peer_core.specs.Errors.{IsHealRefusal};
 ghost use Rattle.peer_core.specs.Healing.{CarriesOut, Chooses, IsHealing, IsMeeting, JoinsChosen, MeetsChosen, after_round, can_meet, choice_of, chosen_host, chosen_member, heals_first, holds_serving, met_at};
 ghost use Rattle.peer_core.specs.Parts.{Calls, Does, Tries};
 
+use crate::asking::Peers;
 use crate::errors::ClusterError;
 use crate::joining::join_host;
 use crate::links::Link;
@@ -179,11 +180,9 @@ fn choose<R: Wait, H: PointHash>(
 
 /// Meets the member, if there is one.
 fn meet_chosen<R: Wait, H: PointHash, L: Link>(
-    rt: &R,
-    alloc: Global,
     node: &LockedNode<H>,
     pass: &mut NodePass<H>,
-    link: &mut L,
+    peers: &mut Peers<'_, R, L>,
     now: Moment,
     member: Option<Address>,
 ) -> Result<bool, ClusterError>
@@ -192,18 +191,16 @@ fn meet_chosen<R: Wait, H: PointHash, L: Link>(
     ensures fits { Fits node.now pass.new }
 {
     match member {
-        Some(member) => meet(rt, alloc, node, pass, link, now, member),
+        Some(member) => meet(node, pass, peers, now, member),
         None => Ok(false),
     }
 }
 
 /// Joins the host, if there is one.
 fn join_chosen<R: Wait, H: PointHash, L: Link>(
-    rt: &R,
-    alloc: Global,
     node: &LockedNode<H>,
     pass: &mut NodePass<H>,
-    link: &mut L,
+    peers: &mut Peers<'_, R, L>,
     now: Moment,
     host: Option<Address>,
 ) -> Result<bool, ClusterError>
@@ -212,18 +209,16 @@ fn join_chosen<R: Wait, H: PointHash, L: Link>(
     ensures fits { Fits node.now pass.new }
 {
     match host {
-        Some(host) => join_host(rt, alloc, node, pass, link, now, host),
+        Some(host) => join_host(node, pass, peers, now, host),
         None => Ok(false),
     }
 }
 
 /// Meets the member and joins the host of a choice.
 fn carry_out<R: Wait, H: PointHash, L: Link>(
-    rt: &R,
-    alloc: Global,
     node: &LockedNode<H>,
     pass: &mut NodePass<H>,
-    link: &mut L,
+    peers: &mut Peers<'_, R, L>,
     now: Moment,
     choice: &Choice,
 ) -> Result<bool, ClusterError>
@@ -231,17 +226,15 @@ fn carry_out<R: Wait, H: PointHash, L: Link>(
     ensures did { Does node.now (CarriesOut L.may_answer now choice.now) result pass.old pass.new }
     ensures fits { Fits node.now pass.new }
 {
-    meet_chosen(rt, alloc, node, pass, link, now, choice.member)?;
-    join_chosen(rt, alloc, node, pass, link, now, choice.host)
+    meet_chosen(node, pass, peers, now, choice.member)?;
+    join_chosen(node, pass, peers, now, choice.host)
 }
 
 /// Holds a meeting by its numbers.
 fn meet_by<R: Wait, H: PointHash, L: Link>(
-    rt: &R,
-    alloc: Global,
     node: &LockedNode<H>,
     pass: &mut NodePass<H>,
-    link: &mut L,
+    peers: &mut Peers<'_, R, L>,
     now: Moment,
     hosts: &[Address],
     draws: Draws,
@@ -251,17 +244,15 @@ fn meet_by<R: Wait, H: PointHash, L: Link>(
     ensures fits { Fits node.now pass.new }
     ensures named { IfErr result IsHealRefusal }
 {
-    let choice = choose(rt, node, pass, hosts, draws)?;
-    carry_out(rt, alloc, node, pass, link, now, &choice)
+    let choice = choose(peers.rt, node, pass, hosts, draws)?;
+    carry_out(node, pass, peers, now, &choice)
 }
 
 /// Heals after a round: holds a meeting if it has numbers for one.
 fn heal_by<R: Wait, H: PointHash, L: Link>(
-    rt: &R,
-    alloc: Global,
     node: &LockedNode<H>,
     pass: &mut NodePass<H>,
-    link: &mut L,
+    peers: &mut Peers<'_, R, L>,
     now: Moment,
     hosts: &[Address],
     draws: Option<Draws>,
@@ -272,7 +263,7 @@ fn heal_by<R: Wait, H: PointHash, L: Link>(
     ensures named { IfErr result IsHealRefusal }
 {
     match draws {
-        Some(draws) => meet_by(rt, alloc, node, pass, link, now, hosts, draws),
+        Some(draws) => meet_by(node, pass, peers, now, hosts, draws),
         None => Ok(false),
     }
 }
@@ -308,7 +299,8 @@ pub fn heal<R: Wait, H: PointHash, L: Link>(
     ensures fits { Fits node.now pass.new }
     ensures named { IfErr result IsHealRefusal }
 {
+    let mut peers = Peers::new(rt, alloc, link);
     let hosts = healing.hosts;
     let draws = healing.after_round();
-    heal_by(rt, alloc, node, pass, link, now, hosts, draws)
+    heal_by(node, pass, &mut peers, now, hosts, draws)
 }

@@ -7,7 +7,7 @@ ghost use Rattle.peer_core.specs.Errors.{IsJoinRefusal};
 ghost use Rattle.peer_core.specs.Joining.{HearsHost, IsJoin, JoinsHost, JoinsHosts};
 ghost use Rattle.peer_core.specs.Parts.{Asks, Does};
 
-use crate::asking::send_join;
+use crate::asking::{Peers, send_join};
 use crate::errors::ClusterError;
 use crate::hearing::Heard;
 use crate::links::Link;
@@ -20,11 +20,9 @@ use std::sync::Wait;
 
 /// Sends a Join to a host, as a step of a join.
 fn ask_to_join<R: Wait, H: PointHash, L: Link>(
-    rt: &R,
-    alloc: Global,
     node: &LockedNode<H>,
     pass: &mut NodePass<H>,
-    link: &mut L,
+    peers: &mut Peers<'_, R, L>,
     host: Address,
 ) -> Result<Heard, ClusterError>
     requires { Fits node.now pass.old }
@@ -32,7 +30,7 @@ fn ask_to_join<R: Wait, H: PointHash, L: Link>(
     ensures fits { Fits node.now pass.new }
     ensures named { IfErr result IsJoinRefusal }
 {
-    let heard = send_join(rt, alloc, node, pass, link, host);
+    let heard = send_join(node, pass, peers, host);
     let_in(heard)
 }
 
@@ -61,11 +59,9 @@ pub(crate) fn take_joined<R: Wait, H: PointHash>(
 
 /// Sends a Join to one host and takes its Joined. Whether there was one.
 pub(crate) fn join_host<R: Wait, H: PointHash, L: Link>(
-    rt: &R,
-    alloc: Global,
     node: &LockedNode<H>,
     pass: &mut NodePass<H>,
-    link: &mut L,
+    peers: &mut Peers<'_, R, L>,
     now: Moment,
     host: Address,
 ) -> Result<bool, ClusterError>
@@ -74,8 +70,8 @@ pub(crate) fn join_host<R: Wait, H: PointHash, L: Link>(
     ensures fits { Fits node.now pass.new }
     ensures named { IfErr result IsJoinRefusal }
 {
-    let heard = ask_to_join(rt, alloc, node, pass, link, host)?;
-    take_joined(rt, node, pass, now, &heard)
+    let heard = ask_to_join(node, pass, peers, host)?;
+    take_joined(peers.rt, node, pass, now, &heard)
 }
 
 fn counted(count: u32, joined: bool) -> u32
@@ -87,11 +83,9 @@ fn counted(count: u32, joined: bool) -> u32
 
 /// Sends a Join to each host in turn. How many answered by a Joined.
 fn join_all<R: Wait, H: PointHash, L: Link>(
-    rt: &R,
-    alloc: Global,
     node: &LockedNode<H>,
     pass: &mut NodePass<H>,
-    link: &mut L,
+    peers: &mut Peers<'_, R, L>,
     now: Moment,
     hosts: &[Address],
 ) -> Result<u32, ClusterError>
@@ -103,7 +97,7 @@ fn join_all<R: Wait, H: PointHash, L: Link>(
 {
     let mut count = 0u32;
     for host in hosts {
-        let joined = join_host(rt, alloc, node, pass, link, now, *host)?;
+        let joined = join_host(node, pass, peers, now, *host)?;
         count = counted(count, joined);
     }
     Ok(count)
@@ -135,7 +129,8 @@ pub fn join<R: Wait, H: PointHash, L: Link>(
     ensures fits { Fits node.now pass.new }
     ensures named { IfErr result IsJoinRefusal }
 {
-    let count = join_all(rt, alloc, node, pass, link, now, hosts)?;
+    let mut peers = Peers::new(rt, alloc, link);
+    let count = join_all(node, pass, &mut peers, now, hosts)?;
     if count == 0 {
         return Err(ClusterError::NoneJoined);
     }

@@ -1,5 +1,6 @@
 //! Theorems about the definitions, each the contract of a function that does nothing.
-ghost use Rattle.peer_core.specs.HealingProvenance.{CorrectionsRest, HealsRest};
+ghost use Rattle.peer_core.specs.CorrectionProvenance.{CorrectionsRest};
+ghost use Rattle.peer_core.specs.HealingProvenance.{HealsRest};
 ghost use Rattle.peer_core.specs.MemberErrors.{AnswersAgree};
 ghost use Rattle.peer_core.specs.Provenance.{JoinsRest, RoundsRest, ServingsRest};
 ghost use Rattle.peer_core.specs.Requests.{RequestsRest};
@@ -34,9 +35,11 @@ pub fn healings<H, L: Link>()
     ensures { HealsRest H L.may_answer }
 {}
 
-/// A round that corrects its target is a round, of which [`rounds`] holds, and behind it calls of the correction alone:
-/// all that the correction processes came over the link for a Join of the node. If it succeeds it returns how the round
-/// ended.
+/// A round that corrects its target is a round, of which [`rounds`] holds, and behind it, unless it failed or probed
+/// no member, calls of the correction alone: the own entry is asked for, and a Join is the node's own. All that the correction
+/// processes is the Joined that came over the link from the target for that Join. If both succeed the result is how the
+/// round ended: so also if the target got a Join and another answer came, or none. An error is that of the round, or has its
+/// cause in the correction: the lock refused it, or out of memory, in the node's last reply or in the link for the Join.
 pub fn corrections<H, L: Link>()
     ensures { CorrectionsRest H L.may_answer }
 {}
@@ -48,7 +51,7 @@ pub fn corrections<H, L: Link>()
 /// if the node owns all keys, that another node does, that two keys have different owners or that no member serves; or
 /// out of memory for a view. Any other message is refused as unexpected.
 pub fn servings<H: PointHash, L: Link, A: Handler>()
-    ensures { ServingsRest H.hash_of L.may_answer A.may_handle }
+    ensures { (handler : A) → ServingsRest H.hash_of L.may_answer (A.may_handle handler) }
 {}
 
 /// The text of a request is the handler's, if a view of the node shows that the node owns all its keys; or it is that
@@ -57,7 +60,7 @@ pub fn servings<H: PointHash, L: Link, A: Handler>()
 /// different owners, or no member serves; an answer that is a failure came from the owner; the handler failed; or out
 /// of memory for a view, in the handler or in the link.
 pub fn requests<H: PointHash, L: Link, A: Handler, C: Clock>()
-    ensures { RequestsRest H.hash_of L.may_answer A.may_handle C.time }
+    ensures { (handler : A) → RequestsRest H.hash_of L.may_answer (A.may_handle handler) C.time }
 {}
 
 /// The result of a member's single call of its node, with its error converted, is that of the locked node, with its

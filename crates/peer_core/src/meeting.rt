@@ -2,21 +2,20 @@
 ghost use Rattle.std.specs.Prelude.{◌≡◌, ◌==◌, ◌&&◌, not};
 ghost use Rattle.std.specs.List.{list_any};
 ghost use Rattle.locked_node.specs.Passes.{Fits};
-ghost use Rattle.peer_core.specs.Asking.{Pinged};
 ghost use Rattle.peer_core.specs.Meeting.{Corrects, CorrectsIf, Meets, TakesAndCorrects, differs_from, is_misnamed, misnames};
-ghost use Rattle.peer_core.specs.Parts.{Asks, Does};
+ghost use Rattle.peer_core.specs.Parts.{Does};
 
-use crate::asking::ping;
+use crate::asking::Peers;
 use crate::errors::ClusterError;
 use crate::hearing::Heard;
 use crate::joining::{join_host, take_joined};
 use crate::links::Link;
-use crate::steps::{find_own, let_in};
+use crate::probing::ping_target;
+use crate::steps::find_own;
 use change_core::{Address, Change, Moment, Sourced};
 use hash_ring::PointHash;
 use locked_node::{LockedNode, NodePass};
 use message_core::Content;
-use std::alloc::Global;
 use std::sync::Wait;
 
 /// Returns whether a change gives the node of this entry another incarnation or status.
@@ -56,30 +55,11 @@ fn is_misnamed(own: &Change, heard: &Heard) -> bool
     }
 }
 
-/// Pings a member, as a step of a meeting.
-fn ping_target<R: Wait, H: PointHash, L: Link>(
-    rt: &R,
-    alloc: Global,
-    node: &LockedNode<H>,
-    pass: &mut NodePass<H>,
-    link: &mut L,
-    member: Address,
-) -> Result<Heard, ClusterError>
-    requires { Fits node.now pass.old }
-    ensures did { Does node.now (Asks (Pinged L.may_answer member)) result pass.old pass.new }
-    ensures fits { Fits node.now pass.new }
-{
-    let heard = ping(rt, alloc, node, pass, link, member);
-    let_in(heard)
-}
-
 /// Sends a member a Join if its Ack had another incarnation or status of the node.
 fn correct_if<R: Wait, H: PointHash, L: Link>(
-    rt: &R,
-    alloc: Global,
     node: &LockedNode<H>,
     pass: &mut NodePass<H>,
-    link: &mut L,
+    peers: &mut Peers<'_, R, L>,
     now: Moment,
     member: Address,
     is_misnamed: bool,
@@ -89,7 +69,7 @@ fn correct_if<R: Wait, H: PointHash, L: Link>(
     ensures fits { Fits node.now pass.new }
 {
     if is_misnamed {
-        join_host(rt, alloc, node, pass, link, now, member)
+        join_host(node, pass, peers, now, member)
     } else {
         Ok(false)
     }
@@ -97,11 +77,9 @@ fn correct_if<R: Wait, H: PointHash, L: Link>(
 
 /// Sends a member a Join if its answer has another incarnation or status of the node than the node's own entry.
 pub(crate) fn correct<R: Wait, H: PointHash, L: Link>(
-    rt: &R,
-    alloc: Global,
     node: &LockedNode<H>,
     pass: &mut NodePass<H>,
-    link: &mut L,
+    peers: &mut Peers<'_, R, L>,
     now: Moment,
     member: Address,
     heard: &Heard,
@@ -110,26 +88,15 @@ pub(crate) fn correct<R: Wait, H: PointHash, L: Link>(
     ensures did { Does node.now (Corrects L.may_answer now member heard.now) result pass.old pass.new }
     ensures fits { Fits node.now pass.new }
 {
-    let own = find_own(rt, node, pass)?;
-    correct_if(
-        rt,
-        alloc,
-        node,
-        pass,
-        link,
-        now,
-        member,
-        is_misnamed(&own, heard),
-    )
+    let own = find_own(peers.rt, node, pass)?;
+    correct_if(node, pass, peers, now, member, is_misnamed(&own, heard))
 }
 
 /// Processes the answer of a member, and corrects the member.
 fn take_and_correct<R: Wait, H: PointHash, L: Link>(
-    rt: &R,
-    alloc: Global,
     node: &LockedNode<H>,
     pass: &mut NodePass<H>,
-    link: &mut L,
+    peers: &mut Peers<'_, R, L>,
     now: Moment,
     member: Address,
     heard: &Heard,
@@ -138,19 +105,17 @@ fn take_and_correct<R: Wait, H: PointHash, L: Link>(
     ensures did { Does node.now (TakesAndCorrects L.may_answer now member heard.now) result pass.old pass.new }
     ensures fits { Fits node.now pass.new }
 {
-    take_joined(rt, node, pass, now, heard)?;
-    correct(rt, alloc, node, pass, link, now, member, heard)
+    take_joined(peers.rt, node, pass, now, heard)?;
+    correct(node, pass, peers, now, member, heard)
 }
 
 /// Pings a member, whatever its status, and processes its Ack. If that has another incarnation or status of the node than
 /// its own entry, the member gets a Join, and its Joined is processed. No probe starts or ends. Returns whether the member
 /// answered by a Joined.
 pub(crate) fn meet<R: Wait, H: PointHash, L: Link>(
-    rt: &R,
-    alloc: Global,
     node: &LockedNode<H>,
     pass: &mut NodePass<H>,
-    link: &mut L,
+    peers: &mut Peers<'_, R, L>,
     now: Moment,
     member: Address,
 ) -> Result<bool, ClusterError>
@@ -158,6 +123,6 @@ pub(crate) fn meet<R: Wait, H: PointHash, L: Link>(
     ensures did { Does node.now (Meets L.may_answer now member) result pass.old pass.new }
     ensures fits { Fits node.now pass.new }
 {
-    let heard = ping_target(rt, alloc, node, pass, link, member)?;
-    take_and_correct(rt, alloc, node, pass, link, now, member, &heard)
+    let heard = ping_target(node, pass, peers, member)?;
+    take_and_correct(node, pass, peers, now, member, &heard)
 }

@@ -185,7 +185,7 @@ impl<'m, H: PointHash, L: Link> Member<'m, H, L> {
         now: Moment,
         message: &Message,
     ) -> Result<Message, LockError>
-        ensures { Done (Serves H.hash_of L.may_answer A.may_handle message.now now message.now.content) (let_in result) self.old self.new }
+        ensures { Done (Serves H.hash_of L.may_answer (A.may_handle handler.now) message.now now message.now.content) (let_in result) self.old self.new }
     {
         serve_one(
             rt, self.alloc, self.node, self.pass, self.link, handler, now, message,
@@ -224,7 +224,7 @@ impl<'m, H: PointHash, L: Link> Member<'m, H, L> {
         keys: Keys,
         body: Text,
     ) -> Result<Text, RequestError>
-        ensures { Done (IsRequest H.hash_of L.may_answer A.may_handle C.time keys body) (widened error_of_request result) self.old self.new }
+        ensures { Done (IsRequest H.hash_of L.may_answer (A.may_handle handler.now) C.time keys body) (widened error_of_request result) self.old self.new }
     {
         let alloc = self.alloc;
         let answer = handle_or_forward(

@@ -7,7 +7,7 @@ ghost use Rattle.peer_core.specs.Errors.{IsRoundRefusal};
 ghost use Rattle.peer_core.specs.Parts.{Asks, Does};
 ghost use Rattle.peer_core.specs.Rounds.{Acknowledges, AsksHelper, AsksHelpers, GivesUp, HearsHelper, HearsTarget, LosesOnce, Probes, end_by, said_by};
 
-use crate::asking::{ping, send_ping_req};
+use crate::asking::{Peers, ping, send_ping_req};
 use crate::errors::ClusterError;
 use crate::hearing::{Heard, word_on_target};
 use crate::links::Link;
@@ -19,7 +19,6 @@ use hash_ring::PointHash;
 use locked_node::{LockedNode, NodePass};
 use message_core::Message;
 use node_core::{NodeLost, NodeOutcome};
-use std::alloc::Global;
 use std::sync::Wait;
 
 /// Returns the report for a helper that answered this about a target.
@@ -45,13 +44,11 @@ fn end_by(target: Address, outcome: NodeOutcome) -> Option<Round>
     }
 }
 
-/// Pings a target, as a step of a round.
+/// Pings a target, as a step of a round or of a meeting.
 pub(crate) fn ping_target<R: Wait, H: PointHash, L: Link>(
-    rt: &R,
-    alloc: Global,
     node: &LockedNode<H>,
     pass: &mut NodePass<H>,
-    link: &mut L,
+    peers: &mut Peers<'_, R, L>,
     target: Address,
 ) -> Result<Heard, ClusterError>
     requires { Fits node.now pass.old }
@@ -59,17 +56,15 @@ pub(crate) fn ping_target<R: Wait, H: PointHash, L: Link>(
     ensures fits { Fits node.now pass.new }
     ensures named { IfErr result IsRoundRefusal }
 {
-    let heard = ping(rt, alloc, node, pass, link, target);
+    let heard = ping(node, pass, peers, target);
     let_in(heard)
 }
 
 /// Asks a helper about a target, as a step of a round.
 fn ask_about<R: Wait, H: PointHash, L: Link>(
-    rt: &R,
-    alloc: Global,
     node: &LockedNode<H>,
     pass: &mut NodePass<H>,
-    link: &mut L,
+    peers: &mut Peers<'_, R, L>,
     helper: Address,
     target: Address,
 ) -> Result<Heard, ClusterError>
@@ -78,7 +73,7 @@ fn ask_about<R: Wait, H: PointHash, L: Link>(
     ensures fits { Fits node.now pass.new }
     ensures named { IfErr result IsRoundRefusal }
 {
-    let heard = send_ping_req(rt, alloc, node, pass, link, helper, target);
+    let heard = send_ping_req(node, pass, peers, helper, target);
     let_in(heard)
 }
 
@@ -105,11 +100,9 @@ fn take_word<R: Wait, H: PointHash>(
 
 /// Asks one helper about the target, and passes its report to the node.
 fn ask_helper<R: Wait, H: PointHash, L: Link>(
-    rt: &R,
-    alloc: Global,
     node: &LockedNode<H>,
     pass: &mut NodePass<H>,
-    link: &mut L,
+    peers: &mut Peers<'_, R, L>,
     now: Moment,
     probe: &Probe,
     helper: Address,
@@ -119,21 +112,27 @@ fn ask_helper<R: Wait, H: PointHash, L: Link>(
     ensures fits { Fits node.now pass.new }
     ensures named { IfErr result IsRoundRefusal }
 {
-    let heard = ask_about(rt, alloc, node, pass, link, helper, probe.target)?;
+    let heard = ask_about(node, pass, peers, helper, probe.target)?;
     match heard {
-        Heard::Answer(message) => take_word(rt, node, pass, now, probe, helper, &message),
-        Heard::Other => tell_word(rt, node, pass, now, probe.number, helper, Said::Failed),
+        Heard::Answer(message) => take_word(peers.rt, node, pass, now, probe, helper, &message),
+        Heard::Other => tell_word(
+            peers.rt,
+            node,
+            pass,
+            now,
+            probe.number,
+            helper,
+            Said::Failed,
+        ),
         Heard::OutOfMemory => Err(ClusterError::Memory),
     }
 }
 
 /// Asks the helpers in turn, until the probe has ended; None if it has not.
 fn ask_helpers<R: Wait, H: PointHash, L: Link>(
-    rt: &R,
-    alloc: Global,
     node: &LockedNode<H>,
     pass: &mut NodePass<H>,
-    link: &mut L,
+    peers: &mut Peers<'_, R, L>,
     now: Moment,
     probe: &Probe,
     helpers: &[Address],
@@ -144,7 +143,7 @@ fn ask_helpers<R: Wait, H: PointHash, L: Link>(
     ensures named { IfErr result IsRoundRefusal }
 {
     for helper in helpers {
-        let outcome = ask_helper(rt, alloc, node, pass, link, now, probe, *helper)?;
+        let outcome = ask_helper(node, pass, peers, now, probe, *helper)?;
         let end = end_by(probe.target, outcome);
         if end.is_some() {
             return Ok(end);
@@ -155,11 +154,9 @@ fn ask_helpers<R: Wait, H: PointHash, L: Link>(
 
 /// Reports that a probe was lost, and asks the helpers that the node names; None if the probe has not ended.
 fn give_up_once<R: Wait, H: PointHash, L: Link>(
-    rt: &R,
-    alloc: Global,
     node: &LockedNode<H>,
     pass: &mut NodePass<H>,
-    link: &mut L,
+    peers: &mut Peers<'_, R, L>,
     now: Moment,
     probe: &Probe,
 ) -> Result<Option<Round>, ClusterError>
@@ -168,11 +165,11 @@ fn give_up_once<R: Wait, H: PointHash, L: Link>(
     ensures fits { Fits node.now pass.new }
     ensures named { IfErr result IsRoundRefusal }
 {
-    let lost = lose(rt, node, pass, now, probe.number)?;
+    let lost = lose(peers.rt, node, pass, now, probe.number)?;
     match lost {
         NodeLost::Ask(helpers) => {
             let helpers = helpers.as_slice();
-            ask_helpers(rt, alloc, node, pass, link, now, probe, helpers)
+            ask_helpers(node, pass, peers, now, probe, helpers)
         }
         NodeLost::Suspect(_) => Ok(Some(Round::Suspected(probe.target))),
     }
@@ -181,11 +178,9 @@ fn give_up_once<R: Wait, H: PointHash, L: Link>(
 /// Ends a probe whose target did not answer. If its helpers have all been asked and it has not ended, the node decides
 /// it.
 fn give_up<R: Wait, H: PointHash, L: Link>(
-    rt: &R,
-    alloc: Global,
     node: &LockedNode<H>,
     pass: &mut NodePass<H>,
-    link: &mut L,
+    peers: &mut Peers<'_, R, L>,
     now: Moment,
     probe: &Probe,
 ) -> Result<Round, ClusterError>
@@ -194,8 +189,8 @@ fn give_up<R: Wait, H: PointHash, L: Link>(
     ensures fits { Fits node.now pass.new }
     ensures named { IfErr result IsRoundRefusal }
 {
-    for _ in rt.forever() {
-        let end = give_up_once(rt, alloc, node, pass, link, now, probe)?;
+    for _ in peers.rt.forever() {
+        let end = give_up_once(node, pass, peers, now, probe)?;
         if let Some(round) = end {
             return Ok(round);
         }
@@ -224,11 +219,9 @@ fn acknowledge<R: Wait, H: PointHash>(
 
 /// Completes a probe by what was heard of its target.
 pub(crate) fn hear_target<R: Wait, H: PointHash, L: Link>(
-    rt: &R,
-    alloc: Global,
     node: &LockedNode<H>,
     pass: &mut NodePass<H>,
-    link: &mut L,
+    peers: &mut Peers<'_, R, L>,
     now: Moment,
     probe: &Probe,
     heard: &Heard,
@@ -239,19 +232,17 @@ pub(crate) fn hear_target<R: Wait, H: PointHash, L: Link>(
     ensures named { IfErr result IsRoundRefusal }
 {
     match heard {
-        Heard::Answer(ack) => acknowledge(rt, node, pass, now, probe, ack),
-        Heard::Other => give_up(rt, alloc, node, pass, link, now, probe),
+        Heard::Answer(ack) => acknowledge(peers.rt, node, pass, now, probe, ack),
+        Heard::Other => give_up(node, pass, peers, now, probe),
         Heard::OutOfMemory => Err(ClusterError::Memory),
     }
 }
 
 /// Pings the target of a running probe, and completes the probe.
 pub(crate) fn run_probe<R: Wait, H: PointHash, L: Link>(
-    rt: &R,
-    alloc: Global,
     node: &LockedNode<H>,
     pass: &mut NodePass<H>,
-    link: &mut L,
+    peers: &mut Peers<'_, R, L>,
     now: Moment,
     probe: &Probe,
 ) -> Result<Round, ClusterError>
@@ -260,6 +251,6 @@ pub(crate) fn run_probe<R: Wait, H: PointHash, L: Link>(
     ensures fits { Fits node.now pass.new }
     ensures named { IfErr result IsRoundRefusal }
 {
-    let heard = ping_target(rt, alloc, node, pass, link, probe.target)?;
-    hear_target(rt, alloc, node, pass, link, now, probe, &heard)
+    let heard = ping_target(node, pass, peers, probe.target)?;
+    hear_target(node, pass, peers, now, probe, &heard)
 }

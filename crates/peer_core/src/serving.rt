@@ -6,7 +6,7 @@ ghost use Rattle.peer_core.specs.Asking.{Pinged};
 ghost use Rattle.peer_core.specs.Parts.{Asks, Does, Next, let_in};
 ghost use Rattle.peer_core.specs.Serving.{message_from, Finds, Forwards, Gossips, IsDecided, IsRouted, PassesOn, Refuses, Reports, Says, Seeks, Serves, TellsRequester, reason_of};
 
-use crate::asking::ping;
+use crate::asking::{Peers, ping};
 use crate::errors::HandlerFault;
 use crate::handlers::Handler;
 use crate::hearing::Heard;
@@ -133,11 +133,9 @@ fn was_reached<R: Wait, H: PointHash>(
 
 /// Returns whether a target answers a ping. None if out of memory.
 fn ping_target<R: Wait, H: PointHash, L: Link>(
-    rt: &R,
-    alloc: Global,
     node: &LockedNode<H>,
     pass: &mut NodePass<H>,
-    link: &mut L,
+    peers: &mut Peers<'_, R, L>,
     now: Moment,
     target: Address,
 ) -> Result<Option<bool>, LockError>
@@ -145,17 +143,15 @@ fn ping_target<R: Wait, H: PointHash, L: Link>(
     ensures did { Does node.now (Next (Asks (Pinged L.may_answer target)) (Seeks now)) (let_in result) pass.old pass.new }
     ensures fits { Fits node.now pass.new }
 {
-    let heard = ping(rt, alloc, node, pass, link, target)?;
-    was_reached(rt, node, pass, now, &heard)
+    let heard = ping(node, pass, peers, target)?;
+    was_reached(peers.rt, node, pass, now, &heard)
 }
 
 /// Returns whether a target is the node itself or answers its ping. None if out of memory.
 fn is_reachable<R: Wait, H: PointHash, L: Link>(
-    rt: &R,
-    alloc: Global,
     node: &LockedNode<H>,
     pass: &mut NodePass<H>,
-    link: &mut L,
+    peers: &mut Peers<'_, R, L>,
     now: Moment,
     target: Address,
 ) -> Result<Option<bool>, LockError>
@@ -163,11 +159,11 @@ fn is_reachable<R: Wait, H: PointHash, L: Link>(
     ensures did { Does node.now (Finds L.may_answer now target) (let_in result) pass.old pass.new }
     ensures fits { Fits node.now pass.new }
 {
-    let own = node.own(rt, pass)?;
+    let own = node.own(peers.rt, pass)?;
     if own.address == target {
         return Ok(Some(true));
     }
-    ping_target(rt, alloc, node, pass, link, now, target)
+    ping_target(node, pass, peers, now, target)
 }
 
 /// Reports the result for a target to a requester.
@@ -195,11 +191,9 @@ fn tell_requester<R: Wait, H: PointHash>(
 
 /// Finds out about a target and reports to the requester.
 fn report_target<R: Wait, H: PointHash, L: Link>(
-    rt: &R,
-    alloc: Global,
     node: &LockedNode<H>,
     pass: &mut NodePass<H>,
-    link: &mut L,
+    peers: &mut Peers<'_, R, L>,
     now: Moment,
     requester: Address,
     target: Address,
@@ -208,17 +202,15 @@ fn report_target<R: Wait, H: PointHash, L: Link>(
     ensures did { Does node.now (Reports L.may_answer requester now target) (let_in result) pass.old pass.new }
     ensures fits { Fits node.now pass.new }
 {
-    let found = is_reachable(rt, alloc, node, pass, link, now, target)?;
-    tell_requester(rt, node, pass, requester, target, found)
+    let found = is_reachable(node, pass, peers, now, target)?;
+    tell_requester(peers.rt, node, pass, requester, target, found)
 }
 
 /// Takes the changes of a PingReq and answers about its target.
 fn serve_ping_req<R: Wait, H: PointHash, L: Link>(
-    rt: &R,
-    alloc: Global,
     node: &LockedNode<H>,
     pass: &mut NodePass<H>,
-    link: &mut L,
+    peers: &mut Peers<'_, R, L>,
     now: Moment,
     message: &Message,
     target: Address,
@@ -229,21 +221,12 @@ fn serve_ping_req<R: Wait, H: PointHash, L: Link>(
     ensures did { Does node.now (PassesOn L.may_answer message.now now target) (let_in result) pass.old pass.new }
     ensures fits { Fits node.now pass.new }
 {
-    let received = node.receive(rt, pass, message, now)?;
+    let received = node.receive(peers.rt, pass, message, now)?;
     match received {
-        Received::Done(_) => report_target(
-            rt,
-            alloc,
-            node,
-            pass,
-            link,
-            now,
-            message.source,
-            target,
-        ),
+        Received::Done(_) => report_target(node, pass, peers, now, message.source, target),
         Received::Stopped(stopped) => {
             let reason = reason_for(stopped.cause);
-            refuse(rt, node, pass, reason)
+            refuse(peers.rt, node, pass, reason)
         }
         Received::Answer(_, _) | Received::NoAnswer(_) | Received::NotGossip => unreachable!(),
     }
@@ -257,7 +240,7 @@ fn handler_reply<R: Wait, A: Handler>(
     keys: &Keys,
     body: &Text,
 ) -> Content
-    ensures { IsRouted A.may_handle keys.now body.now (Ok Route.Here) result }
+    ensures { IsRouted (A.may_handle handler.now) keys.now body.now (Ok Route.Here) result }
 {
     let answer = handler.handle(rt, alloc, keys, body);
     match answer {
@@ -277,7 +260,7 @@ fn reply_for_route<R: Wait, A: Handler>(
     route: Result<Route, ForwardError>,
 ) -> Content
     requires { IfErr route (λ e. e ≡ ForwardError.Diverged) }
-    ensures { IsRouted A.may_handle keys.now body.now route result }
+    ensures { IsRouted (A.may_handle handler.now) keys.now body.now route result }
 {
     match route {
         Ok(Route::Here) => handler_reply(rt, alloc, handler, keys, body),
@@ -296,7 +279,7 @@ fn reply_by_view<R: Wait, H: PointHash, A: Handler>(
     keys: &Keys,
     body: &Text,
 ) -> Content
-    ensures { IsDecided H.hash_of A.may_handle keys.now body.now view.now result }
+    ensures { IsDecided H.hash_of (A.may_handle handler.now) keys.now body.now view.now result }
 {
     let route = route_keys(view, keys);
     reply_for_route(rt, alloc, handler, keys, body, route)
@@ -313,7 +296,7 @@ fn serve_forward<R: Wait, H: PointHash, A: Handler>(
     body: &Text,
 ) -> Result<Message, LockError>
     requires { Fits node.now pass.old }
-    ensures did { Does node.now (Forwards H.hash_of A.may_handle keys.now body.now) (let_in result) pass.old pass.new }
+    ensures did { Does node.now (Forwards H.hash_of (A.may_handle handler.now) keys.now body.now) (let_in result) pass.old pass.new }
     ensures fits { Fits node.now pass.new }
 {
     let view = node.view(rt, pass)?;
@@ -347,13 +330,14 @@ pub fn serve_one<R: Wait, H: PointHash, L: Link, A: Handler>(
     message: &Message,
 ) -> Result<Message, LockError>
     requires { Fits node.now pass.old }
-    ensures served { Does node.now (Serves H.hash_of L.may_answer A.may_handle message.now now message.now.content) (let_in result) pass.old pass.new }
+    ensures served { Does node.now (Serves H.hash_of L.may_answer (A.may_handle handler.now) message.now now message.now.content) (let_in result) pass.old pass.new }
     ensures fits { Fits node.now pass.new }
 {
     match &message.content {
         Content::Join(_) | Content::Ping(_) => serve_gossip(rt, node, pass, now, message),
         Content::PingReq(_, target) => {
-            serve_ping_req(rt, alloc, node, pass, link, now, message, *target)
+            let mut peers = Peers::new(rt, alloc, link);
+            serve_ping_req(node, pass, &mut peers, now, message, *target)
         }
         Content::Forward(keys, body) => serve_forward(rt, alloc, node, pass, handler, keys, body),
         Content::Joined(_)

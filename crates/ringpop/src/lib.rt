@@ -17,6 +17,6 @@ pub use peer_core::{
     LinkError, Member, RejoinError, RequestError, Round, RoundError,
 };
 pub use server::{
-    Ended, HealingPlan, MAX_HANDLES, Running, Runtime, Server, ServerClock, Settings, StartError,
-    Stopwatch, Timeouts, start,
+    EndError, Ended, HealingPlan, MAX_HANDLES, Running, Runtime, Server, ServerClock, Settings,
+    StartError, Stopwatch, Timeouts, start,
 };

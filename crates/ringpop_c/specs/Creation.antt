@@ -7,7 +7,7 @@ use Rattle.node_core.specs.declared.configs.Config.{Config}
 use Rattle.node_core.specs.declared.configs.ConfigField.{ConfigField}
 use Rattle.node_core.specs.Configs.{IsConfig, bad_field}
 use Rattle.node_core.specs.Parts.{seen_of}
-use Rattle.node_core.specs.World.{newborn}
+use Rattle.node_core.specs.World.{initial_node}
 use Rattle.ringpop_c.specs.declared.codes.Code.{Code}
 use Rattle.ringpop_c.specs.declared.codes.Code.TheVariants as code
 use Rattle.ringpop_c.specs.declared.configs.RingpopConfig.{RingpopConfig}
@@ -31,7 +31,7 @@ config_of c = record {
 -- the value in the handle of a node that is alone in its cluster
 abbrev pub alone : Config → ℕ → ℕ → ℕ → ℕ → HeldNode
 alone config own incarnation seed moment =
-    let hash : Sha256Hash = record {} in record { inner = seen_of sha_hash (newborn hash config own incarnation moment (seeded seed)) }
+    let hash : Sha256Hash = record {} in record { inner = seen_of sha_hash (initial_node hash config own incarnation moment (seeded seed)) }
 
 -- the same by a caller's configuration
 abbrev pub created : RingpopConfig → ℕ → ℕ → ℕ → ℕ → HeldNode

@@ -50,7 +50,7 @@ fn run<
     let words = read_words(alloc, given.as_slice())?;
     let mut reader = BufReader::new(alloc, rt.reader()).map_err(|_| WordsError::OutOfMemory)?;
     let mut writer = BufWriter::new(alloc, io::writer(rt)).map_err(|_| WordsError::OutOfMemory)?;
-    words_run(rt, alloc, &words, &mut reader, &mut writer)
+    words_run(rt, rt, alloc, &words, &mut reader, &mut writer)
 }
 
 fn main(rt: HostRuntime) -> ExitCode {

@@ -3,7 +3,9 @@ use crate::peers::{Answer, Lines, Page, Peers};
 use crate::shared::check_refused;
 use change_core::{Address, MAX_MEMBERS};
 use cli_core::LineError;
-use cli_net::{AskAnyWords, AskError, TellError, ask_any_over, ask_over, members_over, tell_over};
+use cli_net::{
+    AskAnyWords, AskError, AskWords, TellError, ask_any_over, ask_over, members_over, tell_over,
+};
 use std::alloc::Global;
 use std::env::Env;
 use std::io::Write;
@@ -62,7 +64,14 @@ fn ask_peers<R: Wait, W: Write>(
         return NO_ANSWER;
     };
     match *question {
-        Question::Ask => ask_over(rt, alloc, peers, host, "k", "b", page)?,
+        Question::Ask => {
+            let words = AskWords {
+                address: host,
+                key: "k",
+                body: "b",
+            };
+            ask_over(rt, alloc, peers, &words, page)?
+        }
         Question::Members(lines) => members_over(rt, alloc, peers, host, lines, page)?,
         Question::Tell(times, last, left) => {
             let mut lines = Lines::new(FIRST, times, last, left);

@@ -222,7 +222,7 @@ struct Wordy {
 }
 
 impl Handler for Wordy {
-    ghost may_handle = { λ _ _ _. Unit {0} };
+    ghost may_handle = { λ _ _ _ _. Unit {0} };
 
     fn handle<R: Wait>(
         &self,

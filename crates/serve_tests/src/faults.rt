@@ -76,7 +76,7 @@ const FAULTS: [(SubcommandError, &str); 8] = [
 ];
 
 /// Errors of commands that speak to nodes, and the error text.
-const CLUSTER_FAULTS: [(ClusterCommandError, &str); 16] = [
+const CLUSTER_FAULTS: [(ClusterCommandError, &str); 18] = [
     (
         ClusterCommandError::Serve(ServeError::NoneJoined),
         "ringpop: no host joined\n",
@@ -88,6 +88,14 @@ const CLUSTER_FAULTS: [(ClusterCommandError, &str); 16] = [
     (
         ClusterCommandError::Serve(ServeError::NoThread),
         "ringpop: no thread\n",
+    ),
+    (
+        ClusterCommandError::Serve(ServeError::StillHeld),
+        "ringpop: a node is still held\n",
+    ),
+    (
+        ClusterCommandError::Serve(ServeError::Miscounted),
+        "ringpop: connections miscounted\n",
     ),
     (
         ClusterCommandError::Serve(ServeError::CannotWrite),

@@ -28,5 +28,6 @@ mod servers;
 #[cfg(test)]
 mod shared;
 #[cfg(test)]
+mod starts;
 #[cfg(test)]
 mod talks;

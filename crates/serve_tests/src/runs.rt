@@ -97,7 +97,7 @@ fn come_to<
         left: wanted.unwrap_or_default().as_bytes(),
     };
     let mut reader = input.as_bytes();
-    let ended = words_run(rt, alloc, words, &mut reader, &mut page);
+    let ended = words_run(rt, rt, alloc, words, &mut reader, &mut page);
     let is_so = match (&ended, wanted) {
         (Ok(()), Ok(_)) => Some(page.left.is_empty()),
         (Ok(()), Err(_)) => Some(false),

@@ -40,7 +40,7 @@ pub(crate) use again;
 const TRIES: u32 = 1_000_000;
 
 /// More time for each call of a link than it needs on a busy machine.
-fn patient() -> Limits {
+pub(crate) fn patient() -> Limits {
     let patience = Duration::from_millis(PATIENCE);
     Limits {
         ping: patience,
@@ -69,7 +69,7 @@ fn serve_once<R: Net<Listener = TcpListener, Stream = TcpStream> + Runtime>(
                 line: Duration::from_millis(millis),
                 links: patient(),
             };
-            serve_within(rt, alloc, timeouts, words, &mut page)
+            serve_within(rt, alloc, timeouts, words, &mut page).map(|_node| ())
         }
     };
     (outcome, page.left.len())

@@ -1,5 +1,5 @@
 -- Why a node is not started, and what is started.
-use Rattle.std.proofs.Common.{◌≡◌, ◌≢◌, ◌≤◌, ◌+◌, ◌-◌, ◌↔◌, ◌∙◌, ℕ, Bool, true, false, ap, sym, subst, arith, All, List, [], ◌∷◌, ◌++◌, take, drop, length, Option, Some, None, Result, Ok, Err}
+use Rattle.std.proofs.Common.{◌≡◌, ◌<◌, ◌+◌, ◌-◌, ◌↔◌, ◌∙◌, ℕ, Bool, ap, sym, subst, arith, All, List, [], ◌∷◌, ◌++◌, take, drop, length, Option, Some, None, Result, Ok, Err}
 use Rattle.std.proofs.lemmas.List.Elements.{All-drop, All-take}
 use Rattle.std.proofs.lemmas.List.{length-drop, length-take-le, take-append-drop}
 use Rattle.change_core.specs.declared.addresses.Address.{Address}
@@ -62,8 +62,8 @@ module _ {H A : Type 0} (hash_of : H → List ℕ → ℕ) (hash : H) (answers :
       → IsHealedAs settings.heals settings.address settings.hosts.now server.healing → hosts_of server.hosts ≡ settings.hosts.now
       → length workers ≡ settings.workers → length handles ≡ settings.handles → AreAll locked (workers ++ handles ++ rounds ∷ []) → All (Fits locked) handles
       → (running.server ≡ server) × (running.rounds ≡ rounds) × (running.workers ≡ workers)
-      → running.period ≡ settings.period → IsStarted hash_of hash answers settings running handles
-  started_by is opened its answered waits heals joins count left all fits same period =
+      → running.period ≡ settings.period → settings.workers + settings.handles < running.room → IsStarted hash_of hash answers settings running handles
+  started_by is opened its answered waits heals joins count left all fits same period room =
       let node : running.server.node ≡ locked = ap (λ (s : Server H A). s.node) same.0 ∙ its in record {
         created = subst (λ (x : Seen H). IsCreated hash_of hash settings x) (sym (ap opening_of node ∙ opened)) is;
         handler = ap (λ (s : Server H A). s.handler) same.0 ∙ answered;
@@ -77,4 +77,5 @@ module _ {H A : Type 0} (hash_of : H → List ℕ → ℕ) (hash : H) (answers :
             (subst (λ (ws : List (NodePass H)). AreAll locked (ws ++ handles ++ running.rounds ∷ [])) (sym same.2)
             (subst (λ (r : NodePass H). AreAll locked (workers ++ handles ++ r ∷ [])) (sym same.1) all));
         fits = subst (λ (x : LockedNode H). All (Fits x) handles) (sym node) fits;
+        room = room;
       }

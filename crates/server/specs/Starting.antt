@@ -6,7 +6,7 @@ use Rattle.node_core.specs.Configs.{bad_field, standard}
 use Rattle.node_core.specs.Node.{Seen}
 use Rattle.node_core.specs.Parts.{seen_of}
 use Rattle.node_core.specs.Workers.{IsCrew}
-use Rattle.node_core.specs.World.{newborn}
+use Rattle.node_core.specs.World.{initial_node}
 use Rattle.node_core.specs.declared.errors.NodeError.{NodeError}
 use Rattle.node_core.specs.declared.errors.NodeError.TheVariants as node
 use Rattle.locked_node.specs.Passes.{NodePass, Fits, opening_of}
@@ -49,7 +49,7 @@ AreCountsInRange settings = IsCrew settings.workers × (settings.handles ≤ 100
 -- the new node that the settings ask for, alone at moment 0
 abbrev pub IsCreated : {H : Type 0} → (H → List ℕ → ℕ) → H → Settings → Seen H → Type 0
 IsCreated hash_of hash settings node =
-    node ≡ seen_of hash_of (newborn hash settings.config settings.address settings.incarnation 0 (seeded (seed_of settings.address settings.incarnation)))
+    node ≡ seen_of hash_of (initial_node hash settings.config settings.address settings.incarnation 0 (seeded (seed_of settings.address settings.incarnation)))
 
 -- the error if there is no such node
 abbrev pub IsNotCreated : Settings → StartError → Type 0
@@ -76,7 +76,7 @@ error_of_server server.NoThread = error.NoThread
 error_of_server server.Memory = error.Memory
 
 -- The server's node was made by the settings; its handler answers, and it waits, heals, joins hosts and makes rounds as they say. The passes of its workers, the
--- handles and the pass of its rounds are all that the node has.
+-- handles and the pass of its rounds are all that the node has, and there is room for all of them where they come back.
 pub record IsStarted {H A : Type 0} (hash_of : H → List ℕ → ℕ) (hash : H) (answers : A) (settings : Settings) (running : Started H A) (handles : List (NodePass H)) : Type 0 where
   pub created : IsCreated hash_of hash settings (opening_of running.server.node)
   pub handler : running.server.handler ≡ answers
@@ -88,3 +88,4 @@ pub record IsStarted {H A : Type 0} (hash_of : H → List ℕ → ℕ) (hash : H
   pub period : running.period ≡ settings.period
   pub all : AreAll running.server.node (running.workers ++ handles ++ running.rounds ∷ [])
   pub fits : All (Fits running.server.node) handles
+  pub room : settings.workers + settings.handles < running.room

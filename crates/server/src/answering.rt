@@ -53,7 +53,7 @@ fn answer_line<R: Wait, H: PointHash, L: Link, A: Handler>(
     line: &[u8],
 ) -> Result<Message, LockError>
     requires { Fits node.now pass.old }
-    ensures did { Does node.now (AnswersLine H.hash_of L.may_answer A.may_handle now line.now) (let_in result) pass.old pass.new }
+    ensures did { Does node.now (AnswersLine H.hash_of L.may_answer (A.may_handle handler.now) now line.now) (let_in result) pass.old pass.new }
     ensures fits { Fits node.now pass.new }
 {
     match read_message(alloc, line) {
@@ -74,8 +74,8 @@ fn answer<R: Wait, H: PointHash, L: Link, A: Handler>(
     input: &Input,
 ) -> Option<Message>
     requires { Fits node.now pass.old }
-    ensures answered { IfSome result (λ m. Makes node.now (AnswersInput H.hash_of L.may_answer A.may_handle now input.now (Ok m)) pass.old pass.new) }
-    ensures unanswered { IfNone result (IsNotAnswered H.hash_of L.may_answer A.may_handle now input.now node.now pass.old pass.new) }
+    ensures answered { IfSome result (λ m. Makes node.now (AnswersInput H.hash_of L.may_answer (A.may_handle handler.now) now input.now (Ok m)) pass.old pass.new) }
+    ensures unanswered { IfNone result (IsNotAnswered H.hash_of L.may_answer (A.may_handle handler.now) now input.now node.now pass.old pass.new) }
     ensures fits { Fits node.now pass.new }
 {
     match input {
@@ -183,9 +183,9 @@ pub fn respond<R: Wait, H: PointHash, L: Link, A: Handler>(
     input: &Input,
 ) -> Option<Vec<u8>>
     requires { Fits node.now pass.old }
-    ensures sent { IfSome result (λ v. Makes node.now (Responds H.hash_of L.may_answer A.may_handle now input.now v.items) pass.old pass.new) }
+    ensures sent { IfSome result (λ v. Makes node.now (Responds H.hash_of L.may_answer (A.may_handle handler.now) now input.now v.items) pass.old pass.new) }
     ensures room { IfSome result (λ v. vec_len v < vec_capacity v) }
-    ensures silent { IfNone result (IsSilent H.hash_of L.may_answer A.may_handle now input.now node.now pass.old pass.new) }
+    ensures silent { IfNone result (IsSilent H.hash_of L.may_answer (A.may_handle handler.now) now input.now node.now pass.old pass.new) }
     ensures fits { Fits node.now pass.new }
 {
     let answer = answer(rt, alloc, node, pass, link, handler, now, input)?;

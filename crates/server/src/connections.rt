@@ -1,10 +1,13 @@
 //! One connection of a server: one line in and one line out.
+ghost use Rattle.std.specs.Prelude.{◌++◌, ◌∷◌, [], IfSome};
+ghost use Rattle.std.specs.Io.KnownBytes.{Appends};
 ghost use Rattle.locked_node.specs.Passes.{Fits};
+ghost use Rattle.cluster_core.specs.Deadlines.{stream_of};
 ghost use Rattle.peer_core.specs.Acts.{Makes};
-ghost use Rattle.server.specs.Working.{IsConnection, IsConnectionOver};
+ghost use Rattle.server.specs.Working.{IsAnsweredOver, IsConnection, IsConnectionOver};
 
 use crate::answering::respond;
-use crate::inputs::hear;
+use crate::inputs::{Input, hear};
 use crate::servers::Server;
 use cluster_core::{Deadline, TcpLink, Timed, send_owned_line};
 use hash_ring::PointHash;
@@ -14,7 +17,59 @@ use std::alloc::Global;
 use std::io::{Read, Write};
 use std::net::{Net, OpenStream};
 use std::sync::Wait;
-use std::time::Clock;
+use std::time::{Clock, Duration};
+
+/// Sends a line and a newline, which have to be taken within the limit from now on, and returns the stream. None if they were
+/// not taken whole, and if the clock failed.
+fn send_back<R: Clock, S: Write + OpenStream + Drop>(
+    rt: &R,
+    limit: Duration,
+    stream: Timed<'_, S, R>,
+    line: Vec<u8>,
+) -> Option<S>
+    ensures { IfSome result (λ s. Appends (S.contents (stream_of stream.entry)) (S.contents s) (line.items ++ 10 ∷ [])) }
+{
+    let Ok(deadline) = Deadline::after(rt, limit) else {
+        return None;
+    };
+    match send_owned_line(stream.until(deadline), line) {
+        Ok(stream) => Some(stream.into_inner()),
+        Err(_) => None,
+    }
+}
+
+/// Answers an input that was heard over a stream, and returns the stream: the answer's line and a newline are all that is
+/// written to it, and nothing where no answer is due. None if the line was not taken whole within the limit, and if the clock
+/// failed.
+fn answer_over<R: Net + Wait + Clock, H: PointHash, A: Handler, S: Write + OpenStream + Drop>(
+    server: &Server<H, A>,
+    pass: &mut NodePass<H>,
+    rt: &R,
+    alloc: Global,
+    link: &mut TcpLink<R>,
+    stream: Timed<'_, S, R>,
+    input: &Input,
+) -> Option<S>
+    requires { Fits server.now.node pass.old }
+    ensures over { Makes server.now.node (IsAnsweredOver S.contents H.hash_of (A.may_handle server.now.handler) (stream_of stream.entry) input.now result) pass.old pass.new }
+    ensures fits { Fits server.now.node pass.new }
+{
+    let now = server.stopwatch.moment(rt);
+    let answer = respond(
+        rt,
+        alloc,
+        &server.node,
+        pass,
+        link,
+        &server.handler,
+        now,
+        input,
+    );
+    match answer {
+        Some(line) => send_back(rt, server.timeouts.line, stream, line),
+        None => Some(stream.into_inner()),
+    }
+}
 
 /// Serves one connection, and returns it: its line has to arrive within the limit, and its answer's line has to be taken
 /// within it, from the start of each. Nothing is written but the answer's line and a newline; nothing at all where no
@@ -33,8 +88,8 @@ pub fn serve_connection<
     stream: S,
 ) -> Option<S>
     requires { Fits server.now.node pass.old }
-    ensures made { Makes server.now.node (IsConnection H.hash_of A.may_handle) pass.old pass.new }
-    ensures over { Makes server.now.node (IsConnectionOver S.remaining S.contents H.hash_of A.may_handle stream result) pass.old pass.new }
+    ensures made { Makes server.now.node (IsConnection H.hash_of (A.may_handle server.now.handler)) pass.old pass.new }
+    ensures over { Makes server.now.node (IsConnectionOver S.remaining S.contents H.hash_of (A.may_handle server.now.handler) stream result) pass.old pass.new }
     ensures fits { Fits server.now.node pass.new }
 {
     let Ok(deadline) = Deadline::after(rt, server.timeouts.line) else {
@@ -42,24 +97,5 @@ pub fn serve_connection<
     };
     let mut stream = Timed::new(stream, deadline);
     let input = hear(alloc, &mut stream);
-    let now = server.stopwatch.moment(rt);
-    let Some(line) = respond(
-        rt,
-        alloc,
-        &server.node,
-        pass,
-        link,
-        &server.handler,
-        now,
-        &input,
-    ) else {
-        return Some(stream.into_inner());
-    };
-    let Ok(deadline) = Deadline::after(rt, server.timeouts.line) else {
-        return None;
-    };
-    match send_owned_line(stream.until(deadline), line) {
-        Ok(stream) => Some(stream.into_inner()),
-        Err(_) => None,
-    }
+    answer_over(server, pass, rt, alloc, link, stream, &input)
 }

@@ -22,7 +22,7 @@ mod timeouts;
 pub use answering::respond;
 pub use clocks::ServerClock;
 pub use connections::serve_connection;
-pub use errors::ServerError;
+pub use errors::{EndError, ServerError};
 pub use healing::HealingPlan;
 pub use inputs::{Input, hear};
 pub use round_clocks::RoundClock;

@@ -2,26 +2,37 @@
 use crate::round_clocks::RoundClock;
 use crate::servers::Server;
 use hash_ring::PointHash;
-use locked_node::{LockedNode, NodePass};
+use locked_node::NodePass;
 use peer_core::Handler;
 use std::marker::PhantomData;
 use std::snapshot::Snapshot;
 use std::thread::{Promise, PromisedHandle};
 
-/// That a worker gives back the pass that it was given, by which it served connections alone.
+/// What a worker gives back.
+#[derive(Drop)]
+pub(crate) struct WorkerBack<H: PointHash> {
+    /// Its pass.
+    pub(crate) pass: NodePass<H>,
+    /// The number of connections that it served by it.
+    pub(crate) connections: u64,
+}
+
+/// That a worker gives back the pass that it was given, by which it served that number of connections and did nothing else.
 #[derive(Drop)]
 pub(crate) struct WorkerPromise<H: PointHash, A> {
-    pub(crate) node: Snapshot<LockedNode<H>>,
+    pub(crate) server: Snapshot<Server<H, A>>,
     pub(crate) pass: Snapshot<NodePass<H>>,
-    pub(crate) handler: PhantomData<A>,
 }
 
-impl<H: PointHash, A: Handler> Promise<NodePass<H>> for WorkerPromise<H, A> {
+impl<H: PointHash, A: Handler> Promise<WorkerBack<H>> for WorkerPromise<H, A> {
     ghost use Rattle.peer_core.specs.Acts.{Makes};
-    ghost use Rattle.server.specs.Working.{IsConnection, Repeats};
+    ghost use Rattle.server.specs.Working.{IsConnection, Times};
 
-    ghost kept_by = { λ p pass. Makes p.node.value (Repeats (IsConnection H.hash_of A.may_handle)) p.pass.value pass };
+    ghost kept_by = { λ p back. Makes p.server.value.node (Times (IsConnection H.hash_of (A.may_handle p.server.value.handler)) back.connections) p.pass.value back.pass };
 }
+
+/// A thread that serves connections.
+pub(crate) type Worker<H, A> = PromisedHandle<WorkerBack<H>, WorkerPromise<H, A>>;
 
 /// That the thread of the rounds gives back the pass that it was given, by which it made the server's rounds alone, with this
 /// period.

@@ -12,28 +12,36 @@ use std::time::{Clock, Duration};
 pub trait RoundClock: Wait + Clock {
     ghost use Rattle.server.specs.Working.{RoundTimes};
 
-    /// The moments that may be reported, and the milliseconds for which a rest may have lasted; code over any clock can show
-    /// either only by calling.
+    /// The moments that may be reported after another, and after a rest since then; code over any clock can show either only by
+    /// calling.
     ghost times: { RoundTimes };
 
-    /// Returns the moment that it is by a stopwatch.
-    fn moment(&self, stopwatch: &Stopwatch) -> Moment
-        ensures { times.told result };
+    /// Returns the moment that it is by a stopwatch, but not before `last`, which was reported before.
+    fn moment(&self, stopwatch: &Stopwatch, last: Moment) -> Moment
+        ensures { times.told last result };
 
-    /// Rests for this number of milliseconds, or until the server ends. Returns whether it goes on.
-    fn rest<H: PointHash, A>(&self, server: &Server<H, A>, period: u64) -> bool
-        ensures { IsTrue result → times.rested period };
+    /// Rests for this number of milliseconds after `last`, which was reported before, or until the server ends. Returns whether
+    /// it goes on.
+    fn rest<H: PointHash, A>(&self, server: &Server<H, A>, last: Moment, period: u64) -> bool
+        ensures { IsTrue result → times.rested last period };
 }
 
 impl<R: Wait + Clock> RoundClock for R {
-    // The behaviour of the system's clock is unknown.
-    ghost times = { record { told = λ _. Unit {0}; rested = λ _. Unit {0} } };
+    ghost use Rattle.server.specs.Working.{any_times};
 
-    fn moment(&self, stopwatch: &Stopwatch) -> Moment {
-        stopwatch.moment(self)
+    // Whether the system's clock rests as asked is unknown.
+    ghost times = { any_times };
+
+    fn moment(&self, stopwatch: &Stopwatch, last: Moment) -> Moment {
+        let now = stopwatch.moment(self);
+        if now.number() < last.number() {
+            last
+        } else {
+            now
+        }
     }
 
-    fn rest<H: PointHash, A>(&self, server: &Server<H, A>, period: u64) -> bool {
+    fn rest<H: PointHash, A>(&self, server: &Server<H, A>, _last: Moment, period: u64) -> bool {
         server.rest(self, Duration::from_millis(period))
     }
 }

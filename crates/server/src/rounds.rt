@@ -50,22 +50,23 @@ fn join_hosts<R: Net + RoundClock, H: PointHash, A>(
     }
 }
 
-/// Joins the hosts if they are still to be joined, and the moment for it has come. Returns the moment of the next join; none if
-/// there is to be none.
+/// Joins the hosts if they are still to be joined, and the moment for it has come after that of the last round. Returns the
+/// moment of the next join; none if there is to be none.
 fn join_if_due<R: Net + RoundClock, H: PointHash, A>(
     server: &Server<H, A>,
     pass: &mut NodePass<H>,
     rt: &R,
     alloc: Global,
     link: &mut TcpLink<R>,
+    last: Moment,
     due: Option<u64>,
 ) -> Option<u64>
     requires { Fits server.now.node pass.old }
-    ensures joined { Makes server.now.node (JoinsIfDue R.times (hosts_of server.now.hosts) due result) pass.old pass.new }
+    ensures joined { Makes server.now.node (JoinsIfDue R.times (hosts_of server.now.hosts) last due result) pass.old pass.new }
     ensures fits { Fits server.now.node pass.new }
 {
     let moment = due?;
-    let now = rt.moment(&server.stopwatch);
+    let now = rt.moment(&server.stopwatch, last);
     if now.number() < moment {
         return due;
     }
@@ -87,14 +88,16 @@ fn make_rounds_over<R: Net + RoundClock, H: PointHash, A>(
     ensures fits { Fits server.now.node pass.new }
 {
     let first = first_join(server.hosts());
-    let mut due = join_if_due(server, pass, rt, alloc, link, first);
+    let mut last = Moment::beginning();
+    let mut due = join_if_due(server, pass, rt, alloc, link, last, first);
     for _ in rt.forever() {
-        if !rt.rest(server, period) {
+        if !rt.rest(server, last, period) {
             return;
         }
-        let now = rt.moment(&server.stopwatch);
+        let now = rt.moment(&server.stopwatch, last);
         let _round = gossip_round(rt, alloc, &server.node, pass, link, now);
-        due = join_if_due(server, pass, rt, alloc, link, due);
+        due = join_if_due(server, pass, rt, alloc, link, now, due);
+        last = now;
     }
 }
 
@@ -116,15 +119,17 @@ fn make_healing_rounds_over<R: Net + RoundClock, H: PointHash, A>(
 {
     let mut healing = Healing::new(plan.own, plan.hosts.as_slice());
     let start = first_join(server.hosts());
-    let mut due = join_if_due(server, pass, rt, alloc, link, start);
+    let mut last = Moment::beginning();
+    let mut due = join_if_due(server, pass, rt, alloc, link, last, start);
     for _ in rt.forever() {
-        if !rt.rest(server, period) {
+        if !rt.rest(server, last, period) {
             return;
         }
-        let now = rt.moment(&server.stopwatch);
+        let now = rt.moment(&server.stopwatch, last);
         let _made = correcting_round(rt, alloc, &server.node, pass, link, now);
         let _healed = heal(rt, alloc, &server.node, pass, link, now, &mut healing);
-        due = join_if_due(server, pass, rt, alloc, link, due);
+        due = join_if_due(server, pass, rt, alloc, link, now, due);
+        last = now;
     }
 }
 

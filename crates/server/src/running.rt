@@ -1,53 +1,59 @@
 //! A server from its start to its end.
-ghost use Rattle.std.specs.Prelude.{◌≡◌, IfOk};
+ghost use Rattle.std.specs.Prelude.{◌≡◌, ◌+◌, ◌<◌, ◌≤◌, ◌++◌, ◌∷◌, [], IfErr, IfOk, IfSome, IsOkUnless, OnErr, vec_len};
 ghost use Rattle.std.specs.List.{All};
 ghost use Rattle.std.specs.Arc.{arc_value};
-ghost use Rattle.locked_node.specs.Passes.{Fits};
+ghost use Rattle.std.specs.Vec.{vec_capacity};
+ghost use Rattle.locked_node.specs.Passes.{Fits, IsClosed};
 ghost use Rattle.peer_core.specs.Acts.{Makes};
-ghost use Rattle.server.specs.Threads.{ServeAlone};
+ghost use Rattle.server.specs.Running.{IsLeftOpen, end_error};
+ghost use Rattle.server.specs.Threads.{ServeTogether};
 ghost use Rattle.server.specs.Working.{AreRounds, hosts_of};
 
-use crate::errors::ServerError;
-use crate::promises::{Timer, WorkerPromise};
+use crate::errors::{EndError, ServerError};
+use crate::promises::{Timer, Worker};
 use crate::round_clocks::RoundClock;
 use crate::runtimes::Runtime;
 use crate::servers::Server;
 use crate::threads::{end_timer, end_workers, start_all};
 use hash_ring::PointHash;
-use locked_node::NodePass;
+use locked_node::{LockedNode, NodePass};
+use node_core::NodeState;
 use peer_core::Handler;
 use std::alloc::Global;
 use std::marker::Model;
 use std::net::{Net, TcpListener, TcpStream};
 use std::sync::Arc;
-use std::thread::PromisedHandle;
+use turn_lock::CloseError;
 
 /// A server whose threads run: they serve connections and make rounds until the server is stopped, or until the last connection
 /// that it was to serve.
 #[derive(Drop)]
 pub struct Running<H: PointHash, A: Handler, R: RoundClock> {
     server: Arc<Server<H, A>, Global>,
-    workers: Vec<PromisedHandle<NodePass<H>, WorkerPromise<H, A>>>,
-    /// Empty, with room for the passes of all workers.
+    workers: Vec<Worker<H, A>>,
+    /// Empty, with room for the passes of all workers and that of the rounds.
     returned: Vec<NodePass<H>>,
     timer: Timer<H, A, R>,
 }
 
 impl<H: PointHash, A: Handler, R: RoundClock> Model for Running<H, A, R> {
-    ghost use Rattle.std.specs.Prelude.{◌≡◌, ◌≤◌, [], vec_len};
+    ghost use Rattle.std.specs.Prelude.{◌≡◌, ◌<◌, [], vec_len};
     ghost use Rattle.std.specs.Vec.{vec_capacity};
     ghost use Rattle.std.specs.Arc.{arc_value};
+    ghost use Rattle.std.specs.List.{All};
+    ghost use Rattle.locked_node.specs.Passes.{Fits};
     ghost use Rattle.server.specs.Running.{Started, timer_period, rounds_pass, IsTimerOf, worker_passes, AreWorkersOf};
 
     ghost Value = { Started H A };
 
-    ghost view = { λ r. record { server = arc_value r.server; period = timer_period r.timer; rounds = rounds_pass r.timer; workers = worker_passes r.workers.items } };
+    ghost view = { λ r. record { server = arc_value r.server; period = timer_period r.timer; rounds = rounds_pass r.timer; workers = worker_passes r.workers.items; room = vec_capacity r.returned } };
 
-    ghost invariant = { λ r. AreWorkersOf (arc_value r.server).node r.workers.items × (IsTimerOf (arc_value r.server) r.timer
-        × ((r.returned.items ≡ []) × (vec_len r.workers ≤ vec_capacity r.returned))) };
+    ghost invariant = { λ r. AreWorkersOf (arc_value r.server) r.workers.items × (IsTimerOf (arc_value r.server) r.timer
+        × ((r.returned.items ≡ []) × ((vec_len r.workers < vec_capacity r.returned)
+        × (Fits (arc_value r.server).node (rounds_pass r.timer) × All (Fits (arc_value r.server).node) (worker_passes r.workers.items))))) };
 }
 
-/// The parts of a server whose threads have ended: the server, and the passes that they gave back.
+/// The parts of a server whose threads have ended: the server, and the passes that they gave back, by which its node can be closed.
 #[derive(Drop)]
 pub struct Ended<H: PointHash, A> {
     /// The server.
@@ -56,6 +62,80 @@ pub struct Ended<H: PointHash, A> {
     pub rounds: NodePass<H>,
     /// The passes of its workers, in the order given.
     pub workers: Vec<NodePass<H>>,
+    /// The number of connections that were served by them, also those by which `stop` wakes a worker.
+    pub connections: u128,
+}
+
+/// Puts the handles and the pass of the rounds after the workers' passes. The only error is `Memory`, and only where the
+/// vector of these has not the room.
+fn all_passes<H: PointHash>(
+    workers: Vec<NodePass<H>>,
+    mut handles: Vec<NodePass<H>>,
+    rounds: NodePass<H>,
+) -> Result<Vec<NodePass<H>>, EndError>
+    ensures all { IfOk result (λ v. v.items ≡ workers.items ++ handles.items ++ rounds ∷ []) }
+    ensures refusal { IsOkUnless result EndError.Memory }
+    ensures full { OnErr result (vec_capacity workers < vec_len workers + vec_len handles + 1) }
+{
+    let mut passes = workers;
+    if passes.append(&mut handles).is_err() || passes.push(rounds).is_err() {
+        return Err(EndError::Memory);
+    }
+    Ok(passes)
+}
+
+/// Takes the node out of a server that has no other owner. The server is dropped.
+fn node_of<H: PointHash, A: Drop>(server: Arc<Server<H, A>, Global>) -> Option<LockedNode<H>>
+    ensures { IfSome result (λ node. node ≡ (arc_value server).node) }
+{
+    let server = Arc::into_inner(server)?;
+    Some(server.node)
+}
+
+/// Returns the error of an end for the cause why a node was not closed.
+fn end_error(cause: CloseError) -> EndError
+    ensures { result ≡ end_error cause }
+{
+    match cause {
+        CloseError::ForeignPass => EndError::ForeignPass,
+        CloseError::MissingPass => EndError::MissingPass,
+    }
+}
+
+impl<H: PointHash, A: Drop> Ended<H, A> {
+    /// Closes the node with all its passes, as `LockedNode::close` does: those that came back, and the handles that were not
+    /// given to threads, in any order. Returns the node after one legal history of all their calls. The server is dropped, and with
+    /// it the port. After an error the node is dropped, too.
+    ///
+    /// # Errors
+    ///
+    /// - `Memory`: an allocation failed. None is made where the vector of the workers' passes has room for the others.
+    /// - `StillHeld`: another owner holds the server. The threads do not: they have ended.
+    /// - `ForeignPass`: a handle has another node's name.
+    /// - `MissingPass`: there are fewer handles than were made.
+    pub fn close(self, handles: Vec<NodePass<H>>) -> Result<NodeState<H>, EndError>
+        requires rounds { Fits (arc_value self.server).node self.rounds }
+        requires workers { All (Fits (arc_value self.server).node) self.workers.items }
+        requires handles { All (Fits (arc_value self.server).node) handles.items }
+        ensures closed { IfOk result (IsClosed H.hash_of (arc_value self.server).node (self.workers.items ++ handles.items ++ self.rounds ∷ [])) }
+        ensures refused { IfErr result (IsLeftOpen (arc_value self.server).node (self.workers.items ++ handles.items ++ self.rounds ∷ [])) }
+        ensures memory { result ≡ Err EndError.Memory → vec_capacity self.workers < vec_len self.workers + vec_len handles + 1 }
+    {
+        let Ended {
+            server,
+            rounds,
+            workers,
+            ..
+        } = self;
+        let passes = all_passes(workers, handles, rounds)?;
+        let Some(node) = node_of(server) else {
+            return Err(EndError::StillHeld);
+        };
+        match node.close(passes) {
+            Ok(node) => Ok(node),
+            Err(refused) => Err(end_error(refused.cause)),
+        }
+    }
 }
 
 impl<
@@ -82,11 +162,13 @@ impl<
         requires workers { All (Fits server.node) workers.items }
         ensures started { IfOk result (λ r. (r.server ≡ server) × (r.rounds ≡ rounds) × (r.workers ≡ workers.items)) }
         ensures period { IfOk result (λ r. r.period ≡ period) }
+        ensures room { IfOk result (λ r. (vec_len workers < r.room) × (vec_capacity workers ≤ r.room)) }
     {
         let Ok(server) = Arc::new(alloc, server) else {
             return Err(ServerError::Memory);
         };
         let mut threads = Vec::with_capacity(alloc, workers.len())?;
+        workers.reserve(1)?;
         let started = start_all(
             rt,
             alloc,
@@ -117,13 +199,18 @@ impl<
         &self.server
     }
 
-    /// Waits for the last connection that was to be served, then ends the rounds: one that is under way is waited for, 8.5 seconds
-    /// at most with the standard timeouts.
+    /// Waits for the last connection that was to be served, then ends the rounds, and returns how many connections were served. A
+    /// round that is under way is waited for: with the standard timeouts and three helpers 8.5 seconds at most, for a probe that
+    /// was left and its own; 20.25 if the server heals, with what corrects its target and a meeting; and 5 more for each host
+    /// that is joined after it.
     pub fn wait(self, rt: &R) -> Ended<H, A>
         ensures server { arc_value result.server ≡ self.server }
         ensures rounds { Makes self.server.node (AreRounds R.times self.period (hosts_of self.server.hosts) self.server.healing) self.rounds result.rounds }
         ensures resting { self.period ≡ 0 → result.rounds ≡ self.rounds }
-        ensures connections { ServeAlone H.hash_of A.may_handle self.server.node self.workers result.workers.items }
+        ensures connections { ServeTogether H.hash_of (A.may_handle self.server.handler) self.server.node self.workers result.workers.items result.connections }
+        ensures fits { Fits (arc_value result.server).node result.rounds × All (Fits (arc_value result.server).node) result.workers.items }
+        ensures room { vec_capacity result.workers ≡ self.room }
+        ensures space { vec_len result.workers < vec_capacity result.workers }
     {
         let Running {
             server,
@@ -131,23 +218,28 @@ impl<
             mut returned,
             timer,
         } = self;
-        end_workers(rt, workers, &mut returned);
+        let connections = end_workers(rt, workers, &mut returned);
         server.end();
         let rounds = end_timer(rt, timer);
         Ended {
             server,
             rounds,
             workers: returned,
+            connections,
         }
     }
 
     /// Stops the server: no further connection is accepted and no further round made. Connections that are being
-    /// served, and a round that is under way, are waited for; connections that wait are closed with the server.
+    /// served, and a round that is under way, are waited for, as `wait` does; connections that wait are closed with the
+    /// server.
     pub fn stop(self, rt: &R) -> Ended<H, A>
         ensures server { arc_value result.server ≡ self.server }
         ensures rounds { Makes self.server.node (AreRounds R.times self.period (hosts_of self.server.hosts) self.server.healing) self.rounds result.rounds }
         ensures resting { self.period ≡ 0 → result.rounds ≡ self.rounds }
-        ensures connections { ServeAlone H.hash_of A.may_handle self.server.node self.workers result.workers.items }
+        ensures connections { ServeTogether H.hash_of (A.may_handle self.server.handler) self.server.node self.workers result.workers.items result.connections }
+        ensures fits { Fits (arc_value result.server).node result.rounds × All (Fits (arc_value result.server).node) result.workers.items }
+        ensures room { vec_capacity result.workers ≡ self.room }
+        ensures space { vec_len result.workers < vec_capacity result.workers }
     {
         self.server.end();
         self.server.wake_workers(rt);

@@ -3,7 +3,7 @@ ghost use Rattle.std.specs.Prelude.{◌≡◌, None, Some};
 ghost use Rattle.locked_node.specs.Passes.{Fits};
 ghost use Rattle.cluster_core.specs.Sockets.{limits_of};
 ghost use Rattle.peer_core.specs.Acts.{Makes};
-ghost use Rattle.server.specs.Working.{IsConnection, Repeats, hosts_of};
+ghost use Rattle.server.specs.Working.{IsConnection, Times, hosts_of};
 
 use crate::connections::serve_connection;
 use crate::healing::HealingPlan;
@@ -41,6 +41,8 @@ pub struct Server<H: PointHash, A> {
     pub healing: Option<HealingPlan>,
     /// The hosts that it joins while it makes rounds, until one of them has answered; `None`: it joins none.
     pub hosts: Option<Vec<Address>>,
+    /// The number of connections after which it ends by itself.
+    pub connections: u64,
     listener: TcpListener,
     /// The number of connections that are left to be served.
     connections_left: AtomicU64,
@@ -69,6 +71,7 @@ impl<H: PointHash, A> Server<H, A> {
         ensures timeouts { result.timeouts ≡ timeouts }
         ensures healing { result.healing ≡ healing }
         ensures hosts { result.hosts ≡ None }
+        ensures connections { result.connections ≡ connections }
     {
         Server {
             node,
@@ -77,6 +80,7 @@ impl<H: PointHash, A> Server<H, A> {
             timeouts,
             healing,
             hosts: None,
+            connections,
             listener,
             connections_left: AtomicU64::new(connections),
             waiting: AtomicU64::new(0),
@@ -96,6 +100,7 @@ impl<H: PointHash, A> Server<H, A> {
         ensures timeouts { result.timeouts ≡ self.timeouts }
         ensures healing { result.healing ≡ self.healing }
         ensures hosts { result.hosts ≡ Some hosts }
+        ensures connections { result.connections ≡ self.connections }
     {
         self.hosts = Some(hosts);
         self
@@ -219,40 +224,41 @@ impl<H: PointHash, A> Server<H, A> {
     }
 }
 
-/// Serves connections until none is left, once the threads may start. PingReqs are relayed over a link with the
-/// server's timeouts.
+/// Serves connections until none is left, once the threads may start, and returns how many. PingReqs are relayed over a
+/// link with the server's timeouts.
 fn work_over<R: Net + Wait + Clock, H: PointHash, A: Handler>(
     server: &Server<H, A>,
     pass: &mut NodePass<H>,
     rt: &R,
     alloc: Global,
     link: &mut TcpLink<R>,
-)
+) -> u64
     requires fits { Fits server.now.node pass.old }
     requires limits { limits_of link.old ≡ server.now.timeouts.links }
-    ensures made { Makes server.now.node (Repeats (IsConnection H.hash_of A.may_handle)) pass.old pass.new }
+    ensures made { Makes server.now.node (Times (IsConnection H.hash_of (A.may_handle server.now.handler)) result) pass.old pass.new }
     ensures fits { Fits server.now.node pass.new }
 {
     server.wait_for_start(rt);
-    for _ in rt.forever() {
+    for served in 0..server.connections {
         let Some(stream) = server.next_connection(rt) else {
-            return;
+            return served;
         };
         serve_connection(server, pass, rt, alloc, link, stream);
     }
+    server.connections
 }
 
-/// Serves connections until none is left, once the threads may start.
+/// Serves connections until none is left, once the threads may start, and returns how many.
 pub fn work<R: Net + Wait + Clock + Copy, H: PointHash, A: Handler>(
     server: &Server<H, A>,
     pass: &mut NodePass<H>,
     rt: &R,
     alloc: Global,
-)
+) -> u64
     requires { Fits server.now.node pass.old }
-    ensures made { Makes server.now.node (Repeats (IsConnection H.hash_of A.may_handle)) pass.old pass.new }
+    ensures made { Makes server.now.node (Times (IsConnection H.hash_of (A.may_handle server.now.handler)) result) pass.old pass.new }
     ensures fits { Fits server.now.node pass.new }
 {
     let mut link = TcpLink::with_limits(*rt, server.timeouts.links);
-    work_over(server, pass, rt, alloc, &mut link);
+    work_over(server, pass, rt, alloc, &mut link)
 }

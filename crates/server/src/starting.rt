@@ -1,5 +1,6 @@
 //! A node and its server, from their settings to the first connection.
-ghost use Rattle.std.specs.Prelude.{◌≡◌, ◌↔◌, ◌++◌, ◌∷◌, [], true, length, IfOk, IfErr, IsOkUnless};
+ghost use Rattle.std.specs.Prelude.{◌≡◌, ◌↔◌, ◌+◌, ◌<◌, ◌++◌, ◌∷◌, [], true, length, IfOk, IfErr, IsOkUnless};
+ghost use Rattle.std.specs.Vec.{vec_capacity};
 ghost use Rattle.std.specs.List.{All};
 ghost use Rattle.cluster_core.specs.Clusters.{AreAll};
 ghost use Rattle.locked_node.specs.Passes.{Fits, opening_of};
@@ -176,7 +177,8 @@ fn plan_of(alloc: Global, settings: &Settings<'_>) -> Result<Option<HealingPlan>
     Ok(HealingPlan::of(settings.heals, settings.address, hosts))
 }
 
-/// Shares the node by the settings: returns it with the pass of its rounds, those of its workers, and the handles.
+/// Shares the node by the settings: returns it with the pass of its rounds, those of its workers, with room for all, and the
+/// handles.
 ///
 /// # Errors
 ///
@@ -202,10 +204,14 @@ fn share_out<H: PointHash>(
     ensures count { IfOk result (λ r. length r.2.items ≡ settings.now.workers) }
     ensures left { IfOk result (λ r. length r.3.items ≡ settings.now.handles) }
     ensures all { IfOk result (λ r. AreAll r.0 (r.2.items ++ r.3.items ++ r.1 ∷ [])) }
+    ensures room { IfOk result (λ r. settings.now.workers + settings.now.handles < vec_capacity r.2) }
     ensures refusal { IsOkUnless result StartError.Memory }
 {
     let Ok((node, rounds, mut workers)) = share(alloc, node, settings.workers + settings.handles)
     else {
+        return Err(StartError::Memory);
+    };
+    let Ok(()) = workers.reserve(1) else {
         return Err(StartError::Memory);
     };
     match workers.split_off(settings.workers as usize) {

@@ -5,11 +5,11 @@ ghost use Rattle.std.specs.Arc.{arc_value};
 ghost use Rattle.std.specs.Vec.{vec_capacity};
 ghost use Rattle.locked_node.specs.Passes.{Fits};
 ghost use Rattle.peer_core.specs.Acts.{Makes};
-ghost use Rattle.server.specs.Threads.{AreBack, IsTimer, IsTimerBack, IsWorker, ServeAlone};
-ghost use Rattle.server.specs.Working.{AreRounds, IsConnection, Repeats, hosts_of};
+ghost use Rattle.server.specs.Threads.{AreBack, IsTimer, IsTimerBack, IsWorker};
+ghost use Rattle.server.specs.Working.{AreRounds, IsConnection, Times, hosts_of};
 
 use crate::errors::ServerError;
-use crate::promises::{RoundsPromise, Timer, WorkerPromise};
+use crate::promises::{RoundsPromise, Timer, Worker, WorkerBack, WorkerPromise};
 use crate::round_clocks::RoundClock;
 use crate::rounds::make_rounds;
 use crate::runtimes::Runtime;
@@ -23,21 +23,21 @@ use std::net::{Net, TcpListener, TcpStream};
 use std::snapshot::Snapshot;
 use std::sync::{Arc, Wait};
 use std::thread;
-use std::thread::{PromisedHandle, Threads};
+use std::thread::Threads;
 use std::time::Clock;
 
-/// Serves connections by a pass, and gives it back.
+/// Serves connections by a pass, and gives it back with their number.
 fn work_by<R: Net + Wait + Clock + Copy, H: PointHash, A: Handler + Drop>(
     rt: R,
     alloc: Global,
     server: Arc<Server<H, A>, Global>,
     mut pass: NodePass<H>,
-) -> NodePass<H>
+) -> WorkerBack<H>
     requires { Fits (arc_value server).node pass }
-    ensures { Makes (arc_value server).node (Repeats (IsConnection H.hash_of A.may_handle)) pass result }
+    ensures { Makes (arc_value server).node (Times (IsConnection H.hash_of (A.may_handle (arc_value server).handler)) result.connections) pass result.pass }
 {
-    work(&*server, &mut pass, &rt, alloc);
-    pass
+    let connections = work(&*server, &mut pass, &rt, alloc);
+    WorkerBack { pass, connections }
 }
 
 /// Makes rounds by a pass, and what is done between them, and gives it back.
@@ -65,16 +65,15 @@ fn start_worker<
     alloc: Global,
     server: &Arc<Server<H, A>, Global>,
     pass: NodePass<H>,
-) -> Result<PromisedHandle<NodePass<H>, WorkerPromise<H, A>>, ServerError>
+) -> Result<Worker<H, A>, ServerError>
     requires { Fits (arc_value server.now).node pass }
-    ensures started { IfOk result (IsWorker (arc_value server.now).node pass) }
+    ensures started { IfOk result (IsWorker (arc_value server.now) pass) }
 {
     let server = Arc::try_clone(server)?;
     let host = *rt;
     let promise = WorkerPromise {
-        node: Snapshot::of(&server.node),
+        server: Snapshot::of(&*server),
         pass: Snapshot::of(&pass),
-        handler: PhantomData,
     };
     let started = thread::spawn_with(rt, promise, move || work_by(host, alloc, server, pass));
     match started {
@@ -142,14 +141,15 @@ fn start_workers<
     alloc: Global,
     server: &Arc<Server<H, A>, Global>,
     passes: &mut Vec<NodePass<H>>,
-    workers: &mut Vec<PromisedHandle<NodePass<H>, WorkerPromise<H, A>>>,
+    workers: &mut Vec<Worker<H, A>>,
 ) -> Result<(), ServerError>
     requires fits { All (Fits (arc_value server.now).node) passes.old.items }
     requires none { workers.old.items ≡ [] }
     requires room { vec_len passes.old ≤ vec_capacity workers.old }
-    ensures started { OnOk result (AllZip (IsWorker (arc_value server.now).node) (reverse passes.old.items) workers.new.items) }
+    ensures started { OnOk result (AllZip (IsWorker (arc_value server.now)) (reverse passes.old.items) workers.new.items) }
     ensures all { OnOk result (passes.new.items ≡ []) }
-    ensures back { vec_len passes.new + vec_len workers.new ≤ vec_capacity passes.new }
+    ensures back { vec_len passes.new + vec_len workers.new ≤ vec_len passes.old }
+    ensures room { vec_capacity passes.new ≡ vec_capacity passes.old }
 {
     'passes: while let Some(pass) = passes.pop() {
         let worker = start_worker(rt, alloc, server, pass)?;
@@ -171,16 +171,17 @@ pub(crate) fn start_all<
     timer: NodePass<H>,
     passes: &mut Vec<NodePass<H>>,
     period: u64,
-    workers: &mut Vec<PromisedHandle<NodePass<H>, WorkerPromise<H, A>>>,
+    workers: &mut Vec<Worker<H, A>>,
 ) -> Result<Timer<H, A, R>, ServerError>
     requires timer { Fits (arc_value server.now).node timer }
     requires passes { All (Fits (arc_value server.now).node) passes.old.items }
     requires none { workers.old.items ≡ [] }
     requires room { vec_len passes.old ≤ vec_capacity workers.old }
     ensures timer { IfOk result (IsTimer (arc_value server.now) period timer) }
-    ensures workers { OnOk result (AllZip (IsWorker (arc_value server.now).node) (reverse passes.old.items) workers.new.items) }
+    ensures workers { OnOk result (AllZip (IsWorker (arc_value server.now)) (reverse passes.old.items) workers.new.items) }
     ensures all { OnOk result (passes.new.items ≡ []) }
-    ensures back { vec_len passes.new + vec_len workers.new ≤ vec_capacity passes.new }
+    ensures back { vec_len passes.new + vec_len workers.new ≤ vec_len passes.old }
+    ensures room { vec_capacity passes.new ≡ vec_capacity passes.old }
 {
     let blocked = server.block_workers(rt);
     let started = start_workers(rt, alloc, server, passes, workers);
@@ -196,15 +197,21 @@ pub(crate) fn start_all<
 }
 
 /// Waits for the workers, the last one first, and puts the passes that they give back into `passes`, which has room for all.
+/// Returns how many connections they served.
 pub(crate) fn end_workers<R: Threads, H: PointHash, A: Handler>(
     rt: &R,
-    mut workers: Vec<PromisedHandle<NodePass<H>, WorkerPromise<H, A>>>,
+    mut workers: Vec<Worker<H, A>>,
     passes: &mut Vec<NodePass<H>>,
-)
+) -> u128
     requires { vec_len passes.old + vec_len workers ≤ vec_capacity passes.old }
-    ensures { AreBack H.hash_of A.may_handle passes.old.items (reverse workers.items) passes.new.items }
+    ensures back { AreBack H.hash_of A.may_handle passes.old.items (reverse workers.items) passes.new.items result }
+    ensures room { (vec_len passes.new ≡ vec_len passes.old + vec_len workers) × (vec_capacity passes.new ≡ vec_capacity passes.old) }
 {
+    let mut connections = 0;
     'workers: while let Some(worker) = workers.pop() {
-        passes.push_reserved(worker.join(rt));
+        let back = worker.join(rt);
+        passes.push_reserved(back.pass);
+        connections += back.connections as u128;
     }
+    connections
 }

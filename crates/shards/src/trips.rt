@@ -32,7 +32,7 @@ impl Trips {
 
 impl Handler for Trips {
     // Any answer is allowed: this handler promises nothing of its texts.
-    ghost may_handle = { λ _ _ _. Unit {0} };
+    ghost may_handle = { λ _ _ _ _. Unit {0} };
 
     fn handle<R: Wait>(
         &self,

@@ -45,6 +45,8 @@ use Rattle.node_core.specs.Taking.{TakeStep, alteration, altered_by, took, took_
 use Rattle.turn_lock.specs.declared.kept.Turn.{Turn}
 use Rattle.turn_lock.specs.History.{entries_of}
 use Rattle.locked_node.specs.History.{CallEntry, History, LegalHistory}
+use Rattle.peer_core.specs.declared.errors.ClusterError.{ClusterError}
+use Rattle.peer_core.specs.declared.rounds.Round.{Round}
 use Rattle.peer_core.specs.declared.rounds.Round.TheVariants.{Suspected, Inconclusive}
 use Rattle.turn_lock.specs.Passes as lock
 use Rattle.turn_lock.proofs.Histories.{entries_append, grown_entries}
@@ -53,11 +55,13 @@ use Rattle.locked_node.specs.Passes.{NodePass, Made, opening_of}
 use Rattle.locked_node.proofs.Histories.{histories_keep_it, made_in_turn}
 use Rattle.peer_core.specs.Acts.{Act, acts_of, did}
 use Rattle.peer_core.specs.Links.{MayAnswer, IsAckOf}
-use Rattle.peer_core.specs.Provenance.{last_of, later_of, begun_by, shown_by, unasked, InHand, NoneBegun, IsReached, RestsOn, AllRest, EndedBy, Ended}
+use Rattle.peer_core.specs.CorrectionProvenance.{CorrectionRestsOn, RestsBehind, probed_by}
+use Rattle.peer_core.specs.Provenance.{EachRests, last_of, later_of, begun_by, shown_by, unasked, InHand, NoneBegun, IsReached, RestsOn, AllRest, EndedBy, Ended}
 use Rattle.peer_core.specs.Rounds.{IsRound}
 use Rattle.peer_core.proofs.Acts.{made_none}
+use Rattle.peer_core.proofs.CorrectionRests.{corrections_rest}
 use Rattle.peer_core.proofs.Rests.{rounds_rest}
-use Rattle.system_laws.specs.Completeness.{BeginsNone, GossipRound, ProbesAlone, IsNotReached, MembersAreProbed, calls_in, PassesProbe, RoundsMade}
+use Rattle.system_laws.specs.Completeness.{BeginsNone, GossipRound, ProbesAlone, IsEitherRound, IsNotReached, MembersAreProbed, calls_in, PassesProbe, RoundsMade}
 use Rattle.system_laws.proofs.Sharing.{In-mapped, In-from_mapped}
 
 -- lists
@@ -192,14 +196,14 @@ module _ {H : Type 0} (Came : MayAnswer) (now : ℕ) where
           let both : Some q ≡ Some p = sym (ap (λ o. later_of o (last_of begun_by before)) e) ∙ is in
           last-snoc shown_by before act ∙ ap (λ o. later_of o (last_of shown_by before)) (begun_shown act p (e ∙ both))
 
-  last_rests : (before front : List (Act H)) (act : Act H) → AllRest Came now before (front ++ act ∷ []) → RestsOn Came now (before ++ front) act
+  last_rests : (before prefix : List (Act H)) (act : Act H) → AllRest Came now before (prefix ++ act ∷ []) → RestsOn Came now (before ++ prefix) act
   last_rests before [] act rests = subst (λ (l : List (Act H)). RestsOn Came now l act) (sym (append-nil before)) rests.0
   last_rests before (x ∷ xs) act rests =
       subst (λ (l : List (Act H)). RestsOn Came now l act) (append_assoc before (x ∷ []) xs) (last_rests (before ++ x ∷ []) xs act rests.1)
 
-  front_rests : (before front rest : List (Act H)) → AllRest Came now before (front ++ rest) → AllRest Came now before front
-  front_rests before [] rest rests = tt
-  front_rests before (x ∷ xs) rest rests = (rests.0, front_rests (before ++ x ∷ []) xs rest rests.1)
+  prefix_rests : (before prefix rest : List (Act H)) → AllRest Came now before (prefix ++ rest) → AllRest Came now before prefix
+  prefix_rests before [] rest rests = tt
+  prefix_rests before (x ∷ xs) rest rests = (rests.0, prefix_rests (before ++ x ∷ []) xs rest rests.1)
 
 module _ {H : Type 0} where
   abbrev probing_of : Node H → ProbeState
@@ -410,36 +414,84 @@ module _ {H : Type 0} (Came : MayAnswer) where
   abbrev rounds_acts : GossipRound H → List (Act H)
   rounds_acts r = acts_of r.entries
 
+  -- a correction begins no probe
+  corrects_none : (now a : ℕ) (before : List (Act H)) (act : Act H) (p : Probe) → begun_by act ≡ Some p → CorrectionRestsOn Came now a before act → ⊥
+  corrects_none now a before (OfEvent event.Probe, WithReply (reply.Probe (Ok probe))) p is rests = rests
+  corrects_none now a before other p is rests = cc
+
+  correction_begins_none : (now a : ℕ) (before acts : List (Act H)) → EachRests (CorrectionRestsOn Came now a) before acts → begun acts ≡ []
+  correction_begins_none now a before [] rests = refl
+  correction_begins_none now a before (act ∷ acts) rests = by_act (begun_by act) refl (correction_begins_none now a (before ++ act ∷ []) acts rests.1)
+    where
+      by_act : (o : Option Probe) → begun_by act ≡ o → begun acts ≡ [] → cons_option (begun_by act) (begun acts) ≡ []
+      by_act None e again = ap (λ o. cons_option o (begun acts)) e ∙ again
+      by_act (Some p) e again = absurd (corrects_none now a before act p e rests.0)
+
+  behind_begins_none : (now : ℕ) (target : Option ℕ) (first rest : List (Act H)) → RestsBehind Came now target first rest → begun rest ≡ []
+  behind_begins_none now None first rest none = ap begun none
+  behind_begins_none now (Some a) first rest rests = correction_begins_none now a first rest rests
+
+  -- The acts of a round: those of the round itself, and behind them what corrects its target.
+  record Parted (r : GossipRound H) : Type 0 where
+    pub first : List (Act H)
+    pub rest : List (Act H)
+    pub all : rounds_acts r ≡ first ++ rest
+    pub made : IsRound Came r.now (Ok r.round) first
+    pub none : begun rest ≡ []
+
+  parted : (r : GossipRound H) → IsEitherRound Came r.now r.round (rounds_acts r) → Parted r
+  parted r (inl is) = record { first = rounds_acts r; rest = []; all = sym (append-nil (rounds_acts r)); made = is; none = refl }
+  parted r (inr is) =
+      let c = corrections_rest Came r.now (Ok r.round) (rounds_acts r) is in record {
+        first = c.first;
+        rest = c.rest;
+        all = c.all;
+        made = subst (λ (x : Result Round ClusterError). IsRound Came r.now x c.first) c.same c.made;
+        none = behind_begins_none r.now (probed_by c.round) c.first c.rest c.rests;
+      }
+
+  -- what is done in the round itself is done
+  In-whole : (r : GossipRound H) (p : Parted r) (act : Act H) → In act p.first → In act (rounds_acts r)
+  In-whole r p act h = subst (λ (l : List (Act H)). In act l) (sym p.all) (in_append_left act p.first p.rest h)
+
+  Contains-whole : (r : GossipRound H) (p : Parted r) (act : Act H) → Contains p.first act → Contains (rounds_acts r) act
+  Contains-whole r p act h = subst (λ (l : List (Act H)). Contains l act) (sym p.all) (Contains-append_left p.first p.rest act h)
+
   -- a round that begins a probe and ends with its target
   record ProbesOne (r : GossipRound H) : Type 0 where
+    pub itself : Parted r
     pub probe : Probe
     pub only : begun (rounds_acts r) ≡ probe ∷ []
-    pub front : List (Act H)
+    pub prefix : List (Act H)
     pub act : Act H
-    pub parts : rounds_acts r ≡ front ++ act ∷ []
-    pub begins : last_of begun_by front ≡ Some probe
+    pub parts : itself.first ≡ prefix ++ act ∷ []
+    pub begins : last_of begun_by prefix ≡ Some probe
     pub ends : EndedBy r.now probe.number probe.target r.round act
 
   -- where somebody can be probed, a round that is not refused probes somebody
-  probes_one : (r : GossipRound H) → IsRound Came r.now (Ok r.round) (rounds_acts r)
+  probes_one : (r : GossipRound H) → Parted r
       → ((e : CallEntry H) → In e r.entries → e.call ≡ OfEvent event.Probe → e.answer ≡ WithReply (reply.Probe (Ok None)) → ⊥) → ProbesOne r
-  probes_one r is somebody = by_end (rounds_rest Came r.now (Ok r.round) (rounds_acts r) is).1
+  probes_one r p somebody = by_end (rounds_rest Came r.now (Ok r.round) p.first p.made).1
     where
-      rests : AllRest Came r.now [] (rounds_acts r)
-      rests = (rounds_rest Came r.now (Ok r.round) (rounds_acts r) is).0
+      rests : AllRest Came r.now [] p.first
+      rests = (rounds_rest Came r.now (Ok r.round) p.first p.made).0
 
-      by_end : Ended r.now r.round (rounds_acts r) → ProbesOne r
-      by_end (inl (idle, front, parts)) =
+      by_end : Ended r.now r.round p.first → ProbesOne r
+      by_end (inl (idle, prefix, parts)) =
           let last : In (did event.Probe (reply.Probe (Ok None))) (rounds_acts r) =
-          subst (λ (l : List (Act H)). In (did event.Probe (reply.Probe (Ok None))) l) (sym parts) (in_append_right (did event.Probe (reply.Probe (Ok None))) front _ (inl refl)) in
+          In-whole r p (did event.Probe (reply.Probe (Ok None)))
+          (subst (λ (l : List (Act H)). In (did event.Probe (reply.Probe (Ok None))) l) (sym parts) (in_append_right (did event.Probe (reply.Probe (Ok None))) prefix _ (inl refl))) in
           let e = In-from_mapped (λ (x : CallEntry H). (x.call, x.answer)) (did event.Probe (reply.Probe (Ok None))) r.entries last in
           absurd (somebody e.0 e.1 (ap (λ (x : Act H). x.0) e.2) (ap (λ (x : Act H). x.1) e.2))
-      by_end (inr (k, a, front, act, parts, begins, ends)) =
+      by_end (inr (k, a, prefix, act, parts, begins, ends)) =
           let probe : Probe = record { number = k; target = a } in
-          let inside : In probe (begun (rounds_acts r)) =
-          subst (λ (l : List Probe). In probe l) (sym (ap begun parts ∙ filter_map-both begun_by front (act ∷ [])))
-          (in_append_left probe (begun front) (begun (act ∷ [])) (in_begun front probe begins)) in
-          record { probe = probe; only = just_one Came r.now (rounds_acts r) probe rests inside; front = front; act = act; parts = parts; begins = begins; ends = ends }
+          let inside : In probe (begun p.first) =
+          subst (λ (l : List Probe). In probe l) (sym (ap begun parts ∙ filter_map-both begun_by prefix (act ∷ [])))
+          (in_append_left probe (begun prefix) (begun (act ∷ [])) (in_begun prefix probe begins)) in
+          let only : begun (rounds_acts r) ≡ probe ∷ [] =
+          ap begun p.all ∙ filter_map-both begun_by p.first p.rest ∙ ap (λ (l : List Probe). begun p.first ++ l) p.none ∙ append-nil (begun p.first)
+          ∙ just_one Came r.now p.first probe rests inside in
+          record { itself = p; probe = probe; only = only; prefix = prefix; act = act; parts = parts; begins = begins; ends = ends }
 
   -- how such a round ends where its target is not reached
   abbrev EndsFound : GossipRound H → ℕ → Type 0
@@ -450,42 +502,44 @@ module _ {H : Type 0} (Came : MayAnswer) where
   WordsAreSo r = (e : CallEntry H) → In e r.entries → (j h t : ℕ) (s : Said) → e.call ≡ OfEvent (event.HelperSaid j h s t)
       → e.answer ≡ WithReply (reply.HelperSaid (Ok answered.Reached)) → s ≡ said.Reached
 
-  Contains-end : (front : List (Act H)) (act : Act H) → Contains (front ++ act ∷ []) act
-  Contains-end front act = Contains-from_In act (front ++ act ∷ []) (in_append_right act front (act ∷ []) (inl refl))
+  Contains-end : (prefix : List (Act H)) (act : Act H) → Contains (prefix ++ act ∷ []) act
+  Contains-end prefix act = Contains-from_In act (prefix ++ act ∷ []) (in_append_right act prefix (act ∷ []) (inl refl))
 
-  found : (r : GossipRound H) (a : ℕ) (one : ProbesOne r) → IsRound Came r.now (Ok r.round) (rounds_acts r) → one.probe.target ≡ a → IsNotReached a r → WordsAreSo r → EndsFound r a
-  found r a one is target not_reached words = by_act one.act one.parts (subst (λ (b : ℕ). EndedBy r.now one.probe.number b r.round one.act) target one.ends)
+  found : (r : GossipRound H) (a : ℕ) (one : ProbesOne r) → one.probe.target ≡ a → IsNotReached a r → WordsAreSo r → EndsFound r a
+  found r a one target not_reached words = by_act one.act one.parts (subst (λ (b : ℕ). EndedBy r.now one.probe.number b r.round one.act) target one.ends)
     where
-      rests : AllRest Came r.now [] (rounds_acts r)
-      rests = (rounds_rest Came r.now (Ok r.round) (rounds_acts r) is).0
+      rests : AllRest Came r.now [] one.itself.first
+      rests = (rounds_rest Came r.now (Ok r.round) one.itself.first one.itself.made).0
 
-      held : last_of shown_by one.front ≡ Some (unasked one.probe.number one.probe.target)
-      held = in_hand Came r.now [] one.front (λ p e. cc) (front_rests Came r.now [] one.front (one.act ∷ []) (subst (λ (l : List (Act H)). AllRest Came r.now [] l) one.parts rests)) one.probe one.begins
+      held : last_of shown_by one.prefix ≡ Some (unasked one.probe.number one.probe.target)
+      held = in_hand Came r.now [] one.prefix (λ p e. cc) (prefix_rests Came r.now [] one.prefix (one.act ∷ []) (subst (λ (l : List (Act H)). AllRest Came r.now [] l) one.parts rests)) one.probe one.begins
 
-      no_ack : (b : Address) (j : ℕ) → InHand (unasked j b) one.front → IsReached Came r.now b one.front → ⊥
-      no_ack b j in_it (q, ack, got, front, before, pinged, came, of_b) =
+      no_ack : (b : Address) (j : ℕ) → InHand (unasked j b) one.prefix → IsReached Came r.now b one.prefix → ⊥
+      no_ack b j in_it (q, ack, got, prefix, before, pinged, came, of_b) =
           let both : Some (unasked j b) ≡ Some (unasked one.probe.number one.probe.target) = sym in_it ∙ held in
           let running : unasked j b ≡ unasked one.probe.number one.probe.target = cc in
           let same : b ≡ one.probe.target = ap (λ (x : Running). x.target) running in
           let taken : Contains (rounds_acts r) (did (event.Receive ack r.now) (reply.Receive got)) =
-          subst (λ (l : List (Act H)). Contains l (did (event.Receive ack r.now) (reply.Receive got))) (sym one.parts)
-          (Contains-append_left one.front (one.act ∷ []) (did (event.Receive ack r.now) (reply.Receive got))
-          (subst (λ (l : List (Act H)). Contains l (did (event.Receive ack r.now) (reply.Receive got))) (sym before) (Contains-end front (did (event.Receive ack r.now) (reply.Receive got))))) in
+          Contains-whole r one.itself (did (event.Receive ack r.now) (reply.Receive got))
+          (subst (λ (l : List (Act H)). Contains l (did (event.Receive ack r.now) (reply.Receive got))) (sym one.parts)
+          (Contains-append_left one.prefix (one.act ∷ []) (did (event.Receive ack r.now) (reply.Receive got))
+          (subst (λ (l : List (Act H)). Contains l (did (event.Receive ack r.now) (reply.Receive got))) (sym before) (Contains-end prefix (did (event.Receive ack r.now) (reply.Receive got)))))) in
           not_reached.no_ack ack r.now got taken (subst (λ (x : ℕ). IsAckOf x ack) (same ∙ target) of_b)
 
-      by_act : (act : Act H) → rounds_acts r ≡ one.front ++ act ∷ [] → EndedBy r.now one.probe.number a r.round act → EndsFound r a
+      by_act : (act : Act H) → one.itself.first ≡ one.prefix ++ act ∷ [] → EndedBy r.now one.probe.number a r.round act → EndsFound r a
       by_act (OfEvent (event.Acked j), WithReply (reply.Acked (Ok u))) parts ends =
-          let on = last_rests Came r.now [] one.front (OfEvent (event.Acked j), WithReply (reply.Acked (Ok u))) (subst (λ (l : List (Act H)). AllRest Came r.now [] l) parts rests) in
+          let on = last_rests Came r.now [] one.prefix (OfEvent (event.Acked j), WithReply (reply.Acked (Ok u))) (subst (λ (l : List (Act H)). AllRest Came r.now [] l) parts rests) in
           absurd (no_ack on.0 j on.1 on.2)
       by_act (OfEvent (event.Lost j t), WithReply (reply.Lost (Ok (lost.Suspect c)))) parts ends = inl ends.2
       by_act (OfEvent (event.HelperSaid j h s t), WithReply (reply.HelperSaid (Ok answered.Reached))) parts ends =
           let act : Act H = did (event.HelperSaid j h s t) (reply.HelperSaid (Ok answered.Reached)) in
-          let last : In act (rounds_acts r) = subst (λ (l : List (Act H)). In act l) (sym parts) (in_append_right act one.front (act ∷ []) (inl refl)) in
+          let last : In act (rounds_acts r) =
+          In-whole r one.itself act (subst (λ (l : List (Act H)). In act l) (sym parts) (in_append_right act one.prefix (act ∷ []) (inl refl))) in
           let e = In-from_mapped (λ (x : CallEntry H). (x.call, x.answer)) act r.entries last in
           let so : s ≡ said.Reached = words e.0 e.1 j h t s (ap (λ (x : Act H). x.0) e.2) (ap (λ (x : Act H). x.1) e.2) in
           absurd (not_reached.no_word j h t (Ok answered.Reached) ends.2
           (subst (λ (w : Said). Contains (rounds_acts r) (did (event.HelperSaid j h w t) (reply.HelperSaid (Ok answered.Reached)))) so
-          (subst (λ (l : List (Act H)). Contains l act) (sym parts) (Contains-end one.front act))))
+          (Contains-whole r one.itself act (subst (λ (l : List (Act H)). Contains l act) (sym parts) (Contains-end one.prefix act)))))
       by_act (OfEvent (event.HelperSaid j h s t), WithReply (reply.HelperSaid (Ok (answered.Suspect c)))) parts ends = inl ends.2
       by_act (OfEvent (event.HelperSaid j h s t), WithReply (reply.HelperSaid (Ok answered.Inconclusive))) parts ends = inr ends.2
       by_act other parts ends = elim ends [ ]
@@ -537,7 +591,7 @@ module _ {H : Type 0} (Came : MayAnswer) where
 pub members_are_probed : {H : Type 0} (hash_of : H → List ℕ → ℕ) (Came : MayAnswer) → MembersAreProbed hash_of Came
 members_are_probed {H} hash_of Came n a members old last history rounds kept legal made are_rounds alone there enough not_reached =
     let ones : (r : GossipRound H) → In r rounds → ProbesOne Came r =
-    λ r h. probes_one Came r (are_rounds r h).1 (λ e k asked answers. empty (nobody hash_of n members old last history e legal alone
+    λ r h. probes_one Came r (parted Came r (are_rounds r h).1) (λ e k asked answers. empty (nobody hash_of n members old last history e legal alone
     (subst (λ (es : List (CallEntry H)). In e es) (sym made) (In-calls Came rounds r e h k)) asked answers)) in
     let all = probed Came rounds (λ r h. ((are_rounds r h).0, ones r h)) in
     let picks = picks_of hash_of n members old last history legal alone in
@@ -549,7 +603,7 @@ members_are_probed {H} hash_of Came n a members old last history rounds kept leg
     let of = all.each pick.0.probe in_probes in (
       of.0,
       of.1,
-      found Came of.0 a of.2 (are_rounds of.0 of.1).1 (ap (λ (p : Probe). p.target) of.3 ∙ pick.2) (not_reached of.0 of.1)
+      found Came of.0 a of.2 (ap (λ (p : Probe). p.target) of.3 ∙ pick.2) (not_reached of.0 of.1)
           (λ e k j h t s called answers. word_in hash_of n old last history e j h t s legal (subst (λ (es : List (CallEntry H)). In e es) (sym made) (In-calls Came rounds of.0 e of.1 k)) called answers),
     )
   where
@@ -570,10 +624,10 @@ module _ {H : Type 0} (hash_of : H → List ℕ → ℕ) (Came : MayAnswer) wher
       (made_in_turn locked start mid q r.entries (calls_in rs) one (all_made locked mid q rs rest))
 
   each_round : (locked : LockedNode H) (p q : NodePass H) (rounds : List (GossipRound H)) → RoundsMade Came locked p rounds q
-      → (r : GossipRound H) → In r rounds → BeginsNone r.between × IsRound Came r.now (Ok r.round) (acts_of r.entries)
+      → (r : GossipRound H) → In r rounds → BeginsNone r.between × IsEitherRound Came r.now r.round (acts_of r.entries)
   each_round locked p q [] made r h = absurd h
   each_round locked p q (s ∷ rs) (start, mid, others, none, one, is, rest) r (inl e) =
-      subst (λ (x : GossipRound H). BeginsNone x.between × IsRound Came x.now (Ok x.round) (acts_of x.entries)) (sym e) (none, is)
+      subst (λ (x : GossipRound H). BeginsNone x.between × IsEitherRound Came x.now x.round (acts_of x.entries)) (sym e) (none, is)
   each_round locked p q (s ∷ rs) (start, mid, others, none, one, is, rest) r (inr h) = each_round locked mid q rs rest r h
 
   pub passes_probe : PassesProbe hash_of Came

@@ -190,8 +190,8 @@ module _ {H : Type 0} (hash_of : H → List ℕ → ℕ) where
       (ap (λ (ns : List (Node H)). node_at ns a) (new_is ∙ is) ∙ at_with old.nodes b a before after there stepped.own)
       (λ k. subst (λ (x : ℕ). IsOf old x (one x) after) (sym k) stepped) (good a)
 
-  newborn_is : (s : Simulated H) (b : Birth) → IsOf s b.address (birth b.address b.incarnation b.weight ∷ []) (created_in s b)
-  newborn_is s b = record { own = refl; holds = sym (members-IsMemberList (birth b.address b.incarnation b.weight ∷ []) (tt, tt)); hashed = refl; points = refl }
+  initial_node_is : (s : Simulated H) (b : Birth) → IsOf s b.address (birth b.address b.incarnation b.weight ∷ []) (created_in s b)
+  initial_node_is s b = record { own = refl; holds = sym (members-IsMemberList (birth b.address b.incarnation b.weight ∷ []) (tt, tt)); hashed = refl; points = refl }
 
   abbrev logs_after : Simulated H → Command → Answer → (ℕ → List Change) → ℕ → List Change
   logs_after old c ans logs a = log_after a old c ans (logs a)
@@ -223,7 +223,7 @@ module _ {H : Type 0} (hash_of : H → List ℕ → ℕ) where
       let same : SameKind old new = same_kind old new (old.nodes ++ created_in old b ∷ []) old.messages old.moment is in (
         λ a. chosen old new a b.address (created_in old b) (logs a) (birth b.address b.incarnation b.weight ∷ []) same
             (ap (λ (s : Simulated H). node_at s.nodes a) is ∙ at_more old.nodes (created_in old b) a (λ k. subst (λ (x : ℕ). node_at old.nodes x ≡ None) k absent))
-            (λ k. subst (λ (x : ℕ). IsOf old x (birth b.address b.incarnation b.weight ∷ []) (created_in old b)) (sym k) (newborn_is old b)) (good a),
+            (λ k. subst (λ (x : ℕ). IsOf old x (birth b.address b.incarnation b.weight ∷ []) (created_in old b)) (sym k) (initial_node_is old b)) (good a),
         same,
       )
   by_command old new (At moment) answer.Done is logs good =
@@ -263,7 +263,7 @@ module _ {H : Type 0} (hash_of : H → List ℕ → ℕ) where
   by_command old new (Restart b) answer.Done (nodes, gone, is) logs good =
       let same : SameKind old new = same_kind old new nodes old.messages old.moment is in (
         goes old new b.address _ nodes logs (λ x. birth b.address b.incarnation b.weight ∷ []) good gone (ap (λ (s : Simulated H). s.nodes) is) same
-            (λ before after step k. subst (λ (x : Node H). IsOf old b.address (birth b.address b.incarnation b.weight ∷ []) x) (sym step.1) (newborn_is old b)),
+            (λ before after step k. subst (λ (x : Node H). IsOf old b.address (birth b.address b.incarnation b.weight ∷ []) x) (sym step.1) (initial_node_is old b)),
         same,
       )
   by_command old new c ans obeys logs good = elim obeys [ ]

@@ -19,9 +19,14 @@ use Rattle.locked_node.specs.declared.node.LockedNode.{LockedNode}
 use Rattle.locked_node.specs.Passes.{NodePass, Made, opening_of}
 use Rattle.peer_core.specs.declared.rounds.Round.{Round}
 use Rattle.peer_core.specs.declared.rounds.Round.TheVariants.{Reached, Suspected, Inconclusive}
-use Rattle.peer_core.specs.Acts.{acts_of, did}
+use Rattle.peer_core.specs.Acts.{OfActs, acts_of, did}
+use Rattle.peer_core.specs.Correcting.{IsCorrectingRound}
 use Rattle.peer_core.specs.Links.{MayAnswer, IsAckOf}
 use Rattle.peer_core.specs.Rounds.{IsRound}
+
+-- a round at this moment that ended so, or one that corrects its target
+abbrev pub IsEitherRound : {H : Type 0} → MayAnswer → ℕ → Round → OfActs H
+IsEitherRound Came now end acts = IsRound Came now (Ok end) acts ⊎ IsCorrectingRound Came now (Ok end) acts
 
 -- a round of gossip: the calls that its pass made since the round before, its own moment, how it ended, and the calls that it made of the node
 pub record GossipRound (H : Type 0) : Type 0 where
@@ -53,13 +58,13 @@ pub record IsNotReached {H : Type 0} (a : ℕ) (r : GossipRound H) : Type 0 wher
 abbrev pub IsFound : {H : Type 0} → ℕ → List (GossipRound H) → Type 0
 IsFound {H} a rounds = (r : GossipRound H) × In r rounds × ((r.round ≡ Suspected a) ⊎ (r.round ≡ Inconclusive a))
 
--- where one pass makes 2n - 1 rounds, none of them refused, and begins no probe between them, and n members can be pinged all the while, a member
+-- where one pass makes 2n - 1 rounds, correcting or not, none of them refused, and begins no probe between them, and n members can be pinged all the while, a member
 -- that is not reached is found
 abbrev pub MembersAreProbed : {H : Type 0} → (H → List ℕ → ℕ) → MayAnswer → Type 0
 MembersAreProbed {H} hash_of Came =
     (n a : ℕ) (members : List ℕ) (old last : Node H) (history : History H) (rounds : List (GossipRound H))
     → IsNode old → LegalHistory hash_of old history last → entries_of n history ≡ calls_in rounds
-    → ((r : GossipRound H) → In r rounds → BeginsNone r.between × IsRound Came r.now (Ok r.round) (acts_of r.entries))
+    → ((r : GossipRound H) → In r rounds → BeginsNone r.between × IsEitherRound Came r.now r.round (acts_of r.entries))
     → ProbesAlone n members old history → Contains members a → 2 * length members - 1 ≤ length rounds
     → ((r : GossipRound H) → In r rounds → IsNotReached a r)
     → IsFound a rounds
@@ -69,9 +74,10 @@ abbrev pub RoundsMade : {H : Type 0} → MayAnswer → LockedNode H → NodePass
 RoundsMade Came locked old [] new = new ≡ old
 RoundsMade {H} Came locked old (r ∷ rs) new =
     (start mid : NodePass H) × Made locked old start r.between × BeginsNone r.between × Made locked start mid r.entries
-    × IsRound Came r.now (Ok r.round) (acts_of r.entries) × RoundsMade Came locked mid rs new
+    × IsEitherRound Came r.now r.round (acts_of r.entries) × RoundsMade Came locked mid rs new
 
--- the same of rounds that a pass of a locked node made, in the part of the history that it has seen since: as many calls of `gossip_round`
+-- the same of rounds that a pass of a locked node made, in the part of the history that it has seen since: as many calls of `gossip_round` or
+-- `correcting_round`, in any order
 abbrev pub PassesProbe : {H : Type 0} → (H → List ℕ → ℕ) → MayAnswer → Type 0
 PassesProbe {H} hash_of Came =
     (locked : LockedNode H) (p q : NodePass H) (a : ℕ) (members : List ℕ) (old last : Node H) (since : History H) (rounds : List (GossipRound H))

@@ -5,7 +5,7 @@ use Rattle.message_core.specs.declared.messages.Message.{Message}
 use Rattle.node_core.specs.declared.configs.Config.{Config}
 use Rattle.node_core.specs.Calls.{Call, OfEvent, OfView, Answer, WithReply, WithView}
 use Rattle.node_core.specs.Node.{Node}
-use Rattle.node_core.specs.World.{World, WorldEvent, Starts, Calls, Comes, MayAllHappen, IsTrueNode, IsTrueMessage, made_in, newborn, nothing, world_after}
+use Rattle.node_core.specs.World.{World, WorldEvent, Starts, Calls, Comes, MayAllHappen, IsTrueNode, IsTrueMessage, made_in, initial_node, nothing, world_after}
 use Rattle.rand_pcg.specs.Lcg.{Lcg}
 use Rattle.turn_lock.specs.declared.kept.Turn.{Turn}
 use Rattle.locked_node.specs.History.{CallEntry, History, LegalHistory}
@@ -22,7 +22,7 @@ pub record Birth (H : Type 0) : Type 0 where
 
 -- the node that began so
 abbrev pub created : {H : Type 0} → Birth H → Node H
-created b = newborn b.hash b.config b.own b.incarnation b.moment b.generator
+created b = initial_node b.hash b.config b.own b.incarnation b.moment b.generator
 
 -- the event that it begins
 abbrev pub starts : {H : Type 0} → Birth H → WorldEvent H

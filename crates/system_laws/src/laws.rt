@@ -29,11 +29,12 @@ pub fn monotonic_reads<H: PointHash>()
     ensures passes { PassesReadForward H.hash_of }
 {}
 
-/// Every member is probed in 2n - 1 rounds: the time-bounded completeness of SWIM. Take 2n - 1 calls of `gossip_round` by one pass, none
-/// of them refused, while the node has the same n members to ping at each probe, and no other pass begins one. Between these rounds the
-/// pass makes any calls that begin no probe: look-ups, say, messages that it serves, or `heal`. A member of which no Ack is taken in
-/// these rounds, and which no helper is said to have reached, is found: one round ends with it as suspected, or as one of which no
-/// helper could tell. No premise is on time or on delivery.
+/// Every member is probed in 2n - 1 rounds: the time-bounded completeness of SWIM. Take 2n - 1 calls of `gossip_round` or
+/// `correcting_round` by one pass, in any order and none of them refused, while the node has the same n members to ping at each
+/// probe, and no other pass begins one. Between these rounds the pass makes any calls that begin no probe: look-ups, say,
+/// messages that it serves, `heal`, or joins. So it is with the rounds of a server or an agent, whether it heals or not. A member
+/// of which no Ack is taken in these rounds, and which no helper is said to have reached, is found: one round ends with it as
+/// suspected, or as one of which no helper could tell. No premise is on time or on delivery.
 pub fn completeness<H: PointHash, L: Link>()
     ensures histories { MembersAreProbed H.hash_of L.may_answer }
     // the same of what a pass has seen since, while it made that many rounds

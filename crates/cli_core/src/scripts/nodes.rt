@@ -120,7 +120,7 @@ pub fn put_at<H: PointHash>(
 /// # Errors
 ///
 /// - `OutOfMemory`: out of memory.
-pub fn newborn<H: PointHash>(
+pub fn initial_node<H: PointHash>(
     alloc: Global,
     hash: H,
     replicas: u32,

@@ -8,7 +8,7 @@ use crate::scripts::faults::ScriptError;
 use crate::scripts::lines::{Birth, Command, Question};
 use crate::scripts::messages::Sent;
 use crate::scripts::nodes::{
-    ask_at, incarnation_at, newborn, ping_at, place_of, put_at, receive_at,
+    ask_at, incarnation_at, initial_node, ping_at, place_of, put_at, receive_at,
 };
 use change_core::{Address, Moment};
 use hash_ring::PointHash;
@@ -105,7 +105,7 @@ impl<H: PointHash> Simulation<H> {
         if self.nodes.len() >= MAX_NODES {
             return Err(ScriptError::TooManyNodes);
         }
-        let node = newborn(self.alloc, self.hash, self.replicas, self.moment, birth)?;
+        let node = initial_node(self.alloc, self.hash, self.replicas, self.moment, birth)?;
         self.nodes.push(node)?;
         Ok(Answer::Done)
     }
@@ -122,7 +122,7 @@ impl<H: PointHash> Simulation<H> {
         if birth.incarnation.number() <= held.number() {
             return Err(ScriptError::IncarnationNotGreater);
         }
-        let node = newborn(self.alloc, self.hash, self.replicas, self.moment, birth)?;
+        let node = initial_node(self.alloc, self.hash, self.replicas, self.moment, birth)?;
         put_at(&mut self.nodes, place, birth.address, node);
         Ok(Answer::Done)
     }

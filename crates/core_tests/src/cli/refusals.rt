@@ -133,6 +133,51 @@ fn refuses_the_words_of_a_server(rt: HostRuntime) {
     }
 }
 
+/// Arguments of `agent` with an address that is none, and the error text.
+const REFUSED_AGENTS: [(&str, &str); 9] = [
+    ("ringpop agent 127.0.0.1", "ringpop: bad address: ADDRESS\n"),
+    (
+        "ringpop agent --bind 0.0.0.0 127.0.0.1:1",
+        "ringpop: bad address: --bind\n",
+    ),
+    (
+        "ringpop agent --http 7980 127.0.0.1:1",
+        "ringpop: bad address: --http\n",
+    ),
+    (
+        "ringpop agent --app localhost:8080 127.0.0.1:1",
+        "ringpop: bad address: --app\n",
+    ),
+    (
+        "ringpop agent 127.0.0.1:1 127.0.0.1:2 x",
+        "ringpop: bad address: HOST\n",
+    ),
+    (
+        "ringpop agent --bind x --http x --app x x x",
+        "ringpop: bad address: ADDRESS\n",
+    ),
+    (
+        "ringpop agent --bind x --http x --app x 127.0.0.1:1 x",
+        "ringpop: bad address: --bind\n",
+    ),
+    (
+        "ringpop agent --http x --app x 127.0.0.1:1 x",
+        "ringpop: bad address: --http\n",
+    ),
+    (
+        "ringpop agent --app x 127.0.0.1:1 x",
+        "ringpop: bad address: --app\n",
+    ),
+];
+
+/// `agent` with an address that is none is refused, and the text names the first such argument as the help writes it.
+#[test]
+fn names_an_agents_bad_address(rt: HostRuntime) {
+    for (line, text) in &REFUSED_AGENTS {
+        is_refused(&rt, rt.alloc(), *line, *text);
+    }
+}
+
 /// Arguments, and the start of their error text.
 const REFUSED_WORDS: [(&str, &str); 28] = [
     ("ringpop ", "error: unrecognized subcommand ''\n"),

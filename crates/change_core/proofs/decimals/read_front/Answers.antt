@@ -1,5 +1,5 @@
 use Rattle.std.proofs.Common.{◌+◌, ◌*◌, ◌∙◌, arith}
-use Rattle.change_core.proofs.FrontNumbers.{upto_digit, zero_digit, next_digit, scan_stop, scanned_zero, scanned_great, scanned_more, stopped_none, stopped_some, same_read, not_read}
+use Rattle.change_core.proofs.PrefixNumbers.{upto_digit, zero_digit, next_digit, scan_stop, scanned_zero, scanned_great, scanned_more, stopped_none, stopped_some, same_read, not_read}
 use Rattle.change_core.proofs.decimals.read_front.Goals as goal
 
 pub returns-then-number-eq0-clause-read : goal.returns-then-number-eq0-clause-read

@@ -1,6 +1,6 @@
 use Rattle.std.proofs.Common.{◌≡◌, ◌≤◌, ◌++◌, length}
 use Rattle.change_core.specs.Printing.{upto}
-use Rattle.change_core.proofs.FrontNumbers.{scan}
+use Rattle.change_core.proofs.PrefixNumbers.{scan}
 use Rattle.change_core.proofs.decimals.read_front.Given as goal
 
 -- the number so far is that of the digits so far, and what is read of the rest is what is read of all

@@ -1,10 +1,10 @@
-use Rattle.std.proofs.Common.{◌≡◌, ◌∙◌, IfErr, IfOk, IsSomeAnd, List, Option, Result, ap, map, subst, sym}
+use Rattle.std.proofs.Common.{◌≡◌, ◌≢◌, ◌∙◌, IfErr, IfOk, IsSomeAnd, List, Option, Result, ap, codes, map, subst, sym}
 use Rattle.clap.specs.Words.{App, HasMatchesOf, Row, Text, is_simple, subcommand_of, subcommand_rows_of, takes}
 use Rattle.clap.specs.declared.error.kind.ErrorKind.{ErrorKind}
 use Rattle.clap.specs.declared.parser.matches.ArgMatches.{ArgMatches}
 use Rattle.cli_words.specs.CommandLine.{ringpop_app}
 use Rattle.cli_words.specs.Faults.{fault_of_kind, fault_of_words}
-use Rattle.cli_words.specs.Whole.{HasBadAddress, IsRefusalBy}
+use Rattle.cli_words.specs.Whole.{HasBadAddress, IsBadArgument, IsRefusalBy}
 use Rattle.cli_words.specs.Words.{AreAskedBy}
 use Rattle.cli_words.specs.declared.faults.WordsError.{WordsError}
 use Rattle.cli_words.specs.declared.words.Words.{Words}
@@ -25,7 +25,13 @@ returns-clause-asked g c = λ two.
 pub returns-clause-address : goal.returns-clause-address
 returns-clause-address g c = λ is.
     let found = found_by _ (map g.S.AsStr.text c.args.words.now) c.in_ok-matches.matches c.in_ok-ringpop_command.ensures c.in_ok-matches.ensures.matches in
-    subst (λ (o : Option (Text × List Row)). IsSomeAnd o (λ p. HasBadAddress p.1)) found
+    subst (λ (o : Option (Text × List Row)). IsSomeAnd o (λ p. (p.0 ≢ codes "agent") × HasBadAddress p.1)) found
+    (subst (λ (r : Result Words WordsError). IfErr r (IsRefusalBy (subcommand_rows_of c.in_ok-matches.matches))) is c.words_of.ensures.fault)
+
+pub returns-clause-argument : goal.returns-clause-argument
+returns-clause-argument g c = λ argument is.
+    let found = found_by _ (map g.S.AsStr.text c.args.words.now) c.in_ok-matches.matches c.in_ok-ringpop_command.ensures c.in_ok-matches.ensures.matches in
+    subst (λ (o : Option (Text × List Row)). IsSomeAnd o (λ p. (p.0 ≡ codes "agent") × IsBadArgument p.1 argument.now)) found
     (subst (λ (r : Result Words WordsError). IfErr r (IsRefusalBy (subcommand_rows_of c.in_ok-matches.matches))) is c.words_of.ensures.fault)
 
 pub returns-clause-taken : goal.returns-clause-taken

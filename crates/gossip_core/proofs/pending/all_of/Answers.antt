@@ -7,8 +7,8 @@ use Rattle.indexmap.specs.IndexMap.{values}
 use Rattle.gossip_core.proofs.PendingLemmas.{sourced-take_more}
 use Rattle.gossip_core.proofs.pending.all_of.Goals as goal
 
-pub returns-in_err-changes-clause-growth : goal.returns-in_err-changes-clause-growth
-returns-in_err-changes-clause-growth c =
+pub returns-in_err-changes-clause-out_of_memory : goal.returns-in_err-changes-clause-out_of_memory
+returns-in_err-changes-clause-out_of_memory c =
     let p = err_from_is_err_and c.from_residual.result c.from_residual.ensures.1 in
     let some : c.len.result ≡ 0 → ⊥ = λ none. false≢true (c.in_err-changes.ensures.succeeds none) in
     rw p.1 (omega (arith, some, c.len.ensures.len, length-values_of c.args.pending.now.entries))

@@ -20,8 +20,8 @@ returns-in_err-changes-clause-counted c =
     let p = err_from_is_err_and c.from_residual.result c.from_residual.ensures.1 in
     rw p.1 tt
 
-pub returns-in_err-changes-clause-growth : goal.returns-in_err-changes-clause-growth
-returns-in_err-changes-clause-growth c =
+pub returns-in_err-changes-clause-out_of_memory : goal.returns-in_err-changes-clause-out_of_memory
+returns-in_err-changes-clause-out_of_memory c =
     let p = err_from_is_err_and c.from_residual.result c.from_residual.ensures.1 in
     rw p.1 (some_asked c.min.result c.args.at_most c.len.result c.min.ensures (λ none. false≢true (c.in_err-changes.ensures.succeeds none))).0
 

@@ -16,8 +16,8 @@ pub returns-clause-by_address : goal.returns-clause-by_address
 returns-clause-by_address c =
     subst (λ es. map subject (values_of es) ≡ keys_of es) (sym (inserted c)) (by_address-insert c.args.pending.now.entries c.args.sourced c.requires)
 
-pub returns-in_err-insert-clause-growth : goal.returns-in_err-insert-clause-growth
-returns-in_err-insert-clause-growth c =
+pub returns-in_err-insert-clause-out_of_memory : goal.returns-in_err-insert-clause-out_of_memory
+returns-in_err-insert-clause-out_of_memory c =
     let absent = NoneAbout-from_lookup c.subject.result c.args.pending.now.entries c.requires c.in_err-insert.ensures.absent in
     let none = subst (λ a. NoneAbout a (values_of c.args.pending.now.entries)) c.subject.ensures absent in
     search (rules, none)

@@ -9,5 +9,5 @@ merge-requires-clause-exact c = point_exact
 
 pub merge-requires-clause-apart : goal.merge-requires-clause-apart
 merge-requires-clause-apart c =
-    let front : take c.len-count.result c.deref_mut.result.now ≡ c.args.points.now.items = grind (arith, common_steps) in
-    λ x h k. c.requires.apart x (subst (In x) front h) k
+    let prefix : take c.len-count.result c.deref_mut.result.now ≡ c.args.points.now.items = grind (arith, common_steps) in
+    λ x h k. c.requires.apart x (subst (In x) prefix h) k

@@ -4,8 +4,8 @@ use Rattle.std.specs.Option.{option_or}
 use Rattle.hash_ring.proofs.Next.{first_near, none_near, least_first, least_more, on_none}
 use Rattle.hash_ring.proofs.search.next_server.Goals as goal
 
-pub returns-in_err-first-clause-nobody : goal.returns-in_err-first-clause-nobody
-returns-in_err-first-clause-nobody c =
+pub returns-in_err-first-clause-empty : goal.returns-in_err-first-clause-empty
+returns-in_err-first-clause-empty c =
     let start = c.first_at-start.ensures in
     let none : option_or c.first_around.result (slice_get c.args.late.now 0) ≡ None = search rules in
     on_none c.from_residual.result (none_near c.args.hash (omega (arith, c.ranges.hash.fits)) c.args.points.now c.requires.ascends c.requires.small c.first_at-start.result start.low start.high c.args.late.now c.first_around.result none c.first_around.ensures)

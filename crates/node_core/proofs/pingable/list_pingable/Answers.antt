@@ -10,8 +10,8 @@ use Rattle.node_core.proofs.Pinging.{found_push, found_room, found_skip, is_ping
 use Rattle.node_core.proofs.pingable.list_pingable.Goals as goal
 use Rattle.node_core.proofs.pingable.list_pingable.Goals.{then-is_pingable, else-is_pingable}
 
-pub returns-in_default-clause-growth : goal.returns-in_default-clause-growth
-returns-in_default-clause-growth c =
+pub returns-in_default-clause-out_of_memory : goal.returns-in_default-clause-out_of_memory
+returns-in_default-clause-out_of_memory c =
     λ e. let none : c.count_pingable-count.result ≡ 0
     = c.count_pingable-count.ensures ∙ sym (pinged_count c.args.members.now c.requires c.args.own) ∙ ap length e in
     absurd (false≢true (c.in_default.ensures.succeeds none))

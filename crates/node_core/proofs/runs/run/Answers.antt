@@ -14,12 +14,12 @@ pub loop-event-preserved : goal.loop-event-preserved
 loop-event-preserved g c =
     let i = c.loop-event.event-index in
     let e = c.event-item.result in
-    let front : take (i + 1) c.args.events.now ≡ take i c.args.events.now ++ e ∷ []
+    let prefix : take (i + 1) c.args.events.now ≡ take i c.args.events.now ++ e ∷ []
     = take_more c.args.events.now i e (omega (arith, c.loop-event-test.true)) ∙ ap (λ (x : Event). take i c.args.events.now ++ x ∷ []) (sym c.event-item.is) in
     let more = Run-push g.H.PointHash.hash_of c.args.node.node c.loop-event.node.node c.apply-reply.new.self.node
     (take i c.args.events.now) c.loop-event.replies.items e c.apply-reply.result c.loop-event.invariant.ran c.apply-reply.ensures.step in
     record {
-      ran = subst (λ (es : List Event). IsRun g.H.PointHash.hash_of c.args.node.node es c.push_reserved.new.self.items c.apply-reply.new.self.node) (sym front)
+      ran = subst (λ (es : List Event). IsRun g.H.PointHash.hash_of c.args.node.node es c.push_reserved.new.self.items c.apply-reply.new.self.node) (sym prefix)
           (subst (λ (rs : List Reply). IsRun g.H.PointHash.hash_of c.args.node.node (take i c.args.events.now ++ e ∷ []) rs c.apply-reply.new.self.node) (sym c.push_reserved.ensures.items) more);
       many = c.push_reserved.ensures.len ∙ ap (λ n. n + 1) c.loop-event.invariant.many;
       room = omega (arith, c.loop-event.invariant.room, c.push_reserved.ensures.capacity);

@@ -6,7 +6,7 @@ use Rattle.peer_core.proofs.forwarding.handle_or_forward.Goals as goal
 
 pub loop-init : goal.loop-init
 loop-init g c = record {
-  left = begins g.H.PointHash.hash_of g.L.Link.may_answer g.A.Handler.may_handle g.C.Clock.time c.args.node.now c.args.pass.now c.args.keys c.args.body c.start.result
+  left = begins g.H.PointHash.hash_of g.L.Link.may_answer (g.A.Handler.may_handle c.args.handler.now) g.C.Clock.time c.args.node.now c.args.pass.now c.args.keys c.args.body c.start.result
       c.start.ensures;
   fits = c.requires;
   is_open = begins_open c.args.keys c.start.result c.start.ensures;

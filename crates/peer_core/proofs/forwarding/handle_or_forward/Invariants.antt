@@ -7,8 +7,8 @@ use Rattle.peer_core.proofs.forwarding.handle_or_forward.Given as goal
 
 abbrev pub invariant-loop : goal.invariant-loop
 invariant-loop g l = record {
-  left : Leads l.node (Until (TriesOnce g.H.PointHash.hash_of g.L.Link.may_answer g.A.Handler.may_handle g.C.Clock.time) way_of_try (record { attempt = started l.fn.keys; body = l.fn.body }))
-      (Until (TriesOnce g.H.PointHash.hash_of g.L.Link.may_answer g.A.Handler.may_handle g.C.Clock.time) way_of_try l.request) l.fn.pass l.pass;
+  left : Leads l.node (Until (TriesOnce g.H.PointHash.hash_of g.L.Link.may_answer (g.A.Handler.may_handle l.fn.handler) g.C.Clock.time) way_of_try (record { attempt = started l.fn.keys; body = l.fn.body }))
+      (Until (TriesOnce g.H.PointHash.hash_of g.L.Link.may_answer (g.A.Handler.may_handle l.fn.handler) g.C.Clock.time) way_of_try l.request) l.fn.pass l.pass;
   fits : Fits l.node l.pass;
   is_open : IsOpen l.request.attempt.stage;
 }

@@ -6,32 +6,32 @@ use Rattle.peer_core.proofs.forwarding.try_once.Goals as goal
 
 pub returns-in_err-view-clause-did : goal.returns-in_err-view-clause-did
 returns-in_err-view-clause-did g c =
-    tries_at g.H.PointHash.hash_of g.L.Link.may_answer g.A.Handler.may_handle g.C.Clock.time c.args.request c.now.result c.plan_attempt.new.attempt
+    tries_at g.H.PointHash.hash_of g.L.Link.may_answer (g.A.Handler.may_handle c.args.handler.now) g.C.Clock.time c.args.request c.now.result c.plan_attempt.new.attempt
     c.now.ensures (does_stop_at _ _ c.in_err-view.field-0.0 c.from_residual.result c.from_residual.ensures.1 c.in_err-view.ensures.did)
 
 pub returns-in-Wait-clause-did : goal.returns-in-Wait-clause-did
 returns-in-Wait-clause-did g c =
-    tries_at g.H.PointHash.hash_of g.L.Link.may_answer g.A.Handler.may_handle g.C.Clock.time c.args.request c.now.result c.plan_attempt.new.attempt
+    tries_at g.H.PointHash.hash_of g.L.Link.may_answer (g.A.Handler.may_handle c.args.handler.now) g.C.Clock.time c.args.request c.now.result c.plan_attempt.new.attempt
     c.now.ensures (does_next_is _ _ _ _ _ c.in_ok-view.ensures.did (ap (λ (s : Step). (c.in_ok-view.view, s)) c.in-Wait.is) (does_rest g.C.Clock.time _ _ _ _ c.wait_until.ensures))
 
 pub returns-in_err-text-in-Here-clause-did : goal.returns-in_err-text-in-Here-clause-did
 returns-in_err-text-in-Here-clause-did g c =
-    tries_at g.H.PointHash.hash_of g.L.Link.may_answer g.A.Handler.may_handle g.C.Clock.time c.args.request c.now.result c.plan_attempt.new.attempt
+    tries_at g.H.PointHash.hash_of g.L.Link.may_answer (g.A.Handler.may_handle c.args.handler.now) g.C.Clock.time c.args.request c.now.result c.plan_attempt.new.attempt
     c.now.ensures
     (does_next_is _ _ _ _ _ c.in_ok-view.ensures.did (ap (λ (s : Step). (c.in_ok-view.view, s)) c.in-Here.is)
     (does_stop_at _ _ c.in_err-text-in-Here.field-0.0 c.from_residual-in_err-text-in-Here.result c.from_residual-in_err-text-in-Here.ensures.1
-    (handles_so _ _ g.A.Handler.may_handle _ _ _ (handled_for g.A.Handler.may_handle _ _ c.args.request.body (Err c.in_err-text-in-Here.field-0.0) c.keys.ensures c.in_err-text-in-Here.ensures.handled))))
+    (handles_so _ _ (g.A.Handler.may_handle c.args.handler.now) _ _ _ (handled_for (g.A.Handler.may_handle c.args.handler.now) _ _ c.args.request.body (Err c.in_err-text-in-Here.field-0.0) c.keys.ensures c.in_err-text-in-Here.ensures.handled))))
 
 pub returns-in_ok-text-in-Here-clause-did : goal.returns-in_ok-text-in-Here-clause-did
 returns-in_ok-text-in-Here-clause-did g c =
-    tries_at g.H.PointHash.hash_of g.L.Link.may_answer g.A.Handler.may_handle g.C.Clock.time c.args.request c.now.result c.plan_attempt.new.attempt
+    tries_at g.H.PointHash.hash_of g.L.Link.may_answer (g.A.Handler.may_handle c.args.handler.now) g.C.Clock.time c.args.request c.now.result c.plan_attempt.new.attempt
     c.now.ensures
     (does_next_is _ _ _ _ _ c.in_ok-view.ensures.did (ap (λ (s : Step). (c.in_ok-view.view, s)) c.in-Here.is)
     (does_next _ _ _ _
-    (handles_so _ _ g.A.Handler.may_handle _ _ _ (handled_for g.A.Handler.may_handle _ _ c.args.request.body (Ok c.in_ok-text-in-Here.text) c.keys.ensures c.in_ok-text-in-Here.ensures.handled)) (does_give _ _ _)))
+    (handles_so _ _ (g.A.Handler.may_handle c.args.handler.now) _ _ _ (handled_for (g.A.Handler.may_handle c.args.handler.now) _ _ c.args.request.body (Ok c.in_ok-text-in-Here.text) c.keys.ensures c.in_ok-text-in-Here.ensures.handled)) (does_give _ _ _)))
 
 pub returns-in-Send-clause-did : goal.returns-in-Send-clause-did
 returns-in-Send-clause-did g c =
-    tries_at g.H.PointHash.hash_of g.L.Link.may_answer g.A.Handler.may_handle g.C.Clock.time c.args.request c.now.result c.plan_attempt.new.attempt
+    tries_at g.H.PointHash.hash_of g.L.Link.may_answer (g.A.Handler.may_handle c.args.handler.now) g.C.Clock.time c.args.request c.now.result c.plan_attempt.new.attempt
     c.now.ensures
     (does_next_is _ _ _ _ _ c.in_ok-view.ensures.did (ap (λ (s : Step). (c.in_ok-view.view, s)) c.in-Send.is) (sends_so _ _ g.L.Link.may_answer g.C.Clock.time c.in_ok-view.view _ _ _ c.send.ensures.sent))

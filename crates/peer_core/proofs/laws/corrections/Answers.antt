@@ -1,4 +1,4 @@
-use Rattle.peer_core.proofs.HealRests.{corrections_rest}
+use Rattle.peer_core.proofs.CorrectionRests.{corrections_rest}
 use Rattle.peer_core.proofs.laws.corrections.Goals as goal
 
 pub returns : goal.returns

@@ -9,9 +9,9 @@ returns-in_err-view-clause-did g c = does_stop_locked _ _ c.in_err-view.field-0.
 pub returns-in_default-clause-did : goal.returns-in_default-clause-did
 returns-in_default-clause-did g c =
     does_next _ _ _ _ (did_view c.in_ok-view.view c.in_ok-view.ensures.called)
-    (decides_none g.H.PointHash.hash_of g.A.Handler.may_handle _ _ c.in_ok-view.view (search rules) c.refuse.ensures.did)
+    (decides_none g.H.PointHash.hash_of (g.A.Handler.may_handle c.args.handler.now) _ _ c.in_ok-view.view (search rules) c.refuse.ensures.did)
 
 pub returns-clause-did : goal.returns-clause-did
 returns-clause-did g c =
     does_next _ _ _ _ (did_view c.in_ok-view.view c.in_ok-view.ensures.called)
-    (decides_so g.H.PointHash.hash_of g.A.Handler.may_handle _ _ c.in_ok-view.view c.in-Ok.view _ _ _ _ c.in-Ok.is c.reply_by_view-content.ensures c.message_from.ensures)
+    (decides_so g.H.PointHash.hash_of (g.A.Handler.may_handle c.args.handler.now) _ _ c.in_ok-view.view c.in-Ok.view _ _ _ _ c.in-Ok.is c.reply_by_view-content.ensures c.message_from.ensures)

@@ -9,7 +9,7 @@ abbrev pub invariant-loop : goal.invariant-loop
 invariant-loop g l = record {
   iterates : (goal.iterator-loop g).can_next l.iterator' × (goal.iterator-loop g).is_finite l.iterator';
   made :
-      Makes l.server.node (HealsRounds g.R.RoundClock.times l.period (hosts_of l.server.hosts) (heals_first l.plan.own l.plan.hosts.items) (first_join (hosts_of l.server.hosts)) l.healing l.due)
+      Makes l.server.node (HealsRounds g.R.RoundClock.times l.period (hosts_of l.server.hosts) (heals_first l.plan.own l.plan.hosts.items) (first_join (hosts_of l.server.hosts)) l.healing l.last l.due)
       l.fn.pass l.pass;
   fits : Fits l.server.node l.pass;
 }

@@ -12,8 +12,8 @@ loop-init g c =
     let first = first_join hosts in record {
       iterates = search rules;
       made =
-          rounds_join server.node Time c.args.period hosts first c.first_join-first.result c.join_if_due-due.result c.args.pass.now c.args.pass.now c.join_if_due-due.new.pass
-          (rounds_none server.node Time c.args.period hosts first c.first_join-first.result c.args.pass.now (c.first_join-first.ensures ∙ ap first_join c.hosts.ensures)) c.join_if_due-due.ensures.joined;
+          rounds_join server.node Time c.args.period hosts first c.beginning-last.result c.first_join-first.result c.join_if_due-due.result c.args.pass.now c.args.pass.now c.join_if_due-due.new.pass
+          (rounds_none server.node Time c.args.period hosts first c.beginning-last.result c.first_join-first.result c.args.pass.now c.beginning-last.ensures (c.first_join-first.ensures ∙ ap first_join c.hosts.ensures)) c.join_if_due-due.ensures.joined;
       fits = c.join_if_due-due.ensures.fits;
     }
 
@@ -23,20 +23,21 @@ loop-preserved g c =
     let Time = g.R.RoundClock.times in
     let hosts = hosts_of server.hosts in
     let first = first_join hosts in
+    let now = c.moment-now.result in
     let round = c.gossip_round-round in record {
       iterates = search rules;
       made =
-          rounds_join server.node Time c.args.period hosts first c.loop.due c.join_if_due-due-in-loop.result c.args.pass.now round.new.pass c.join_if_due-due-in-loop.new.pass
-          (rounds_more server.node Time c.args.period hosts first c.loop.due c.args.pass.now c.loop.pass round.new.pass c.loop.invariant.made
-          (a_round server.node Time c.args.period c.moment-now.result round.result c.loop.pass round.new.pass (c.rest.ensures (grind (arith, common_steps))) c.moment-now.ensures round.ensures.round))
+          rounds_join server.node Time c.args.period hosts first now c.loop.due c.join_if_due-due-in-loop.result c.args.pass.now round.new.pass c.join_if_due-due-in-loop.new.pass
+          (rounds_more server.node Time c.args.period hosts first c.loop.last now c.loop.due c.args.pass.now c.loop.pass round.new.pass c.loop.invariant.made
+          (a_round server.node Time c.args.period c.loop.last now round.result c.loop.pass round.new.pass (c.rest.ensures (grind (arith, common_steps))) c.moment-now.ensures round.ensures.round))
           c.join_if_due-due-in-loop.ensures.joined;
       fits = c.join_if_due-due-in-loop.ensures.fits;
     }
 
 pub returns-clause-made : goal.returns-clause-made
 returns-clause-made g c =
-    plain_rounds c.args.server.now.node g.R.RoundClock.times c.args.period (hosts_of c.args.server.now.hosts) c.loop.due c.args.pass.now c.loop.pass c.loop.invariant.made
+    plain_rounds c.args.server.now.node g.R.RoundClock.times c.args.period (hosts_of c.args.server.now.hosts) c.loop.last c.loop.due c.args.pass.now c.loop.pass c.loop.invariant.made
 
 pub returns-then-not-rest-clause-made : goal.returns-then-not-rest-clause-made
 returns-then-not-rest-clause-made g c =
-    plain_rounds c.args.server.now.node g.R.RoundClock.times c.args.period (hosts_of c.args.server.now.hosts) c.loop.due c.args.pass.now c.loop.pass c.loop.invariant.made
+    plain_rounds c.args.server.now.node g.R.RoundClock.times c.args.period (hosts_of c.args.server.now.hosts) c.loop.last c.loop.due c.args.pass.now c.loop.pass c.loop.invariant.made

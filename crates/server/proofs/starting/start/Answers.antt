@@ -1,4 +1,4 @@
-use Rattle.std.proofs.Common.{◌∙◌, ap}
+use Rattle.std.proofs.Common.{◌∙◌, ap, arith}
 use Rattle.server.proofs.Starts.{healed_by, started_by}
 use Rattle.server.specs.Working.{hosts_of}
 use Rattle.server.proofs.starting.start.Goals as goal
@@ -13,4 +13,4 @@ returns-clause-started g c =
     (healed_by _ _ _ c.in_ok-healing.healing c.joining-server.result.healing (made.healing ∙ new.healing) c.in_ok-healing.ensures.heals)
     (ap hosts_of made.hosts ∙ c.in_ok-hosts.ensures.copied)
     c.in_ok-node.ensures.count c.in_ok-node.ensures.left c.in_ok-node.ensures.all c.in_ok-node.ensures.handles
-    c.in_ok-running.ensures.started c.in_ok-running.ensures.period
+    c.in_ok-running.ensures.started c.in_ok-running.ensures.period (omega (arith, c.in_ok-node.ensures.room, c.in_ok-running.ensures.room))

@@ -9,11 +9,12 @@ use Rattle.server.proofs.threads.start_workers.Goals as goal
 pub passes-preserved : goal.passes-preserved
 passes-preserved g c =
     let was = c.passes.invariant in let cut = c.in-Some.ensures in let put = c.push_reserved.ensures in
-    let node = (arc_value c.args.server.now).node in record {
-      fits = (All-pop (Fits node) c.passes.passes.items c.pop.new.self.items (Some c.in-Some.pass) cut.items was.fits).0;
+    let server = arc_value c.args.server.now in record {
+      fits = (All-pop (Fits server.node) c.passes.passes.items c.pop.new.self.items (Some c.in-Some.pass) cut.items was.fits).0;
       room = omega (arith, cut.cases, put.len, put.capacity, was.room);
-      back = omega (arith, cut.cases, cut.capacity, put.len, was.back);
+      back = omega (arith, cut.cases, put.len, was.back);
+      capacity = omega (arith, cut.capacity, was.capacity);
       started =
-          one_taken (IsWorker node) c.args.passes.now.items c.passes.passes.items c.pop.new.self.items c.in-Some.pass c.in_ok-worker.worker c.passes.workers.items
+          one_taken (IsWorker server) c.args.passes.now.items c.passes.passes.items c.pop.new.self.items c.in-Some.pass c.in_ok-worker.worker c.passes.workers.items
           c.push_reserved.new.self.items cut.items put.items c.in_ok-worker.ensures.started was.started;
     }

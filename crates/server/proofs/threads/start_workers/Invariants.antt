@@ -1,4 +1,4 @@
-use Rattle.std.proofs.Common.{All, ◌+◌, ◌≤◌}
+use Rattle.std.proofs.Common.{All, ◌≡◌, ◌+◌, ◌≤◌}
 use Rattle.std.specs.Prelude.{vec_len}
 use Rattle.std.specs.Arc.{arc_value}
 use Rattle.std.specs.Vec.{vec_capacity}
@@ -12,8 +12,9 @@ abbrev pub invariant-passes : goal.invariant-passes
 invariant-passes g l = record {
   fits : All (Fits (arc_value l.server).node) l.passes.items;
   room : vec_len l.workers + vec_len l.passes ≤ vec_capacity l.workers;
-  back : vec_len l.passes + vec_len l.workers ≤ vec_capacity l.passes;
-  started : Taken (IsWorker (arc_value l.server).node) l.fn.passes.items l.passes.items l.workers.items;
+  back : vec_len l.passes + vec_len l.workers ≡ vec_len l.fn.passes;
+  capacity : vec_capacity l.passes ≡ vec_capacity l.fn.passes;
+  started : Taken (IsWorker (arc_value l.server)) l.fn.passes.items l.passes.items l.workers.items;
 }
 
 -- the passes that are left

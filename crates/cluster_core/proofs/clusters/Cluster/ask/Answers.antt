@@ -11,8 +11,8 @@ returns-clause-closed g c =
     let same : c.deref-2.result.now ≡ c.args.self.now.posts = c.deref-2.ensures.value ∙ ap (λ v. v.items) c.deref.ensures ∙ ap (λ v. v.posts) c.self.view_is in
     c.ask_one.ensures.closed (subst (λ (ps : List Mailbox). HasNoPost ps c.args.to) (sym same) none)
 
-pub returns-clause-nobody : goal.returns-clause-nobody
-returns-clause-nobody g c =
+pub returns-clause-no_node : goal.returns-clause-no_node
+returns-clause-no_node g c =
     λ none.
     let same : c.deref-2.result.now ≡ (arc_value c.self.inside.posts).items = c.deref-2.ensures.value ∙ ap (λ v. v.items) c.deref.ensures in
     c.ask_one.ensures.closed (subst (λ (ps : List Mailbox). HasNoPost ps c.args.to) (sym same)

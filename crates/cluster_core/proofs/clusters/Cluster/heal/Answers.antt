@@ -23,8 +23,8 @@ returns-in-Some-clause-healed g c =
     (node_did (IsHealing any_answer c.args.now c.args.healing.now.hosts (after_round c.args.healing.now).0) c.args.address c.heal.result (record { posts = posts; seats = seats }) (record { posts = posts; seats = now }) c.in-Some.at c.index_mut.result.now c.heal.new.self
     (rw c.deref.ensures.value at c.in-Some.ensures.some.0) (rw c.deref.ensures.value at c.in-Some.ensures.its) c.index_mut.ensures.value c.heal.ensures.made refl refl)
 
-pub returns-in-Some-clause-nobody : goal.returns-in-Some-clause-nobody
-returns-in-Some-clause-nobody g c =
+pub returns-in-Some-clause-no_node : goal.returns-in-Some-clause-no_node
+returns-in-Some-clause-no_node g c =
     λ none. absurd ((rw c.deref.ensures.value at c.in-Some.ensures.some.1) (subst (λ s. HasNoNode s c.args.address) (sym c.self.view_is) none))
 
 pub returns-in-None-clause-healed : goal.returns-in-None-clause-healed

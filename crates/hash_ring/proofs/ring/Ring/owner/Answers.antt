@@ -20,12 +20,12 @@ returns-clause-first g c =
     let both = i.lists.points.items ++ i.lists.late.items in
     let same : c.deref.result.now ++ c.deref-2.result.now ≡ both = λ j. c.deref.ensures.value j ++ c.deref-2.ensures.value j in
     rw (← c.self.view_is)
-    (next_is (g.H.PointHash.hash_of i.hash) i.replicas i.lists.servers.items _ _ c.args.key.now c.self.invariant.ring c.next_server.result c.hash.result c.next_server.ensures.next c.next_server.ensures.nobody c.hash.ensures
+    (next_is (g.H.PointHash.hash_of i.hash) i.replicas i.lists.servers.items _ _ c.args.key.now c.self.invariant.ring c.next_server.result c.hash.result c.next_server.ensures.next c.next_server.ensures.empty c.hash.ensures
     (λ q h. ascending_in point_exact q both (subst (In q) same h))
     (λ q h. subst (In q) (sym same) (in_ascending point_exact q both h)))
 
 pub returns-clause-nearest : goal.returns-clause-nearest
 returns-clause-nearest g c = owner_nearest (g.H.PointHash.hash_of c.args.self.now.hash) c.args.self.now.replicas c.args.self.now.servers c.args.key.now c.next_server.result (returns-clause-first g c)
 
-pub returns-clause-nobody : goal.returns-clause-nobody
-returns-clause-nobody g c = owner_nobody (g.H.PointHash.hash_of c.args.self.now.hash) c.args.self.now.replicas c.args.self.now.servers c.args.key.now c.next_server.result (returns-clause-first g c)
+pub returns-clause-empty : goal.returns-clause-empty
+returns-clause-empty g c = owner_nobody (g.H.PointHash.hash_of c.args.self.now.hash) c.args.self.now.replicas c.args.self.now.servers c.args.key.now c.next_server.result (returns-clause-first g c)

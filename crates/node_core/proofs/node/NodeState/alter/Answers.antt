@@ -1,10 +1,12 @@
 use Rattle.std.proofs.Common.{subst, sym}
 use Rattle.node_core.specs.Edits.{membership_of, MayEdit}
 use Rattle.node_core.specs.Node.{Seen, altered}
-use Rattle.std.specs.Prelude.{◌≡◌, OnOk}
+use Rattle.std.specs.Prelude.{◌≡◌, OnErr, OnOk}
 use Rattle.node_core.specs.Parts.{Parts, node_of}
+use Rattle.node_core.specs.Room.{WantsRoom}
 use Rattle.node_core.proofs.Alter.{edited_is, edited_parts}
 use Rattle.node_core.proofs.Editing.{IsGain-edit, IsTimed-kept, MayEdit-parts, asserts-own}
+use Rattle.node_core.proofs.Room.{WantsRoom-parts}
 use Rattle.node_core.proofs.node.NodeState.alter.Goals as goal
 
 pub alter_parts-requires-clause-timed : goal.alter_parts-requires-clause-timed
@@ -57,3 +59,10 @@ returns-clause-ok g c =
       ring_err = e.err_ring;
       rest_err = e.err_rest;
     }))
+
+pub returns-clause-out_of_memory : goal.returns-clause-out_of_memory
+returns-clause-out_of_memory g c =
+    let i = c.self.inside in
+    let p : Parts g.row.H.Denot = record { config = i.config; members = i.members; ring = i.ring; gossip = i.gossip; timers = i.timers; probing = i.prober; moment = i.moment } in
+    subst (λ (s : Seen g.row.H.Denot). OnErr c.alter_parts.result (WantsRoom s.node c.args.news.now.change)) c.self.view_is
+    (WantsRoom-parts g.H.PointHash.hash_of p c.self.invariant c.args.news.now.change c.alter_parts.result c.alter_parts.ensures.out_of_memory)

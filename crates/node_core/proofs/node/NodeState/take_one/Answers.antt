@@ -1,4 +1,5 @@
-use Rattle.std.proofs.Common.{◌≡◌, ap, subst, sym, ◌∙◌}
+use Rattle.std.proofs.Common.{◌≡◌, Option, ap, subst, sym, ◌∙◌}
+use Rattle.std.specs.Prelude.{IfSome}
 use Rattle.change_core.specs.declared.changes.Sourced.{Sourced}
 use Rattle.member_core.specs.declared.verdicts.Verdict.TheVariants.{Refute}
 use Rattle.node_core.specs.declared.edits.Edit.TheVariants.{Judged}
@@ -6,8 +7,9 @@ use Rattle.node_core.specs.declared.events.StopCause.TheVariants as cause
 use Rattle.node_core.specs.declared.taking.Effect.TheVariants.{Unaltered, Applied, Refuted}
 use Rattle.node_core.specs.Edits.{membership_of, MayEdit}
 use Rattle.node_core.specs.Node.{Seen, altered, asserted_by}
-use Rattle.node_core.specs.Parts.{Parts}
-use Rattle.node_core.specs.Taking.{TakesOne, StopsOne}
+use Rattle.node_core.specs.Parts.{Parts, node_of}
+use Rattle.node_core.specs.Room.{WantsRoom}
+use Rattle.node_core.specs.Taking.{TakesOne, StopsOne, WantsRoomFor}
 use Rattle.node_core.proofs.Judge.{alteration-refute, alteration-take, may-refute, may-take, refused_by, stops-exhausted, stops-full, stops-memory, takes-old, takes-refuted, takes-taken}
 use Rattle.node_core.proofs.node.NodeState.take_one.Goals as goal
 
@@ -89,3 +91,22 @@ returns-in-Err-alter-clause-err g c =
     (stops-memory g.H.PointHash.hash_of p c.self.invariant c.args.sourced.now (asserted_by c.in-Refute.next.address c.in-Refute.next) new.node (ap refused_by (sym c.judge-verdict.ensures ∙ c.in-Refute.is))
     (alteration-refute g.H.PointHash.hash_of p c.self.invariant c.args.sourced.now c.in-Refute.given c.in-Refute.next (sym c.judge-verdict.ensures ∙ c.in-Refute.is))
     (ap (λ (s : Seen g.row.H.Denot). s.node) (c.in-Err-alter.ensures.err ∙ sym c.self.view_is)))
+
+pub returns-in-Err-clause-out_of_memory : goal.returns-in-Err-clause-out_of_memory
+returns-in-Err-clause-out_of_memory g c lack =
+    let i = c.self.inside in
+    let p : Parts g.row.H.Denot = record { config = i.config; members = i.members; ring = i.ring; gossip = i.gossip; timers = i.timers; probing = i.prober; moment = i.moment } in
+    subst (λ (s : Seen g.row.H.Denot). WantsRoomFor s.node c.args.sourced.now) c.self.view_is
+    (subst (λ (o : Option Sourced). IfSome o (λ s. WantsRoom (node_of p) s.change))
+    (sym (alteration-take g.H.PointHash.hash_of p c.self.invariant c.args.sourced.now c.in-Take.field-0 (sym c.judge-verdict.ensures ∙ c.in-Take.is)))
+    (subst (λ (s : Seen g.row.H.Denot). WantsRoom s.node c.args.sourced.now.change) (sym c.self.view_is) c.in-Err.ensures.out_of_memory))
+
+pub returns-in-Err-alter-clause-out_of_memory : goal.returns-in-Err-alter-clause-out_of_memory
+returns-in-Err-alter-clause-out_of_memory g c lack =
+    let i = c.self.inside in
+    let p : Parts g.row.H.Denot = record { config = i.config; members = i.members; ring = i.ring; gossip = i.gossip; timers = i.timers; probing = i.prober; moment = i.moment } in
+    subst (λ (s : Seen g.row.H.Denot). WantsRoomFor s.node c.args.sourced.now) c.self.view_is
+    (subst (λ (o : Option Sourced). IfSome o (λ s. WantsRoom (node_of p) s.change))
+    (sym (alteration-refute g.H.PointHash.hash_of p c.self.invariant c.args.sourced.now c.in-Refute.given c.in-Refute.next (sym c.judge-verdict.ensures ∙ c.in-Refute.is)))
+    (subst (λ (s : Seen g.row.H.Denot). WantsRoom s.node c.in-Refute.next) (sym c.self.view_is)
+    (subst (λ (t : Sourced). WantsRoom c.args.self.now.node t.change) c.sourced_by_self-news.ensures c.in-Err-alter.ensures.out_of_memory)))

@@ -1,4 +1,4 @@
--- The number at the front of bytes, read digit by digit.
+-- The number with which bytes begin, read digit by digit.
 use Rattle.std.proofs.Common.{◌≡◌, ℕ, zero, suc, ◌+◌, ◌*◌, ◌-◌, ◌/◌, ◌%◌, ◌^◌, ◌<◌, ◌≤◌, ◌==◌, ◌&&◌, true, false, cond, nat_lt, List, [], ◌∷◌, ◌++◌, Option, Some, None, arith, refl, inl, inr, sym, ◌∙◌, ap, append_assoc}
 use Rattle.std.specs.Fmt.{decimal}
 use Rattle.std.proofs.lemmas.Grind.{common_steps}
@@ -56,9 +56,9 @@ scan_digits : (most n : ℕ) → n < 2 ^ 64 → (xs : List ℕ) → 0 < n → n 
 scan_digits most n small = decimal_by_steps (λ n ds. (xs : List ℕ) → 0 < n → n ≤ most → scan most 0 (ds ++ xs) ≡ scan most n xs)
     (λ n below xs some few. (let same : 10 * 0 + n ≡ n = omega arith in scan_digit most 0 n xs below ∙ ap (λ m. scanned most m xs) same ∙ scanned_more most n xs some few))
     (λ n ds large before xs some few.
-    let front : scan most 0 (ds ++ (48 + n % 10) ∷ xs) ≡ scan most (n / 10) ((48 + n % 10) ∷ xs) = before ((48 + n % 10) ∷ xs) (omega arith) (omega arith) in
+    let prefix : scan most 0 (ds ++ (48 + n % 10) ∷ xs) ≡ scan most (n / 10) ((48 + n % 10) ∷ xs) = before ((48 + n % 10) ∷ xs) (omega arith) (omega arith) in
     let whole : 10 * (n / 10) + n % 10 ≡ n = omega arith in
-    ap (scan most 0) (append_assoc ds ((48 + n % 10) ∷ []) xs) ∙ front ∙ scan_digit most (n / 10) (n % 10) xs (omega arith) ∙ ap (λ m. scanned most m xs) whole ∙ scanned_more most n xs some few)
+    ap (scan most 0) (append_assoc ds ((48 + n % 10) ∷ []) xs) ∙ prefix ∙ scan_digit most (n / 10) (n % 10) xs (omega arith) ∙ ap (λ m. scanned most m xs) whole ∙ scanned_more most n xs some few)
     n small
 
 pub stopped_some : (n : ℕ) (xs : List ℕ) → 0 < n → stopped n xs ≡ Some (n, xs)

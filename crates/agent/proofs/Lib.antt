@@ -1,2 +1,5 @@
 pub mod Answering
+pub mod Called
+pub mod Conversing
+pub mod Relaying
 pub mod Written

@@ -2,8 +2,8 @@
 use Rattle.std.specs.Prelude.{Bool, true, false}
 use Rattle.std.specs.declared.io.ErrorKind.{ErrorKind}
 use Rattle.std.specs.declared.io.ErrorKind.TheVariants.{BrokenPipe, ConnectionReset}
-use Rattle.agent.specs.declared.exchanges.Failure.{Failure}
-use Rattle.agent.specs.declared.exchanges.Failure.TheVariants.{HungUp, NoAnswer}
+use Rattle.agent_core.specs.declared.refusals.Failure.{Failure}
+use Rattle.agent_core.specs.declared.refusals.Failure.TheVariants.{HungUp, NoAnswer}
 
 -- the failure by the kind of the connection's error: the application hung up if it broke the connection before a byte of the answer
 abbrev pub failure_of : ErrorKind → Bool → Failure

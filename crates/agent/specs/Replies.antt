@@ -5,8 +5,6 @@ use Rattle.change_core.specs.declared.changes.Change.{Change}
 use Rattle.hash_ring.specs.Points.{owners}
 use Rattle.hash_ring.specs.declared.hash.Sha256Hash.{Sha256Hash}
 use Rattle.node_core.specs.Viewing.{Viewed}
-use Rattle.std.specs.Int.{from_be_bytes, w64}
-use Rattle.sha2.specs.Sha256.{sha256}
 use Rattle.http.specs.declared.request.Request.{Request}
 use Rattle.http1.specs.Fields.{Header}
 use Rattle.http_server.specs.declared.response.Response.{Response}
@@ -25,6 +23,7 @@ use Rattle.agent_core.specs.declared.refusals.Refusal.{Refusal}
 use Rattle.agent_core.specs.declared.refusals.Refusal.TheVariants.{BadMethod}
 use Rattle.agent_core.specs.declared.verbs.Verb.{Verb}
 use Rattle.agent_core.specs.declared.verbs.Verb.TheVariants.{Get, Post}
+use Rattle.agent.specs.Calling.{hash_number}
 use Rattle.agent.specs.Requests.{AsksFor, IsRefused}
 use Rattle.agent.specs.declared.replies.Reply.{Reply}
 use Rattle.agent.specs.declared.replies.Reply.TheVariants.{Handled, Line, Text, Json, Page}
@@ -59,10 +58,6 @@ pub record IsText (content : Kind) (text : List ℕ) (reply : Reply) : Type 0 wh
   pub status : reply_status reply ≡ 200
   pub kind : reply_kind reply ≡ content
   pub body : reply_body reply ≡ text
-
--- the hash of bytes: the number that the first eight bytes of their SHA-256 write
-abbrev pub hash_number : List ℕ → ℕ
-hash_number bytes = from_be_bytes w64 (take 8 (sha256 bytes))
 
 -- a reply is an owner's answer, which may be any
 abbrev pub IsOwnersAnswer : Reply → Type 0

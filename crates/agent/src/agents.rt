@@ -2,6 +2,7 @@
 use crate::applications::Application;
 use crate::callers::{Caller, Passes};
 use crate::counters::{Count, Counters};
+use crate::entrances::Entrance;
 use crate::journals::Journal;
 use crate::notices::Notices;
 use crate::systems::Host;
@@ -11,6 +12,9 @@ use server::{ServerClock, Stopwatch, Timeouts};
 use std::sync::Mutex;
 use std::sync::atomic::{AtomicBool, Ordering};
 use std::thread::Parker;
+
+/// The most HTTP connections that are kept open between requests. While there are more, others may be waiting for a thread.
+const MOST_KEPT: u64 = 240;
 
 /// The phase of an agent.
 #[derive(Clone, Copy, Debug, PartialEq, Eq)]
@@ -61,22 +65,28 @@ pub struct Agent<R> {
     /// The passes that no thread has.
     pub passes: Mutex<Passes>,
     pub counters: Counters,
-    /// The number of HTTP requests that are being answered.
-    pub busy: Count,
-    /// The number of them that wait for a key's owner.
+    /// The number of HTTP requests that wait for a key's owner.
     pub waiting: Count,
     /// The number of requests that are being relayed.
     pub relaying: Count,
-    /// The moment, in milliseconds, before which the log says nothing more of owners that answer that they are none.
-    pub quiet_until: Count,
     /// The number of HTTP connections that are served.
     pub connections: Count,
+    /// The entrance of HTTP connections.
+    pub entrance: Entrance,
+    /// The number of threads that serve HTTP connections, or wait for one.
+    pub fronts: Count,
     /// What the log said last of other nodes and, at its own address, of messages to them.
     pub notices: Notices,
+    /// What the log said last of nodes that disown what this node's members give them.
+    pub disowners: Notices,
     pub has_joined: Flag,
     pub has_left: Flag,
+    /// Held while the node leaves or comes back.
+    pub moving: Mutex<()>,
     /// Whether the node has left and the agent is to end.
     pub is_stopping: Flag,
+    /// Whether the leave was spread, so that HTTP ends: a connection is closed after a second in which it sends nothing.
+    pub is_ending: Flag,
     /// Whether a thread needed a pass and none was left.
     pub is_spent: Flag,
     /// The parker that is unparked when the agent is to end.
@@ -108,6 +118,12 @@ impl<R: Host> Agent<R> {
         } else {
             Phase::Joining
         }
+    }
+
+    /// Returns whether each HTTP connection is closed after its next answer, and also if it sends nothing for a second, so
+    /// that others are served: more than 240 are.
+    pub fn is_crowded(&self) -> bool {
+        self.connections.get() > MOST_KEPT
     }
 
     /// Returns the node with a pass that no thread has; None if no pass is left.

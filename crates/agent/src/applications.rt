@@ -1,13 +1,15 @@
 //! The application, which answers the requests of the keys that this node owns.
-ghost use Rattle.std.specs.Prelude.{◌≡◌, ◌≤◌, ◌*◌};
+ghost use Rattle.std.specs.Prelude.{◌≡◌, ◌≤◌, ◌*◌, false, IfOk};
 ghost use Rattle.std.specs.Duration.{as_nanos};
+ghost use Rattle.agent_core.specs.Packs.{packed};
+ghost use Rattle.agent_core.specs.Refusals.{line_of, status_of};
 
 use crate::counters::Count;
-use crate::exchanges::{Answer, Asked, Failure, exchange};
+use crate::exchanges::{Answer, Asked, exchange};
 use crate::journals::Journal;
 use crate::notices::Notices;
 use crate::systems::Host;
-use agent_core::{GREATEST_STATUS, LEAST_STATUS, LONGEST_BODY, Refusal, pack};
+use agent_core::{Failure, GREATEST_STATUS, LEAST_STATUS, LONGEST_BODY, Refusal, pack};
 use change_core::Address;
 use cluster_core::{Deadline, Timed, socket_address};
 use http1::{Client, Limits};
@@ -53,9 +55,10 @@ pub struct Application<R> {
 }
 
 /// Returns the text of a Reply for a refusal.
-fn refused(alloc: Global, refusal: Refusal) -> Result<Text, HandlerFault> {
-    let status = refusal.status().clamp(LEAST_STATUS, GREATEST_STATUS);
-    pack(alloc, status, false, refusal.line()).map_err(handler_fault)
+fn refused(alloc: Global, refusal: Refusal) -> Result<Text, HandlerFault>
+    ensures { IfOk result (λ text. text ≡ packed (status_of refusal) false (line_of refusal)) }
+{
+    pack(alloc, refusal.status(), false, refusal.line()).map_err(handler_fault)
 }
 
 /// Returns the handler's error if an answer has no text.
@@ -175,7 +178,7 @@ impl<R: Host> Application<R> {
             }
         }
         let left = deadline.left().map_err(no_answer)?;
-        let connection = self.connect(asked.at, left).ok_or(Failure::NoAnswer)?;
+        let connection = self.connect(asked.at, left).ok_or(Failure::NotAccepted)?;
         self.exchange_over(alloc, connection, &deadline, asked)
     }
 
@@ -199,11 +202,15 @@ impl<R: Host> Application<R> {
             return;
         }
         match failure {
+            Failure::NotAccepted => {
+                warn!(self.log; "the application at {at} accepts no connection")
+            }
+            Failure::HungUp => {
+                warn!(self.log; "the application at {at} hung up before it answered")
+            }
+            Failure::NoAnswer => { warn!(self.log; "the application at {at} gave no whole answer") }
             Failure::BadAnswer => {
                 warn!(self.log; "the application at {at} gave an answer that can't be passed on")
-            }
-            Failure::HungUp | Failure::NoAnswer => {
-                warn!(self.log; "the application at {at} does not answer")
             }
         }
     }
@@ -215,7 +222,7 @@ impl<R: Host> Application<R> {
         };
         match packed(alloc, 200, false, text.as_bytes()) {
             Some(text) => text,
-            None => refused(alloc, Refusal::ApplicationFailed),
+            None => refused(alloc, Refusal::Unanswered(Failure::BadAnswer)),
         }
     }
 
@@ -250,7 +257,7 @@ impl<R: Host> Application<R> {
         };
         self.note_failure(at, failure);
         // (a Reply and no error, so that the asking node does not try again)
-        refused(alloc, Refusal::ApplicationFailed)
+        refused(alloc, Refusal::Unanswered(failure))
     }
 }
 

@@ -1,10 +1,19 @@
 //! The node as one thread calls it, and the passes that no thread has.
-ghost use Rattle.std.specs.Prelude.{◌≡◌, IfSome};
+ghost use Rattle.std.specs.Prelude.{◌≡◌, ◌∷◌, [], IfSome};
 ghost use Rattle.std.specs.Arc.{arc_value};
 ghost use Rattle.std.specs.List.{All};
 ghost use Rattle.locked_node.specs.Passes.{Fits};
-ghost use Rattle.peer_core.specs.Parts.{Does};
+ghost use Rattle.node_core.specs.declared.events.Event.TheVariants as call;
+ghost use Rattle.node_core.specs.declared.events.Reply.TheVariants as reply;
+ghost use Rattle.peer_core.specs.Acts.{Makes};
+ghost use Rattle.peer_core.specs.Exchanges.{SendsByChoice, SendsTo, SendsToOne};
+ghost use Rattle.peer_core.specs.Joining.{IsJoin};
+ghost use Rattle.peer_core.specs.Parts.{Calls, Does, Tries, allowed, let_in};
+ghost use Rattle.agent.specs.Calling.{Looks, hash_of};
 ghost use Rattle.peer_core.specs.Correcting.{IsCorrectingRound};
+ghost use Rattle.peer_core.specs.Forwarding.{IsRequest};
+ghost use Rattle.peer_core.specs.Healing.{IsHealing, after_round};
+ghost use Rattle.peer_core.specs.Resending.{SendsRequest};
 ghost use Rattle.peer_core.specs.Rounds.{IsRound};
 
 use change_core::{Address, Change, Digest, Entry, Moment};
@@ -77,6 +86,7 @@ impl Caller {
     ) -> Result<Round, ClusterError>
         ensures node { self.new.node ≡ self.old.node }
         ensures did { Does self.old.node (IsRound L.may_answer now) result self.old.pass self.new.pass }
+        ensures sent { Makes self.old.node (SendsTo L.went [] link.old link.new) self.old.pass self.new.pass }
     {
         let round = gossip_round(rt, alloc, &*self.node, &mut self.pass, link, now);
         self.is_spent |= tells_spent(&round);
@@ -104,6 +114,7 @@ impl Caller {
     ) -> Result<Round, ClusterError>
         ensures node { self.new.node ≡ self.old.node }
         ensures did { Does self.old.node (IsCorrectingRound L.may_answer now) result self.old.pass self.new.pass }
+        ensures sent { Makes self.old.node (SendsToOne L.went link.old link.new) self.old.pass self.new.pass }
     {
         let round = correcting_round(rt, alloc, &*self.node, &mut self.pass, link, now);
         self.is_spent |= tells_spent(&round);
@@ -127,7 +138,12 @@ impl Caller {
         link: &mut L,
         now: Moment,
         healing: &mut Healing<'_>,
-    ) -> Result<bool, ClusterError> {
+    ) -> Result<bool, ClusterError>
+        ensures node { self.new.node ≡ self.old.node }
+        ensures did { Does self.old.node (IsHealing L.may_answer now healing.old.hosts (after_round healing.old).0) result self.old.pass self.new.pass }
+        ensures sent { Makes self.old.node (SendsByChoice L.went link.old link.new) self.old.pass self.new.pass }
+        ensures healing { healing.new ≡ (after_round healing.old).1 }
+    {
         let healed = heal(rt, alloc, &*self.node, &mut self.pass, link, now, healing);
         self.is_spent |= tells_spent(&healed);
         healed
@@ -150,7 +166,11 @@ impl Caller {
         link: &mut L,
         host: Address,
         now: Moment,
-    ) -> Result<u32, ClusterError> {
+    ) -> Result<u32, ClusterError>
+        ensures node { self.new.node ≡ self.old.node }
+        ensures did { Does self.old.node (IsJoin L.may_answer now (host ∷ [])) result self.old.pass self.new.pass }
+        ensures sent { Makes self.old.node (SendsTo L.went (host ∷ []) link.old link.new) self.old.pass self.new.pass }
+    {
         let joined = join(rt, alloc, &*self.node, &mut self.pass, link, &[host], now);
         self.is_spent |= tells_spent(&joined);
         joined
@@ -178,10 +198,7 @@ impl Caller {
         );
         if line.is_none() {
             // (there may be no line because the pass has made all its calls: another call shows that)
-            let own = self
-                .node
-                .own(rt, &mut self.pass)
-                .map_err(ClusterError::from);
+            let own = let_in(self.node.own(rt, &mut self.pass));
             self.is_spent |= tells_spent(&own);
         }
         line
@@ -212,6 +229,8 @@ impl Caller {
         body: Text,
     ) -> Result<Text, ClusterError>
         ensures node { self.new.node ≡ self.old.node }
+        ensures did { Does self.old.node (IsRequest hash_of L.may_answer (A.may_handle handler.now) C.time keys body) result self.old.pass self.new.pass }
+        ensures sent { Makes self.old.node (SendsRequest hash_of L.went keys body link.old link.new) self.old.pass self.new.pass }
     {
         let answer = handle_or_forward(
             rt,
@@ -237,7 +256,10 @@ impl Caller {
     /// - `ForeignPass`: the pass has another node's name. This is checked first.
     /// - `PassSpent`: the pass has made all its calls.
     /// - `Memory`: out of memory for the copy.
-    pub fn view<R: Wait>(&mut self, rt: &R) -> Result<View<Sha256Hash>, ClusterError> {
+    pub fn view<R: Wait>(&mut self, rt: &R) -> Result<View<Sha256Hash>, ClusterError>
+        ensures node { self.new.node ≡ self.old.node }
+        ensures did { Does self.old.node Looks result self.old.pass self.new.pass }
+    {
         let view = answered(self.node.view(rt, &mut self.pass));
         self.is_spent |= tells_spent(&view);
         view
@@ -251,11 +273,11 @@ impl Caller {
     ///
     /// - `ForeignPass`: the pass has another node's name. This is checked first.
     /// - `PassSpent`: the pass has made all its calls.
-    pub fn own<R: Wait>(&mut self, rt: &R) -> Result<Change, ClusterError> {
-        let own = self
-            .node
-            .own(rt, &mut self.pass)
-            .map_err(ClusterError::from);
+    pub fn own<R: Wait>(&mut self, rt: &R) -> Result<Change, ClusterError>
+        ensures node { self.new.node ≡ self.old.node }
+        ensures did { Does self.old.node (Calls call.Own reply.Own) result self.old.pass self.new.pass }
+    {
+        let own = let_in(self.node.own(rt, &mut self.pass));
         self.is_spent |= tells_spent(&own);
         own
     }
@@ -272,11 +294,11 @@ impl Caller {
         &mut self,
         rt: &R,
         address: Address,
-    ) -> Result<Option<Entry>, ClusterError> {
-        let member = self
-            .node
-            .member(rt, &mut self.pass, address)
-            .map_err(ClusterError::from);
+    ) -> Result<Option<Entry>, ClusterError>
+        ensures node { self.new.node ≡ self.old.node }
+        ensures did { Does self.old.node (Calls (call.Member address) reply.Member) result self.old.pass self.new.pass }
+    {
+        let member = let_in(self.node.member(rt, &mut self.pass, address));
         self.is_spent |= tells_spent(&member);
         member
     }
@@ -290,7 +312,10 @@ impl Caller {
     /// - `ForeignPass`: the pass has another node's name. This is checked first.
     /// - `PassSpent`: the pass has made all its calls.
     /// - `Memory`: out of memory for the list.
-    pub fn members<R: Wait>(&mut self, rt: &R) -> Result<ChangeList, ClusterError> {
+    pub fn members<R: Wait>(&mut self, rt: &R) -> Result<ChangeList, ClusterError>
+        ensures node { self.new.node ≡ self.old.node }
+        ensures did { Does self.old.node (Tries call.Members reply.Members) result self.old.pass self.new.pass }
+    {
         let members = answered(self.node.members(rt, &mut self.pass));
         self.is_spent |= tells_spent(&members);
         members
@@ -305,7 +330,10 @@ impl Caller {
     /// - `ForeignPass`: the pass has another node's name. This is checked first.
     /// - `PassSpent`: the pass has made all its calls.
     /// - `Memory`: out of memory for the digest's text.
-    pub fn digest<R: Wait>(&mut self, rt: &R) -> Result<Digest, ClusterError> {
+    pub fn digest<R: Wait>(&mut self, rt: &R) -> Result<Digest, ClusterError>
+        ensures node { self.new.node ≡ self.old.node }
+        ensures did { Does self.old.node (Tries call.Digest reply.Digest) result self.old.pass self.new.pass }
+    {
         let digest = answered(self.node.digest(rt, &mut self.pass));
         self.is_spent |= tells_spent(&digest);
         digest
@@ -321,7 +349,10 @@ impl Caller {
     /// - `PassSpent`: the pass has made all its calls.
     /// - `AlreadyLeft`: the node has left.
     /// - `Memory`: out of memory.
-    pub fn leave<R: Wait>(&mut self, rt: &R) -> Result<Change, ClusterError> {
+    pub fn leave<R: Wait>(&mut self, rt: &R) -> Result<Change, ClusterError>
+        ensures node { self.new.node ≡ self.old.node }
+        ensures did { Does self.old.node (Tries call.Leave reply.Leave) result self.old.pass self.new.pass }
+    {
         let left = answered(self.node.leave(rt, &mut self.pass));
         self.is_spent |= tells_spent(&left);
         left
@@ -338,17 +369,32 @@ impl Caller {
     /// - `NotLeft`: the node has not left.
     /// - `Exhausted`: its incarnation is the greatest.
     /// - `Memory`: out of memory.
-    pub fn rejoin<R: Wait>(&mut self, rt: &R) -> Result<Change, ClusterError> {
+    pub fn rejoin<R: Wait>(&mut self, rt: &R) -> Result<Change, ClusterError>
+        ensures node { self.new.node ≡ self.old.node }
+        ensures did { Does self.old.node (Tries call.Rejoin reply.Rejoin) result self.old.pass self.new.pass }
+    {
         let back = answered(self.node.rejoin(rt, &mut self.pass));
         self.is_spent |= tells_spent(&back);
         back
     }
 }
 
+/// Returns the node's answer, or the error of the lock.
+fn let_in<T: Drop>(answer: Result<T, LockError>) -> Result<T, ClusterError>
+    ensures { result ≡ let_in answer }
+{
+    match answer {
+        Ok(value) => Ok(value),
+        Err(error) => Err(ClusterError::from(error)),
+    }
+}
+
 /// Returns the node's answer, or the error of the lock or of the node.
 fn answered<T: Drop>(
     answer: Result<Result<T, node_core::NodeError>, LockError>,
-) -> Result<T, ClusterError> {
+) -> Result<T, ClusterError>
+    ensures { result ≡ allowed answer }
+{
     match answer {
         Ok(Ok(value)) => Ok(value),
         Ok(Err(error)) => Err(ClusterError::from(error)),

@@ -15,11 +15,16 @@ impl Count {
 
     /// Adds 1 to the count unless it is this number or more. Returns whether it was added.
     pub fn add_below(&self, most: u64) -> bool {
-        if self.0.fetch_add(1, Ordering::SeqCst) < most {
-            return true;
-        }
-        self.subtract(1);
-        false
+        let order = Ordering::SeqCst;
+        self.0
+            .fetch_update(order, order, |count| {
+                if count < most {
+                    count.checked_add(1)
+                } else {
+                    None
+                }
+            })
+            .is_ok()
     }
 
     /// Adds to the count.
@@ -52,8 +57,10 @@ pub struct Counters {
     pub refused: Count,
     /// Requests of keys that were refused with a status from 500 to 599.
     pub failed: Count,
-    /// Sends of a request of a key to another node, repeated ones among them.
+    /// Sends of a request of a key to another node, repeated ones and those passed on among them.
     pub forwards: Count,
+    /// Requests of other nodes that were passed on to the owner.
+    pub passed_on: Count,
     reached: Count,
     suspected: Count,
     inconclusive: Count,
@@ -75,6 +82,7 @@ impl Counters {
             refused: Count::new(),
             failed: Count::new(),
             forwards: Count::new(),
+            passed_on: Count::new(),
             reached: Count::new(),
             suspected: Count::new(),
             inconclusive: Count::new(),
@@ -132,6 +140,7 @@ impl Counters {
             failed: self.failed.get(),
             handled,
             forwards: self.forwards.get(),
+            passed_on: self.passed_on.get(),
             reached: self.reached.get(),
             suspected: self.suspected.get(),
             inconclusive: self.inconclusive.get(),

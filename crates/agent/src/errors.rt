@@ -2,6 +2,7 @@
 use change_core::Address;
 use node_core::ConfigField;
 use std::alloc::{AllocError, AllocFailed};
+use std::io::ErrorKind;
 use thiserror::Error;
 
 /// An error that ends an agent before it is told to stop.
@@ -22,9 +23,9 @@ pub enum AgentError {
     /// The system gave no random numbers.
     #[error("no random numbers")]
     NoRandom,
-    /// This address can't be listened at.
-    #[error("cannot listen at {0}")]
-    CannotListen(Address),
+    /// This address can't be listened at, for this reason.
+    #[error("cannot listen at {0}: {1}")]
+    CannotListen(Address, ErrorKind),
     /// The system gave no thread.
     #[error("no thread")]
     NoThread,

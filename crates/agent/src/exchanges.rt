@@ -3,6 +3,7 @@ ghost use Rattle.std.specs.Prelude.{◌≡◌, Err, IsFalse};
 ghost use Rattle.std.specs.IoError.{error_kind};
 ghost use Rattle.agent.specs.Exchanges.{failure_of};
 
+use agent_core::Failure;
 use bytes::{Buf, BytesMut};
 use change_core::Address;
 use http1::{BodySize, Client, Event, Header};
@@ -33,17 +34,6 @@ pub struct Answer {
     /// Whether its content type is JSON.
     pub is_json: bool,
     pub body: Vec<u8>,
-}
-
-/// A reason why a request to the application has no answer.
-#[derive(Clone, Copy, Debug, PartialEq, Eq)]
-pub enum Failure {
-    /// The application ended or reset the connection before a byte of the answer came.
-    HungUp,
-    /// No whole answer came, for another reason: the time ran out, the connection failed, or an allocation did.
-    NoAnswer,
-    /// The answer is not HTTP/1.1, ends too early, or has more than 1,048,576 bytes.
-    BadAnswer,
 }
 
 /// Returns the failure of a request whose connection failed by this error, after a byte of the answer or before.
@@ -151,18 +141,18 @@ fn take_event(
     }
 }
 
-/// Applies the next event of the bytes that were read. None if they are not HTTP/1.1, or an allocation failed.
+/// Applies the next event of the bytes that were read. They may not be HTTP/1.1, and an allocation may fail.
 fn take_next(
     client: &mut Client,
     input: &mut BytesMut,
     spans: &mut [HeaderSpan],
     answer: &mut Answer,
-) -> Option<Step> {
+) -> Result<Step, Failure> {
     let unread = input.as_slice();
-    let read = client.read(unread, spans).ok()?;
-    let step = take_event(&read.event, unread, spans, answer).ok()?;
+    let read = client.read(unread, spans).map_err(|_| Failure::BadAnswer)?;
+    let step = take_event(&read.event, unread, spans, answer).map_err(|_| Failure::NoAnswer)?;
     input.advance(read.consumed);
-    Some(step)
+    Ok(step)
 }
 
 /// Reads once. Returns the number of bytes that came, 0 at the end.
@@ -177,7 +167,7 @@ fn end(client: &mut Client, answer: Answer, has_begun: bool) -> Result<Answer, F
 {
     match client.read_eof() {
         Ok(Event::End(_)) => Ok(answer),
-        _ if has_begun => Err(Failure::BadAnswer),
+        _ if has_begun => Err(Failure::NoAnswer),
         _ => Err(Failure::HungUp),
     }
 }
@@ -197,15 +187,15 @@ fn read_answer<S: Read>(
     };
     let mut has_begun = false;
     for _ in 0..u64::MAX {
-        match take_next(client, &mut input, &mut spans, &mut answer) {
-            Some(Step::Next) => {}
-            Some(Step::Whole) => return Ok(answer),
-            Some(Step::Read) => match read_more(&mut input, stream) {
+        match take_next(client, &mut input, &mut spans, &mut answer)? {
+            Step::Next => {}
+            Step::Whole => return Ok(answer),
+            Step::Read => match read_more(&mut input, stream) {
                 Ok(0) => return end(client, answer, has_begun),
                 Ok(_) => has_begun = true,
                 Err(error) => return Err(failure_of(&error, has_begun)),
             },
-            Some(Step::Ended) | None => return Err(Failure::BadAnswer),
+            Step::Ended => return Err(Failure::BadAnswer),
         }
         if answer.body.len() > LONGEST_ANSWER {
             return Err(Failure::BadAnswer);
@@ -220,7 +210,7 @@ fn read_answer<S: Read>(
 ///
 /// - `HungUp`: the application ended or reset the connection before a byte of the answer came.
 /// - `NoAnswer`: no whole answer came, for another reason.
-/// - `BadAnswer`: the answer is not HTTP/1.1, ends too early, or has more than 1,048,576 bytes.
+/// - `BadAnswer`: the answer is not HTTP/1, or has more than 1,048,576 bytes.
 pub fn exchange<S: Read + Write>(
     alloc: Global,
     client: &mut Client,

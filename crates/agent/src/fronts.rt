@@ -1,4 +1,4 @@
-//! HTTP connections of clients.
+//! The service that answers HTTP requests.
 ghost use Rattle.std.specs.Prelude.{◌≡◌, codes, ◌++◌, ◌∷◌, [], IfOk, IfErr, OnOk, IsFalse};
 ghost use Rattle.http_server.specs.Response.{IsBlank};
 ghost use Rattle.agent_core.specs.declared.actions.Action.TheVariants as action;
@@ -16,45 +16,17 @@ use crate::systems::Host;
 use agent_core::{Action, Refusal};
 use bytes::Bytes;
 use change_core::{Address, Change, Digest, MAX_MEMBERS};
-use cluster_core::{Deadline, Timed};
 use http::{Request, StatusCode};
-use http_server::{Config, Connection, Response, Service};
+use http_server::{Response, Service};
 use member_core::MemberTable;
 use message_core::{Keys, Text};
 use peer_core::ClusterError;
 use std::alloc::{AllocError, Global};
-use std::hash::RandomState;
-use std::io::ErrorKind;
-use std::net::{TcpListener, TcpStream};
-use std::sync::Arc;
 use std::sync::atomic::{AtomicBool, Ordering};
-use std::time::{Duration, Instant};
-use std::{io, thread};
-
-/// The number of threads that answer HTTP, each one connection at a time.
-pub const FRONTS: u32 = 256;
+use std::time::Instant;
 
 /// The most requests that wait for a key's owner at a time. The other threads answer what needs no wait.
 const MOST_WAITING: u64 = 224;
-
-/// The most connections that are kept open between requests. While there are more, others may be waiting for a thread.
-const MOST_KEPT: u64 = 240;
-
-/// The most bytes in a request's body that are read. One that is longer than 131,072 is refused with a line of text, and
-/// one that is longer than this by the HTTP server, which sends no text.
-const LONGEST_READ: usize = 1_048_576;
-
-/// The most milliseconds from one answer of a connection to the end of its next request.
-const IDLE: u64 = 30_000;
-
-/// The most milliseconds for which a connection may send nothing while more are served than are kept open.
-const SILENCE: u64 = 1_000;
-
-/// The most milliseconds that the client may take to receive an answer.
-const TAKEN: u64 = 5_000;
-
-/// The milliseconds that a thread rests before it tries again.
-const REST: u64 = 10;
 
 /// Returns the refusal for an error of the node.
 fn refusal_of(error: ClusterError) -> Refusal
@@ -89,11 +61,11 @@ fn digest_of(alloc: Global, members: &[Change]) -> Result<Digest, Refusal>
 
 /// The service that answers the requests of one connection.
 #[derive(Drop)]
-struct Front<'f, 'a, R> {
-    agent: &'a Agent<R>,
-    alloc: Global,
-    caller: &'f mut Caller,
-    link: &'f mut NotedLink<'a, R>,
+pub struct Front<'f, 'a, R> {
+    pub agent: &'a Agent<R>,
+    pub alloc: Global,
+    pub caller: &'f mut Caller,
+    pub link: &'f mut NotedLink<'a, R>,
 }
 
 impl<'f, 'a, R: Host> Front<'f, 'a, R> {
@@ -101,6 +73,7 @@ impl<'f, 'a, R: Host> Front<'f, 'a, R> {
     fn handle(&mut self, key: Text, body: Text) -> Result<Reply, Refusal>
         ensures reply { IfOk result (Replies self.old.agent.now.own self.old.agent.now.replicas (action.Handle key body)) }
         ensures refused { IfErr result (λ e. IsFalse (is_of_request e)) }
+        ensures agent { self.new.agent ≡ self.old.agent }
     {
         if !self.agent.waiting.add_below(MOST_WAITING) {
             return Err(Refusal::Busy);
@@ -114,6 +87,7 @@ impl<'f, 'a, R: Host> Front<'f, 'a, R> {
     fn ask_owner(&mut self, key: Text, body: Text) -> Result<Reply, Refusal>
         ensures reply { IfOk result IsOwnersAnswer }
         ensures refused { IfErr result (λ e. IsFalse (is_of_request e)) }
+        ensures agent { self.new.agent ≡ self.old.agent }
     {
         let agent = self.agent;
         let keys = Keys::new(self.alloc, key).map_err(|_| Refusal::Memory)?;
@@ -143,6 +117,7 @@ impl<'f, 'a, R: Host> Front<'f, 'a, R> {
     fn owners(&mut self, key: &Text, count: usize) -> Result<Reply, Refusal>
         ensures reply { IfOk result (Replies self.old.agent.now.own self.old.agent.now.replicas (action.Owners key.now count)) }
         ensures refused { IfErr result (λ e. IsFalse (is_of_request e)) }
+        ensures agent { self.new.agent ≡ self.old.agent }
     {
         let view = self.caller.view(&self.agent.rt).map_err(refusal_of)?;
         let Ok(owners) = view.owners(key.as_str().as_bytes(), count) else {
@@ -158,6 +133,7 @@ impl<'f, 'a, R: Host> Front<'f, 'a, R> {
     fn members(&mut self) -> Result<Reply, Refusal>
         ensures reply { IfOk result (Replies self.old.agent.now.own self.old.agent.now.replicas action.Members) }
         ensures refused { IfErr result (λ e. IsFalse (is_of_request e)) }
+        ensures agent { self.new.agent ≡ self.old.agent }
     {
         let members = self.caller.members(&self.agent.rt).map_err(refusal_of)?;
         let members = members.as_slice();
@@ -170,6 +146,7 @@ impl<'f, 'a, R: Host> Front<'f, 'a, R> {
     fn metrics(&mut self) -> Result<Reply, Refusal>
         ensures reply { IfOk result (Replies self.old.agent.now.own self.old.agent.now.replicas action.Metrics) }
         ensures refused { IfErr result (λ e. IsFalse (is_of_request e)) }
+        ensures agent { self.new.agent ≡ self.old.agent }
     {
         let members = self.caller.members(&self.agent.rt).map_err(refusal_of)?;
         let application = &self.agent.application;
@@ -184,18 +161,31 @@ impl<'f, 'a, R: Host> Front<'f, 'a, R> {
     fn digest(&mut self) -> Result<Reply, Refusal>
         ensures reply { IfOk result (Replies self.old.agent.now.own self.old.agent.now.replicas action.Digest) }
         ensures refused { IfErr result (λ e. IsFalse (is_of_request e)) }
+        ensures agent { self.new.agent ≡ self.old.agent }
     {
         let digest = self.caller.digest(&self.agent.rt).map_err(refusal_of)?;
         Reply::digest(self.alloc, &digest)
+    }
+
+    /// Has the node leave. The caller holds `moving`.
+    fn depart(&mut self) -> Result<(), Refusal>
+        ensures refused { IfErr result (λ e. IsFalse (is_of_request e)) }
+        ensures agent { self.new.agent ≡ self.old.agent }
+    {
+        self.caller.leave(&self.agent.rt).map_err(refusal_of)?;
+        self.agent.has_left.set(true);
+        Ok(())
     }
 
     /// Has the node leave.
     fn leave(&mut self) -> Result<Reply, Refusal>
         ensures reply { IfOk result (IsText Kind.Text (codes "left" ++ 10 ∷ [])) }
         ensures refused { IfErr result (λ e. IsFalse (is_of_request e)) }
+        ensures agent { self.new.agent ≡ self.old.agent }
     {
-        self.caller.leave(&self.agent.rt).map_err(refusal_of)?;
-        self.agent.has_left.set(true);
+        let agent = self.agent;
+        let _moving = agent.moving.lock(&agent.rt);
+        self.depart()?;
         Ok(Reply::Line("left\n"))
     }
 
@@ -203,10 +193,13 @@ impl<'f, 'a, R: Host> Front<'f, 'a, R> {
     fn stop(&mut self) -> Result<Reply, Refusal>
         ensures reply { IfOk result (IsText Kind.Text (codes "stopping" ++ 10 ∷ [])) }
         ensures refused { IfErr result (λ e. IsFalse (is_of_request e)) }
+        ensures agent { self.new.agent ≡ self.old.agent }
     {
-        match self.leave() {
-            Ok(_) | Err(Refusal::AlreadyLeft) => {
-                self.agent.is_stopping.set(true);
+        let agent = self.agent;
+        let _moving = agent.moving.lock(&agent.rt);
+        match self.depart() {
+            Ok(()) | Err(Refusal::AlreadyLeft) => {
+                agent.is_stopping.set(true);
                 Ok(Reply::Line("stopping\n"))
             }
             Err(refusal) => Err(refusal),
@@ -217,12 +210,15 @@ impl<'f, 'a, R: Host> Front<'f, 'a, R> {
     fn rejoin(&mut self) -> Result<Reply, Refusal>
         ensures reply { IfOk result (IsText Kind.Text (codes "back" ++ 10 ∷ [])) }
         ensures refused { IfErr result (λ e. IsFalse (is_of_request e)) }
+        ensures agent { self.new.agent ≡ self.old.agent }
     {
-        if self.agent.is_stopping.get() {
+        let agent = self.agent;
+        let _moving = agent.moving.lock(&agent.rt);
+        if agent.is_stopping.get() {
             return Err(Refusal::HasLeft);
         }
-        self.caller.rejoin(&self.agent.rt).map_err(refusal_of)?;
-        self.agent.has_left.set(false);
+        self.caller.rejoin(&agent.rt).map_err(refusal_of)?;
+        agent.has_left.set(false);
         Ok(Reply::Line("back\n"))
     }
 
@@ -243,6 +239,7 @@ impl<'f, 'a, R: Host> Front<'f, 'a, R> {
     fn act(&mut self, action: Action) -> Result<Reply, Refusal>
         ensures reply { IfOk result (Replies self.old.agent.now.own self.old.agent.now.replicas action) }
         ensures refused { IfErr result (λ e. IsFalse (is_of_request e)) }
+        ensures agent { self.new.agent ≡ self.old.agent }
     {
         match action {
             Action::Handle { key, body } => self.handle(key, body),
@@ -262,6 +259,7 @@ impl<'f, 'a, R: Host> Front<'f, 'a, R> {
     fn reply(&mut self, request: &Request<Bytes>) -> Result<Reply, Refusal>
         ensures reply { IfOk result (IsReplied self.old.agent.now.own self.old.agent.now.replicas request.now) }
         ensures refused { IfErr result (IsRefused request.now) }
+        ensures agent { self.new.agent ≡ self.old.agent }
     {
         let action = action_of(self.alloc, request)?;
         self.act(action)
@@ -284,7 +282,7 @@ impl<'f, 'a, R: Host> Front<'f, 'a, R> {
 
     /// Returns whether the connection is closed after the answer: the agent is to end, or others may wait for a thread.
     fn closes(&self) -> bool {
-        self.agent.is_stopping.get() || is_crowded(self.agent)
+        self.agent.is_stopping.get() || self.agent.is_crowded()
     }
 
     /// Writes the reply to a request, or its refusal, and counts it.
@@ -294,7 +292,8 @@ impl<'f, 'a, R: Host> Front<'f, 'a, R> {
         response: &mut Response,
     ) -> Result<(), AllocError>
         requires { IsBlank response.old }
-        ensures { OnOk result (IsAnswered self.old.agent.now.own self.old.agent.now.replicas request.now response.new) }
+        ensures answered { OnOk result (IsAnswered self.old.agent.now.own self.old.agent.now.replicas request.now response.new) }
+        ensures agent { self.new.agent ≡ self.old.agent }
     {
         let start = Instant::now(&self.agent.rt).ok();
         let reply = self.reply(request);
@@ -313,123 +312,18 @@ impl<'f, 'a, R: Host> Front<'f, 'a, R> {
 }
 
 impl<'f, 'a, R: Host> Service for Front<'f, 'a, R> {
-    ghost answers = { λ _ _ _ _. Unit {0} };
+    ghost answers = { λ old request response new. (new.agent ≡ old.agent) × IsAnswered old.agent.now.own old.agent.now.replicas request response };
 
     fn call(
         &mut self,
         request: &Request<Bytes>,
         response: &mut Response,
     ) -> Result<(), AllocError> {
-        self.agent.busy.add(1);
         if self.answer(request, response).is_err() {
             // (this allocates nothing)
             response.clear();
             response.status = StatusCode::SERVICE_UNAVAILABLE;
         }
-        self.agent.busy.subtract(1);
         Ok(())
-    }
-}
-
-/// Returns whether each connection is closed after its next answer, and also if it sends nothing for a second, so that
-/// others are served: more than 240 are.
-fn is_crowded<R: Host>(agent: &Agent<R>) -> bool {
-    agent.connections.get() > MOST_KEPT
-}
-
-/// Returns the deadline after so much time from now.
-fn limit<R: Host>(agent: &Agent<R>, time: Duration) -> Option<Deadline<'_, R>> {
-    Deadline::after(&agent.rt, time).ok()
-}
-
-/// Returns whether a read failed only since nothing came in its time.
-fn is_silence(error: &io::Error) -> bool {
-    matches!(error.kind(), ErrorKind::WouldBlock | ErrorKind::TimedOut)
-}
-
-/// Reads once. Returns whether the connection lasts: it did not fail, and something came if many are served.
-fn read<R: Host>(
-    agent: &Agent<R>,
-    connection: &mut Connection,
-    stream: &mut Timed<'_, TcpStream, R>,
-) -> bool {
-    match connection.read_from(stream) {
-        Ok(_) => true,
-        Err(error) => is_silence(&error) && !is_crowded(agent),
-    }
-}
-
-/// Serves one connection, request after request, until it is done, a time limit has passed, or it sends nothing for a second
-/// while many are served.
-fn serve_connection<R: Host>(
-    front: &mut Front<'_, '_, R>,
-    keys: RandomState,
-    stream: TcpStream,
-) -> Option<()> {
-    let agent = front.agent;
-    let _set = stream.set_nodelay(true);
-    let config = Config {
-        max_body_len: LONGEST_READ,
-        ..Config::default()
-    };
-    let mut connection = Connection::new(front.alloc, keys, config);
-    let mut end = limit(agent, Duration::from_millis(IDLE))?;
-    let mut stream = Timed::new(stream, limit(agent, Duration::from_millis(SILENCE))?);
-    let mut writes = false;
-    for _ in agent.rt.forever() {
-        connection.advance(front);
-        if connection.is_done() {
-            return Some(());
-        }
-        let wants = connection.wants_write();
-        if wants != writes {
-            end = limit(
-                agent,
-                Duration::from_millis(if wants { TAKEN } else { IDLE }),
-            )?;
-            writes = wants;
-        }
-        let left = end.left().ok()?;
-        if wants {
-            stream = stream.until(limit(agent, left)?);
-            if connection.write_to(&mut stream).ok()? == 0 {
-                return None;
-            }
-        } else {
-            let silence = Duration::from_millis(SILENCE);
-            stream = stream.until(limit(agent, left.min(silence))?);
-            if !read(agent, &mut connection, &mut stream) {
-                return None;
-            }
-        }
-    }
-    unreachable!()
-}
-
-/// Serves HTTP connections for ever, one at a time.
-pub fn serve_http<R: Host>(
-    agent: Arc<Agent<R>, Global>,
-    alloc: Global,
-    mut caller: Caller,
-    listener: Arc<TcpListener, Global>,
-    keys: RandomState,
-) {
-    let agent = &*agent;
-    let mut link = NotedLink::new(agent);
-    for _ in agent.rt.forever() {
-        let Ok((stream, _)) = listener.accept() else {
-            thread::sleep(&agent.rt, Duration::from_millis(REST));
-            continue;
-        };
-        let mut front = Front {
-            agent,
-            alloc,
-            caller: &mut caller,
-            link: &mut link,
-        };
-        agent.connections.add(1);
-        let _served = serve_connection(&mut front, keys, stream);
-        agent.connections.subtract(1);
-        agent.renew(&mut caller);
     }
 }

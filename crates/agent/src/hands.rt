@@ -4,7 +4,7 @@ use crate::applications::Limited;
 use crate::callers::Caller;
 use crate::links::NotedHandler;
 use crate::peers::{Job, line_for, send_back};
-use crate::relays::{millis_left, relay};
+use crate::relays::{Relayed, millis_left, relay};
 use crate::systems::Host;
 use cluster_core::TcpLink;
 use crossbeam_channel::Receiver;
@@ -30,8 +30,9 @@ fn own_answer<R: Host>(
     (line, handler.was_asked.load(Ordering::SeqCst))
 }
 
-/// Answers a request over its connection. One that this node does not own is relayed to the owner; if that fails, this node
-/// answers again, since it may own it by now.
+/// Answers a request over its connection. One that this node does not own is passed on to the owner. If no other node
+/// performed it, this node answers again, since it may own it by now. If the owner gave no reply, the connection is closed
+/// without an answer, since the owner may have performed the request.
 fn serve_request<R: Host>(
     agent: &Agent<R>,
     alloc: Global,
@@ -42,8 +43,9 @@ fn serve_request<R: Host>(
     let (mut line, was_asked) = own_answer(agent, alloc, caller, link, &job);
     if !was_asked {
         line = match relay(agent, alloc, caller, &job) {
-            Some(reply) => Some(reply),
-            None => own_answer(agent, alloc, caller, link, &job).0,
+            Relayed::Reply(reply) => Some(reply),
+            Relayed::NoReply => None,
+            Relayed::NotDone => own_answer(agent, alloc, caller, link, &job).0,
         };
         agent.renew(caller);
     }

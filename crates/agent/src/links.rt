@@ -14,9 +14,6 @@ use std::alloc::Global;
 use std::sync::Wait;
 use std::sync::atomic::{AtomicBool, Ordering};
 
-/// The milliseconds after a warning that an owner answers that it is not one, in which there is no other.
-const QUIET: u64 = 10_000;
-
 /// Returns whether a call failed by this node's own link, which says nothing of the other node.
 fn is_own(error: LinkError) -> bool
     ensures { IsTrue result ↔ ((error ≡ LinkError.Memory) ⊎ (error ≡ LinkError.Spent)) }
@@ -54,17 +51,22 @@ impl<'a, R: Host> NotedLink<'a, R> {
     }
 
     /// Returns how many requests in a row were answered so, with this answer of their owner by this node's view: it is not
-    /// the owner. Warns, once in ten seconds at most, if there are as many as there are sends of a request.
+    /// the owner. Warns, unless the log said so last, if there are as many as there are sends of a request.
     fn disowned_with(&self, owner: Address, answer: &Result<Message, LinkError>) -> u32 {
-        let disowned = match answer {
-            Ok(message) if matches!(&message.content, Content::NotOwner) => {
-                self.disowned.saturating_add(1)
-            }
-            _ => 0,
+        let Ok(message) = answer else {
+            return 0;
         };
-        let now = self.agent.now().number();
-        if disowned >= MAX_SENDS && now >= self.agent.quiet_until.get() {
-            self.agent.quiet_until.set(now.saturating_add(QUIET));
+        let is_disowned = matches!(&message.content, Content::NotOwner);
+        let disowned = if is_disowned {
+            self.disowned.saturating_add(1)
+        } else {
+            0
+        };
+        if is_disowned && disowned < MAX_SENDS {
+            return disowned;
+        }
+        let Agent { rt, disowners, .. } = self.agent;
+        if disowners.note(rt, owner, is_disowned, self.agent.now()) && is_disowned {
             warn!(self.agent.log(); "{owner} does not own what this node's members give it: members or --replicas differ");
         }
         disowned
@@ -110,6 +112,8 @@ impl<'a, R: Host> Link for NotedLink<'a, R> {
 
     // Other nodes may answer anything.
     ghost may_answer = { λ _ _ _. Unit {0} };
+
+    ghost went = { λ _ _ _ _ _. Unit {0} };
 
     ghost failed = { λ n. failures_over n.link };
 

@@ -7,9 +7,10 @@ ghost use Rattle.wire_json.specs.Input.{AppendsPrefix};
 use crate::agents::{Agent, Flag};
 use crate::applications::Application;
 use crate::callers::{Caller, Passes};
+use crate::connections::serve_http;
 use crate::counters::{Count, Counters};
+use crate::entrances::Entrance;
 use crate::errors::AgentError;
-use crate::fronts::{FRONTS, serve_http};
 use crate::hands::serve_requests;
 use crate::journals::Journal;
 use crate::links::NotedLink;
@@ -19,7 +20,7 @@ use crate::rounds::{join_hosts, make_rounds};
 use crate::settings::Settings;
 use crate::systems::System;
 use change_core::{Address, Incarnation, MAX_NUMBER, Moment};
-use cluster_core::{share, socket_address};
+use cluster_core::{Deadline, share, socket_address};
 use crossbeam_channel::{Receiver, Sender, bounded};
 use hash_ring::Sha256Hash;
 use log::warn;
@@ -28,7 +29,7 @@ use server::{Stopwatch, Timeouts};
 use std::alloc::Global;
 use std::hash::RandomState;
 use std::io::Write;
-use std::net::TcpListener;
+use std::net::{TcpListener, TcpStream};
 use std::sync::{Arc, Mutex};
 use std::thread;
 use std::thread::Parker;
@@ -44,11 +45,17 @@ const PASSES: u32 = 1_023;
 /// The most requests of other nodes that wait for the application.
 const MOST_WAITING: usize = 256;
 
-/// The most milliseconds that the end waits for requests that are being answered.
+/// The number of threads that answer HTTP, each one connection at a time.
+const FRONTS: u32 = 256;
+
+/// The most HTTP connections that wait for a thread when HTTP ends.
+const MOST_ACCEPTED: usize = 256;
+
+/// The most milliseconds that the end waits for HTTP connections to close.
 const LAST_WAIT: u64 = 10_000;
 
-/// The milliseconds between two tests whether requests are being answered.
-const REST: u64 = 20;
+/// The milliseconds between two tests whether they have.
+const REST: u64 = 10;
 
 /// Returns the incarnation at which the node starts. If none is given, it is the milliseconds since 1970, so that each
 /// start has a greater one.
@@ -136,15 +143,18 @@ fn agent_of<R: System>(
         application: application_of(rt, alloc, stopwatch, settings),
         passes: Mutex::new(passes),
         counters: Counters::new(),
-        busy: Count::new(),
         waiting: Count::new(),
         relaying: Count::new(),
-        quiet_until: Count::new(),
         connections: Count::new(),
+        entrance: Entrance::new(),
+        fronts: Count::new(),
         notices: Notices::new(alloc),
+        disowners: Notices::new(alloc),
         has_joined: Flag::new(settings.hosts.is_empty()),
         has_left: Flag::new(false),
+        moving: Mutex::new(()),
         is_stopping: Flag::new(false),
+        is_ending: Flag::new(false),
         is_spent: Flag::new(false),
         bell: Parker::new(),
     };
@@ -152,15 +162,11 @@ fn agent_of<R: System>(
 }
 
 /// Listens at an address.
-fn listen<R: System>(
-    rt: &R,
-    alloc: Global,
-    address: Address,
-) -> Result<Arc<TcpListener, Global>, AgentError> {
-    match TcpListener::bind(rt, socket_address(address)) {
-        Ok(listener) => Ok(Arc::new(alloc, listener)?),
-        Err(_) => Err(AgentError::CannotListen(address)),
-    }
+fn listen<R: System>(rt: &R, address: Address) -> Result<TcpListener, AgentError> {
+    TcpListener::bind(rt, socket_address(address)).map_err(|error| AgentError::CannotListen(
+        address,
+        error.kind(),
+    ))
 }
 
 /// Returns the node with a pass for another thread.
@@ -208,20 +214,35 @@ fn start_hands<R: System>(
     Ok(())
 }
 
-/// Starts the threads that answer HTTP.
+/// Starts a thread that answers HTTP.
+fn start_front<R: System>(
+    rt: &R,
+    alloc: Global,
+    agent: &Arc<Agent<R>, Global>,
+    streams: &Receiver<TcpStream>,
+    keys: RandomState,
+) -> Result<(), AgentError> {
+    let caller = caller_of(agent)?;
+    let agent = Arc::try_clone(agent)?;
+    let streams = streams.clone()?;
+    agent.fronts.add(1);
+    let started = thread::spawn(rt, move || serve_http(agent, alloc, caller, streams, keys));
+    let _thread = started.map_err(|_| AgentError::NoThread)?;
+    Ok(())
+}
+
+/// Starts the threads that answer HTTP, and opens its entrance.
 fn start_fronts<R: System>(
     rt: &R,
     alloc: Global,
     agent: &Arc<Agent<R>, Global>,
-    listener: &Arc<TcpListener, Global>,
+    listener: TcpListener,
 ) -> Result<(), AgentError> {
     let keys = RandomState::new(rt).map_err(|_| AgentError::NoRandom)?;
+    let (sender, streams) = bounded(alloc, MOST_ACCEPTED)?;
+    agent.entrance.open(rt, Arc::new(alloc, listener)?, sender);
     for _ in 0..FRONTS {
-        let caller = caller_of(agent)?;
-        let agent = Arc::try_clone(agent)?;
-        let listener = Arc::try_clone(listener)?;
-        let started = thread::spawn(rt, move || serve_http(agent, alloc, caller, listener, keys));
-        let _thread = started.map_err(|_| AgentError::NoThread)?;
+        start_front(rt, alloc, agent, &streams, keys)?;
     }
     Ok(())
 }
@@ -258,17 +279,33 @@ fn say_serving<W: Write>(alloc: Global, address: Address, writer: &mut W) -> Res
     say(writer, text.as_str())
 }
 
-/// Waits until the agent is to end, and then until no request is being answered, ten seconds at most.
-fn wait_for_end<R: System>(rt: &R, agent: &Agent<R>) -> Result<(), AgentError> {
+/// Ends HTTP, whose address this is: answers the connections that were made, and closes each, ten seconds at most.
+fn end_http<R: System>(rt: &R, agent: &Agent<R>, address: Address) {
+    let Ok(deadline) = Deadline::after(rt, Duration::from_millis(LAST_WAIT)) else {
+        return;
+    };
+    agent.is_ending.set(true);
+    agent.entrance.close(rt, address, &deadline);
+    for _ in 0..LAST_WAIT / REST {
+        if agent.fronts.get() == 0 || deadline.left().is_err() {
+            return;
+        }
+        thread::sleep(rt, Duration::from_millis(REST));
+    }
+}
+
+/// Waits until the agent is to end, and then until each HTTP connection that was accepted is closed, ten seconds at most.
+fn wait_for_end<R: System>(
+    rt: &R,
+    agent: &Agent<R>,
+    http: Option<Address>,
+) -> Result<(), AgentError> {
     agent.bell.park(rt);
     if agent.is_spent.get() {
         return Err(AgentError::Spent);
     }
-    for _ in 0..LAST_WAIT / REST {
-        if agent.busy.get() == 0 {
-            break;
-        }
-        thread::sleep(rt, Duration::from_millis(REST));
+    if let Some(address) = http {
+        end_http(rt, agent, address);
     }
     Ok(())
 }
@@ -281,9 +318,9 @@ fn start<R: System>(
     agent: &Arc<Agent<R>, Global>,
     settings: Settings,
 ) -> Result<(), AgentError> {
-    let listener = listen(rt, alloc, settings.bind)?;
+    let listener = Arc::new(alloc, listen(rt, settings.bind)?)?;
     let front = match settings.http {
-        Some(address) => Some(listen(rt, alloc, address)?),
+        Some(address) => Some(listen(rt, address)?),
         None => None,
     };
     let (hands, jobs) = bounded(alloc, MOST_WAITING)?;
@@ -293,7 +330,7 @@ fn start<R: System>(
     let mut link = NotedLink::new(agent);
     let hosts = settings.hosts.as_slice();
     join_hosts(agent, alloc, &mut caller, &mut link, hosts);
-    if let Some(front) = &front {
+    if let Some(front) = front {
         start_fronts(rt, alloc, agent, front)?;
     }
     let Settings { hosts, period, .. } = settings;
@@ -325,7 +362,8 @@ fn set_up<R: System>(
 
 /// Runs an agent until it is told to stop. It listens to other nodes, joins the hosts, answers HTTP, starts the rounds of
 /// gossip, and writes `serving` and the node's address. When `POST /stop` comes, it leaves, makes ten rounds that spread
-/// this, waits for the requests that are being answered, ten seconds at most, and writes `done`.
+/// this, answers the HTTP connections that wait, closes each after its next answer or after a second in which it sends
+/// nothing, ten seconds at most, and writes `done`.
 ///
 /// # Errors
 ///
@@ -335,7 +373,7 @@ fn set_up<R: System>(
 /// - `NoAddress`: the node's own address is 0.0.0.0 with a port. This is checked second.
 /// - `NoClock`: no incarnation is given, and the system has no clock, or its clock gives no time since 1970.
 /// - `BadConfig`: a field of the node's configuration is out of its range.
-/// - `CannotListen`: this address can't be listened at, that for other nodes or that for HTTP.
+/// - `CannotListen`: this address can't be listened at, that for other nodes or that for HTTP; with the system's reason.
 /// - `NoRandom`: the system gave no random numbers for the threads that answer HTTP.
 /// - `NoThread`: the system gave no thread.
 /// - `CannotWrite`: the writer failed.
@@ -351,9 +389,9 @@ pub fn run<R: System, W: Write>(
     ensures served { OnOk result (Appends (W.contents writer.old) (W.contents writer.new) (agent_text settings.address)) }
     ensures prefix { AppendsPrefix (W.contents writer.old) (W.contents writer.new) (agent_text settings.address) }
 {
-    let own = settings.address;
+    let (own, http) = (settings.address, settings.http);
     let agent = set_up(rt, alloc, settings)?;
     say_serving(alloc, own, writer)?;
-    wait_for_end(rt, &agent)?;
+    wait_for_end(rt, &agent, http)?;
     say(writer, "done")
 }

@@ -51,7 +51,7 @@ address_samples addresses =
     ++ line (codes "# TYPE ringpop_addresses_max gauge")
     ++ sample (codes "ringpop_addresses_max") most_members
 
--- the numbers of requests: by outcome, handled here, and sent to another node
+-- the numbers of requests: by outcome, handled here, sent to another node, and passed on
 abbrev pub request_samples : Counts → List ℕ
 request_samples counts =
     line (codes "# TYPE ringpop_requests_total counter")
@@ -62,6 +62,8 @@ request_samples counts =
     ++ sample (codes "ringpop_handled_total") counts.handled
     ++ line (codes "# TYPE ringpop_forwards_total counter")
     ++ sample (codes "ringpop_forwards_total") counts.forwards
+    ++ line (codes "# TYPE ringpop_passed_on_total counter")
+    ++ sample (codes "ringpop_passed_on_total") counts.passed_on
 
 -- the number of requests that took no longer than a bucket's bound, with that bound in seconds
 unfoldable pub bucket_sample : List ℕ → ℕ → List ℕ → List ℕ

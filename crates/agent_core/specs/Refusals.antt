@@ -1,6 +1,8 @@
 -- The status and the line of text of each refusal, and the content types.
 use Rattle.std.specs.Prelude.{ℕ, List, [], ◌∷◌, ◌++◌, codes}
 use Rattle.agent_core.specs.declared.verbs.Verb.TheVariants.{Get, Post}
+use Rattle.agent_core.specs.declared.refusals.Failure.{Failure}
+use Rattle.agent_core.specs.declared.refusals.Failure.TheVariants as failure
 use Rattle.agent_core.specs.declared.refusals.Part.TheVariants.{Key, Count, Body}
 use Rattle.agent_core.specs.declared.refusals.Refusal.{Refusal}
 use Rattle.agent_core.specs.declared.refusals.Refusal.TheVariants as refusal
@@ -18,6 +20,7 @@ status_of refusal.NotLeft = 409
 status_of refusal.Exhausted = 409
 status_of refusal.LongBody = 413
 status_of refusal.ApplicationFailed = 502
+status_of (refusal.Unanswered why) = 502
 status_of refusal.ApplicationDown = 503
 status_of refusal.NotJoined = 503
 status_of refusal.HasLeft = 503
@@ -26,6 +29,13 @@ status_of refusal.Busy = 503
 status_of refusal.Spent = 503
 status_of refusal.Memory = 503
 status_of refusal.OwnerSilent = 504
+
+-- the text of a refusal for a failure of the application
+abbrev pub failure_text : Failure → List ℕ
+failure_text failure.NotAccepted = codes "the owner's application accepts no connection"
+failure_text failure.HungUp = codes "the owner's application hung up before it answered"
+failure_text failure.NoAnswer = codes "no whole answer of the owner's application came"
+failure_text failure.BadAnswer = codes "bad answer of the owner's application: not HTTP/1, not UTF-8, too long or of a status not 200 to 599"
 
 -- the text of a refusal
 abbrev pub text_of : Refusal → List ℕ
@@ -41,6 +51,7 @@ text_of refusal.NotLeft = codes "the node has not left"
 text_of refusal.Exhausted = codes "no incarnation is left"
 text_of refusal.LongBody = codes "bad body: more than 131072 bytes"
 text_of refusal.ApplicationFailed = codes "the application failed"
+text_of (refusal.Unanswered why) = failure_text why
 text_of refusal.ApplicationDown = codes "the application does not answer"
 text_of refusal.NotJoined = codes "no host has answered"
 text_of refusal.HasLeft = codes "the node has left"

@@ -20,7 +20,7 @@ pub use answers::{Answer, Kind};
 pub use metrics::{BUCKETS, Counts, bucket_of, metrics_text};
 pub use packs::{GREATEST_STATUS, LEAST_STATUS, LONGEST_BODY, Packed, pack, unpack};
 pub use pages::PAGE;
-pub use refusals::{Part, Refusal};
+pub use refusals::{Failure, Part, Refusal};
 pub use routes::{LONGEST_KEY, MOST_OWNERS, route};
 pub use texts::{digest_line, members_text, owners_text};
 pub use verbs::Verb;

@@ -26,8 +26,10 @@ pub struct Counts {
     pub buckets: [u64; BUCKETS],
     /// Requests of keys that this node's application or echo was to handle, those of other nodes among them.
     pub handled: u64,
-    /// Sends of a request of a key to another node, repeated ones among them.
+    /// Sends of a request of a key to another node, repeated ones and those passed on among them.
     pub forwards: u64,
+    /// Requests of other nodes that were passed on to the owner.
+    pub passed_on: u64,
     /// Rounds of gossip in which no member could be probed.
     pub idle: u64,
     /// Rounds whose target answered its ping, or was reached by a helper.
@@ -128,7 +130,7 @@ fn push_addresses(text: &mut String, addresses: usize) -> Result<(), AllocError>
     Ok(())
 }
 
-/// Appends the numbers of requests: by outcome, handled here, and sent to another node.
+/// Appends the numbers of requests: by outcome, handled here, sent to another node, and passed on.
 fn push_requests(text: &mut String, counts: &Counts) -> Result<(), AllocError>
     ensures { OnOk result (string_bytes text.new ≡ string_bytes text.old ++ request_samples counts.now) }
 {
@@ -152,6 +154,8 @@ fn push_requests(text: &mut String, counts: &Counts) -> Result<(), AllocError>
     push_sample(text, "ringpop_handled_total", counts.handled)?;
     text.push_str("# TYPE ringpop_forwards_total counter\n")?;
     push_sample(text, "ringpop_forwards_total", counts.forwards)?;
+    text.push_str("# TYPE ringpop_passed_on_total counter\n")?;
+    push_sample(text, "ringpop_passed_on_total", counts.passed_on)?;
     Ok(())
 }
 

@@ -1,6 +1,6 @@
 //! The refusals of requests, and the status and the text of each.
-ghost use Rattle.std.specs.Prelude.{◌≡◌, ◌≤◌};
-ghost use Rattle.agent_core.specs.Refusals.{line_of, status_of};
+ghost use Rattle.std.specs.Prelude.{◌≡◌, ◌≤◌, ◌∷◌, ◌++◌, []};
+ghost use Rattle.agent_core.specs.Refusals.{failure_text, line_of, status_of};
 
 use crate::verbs::Verb;
 
@@ -13,6 +13,20 @@ pub enum Part {
     Count,
     /// The body is not UTF-8.
     Body,
+}
+
+/// A reason why a request to the application has no answer that can be passed on.
+#[derive(Clone, Copy, Debug, PartialEq, Eq)]
+pub enum Failure {
+    /// The application accepted no connection.
+    NotAccepted,
+    /// The application ended or reset the connection before a byte of the answer came.
+    HungUp,
+    /// No whole answer came, for another reason: the time ran out, the application ended it early, the connection failed, or
+    /// an allocation did.
+    NoAnswer,
+    /// The answer is not HTTP/1, is too long, is not UTF-8, or its status is not 200 to 599.
+    BadAnswer,
 }
 
 /// A reason why a request is refused.
@@ -34,8 +48,10 @@ pub enum Refusal {
     Exhausted,
     /// The body has more than 131,072 bytes.
     LongBody,
-    /// The application did not answer the request, or its answer can't be passed on.
+    /// The application failed, and no more is known.
     ApplicationFailed,
+    /// The application of the key's owner gave no answer that can be passed on.
+    Unanswered(Failure),
     /// The application can't be reached.
     ApplicationDown,
     /// No host has answered a join yet, so the node is alone.
@@ -54,6 +70,22 @@ pub enum Refusal {
     OwnerSilent,
 }
 
+impl Failure {
+    /// Returns the text of a refusal for this failure, one line with its newline.
+    pub fn line(self) -> &'static str
+        ensures { result.now ≡ failure_text self ++ 10 ∷ [] }
+    {
+        match self {
+            Failure::NotAccepted => "the owner's application accepts no connection\n",
+            Failure::HungUp => "the owner's application hung up before it answered\n",
+            Failure::NoAnswer => "no whole answer of the owner's application came\n",
+            Failure::BadAnswer => {
+                "bad answer of the owner's application: not HTTP/1, not UTF-8, too long or of a status not 200 to 599\n"
+            }
+        }
+    }
+}
+
 impl Refusal {
     /// Returns the status code of HTTP (RFC 9110, section 15).
     pub fn status(self) -> u16
@@ -67,7 +99,7 @@ impl Refusal {
             Refusal::BadMethod(_) => 405,
             Refusal::AlreadyLeft | Refusal::NotLeft | Refusal::Exhausted => 409,
             Refusal::LongBody => 413,
-            Refusal::ApplicationFailed => 502,
+            Refusal::ApplicationFailed | Refusal::Unanswered(_) => 502,
             Refusal::ApplicationDown
             | Refusal::NotJoined
             | Refusal::HasLeft
@@ -96,6 +128,7 @@ impl Refusal {
             Refusal::Exhausted => "no incarnation is left\n",
             Refusal::LongBody => "bad body: more than 131072 bytes\n",
             Refusal::ApplicationFailed => "the application failed\n",
+            Refusal::Unanswered(failure) => failure.line(),
             Refusal::ApplicationDown => "the application does not answer\n",
             Refusal::NotJoined => "no host has answered\n",
             Refusal::HasLeft => "the node has left\n",

@@ -1,7 +1,7 @@
 use agent_core::*;
 
 /// A refusal, its status and the start of its line.
-const ROWS: [(Refusal, u16, &str); 20] = [
+const ROWS: [(Refusal, u16, &str); 24] = [
     (Refusal::Malformed(Part::Key), 400, "bad key"),
     (Refusal::Malformed(Part::Count), 400, "bad count"),
     (Refusal::Malformed(Part::Body), 400, "bad body"),
@@ -22,6 +22,26 @@ const ROWS: [(Refusal, u16, &str); 20] = [
     (Refusal::Exhausted, 409, "no incarnation"),
     (Refusal::LongBody, 413, "bad body"),
     (Refusal::ApplicationFailed, 502, "the application failed"),
+    (
+        Refusal::Unanswered(Failure::NotAccepted),
+        502,
+        "the owner's application accepts no connection",
+    ),
+    (
+        Refusal::Unanswered(Failure::HungUp),
+        502,
+        "the owner's application hung up",
+    ),
+    (
+        Refusal::Unanswered(Failure::NoAnswer),
+        502,
+        "no whole answer",
+    ),
+    (
+        Refusal::Unanswered(Failure::BadAnswer),
+        502,
+        "bad answer of the owner's application",
+    ),
     (
         Refusal::ApplicationDown,
         503,

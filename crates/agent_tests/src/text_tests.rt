@@ -90,6 +90,8 @@ ringpop_requests_total{outcome=\"failed\"} 1
 ringpop_handled_total 4
 # TYPE ringpop_forwards_total counter
 ringpop_forwards_total 3
+# TYPE ringpop_passed_on_total counter
+ringpop_passed_on_total 11
 # TYPE ringpop_request_seconds histogram
 ringpop_request_seconds_bucket{le=\"0.001\"} 5
 ringpop_request_seconds_bucket{le=\"0.005\"} 8
@@ -135,6 +137,7 @@ fn writes_metrics(rt: HostRuntime) {
         buckets: [5, 3, 0, 0, 0, 1, 0, 0, 0, 1],
         handled: 4,
         forwards: 3,
+        passed_on: 11,
         idle: 1,
         reached: 50,
         suspected: 2,

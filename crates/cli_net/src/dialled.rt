@@ -28,6 +28,8 @@ impl<N> DialledLink<N> {
 impl<N: Dial + Clock> Link for DialledLink<N> {
     ghost may_answer = { dialled N.leads N.Stream.contents N.Stream.remaining };
 
+    ghost went = { λ _ _ _ _ _. Unit {0} };
+
     ghost failed = { λ l. failures_over l.link };
 
     fn failures(&self) -> u64 {

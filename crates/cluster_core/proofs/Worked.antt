@@ -29,7 +29,7 @@ module _ {H : Type 0} (locked : LockedNode H) where
       makes_as (Repeats One) (λ acts t. subst (λ (xs : List (Act H)). Repeats One xs) (sym t.2) (Repeats.more t.3 t.4)) (makes_then before next)
 
   -- a member of the node served one message more
-  pub served_more : (hash_of : H → List ℕ → ℕ) (Handled : MayHandle) (message : Message) (p : NodePass H) (old new : Caller H) → old.node ≡ locked
+  pub served_more : {L : Type 0} (hash_of : H → List ℕ → ℕ) (Handled : MayHandle) (message : Message) (p : NodePass H) (old new : Caller H L) → old.node ≡ locked
       → Makes locked (Repeats (IsMessageServed hash_of Handled)) p old.pass.now → ServesOnce hash_of Handled message old new
       → Makes locked (Repeats (IsMessageServed hash_of Handled)) p new.pass.now
   served_more hash_of Handled message p old new same before d =

@@ -27,15 +27,15 @@ module _ {H : Type 0} where
 
   -- by this member the message was served once, at the moment 0, over a link of which nothing is known, with this result: its answer, or where the lock
   -- refuses the pass
-  abbrev pub ServesSo : (H → List ℕ → ℕ) → MayHandle → Message → Result Message ClusterError → Caller H → Caller H → Type 0
+  abbrev pub ServesSo : {L : Type 0} → (H → List ℕ → ℕ) → MayHandle → Message → Result Message ClusterError → Caller H L → Caller H L → Type 0
   ServesSo hash_of Handled message r old new = Done (Serves hash_of any_answer Handled message 0 message.content) r old new
 
   -- the same, with some result
-  abbrev pub ServesOnce : (H → List ℕ → ℕ) → MayHandle → Message → Caller H → Caller H → Type 0
+  abbrev pub ServesOnce : {L : Type 0} → (H → List ℕ → ℕ) → MayHandle → Message → Caller H L → Caller H L → Type 0
   ServesOnce hash_of Handled message old new = (r : Result Message ClusterError) × ServesSo hash_of Handled message r old new
 
   -- the same, and if there is an answer, that was put where this is so
-  abbrev pub AnswersOnce : (H → List ℕ → ℕ) → MayHandle → (Message → Type 0) → Message → Caller H → Caller H → Type 0
+  abbrev pub AnswersOnce : {L : Type 0} → (H → List ℕ → ℕ) → MayHandle → (Message → Type 0) → Message → Caller H L → Caller H L → Type 0
   AnswersOnce hash_of Handled PutIn message old new = (r : Result Message ClusterError) × ServesSo hash_of Handled message r old new × IfOk r PutIn
 
   -- by this pass messages were served so, by a handler whose results may be any, and no other call was made

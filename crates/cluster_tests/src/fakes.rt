@@ -115,6 +115,8 @@ fn last_pinged(earlier: Option<Address>, to: Address, message: &Message) -> Opti
 impl Link for Fake {
     ghost may_answer = { λ _ _ _. Unit {0} };
 
+    ghost went = { λ _ _ _ _ _. Unit {0} };
+
     ghost failed = { λ f. f.failures };
 
     fn failures(&self) -> u64 {

@@ -78,6 +78,8 @@ impl<'a> Noted<'a> {
 impl<'a> Link for Noted<'a> {
     ghost may_answer = { λ _ _ _. Unit {0} };
 
+    ghost went = { λ _ _ _ _ _. Unit {0} };
+
     ghost failed = { λ f. f.failures };
 
     fn failures(&self) -> u64 {

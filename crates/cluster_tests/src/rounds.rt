@@ -457,6 +457,8 @@ struct Direct {
 impl Link for Direct {
     ghost may_answer = { λ _ _ _. Unit {0} };
 
+    ghost went = { λ _ _ _ _ _. Unit {0} };
+
     ghost failed = { λ d. d.failures };
 
     fn failures(&self) -> u64 {

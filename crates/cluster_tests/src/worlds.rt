@@ -212,6 +212,8 @@ struct Near<'a> {
 impl<'a> Link for Near<'a> {
     ghost may_answer = { λ _ _ _. Unit {0} };
 
+    ghost went = { λ _ _ _ _ _. Unit {0} };
+
     ghost failed = { λ l. l.failures };
 
     fn failures(&self) -> u64 {
@@ -302,6 +304,8 @@ struct Far<'a> {
 
 impl<'a> Link for Far<'a> {
     ghost may_answer = { λ _ _ _. Unit {0} };
+
+    ghost went = { λ _ _ _ _ _. Unit {0} };
 
     ghost failed = { λ l. l.failures };
 

@@ -23,7 +23,7 @@ use Rattle.peer_core.specs.declared.forwarding.Request.{Request}
 use Rattle.peer_core.specs.declared.forwarding.Tried.{Tried}
 use Rattle.peer_core.specs.declared.forwarding.Tried.TheVariants.{Again}
 use Rattle.peer_core.specs.Errors.{error_of_forward, error_of_lock}
-use Rattle.peer_core.specs.Forwarding.{Plans, CarriesOut, Handles, IsForwarded, IsHandled, IsJudged, IsRequest, IsRequestRefusal, Times, LooksUp, Rests, Sends, StandsFor, TriesOnce, way_of_try}
+use Rattle.peer_core.specs.Forwarding.{Plans, CarriesOut, Handles, IsForwarded, IsHandled, IsJudged, IsRequest, IsRequestRefusal, Times, LooksUp, Rests, SendsToOwner, StandsFor, TriesOnce, way_of_try}
 use Rattle.peer_core.specs.Handling.{MayHandle}
 use Rattle.peer_core.specs.Links.{MayAnswer}
 use Rattle.peer_core.specs.Parts.{Bars, Does, Next, Until}
@@ -112,9 +112,9 @@ module _ {H : Type 0} (locked : LockedNode H) (p : NodePass H) where
 
   -- what came over the link was judged
   pub sends_so : (Came : MayAnswer) (Time : Times) (view : Viewed H) (owner : Address) (request : Request) (r : Result Tried ClusterError)
-      → IsForwarded Came Time view owner request r → Does locked (Sends Came Time view owner request) r p p
+      → IsForwarded Came Time view owner request r → Does locked (SendsToOwner Came Time view owner request) r p p
   sends_so Came Time view owner request r (answer, came, (now, told, h)) =
-      does_quiet (Sends Came Time view owner request) locked p r (refl, (answer, came, (now, told, h))) (judged_bars now request answer r h)
+      does_quiet (SendsToOwner Came Time view owner request) locked p r (refl, (answer, came, (now, told, h))) (judged_bars now request answer r h)
 
   handled_bars : (Handled : MayHandle) (keys : List (List ℕ)) (body : List ℕ) (r : Result (List ℕ) ClusterError) → IsHandled Handled keys body r → IfErr r (Bars locked p)
   handled_bars Handled keys body (Ok text) h = tt

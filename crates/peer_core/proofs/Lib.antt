@@ -5,6 +5,8 @@ pub mod Healed
 pub mod Corrected
 pub mod Parts
 pub mod Turns
+pub mod Exchanges
+pub mod Hushed
 pub mod Hands
 pub mod Joined
 pub mod Judged
@@ -16,3 +18,4 @@ pub mod Served
 pub mod Servings
 pub mod Forwarded
 pub mod Requested
+pub mod Resent

@@ -32,7 +32,7 @@ pub ending_goes : (x : Option Round) → is_none x ≡ true → way_of_ending x 
 ending_goes None e = refl
 ending_goes (Some round) e = cc
 
-drop_here : (xs : List Address) (i : ℕ) (x : Address) → i < length xs → x ≡ get_or xs i x → drop i xs ≡ x ∷ drop (i + 1) xs
+pub drop_here : (xs : List Address) (i : ℕ) (x : Address) → i < length xs → x ≡ get_or xs i x → drop i xs ≡ x ∷ drop (i + 1) xs
 drop_here xs i x lt e = rw (add-one, drop-cons xs i x) (ap (λ (y : Address). y ∷ drop (suc i) xs) (sym e))
 
 drop_past : (xs : List Address) (i : ℕ) → length xs ≤ i → drop i xs ≡ []
@@ -102,7 +102,7 @@ module _ {H : Type 0} where
       does_left (subst (λ (hs : List Address). Leads locked (JoinsHosts Came now 0 hosts) (JoinsHosts Came now n hs) p q) (drop_past hosts i le) m)
       (does_give locked q n)
 
-  -- a host was asked, and so many have joined now
+  -- a host was asked, and with it this number have joined
   pub leads_joined : (Came : MayAnswer) (now : ℕ) (n m : ℕ) (h : Address) (hosts : List Address) (joined : Bool) {locked : LockedNode H} {p q : NodePass H}
       → m ≡ n + one_if joined → Does locked (JoinsHost Came now h) (Ok joined) p q
       → Leads locked (JoinsHosts Came now n (h ∷ hosts)) (JoinsHosts Came now m hosts) p q

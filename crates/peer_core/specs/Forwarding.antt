@@ -105,8 +105,8 @@ module _ {H : Type 0} where
       × ((now : ℕ) × Time.told now × IsJudged now request answer r)
 
   -- the request is sent to the owner
-  abbrev pub Sends : MayAnswer → Times → Viewed H → Address → Request → Part H Tried
-  Sends Came Time view owner request r acts = Nothing acts × IsForwarded Came Time view owner request r
+  abbrev pub SendsToOwner : MayAnswer → Times → Viewed H → Address → Request → Part H Tried
+  SendsToOwner Came Time view owner request r acts = Nothing acts × IsForwarded Came Time view owner request r
 
   -- the request rests: the clock has waited for that moment, and it is to be tried again
   abbrev pub Rests : Times → Request → ℕ → Part H Tried
@@ -116,7 +116,7 @@ module _ {H : Type 0} where
   abbrev pub CarriesOut : MayAnswer → MayHandle → Times → Request → Viewed H × Step → Part H Tried
   CarriesOut Came Handled Time request (view, Wait until) = Rests Time request until
   CarriesOut Came Handled Time request (view, Here) = Next (Handles Handled request.attempt.keys request.body) (λ text. Gives (Answered text))
-  CarriesOut Came Handled Time request (view, Send owner) = Sends Came Time view owner request
+  CarriesOut Came Handled Time request (view, Send owner) = SendsToOwner Came Time view owner request
 
   -- the next step is looked up at a moment that the clock reported, and made
   abbrev pub TriesOnce : (H → List ℕ → ℕ) → MayAnswer → MayHandle → Times → Request → Part H Tried

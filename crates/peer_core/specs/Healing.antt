@@ -1,6 +1,5 @@
 -- Healing, by which members that parted find one another again: after each tenth round a node pings one member at random, of any status but
--- tombstone, and sends a Join to a host that it does not hold as serving. That a push and pull with a random member heals partitions is known of
--- hashicorp/memberlist; here it is one ping.
+-- tombstone, and sends a Join to a host that it does not hold as serving.
 use Rattle.std.specs.Prelude.{◌==◌, ◌&&◌, ◌||◌, not, ℕ, zero, suc, ◌-◌, ◌%◌, Bool, false, List, [], ◌∷◌, Option, Some, None, count_by, length, slice_get, nat_lt, if◌then◌else◌}
 use Rattle.std.specs.List.{list_any}
 use Rattle.change_core.specs.declared.addresses.Address.{Address}

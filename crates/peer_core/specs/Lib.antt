@@ -1,6 +1,7 @@
 pub mod Links
 pub mod Errors
 pub mod Acts
+pub mod Exchanges
 pub mod Asking
 pub mod Parts
 pub mod Rounds
@@ -11,6 +12,7 @@ pub mod Healing
 pub mod Handling
 pub mod Serving
 pub mod Forwarding
+pub mod Resending
 pub mod Provenance
 pub mod HealingProvenance
 pub mod CorrectionProvenance

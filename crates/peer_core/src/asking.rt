@@ -1,8 +1,9 @@
 //! One question to another node: the node makes the message, and the link sends it. Each function calls the link at most once.
-ghost use Rattle.std.specs.Prelude.{◌≡◌, IfOk, IfErr};
+ghost use Rattle.std.specs.Prelude.{◌≡◌, [], ◌∷◌, IfOk, IfErr};
 ghost use Rattle.locked_node.specs.Passes.{Fits, Refuses};
 ghost use Rattle.peer_core.specs.Acts.{Makes};
 ghost use Rattle.peer_core.specs.Asking.{Applied, Asked, Pinged};
+ghost use Rattle.peer_core.specs.Exchanges.{GoesOver, Sent};
 
 use crate::errors::LinkError;
 use crate::hearing::{Heard, expect_ack, expect_joined, expect_verdict};
@@ -26,13 +27,18 @@ pub(crate) struct Peers<'p, R, L> {
 
 impl<'p, R: Wait, L: Link> Peers<'p, R, L> {
     /// Joins a runtime, an allocator and a link.
-    pub(crate) fn new(rt: &'p R, alloc: Global, link: &'p mut L) -> Self {
+    pub(crate) fn new(rt: &'p R, alloc: Global, link: &'p mut L) -> Self
+        ensures same { result.link.ghost_name ≡ link.entry.ghost_name }
+        ensures link { result.link.now ≡ link.old }
+    {
         Peers { rt, alloc, link }
     }
 
     /// Sends a message to an address and waits for the answer. The message is used up, so none is sent twice.
     fn send(&mut self, to: Address, message: Message) -> Result<Message, LinkError>
-        ensures { L.may_answer to message result }
+        ensures came { L.may_answer to message result }
+        ensures sent { GoesOver L.went to message self.old.link.now self.new.link.now }
+        ensures same { self.new.link.ghost_name ≡ self.old.link.ghost_name }
     {
         self.link.call(self.rt, self.alloc, to, &message)
     }
@@ -47,6 +53,7 @@ pub(crate) fn ping<R: Wait, H: PointHash, L: Link>(
 ) -> Result<Heard, LockError>
     requires { Fits node.now pass.old }
     ensures pinged { IfOk result (λ heard. Makes node.now (Pinged L.may_answer target heard) pass.old pass.new) }
+    ensures sent { Sent L.went node.now [] pass.old pass.new peers.old.link peers.new.link }
     ensures refused { IfErr result (λ e. (pass.new ≡ pass.old) × Refuses node.now pass.old e) }
 {
     let made = node.ping_to(peers.rt, pass, target)?;
@@ -67,6 +74,7 @@ pub(crate) fn send_ping_req<R: Wait, H: PointHash, L: Link>(
 ) -> Result<Heard, LockError>
     requires { Fits node.now pass.old }
     ensures asked { IfOk result (λ heard. Makes node.now (Asked L.may_answer helper target heard) pass.old pass.new) }
+    ensures sent { Sent L.went node.now [] pass.old pass.new peers.old.link peers.new.link }
     ensures refused { IfErr result (λ e. (pass.new ≡ pass.old) × Refuses node.now pass.old e) }
 {
     let made = node.ping_req_to(peers.rt, pass, helper, target)?;
@@ -86,6 +94,7 @@ pub(crate) fn send_join<R: Wait, H: PointHash, L: Link>(
 ) -> Result<Heard, LockError>
     requires { Fits node.now pass.old }
     ensures applied { IfOk result (λ heard. Makes node.now (Applied L.may_answer host heard) pass.old pass.new) }
+    ensures sent { Sent L.went node.now (host ∷ []) pass.old pass.new peers.old.link peers.new.link }
     ensures refused { IfErr result (λ e. (pass.new ≡ pass.old) × Refuses node.now pass.old e) }
 {
     let made = node.join_message(peers.rt, pass)?;

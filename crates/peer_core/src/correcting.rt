@@ -1,8 +1,10 @@
 //! Rounds of gossip that tell their target what the node is, if it holds the node as something else.
-ghost use Rattle.std.specs.Prelude.{IfErr};
+ghost use Rattle.std.specs.Prelude.{[], ◌∷◌, IfErr};
 ghost use Rattle.locked_node.specs.Passes.{Fits};
+ghost use Rattle.peer_core.specs.Acts.{Makes};
 ghost use Rattle.peer_core.specs.Correcting.{CorrectsAfter, HearsAndCorrects, IsCorrectingRound, ProbesAndCorrects};
 ghost use Rattle.peer_core.specs.Errors.{IsRoundRefusal};
+ghost use Rattle.peer_core.specs.Exchanges.{Sent, SendsToOne};
 ghost use Rattle.peer_core.specs.Parts.{Does};
 
 use crate::asking::Peers;
@@ -32,6 +34,7 @@ fn correct_after<R: Wait, H: PointHash, L: Link>(
 ) -> Result<Round, ClusterError>
     requires { Fits node.now pass.old }
     ensures did { Does node.now (CorrectsAfter L.may_answer now target heard.now round) result pass.old pass.new }
+    ensures sent { Sent L.went node.now (target ∷ []) pass.old pass.new peers.old.link peers.new.link }
     ensures fits { Fits node.now pass.new }
     ensures named { IfErr result IsRoundRefusal }
 {
@@ -50,6 +53,7 @@ fn hear_and_correct<R: Wait, H: PointHash, L: Link>(
 ) -> Result<Round, ClusterError>
     requires { Fits node.now pass.old }
     ensures did { Does node.now (HearsAndCorrects L.may_answer now probe.now heard.now) result pass.old pass.new }
+    ensures sent { Sent L.went node.now (probe.now.target ∷ []) pass.old pass.new peers.old.link peers.new.link }
     ensures fits { Fits node.now pass.new }
     ensures named { IfErr result IsRoundRefusal }
 {
@@ -67,6 +71,7 @@ fn probe_and_correct<R: Wait, H: PointHash, L: Link>(
 ) -> Result<Round, ClusterError>
     requires { Fits node.now pass.old }
     ensures did { Does node.now (ProbesAndCorrects L.may_answer now probe.now) result pass.old pass.new }
+    ensures sent { Sent L.went node.now (probe.now.target ∷ []) pass.old pass.new peers.old.link peers.new.link }
     ensures fits { Fits node.now pass.new }
     ensures named { IfErr result IsRoundRefusal }
 {
@@ -100,6 +105,7 @@ pub fn correcting_round<R: Wait, H: PointHash, L: Link>(
 ) -> Result<Round, ClusterError>
     requires { Fits node.now pass.old }
     ensures round { Does node.now (IsCorrectingRound L.may_answer now) result pass.old pass.new }
+    ensures sent { Makes node.now (SendsToOne L.went link.old link.new) pass.old pass.new }
     ensures fits { Fits node.now pass.new }
     ensures named { IfErr result IsRoundRefusal }
 {

@@ -1,13 +1,15 @@
 //! A request that is answered here or by the node that owns its keys, and is tried again on the schedule of an attempt.
 //! Each function calls the link or the handler at most once.
-ghost use Rattle.std.specs.Prelude.{◌≡◌, Result, IfOk, IfErr};
-ghost use Rattle.forward_core.specs.Attempts.{IsOpen};
+ghost use Rattle.std.specs.Prelude.{◌≡◌, ◌<◌, Result, IfOk, IfErr};
+ghost use Rattle.forward_core.specs.Attempts.{IsOpen, most_sends};
 ghost use Rattle.forward_core.specs.declared.attempts.Stage.TheVariants.{InFlight};
 ghost use Rattle.locked_node.specs.Passes.{Fits};
 ghost use Rattle.message_core.specs.declared.messages.Message.{Message};
 ghost use Rattle.peer_core.specs.declared.errors.LinkError.{LinkError};
+ghost use Rattle.peer_core.specs.Acts.{Makes};
 ghost use Rattle.peer_core.specs.Forwarding.{IsFailure, IsHandled, IsJudged, IsRequest, IsRequestRefusal, IsForwarded, LooksUp, StandsFor, StaysOpen, TriesOnce};
 ghost use Rattle.peer_core.specs.Parts.{Does};
+ghost use Rattle.peer_core.specs.Resending.{IsSentOnce, SendsRequest, TrySends};
 
 use crate::clocks::Clock;
 use crate::errors::{ClusterError, HandlerFault, LinkError};
@@ -128,6 +130,7 @@ fn send<R: Wait, H: PointHash, L: Link, C: Clock>(
 ) -> Result<Tried, ClusterError>
     requires in_flight { request.attempt.stage ≡ InFlight }
     ensures sent { IsForwarded L.may_answer C.time view.now owner request result }
+    ensures once { IsSentOnce L.went view.now owner request result link.old link.new }
     ensures open { IfOk result StaysOpen }
     ensures named { IfErr result IsRequestRefusal }
 {
@@ -156,7 +159,9 @@ fn try_once<R: Wait, H: PointHash, L: Link, A: Handler, C: Clock>(
 ) -> Result<Tried, ClusterError>
     requires fits { Fits node.now pass.old }
     requires open { IsOpen request.attempt.stage }
+    requires few { request.attempt.sends < most_sends }
     ensures did { Does node.now (TriesOnce H.hash_of L.may_answer (A.may_handle handler.now) C.time request) result pass.old pass.new }
+    ensures sent { Makes node.now (TrySends H.hash_of L.went request link.old link.new result) pass.old pass.new }
     ensures fits { Fits node.now pass.new }
     ensures open { IfOk result StaysOpen }
     ensures named { IfErr result IsRequestRefusal }
@@ -209,6 +214,7 @@ pub fn handle_or_forward<R: Wait, H: PointHash, L: Link, A: Handler, C: Clock>(
 ) -> Result<Text, ClusterError>
     requires { Fits node.now pass.old }
     ensures request { Does node.now (IsRequest H.hash_of L.may_answer (A.may_handle handler.now) C.time keys body) result pass.old pass.new }
+    ensures sent { Makes node.now (SendsRequest H.hash_of L.went keys body link.old link.new) pass.old pass.new }
     ensures fits { Fits node.now pass.new }
     ensures named { IfErr result IsRequestRefusal }
 {

@@ -1,7 +1,9 @@
 //! One round of gossip.
-ghost use Rattle.std.specs.Prelude.{◌≡◌, IfErr};
+ghost use Rattle.std.specs.Prelude.{◌≡◌, [], IfErr};
 ghost use Rattle.locked_node.specs.Passes.{Fits};
+ghost use Rattle.peer_core.specs.Acts.{Makes};
 ghost use Rattle.peer_core.specs.Errors.{IsRoundRefusal};
+ghost use Rattle.peer_core.specs.Exchanges.{Sent, SendsTo};
 ghost use Rattle.peer_core.specs.Parts.{Does};
 ghost use Rattle.peer_core.specs.Rounds.{Begins, BeginsAgain, Expires, FailsFrom, FailsOne, Finishes, IsRound, waited_for};
 
@@ -117,6 +119,7 @@ fn finish_stale_probe<R: Wait, H: PointHash, L: Link>(
 ) -> Result<(), ClusterError>
     requires { Fits node.now pass.old }
     ensures did { Does node.now (Finishes L.may_answer now running) result pass.old pass.new }
+    ensures sent { Sent L.went node.now [] pass.old pass.new peers.old.link peers.new.link }
     ensures fits { Fits node.now pass.new }
     ensures named { IfErr result IsRoundRefusal }
 {
@@ -143,6 +146,7 @@ fn restart_probe<R: Wait, H: PointHash, L: Link>(
 ) -> Result<Option<Probe>, ClusterError>
     requires { Fits node.now pass.old }
     ensures did { Does node.now (BeginsAgain L.may_answer now) result pass.old pass.new }
+    ensures sent { Sent L.went node.now [] pass.old pass.new peers.old.link peers.new.link }
     ensures fits { Fits node.now pass.new }
     ensures named { IfErr result IsRoundRefusal }
 {
@@ -160,6 +164,7 @@ pub(crate) fn start_probe<R: Wait, H: PointHash, L: Link>(
 ) -> Result<Option<Probe>, ClusterError>
     requires { Fits node.now pass.old }
     ensures did { Does node.now (Begins L.may_answer now) result pass.old pass.new }
+    ensures sent { Sent L.went node.now [] pass.old pass.new peers.old.link peers.new.link }
     ensures fits { Fits node.now pass.new }
     ensures named { IfErr result IsRoundRefusal }
 {
@@ -195,6 +200,7 @@ pub fn gossip_round<R: Wait, H: PointHash, L: Link>(
 ) -> Result<Round, ClusterError>
     requires { Fits node.now pass.old }
     ensures round { Does node.now (IsRound L.may_answer now) result pass.old pass.new }
+    ensures sent { Makes node.now (SendsTo L.went [] link.old link.new) pass.old pass.new }
     ensures fits { Fits node.now pass.new }
     ensures named { IfErr result IsRoundRefusal }
 {

@@ -3,7 +3,9 @@ ghost use Rattle.std.specs.Prelude.{◌≡◌, ◌<◌, ◌%◌, ◌==◌, ◌&&
 ghost use Rattle.locked_node.specs.Passes.{Fits};
 ghost use Rattle.node_core.specs.declared.events.Event.TheVariants as call;
 ghost use Rattle.node_core.specs.declared.events.Reply.TheVariants as reply;
+ghost use Rattle.peer_core.specs.Acts.{Makes};
 ghost use Rattle.peer_core.specs.Errors.{IsHealRefusal};
+ghost use Rattle.peer_core.specs.Exchanges.{Sent, SentByChoice, SendsByChoice, chosen_hosts, listed};
 ghost use Rattle.peer_core.specs.Healing.{CarriesOut, Chooses, IsHealing, IsMeeting, JoinsChosen, MeetsChosen, after_round, can_meet, choice_of, chosen_host, chosen_member, heals_first, holds_serving, met_at};
 ghost use Rattle.peer_core.specs.Parts.{Calls, Does, Tries};
 
@@ -188,6 +190,7 @@ fn meet_chosen<R: Wait, H: PointHash, L: Link>(
 ) -> Result<bool, ClusterError>
     requires { Fits node.now pass.old }
     ensures did { Does node.now (MeetsChosen L.may_answer now member) result pass.old pass.new }
+    ensures sent { Sent L.went node.now (listed member) pass.old pass.new peers.old.link peers.new.link }
     ensures fits { Fits node.now pass.new }
 {
     match member {
@@ -206,6 +209,7 @@ fn join_chosen<R: Wait, H: PointHash, L: Link>(
 ) -> Result<bool, ClusterError>
     requires { Fits node.now pass.old }
     ensures did { Does node.now (JoinsChosen L.may_answer now host) result pass.old pass.new }
+    ensures sent { Sent L.went node.now (listed host) pass.old pass.new peers.old.link peers.new.link }
     ensures fits { Fits node.now pass.new }
 {
     match host {
@@ -224,6 +228,7 @@ fn carry_out<R: Wait, H: PointHash, L: Link>(
 ) -> Result<bool, ClusterError>
     requires { Fits node.now pass.old }
     ensures did { Does node.now (CarriesOut L.may_answer now choice.now) result pass.old pass.new }
+    ensures sent { Sent L.went node.now (chosen_hosts choice.now) pass.old pass.new peers.old.link peers.new.link }
     ensures fits { Fits node.now pass.new }
 {
     meet_chosen(node, pass, peers, now, choice.member)?;
@@ -241,6 +246,7 @@ fn meet_by<R: Wait, H: PointHash, L: Link>(
 ) -> Result<bool, ClusterError>
     requires { Fits node.now pass.old }
     ensures did { Does node.now (IsMeeting L.may_answer now hosts.now draws) result pass.old pass.new }
+    ensures sent { SentByChoice L.went node.now pass.old pass.new peers.old.link peers.new.link }
     ensures fits { Fits node.now pass.new }
     ensures named { IfErr result IsHealRefusal }
 {
@@ -259,6 +265,7 @@ fn heal_by<R: Wait, H: PointHash, L: Link>(
 ) -> Result<bool, ClusterError>
     requires { Fits node.now pass.old }
     ensures did { Does node.now (IsHealing L.may_answer now hosts.now draws) result pass.old pass.new }
+    ensures sent { SentByChoice L.went node.now pass.old pass.new peers.old.link peers.new.link }
     ensures fits { Fits node.now pass.new }
     ensures named { IfErr result IsHealRefusal }
 {
@@ -296,6 +303,7 @@ pub fn heal<R: Wait, H: PointHash, L: Link>(
     requires { Fits node.now pass.old }
     ensures healed { Does node.now (IsHealing L.may_answer now healing.old.hosts (after_round healing.old).0) result pass.old pass.new }
     ensures healing { healing.new ≡ (after_round healing.old).1 }
+    ensures sent { Makes node.now (SendsByChoice L.went link.old link.new) pass.old pass.new }
     ensures fits { Fits node.now pass.new }
     ensures named { IfErr result IsHealRefusal }
 {

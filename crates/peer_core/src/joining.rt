@@ -1,9 +1,11 @@
 //! Joins of a node with others.
-ghost use Rattle.std.specs.Prelude.{◌≡◌, ◌+◌, ◌-◌, ◌<◌, ◌^◌, length, IfErr};
+ghost use Rattle.std.specs.Prelude.{◌≡◌, ◌+◌, ◌-◌, ◌<◌, ◌^◌, [], ◌∷◌, length, IfErr};
 ghost use Rattle.locked_node.specs.Passes.{Fits};
 ghost use Rattle.node_core.specs.Log.{one_if};
+ghost use Rattle.peer_core.specs.Acts.{Makes};
 ghost use Rattle.peer_core.specs.Asking.{Applied};
 ghost use Rattle.peer_core.specs.Errors.{IsJoinRefusal};
+ghost use Rattle.peer_core.specs.Exchanges.{Sent, SendsTo};
 ghost use Rattle.peer_core.specs.Joining.{HearsHost, IsJoin, JoinsHost, JoinsHosts};
 ghost use Rattle.peer_core.specs.Parts.{Asks, Does};
 
@@ -27,6 +29,7 @@ fn ask_to_join<R: Wait, H: PointHash, L: Link>(
 ) -> Result<Heard, ClusterError>
     requires { Fits node.now pass.old }
     ensures did { Does node.now (Asks (Applied L.may_answer host)) result pass.old pass.new }
+    ensures sent { Sent L.went node.now (host ∷ []) pass.old pass.new peers.old.link peers.new.link }
     ensures fits { Fits node.now pass.new }
     ensures named { IfErr result IsJoinRefusal }
 {
@@ -67,6 +70,7 @@ pub(crate) fn join_host<R: Wait, H: PointHash, L: Link>(
 ) -> Result<bool, ClusterError>
     requires { Fits node.now pass.old }
     ensures did { Does node.now (JoinsHost L.may_answer now host) result pass.old pass.new }
+    ensures sent { Sent L.went node.now (host ∷ []) pass.old pass.new peers.old.link peers.new.link }
     ensures fits { Fits node.now pass.new }
     ensures named { IfErr result IsJoinRefusal }
 {
@@ -92,6 +96,7 @@ fn join_all<R: Wait, H: PointHash, L: Link>(
     requires fits { Fits node.now pass.old }
     requires few { length hosts.now < 2 ^ 32 }
     ensures did { Does node.now (JoinsHosts L.may_answer now 0 hosts.now) result pass.old pass.new }
+    ensures sent { Sent L.went node.now hosts.now pass.old pass.new peers.old.link peers.new.link }
     ensures fits { Fits node.now pass.new }
     ensures named { IfErr result IsJoinRefusal }
 {
@@ -126,6 +131,7 @@ pub fn join<R: Wait, H: PointHash, L: Link>(
     requires fits { Fits node.now pass.old }
     requires few { length hosts.now < 2 ^ 32 }
     ensures joined { Does node.now (IsJoin L.may_answer now hosts.now) result pass.old pass.new }
+    ensures sent { Makes node.now (SendsTo L.went hosts.now link.old link.new) pass.old pass.new }
     ensures fits { Fits node.now pass.new }
     ensures named { IfErr result IsJoinRefusal }
 {

@@ -1,9 +1,11 @@
 //! Theorems about the definitions, each the contract of a function that does nothing.
 ghost use Rattle.peer_core.specs.CorrectionProvenance.{CorrectionsRest};
+ghost use Rattle.peer_core.specs.Exchanges.{CallsAgree, SendingsCount};
 ghost use Rattle.peer_core.specs.HealingProvenance.{HealsRest};
 ghost use Rattle.peer_core.specs.MemberErrors.{AnswersAgree};
 ghost use Rattle.peer_core.specs.Provenance.{JoinsRest, RoundsRest, ServingsRest};
 ghost use Rattle.peer_core.specs.Requests.{RequestsRest};
+ghost use Rattle.peer_core.specs.Resending.{ResendingsCount};
 
 use crate::clocks::Clock;
 use crate::handlers::Handler;
@@ -61,6 +63,21 @@ pub fn servings<H: PointHash, L: Link, A: Handler>()
 /// of memory for a view, in the handler or in the link.
 pub fn requests<H: PointHash, L: Link, A: Handler, C: Clock>()
     ensures { (handler : A) → RequestsRest H.hash_of L.may_answer (A.may_handle handler) C.time }
+{}
+
+/// Messages over the link in a round, a join, a correction, healing and an answer: the link is called exactly as often as the
+/// node made a Ping, a PingReq or a Join in it, and at most as many Joins go out as there are hosts. So also if it ends with
+/// an error. Between two states a pass made the same calls: so a contract says of the same calls which they are, and what
+/// went over the link for them.
+pub fn sendings<H, L: Link>()
+    ensures counted { SendingsCount H L.went }
+    ensures agreed { CallsAgree H }
+{}
+
+/// Forwards over the link for a request: at most four, of its keys and its body, at most one by each view of the node, and
+/// each but the last was answered by a failure; nothing else. So also if the request ends with an error.
+pub fn resendings<H: PointHash, L: Link>()
+    ensures { ResendingsCount H.hash_of L.went }
 {}
 
 /// The result of a member's single call of its node, with its error converted, is that of the locked node, with its

@@ -11,11 +11,15 @@ use std::sync::Wait;
 /// nodes that it reaches have one address: an answer would count as that of another node.
 pub trait Link {
     ghost use Rattle.std.specs.Prelude.{ℕ};
-    ghost use Rattle.peer_core.specs.Links.{MayAnswer, failures_in, IsNamed};
+    ghost use Rattle.peer_core.specs.Links.{MayAnswer, Went, failures_in, IsNamed};
 
     /// The answers that may come from an address to a message, errors included. The behaviour of a real peer is
     /// unknown, so a real link admits everything; code over any link can show an answer only by calling.
     ghost may_answer: { MayAnswer };
+
+    /// One call of the link: an address, a message, its answer, and the state of the link before and after. A link can say
+    /// by it what was sent; a real link says nothing. Code over any link can show a call only by calling.
+    ghost went: { Went Self };
 
     ghost failed: { Self → ℕ };
 
@@ -28,8 +32,8 @@ pub trait Link {
     /// itself: the caller cannot cancel it.
     ///
     /// It sends the message at most once and retries nothing: a Forward that was sent twice would be handled twice.
-    /// This crate calls it once for each message that a node made. A retry is a new message, as when a request is
-    /// forwarded, up to four times.
+    /// This crate calls it once for each Ping, PingReq and Join that a node made, and for a Forward as often as
+    /// `SendsRequest` says: up to four times, each but the last failed.
     ///
     /// # Errors
     ///
@@ -45,6 +49,7 @@ pub trait Link {
         message: &Message,
     ) -> Result<Message, LinkError>
         ensures came { may_answer to message.now result }
+        ensures went { went to message.now result self.old self.new }
         ensures failures { failed self.new ≡ failed self.old + failures_in result }
         ensures spent { result ≡ Err LinkError.Spent ↔ failed self.old ≡ 2 ^ 64 - 1 }
         ensures named { IfErr result IsNamed };

@@ -1,7 +1,8 @@
 //! Meetings with other members, outside of rounds and whatever status they have.
-ghost use Rattle.std.specs.Prelude.{◌≡◌, ◌==◌, ◌&&◌, not};
+ghost use Rattle.std.specs.Prelude.{◌≡◌, ◌==◌, ◌&&◌, not, [], ◌∷◌};
 ghost use Rattle.std.specs.List.{list_any};
 ghost use Rattle.locked_node.specs.Passes.{Fits};
+ghost use Rattle.peer_core.specs.Exchanges.{Sent};
 ghost use Rattle.peer_core.specs.Meeting.{Corrects, CorrectsIf, Meets, TakesAndCorrects, differs_from, is_misnamed, misnames};
 ghost use Rattle.peer_core.specs.Parts.{Does};
 
@@ -66,6 +67,7 @@ fn correct_if<R: Wait, H: PointHash, L: Link>(
 ) -> Result<bool, ClusterError>
     requires { Fits node.now pass.old }
     ensures did { Does node.now (CorrectsIf L.may_answer now is_misnamed member) result pass.old pass.new }
+    ensures sent { Sent L.went node.now (member ∷ []) pass.old pass.new peers.old.link peers.new.link }
     ensures fits { Fits node.now pass.new }
 {
     if is_misnamed {
@@ -86,6 +88,7 @@ pub(crate) fn correct<R: Wait, H: PointHash, L: Link>(
 ) -> Result<bool, ClusterError>
     requires { Fits node.now pass.old }
     ensures did { Does node.now (Corrects L.may_answer now member heard.now) result pass.old pass.new }
+    ensures sent { Sent L.went node.now (member ∷ []) pass.old pass.new peers.old.link peers.new.link }
     ensures fits { Fits node.now pass.new }
 {
     let own = find_own(peers.rt, node, pass)?;
@@ -103,6 +106,7 @@ fn take_and_correct<R: Wait, H: PointHash, L: Link>(
 ) -> Result<bool, ClusterError>
     requires { Fits node.now pass.old }
     ensures did { Does node.now (TakesAndCorrects L.may_answer now member heard.now) result pass.old pass.new }
+    ensures sent { Sent L.went node.now (member ∷ []) pass.old pass.new peers.old.link peers.new.link }
     ensures fits { Fits node.now pass.new }
 {
     take_joined(peers.rt, node, pass, now, heard)?;
@@ -121,6 +125,7 @@ pub(crate) fn meet<R: Wait, H: PointHash, L: Link>(
 ) -> Result<bool, ClusterError>
     requires { Fits node.now pass.old }
     ensures did { Does node.now (Meets L.may_answer now member) result pass.old pass.new }
+    ensures sent { Sent L.went node.now (member ∷ []) pass.old pass.new peers.old.link peers.new.link }
     ensures fits { Fits node.now pass.new }
 {
     let heard = ping_target(node, pass, peers, member)?;

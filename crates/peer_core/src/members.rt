@@ -1,16 +1,18 @@
 //! A member of a cluster, by which a thread of a service makes its calls.
-ghost use Rattle.std.specs.Prelude.{◌≡◌, ◌<◌, ◌^◌, length};
+ghost use Rattle.std.specs.Prelude.{◌≡◌, ◌<◌, ◌^◌, [], length};
 ghost use Rattle.node_core.specs.Calls.{OfView, WithView};
 ghost use Rattle.node_core.specs.declared.events.Event.TheVariants as event;
 ghost use Rattle.node_core.specs.declared.events.Reply.TheVariants as reply;
 ghost use Rattle.locked_node.specs.Passes.{Fits};
 ghost use Rattle.peer_core.specs.Correcting.{IsCorrectingRound};
+ghost use Rattle.peer_core.specs.Exchanges.{SendsByChoice, SendsTo, SendsToOne};
 ghost use Rattle.peer_core.specs.Forwarding.{IsRequest};
 ghost use Rattle.peer_core.specs.Healing.{IsHealing, after_round};
 ghost use Rattle.peer_core.specs.Joining.{IsJoin};
 ghost use Rattle.peer_core.specs.MemberErrors.{answer_of_call, answer_of_leave, answer_of_rejoin, error_of_call, error_of_join, error_of_request, error_of_round, widened};
-ghost use Rattle.peer_core.specs.Members.{Called, Done, Replied};
+ghost use Rattle.peer_core.specs.Members.{Called, Done, Over, Replied};
 ghost use Rattle.peer_core.specs.Parts.{let_in};
+ghost use Rattle.peer_core.specs.Resending.{SendsRequest};
 ghost use Rattle.peer_core.specs.Rounds.{IsRound};
 ghost use Rattle.peer_core.specs.Serving.{Refuses, Serves};
 
@@ -59,9 +61,9 @@ impl<'m, H: PointHash, L: Link> Model for Member<'m, H, L> {
     ghost use Rattle.locked_node.specs.Passes.{Fits};
     ghost use Rattle.peer_core.specs.Members.{Caller};
 
-    ghost Value = { Caller H };
+    ghost Value = { Caller H L };
 
-    ghost view = { λ m. record { node = m.node.now; pass = m.pass } };
+    ghost view = { λ m. record { node = m.node.now; pass = m.pass; link = m.link } };
 
     ghost invariant = { λ m. Fits m.node.now m.pass.now };
 }
@@ -77,6 +79,7 @@ impl<'m, H: PointHash, L: Link> Member<'m, H, L> {
         requires { Fits node.now pass.old }
         ensures node { result.node ≡ node.now }
         ensures pass { result.pass ≡ pass.entry }
+        ensures link { result.link ≡ link.entry }
     {
         Member {
             node,
@@ -110,7 +113,8 @@ impl<'m, H: PointHash, L: Link> Member<'m, H, L> {
         now: Moment,
     ) -> Result<u32, JoinError>
         requires { length hosts.now < 2 ^ 32 }
-        ensures { Done (IsJoin L.may_answer now hosts.now) (widened error_of_join result) self.old self.new }
+        ensures done { Done (IsJoin L.may_answer now hosts.now) (widened error_of_join result) self.old self.new }
+        ensures sent { Over (SendsTo L.went hosts.now) self.old self.new }
     {
         join(rt, self.alloc, self.node, self.pass, self.link, hosts, now).map_err(join_error)
     }
@@ -126,7 +130,8 @@ impl<'m, H: PointHash, L: Link> Member<'m, H, L> {
     /// - `StaleProbe` or `NotAsked`: another pass ended the probe, or answered for its helper, in the meantime.
     /// - `ForeignPass`, `PassSpent`: the lock refused the pass.
     pub fn round<R: Wait>(&mut self, rt: &R, now: Moment) -> Result<Round, RoundError>
-        ensures { Done (IsRound L.may_answer now) (widened error_of_round result) self.old self.new }
+        ensures done { Done (IsRound L.may_answer now) (widened error_of_round result) self.old self.new }
+        ensures sent { Over (SendsTo L.went []) self.old self.new }
     {
         gossip_round(rt, self.alloc, self.node, self.pass, self.link, now).map_err(round_error)
     }
@@ -143,7 +148,8 @@ impl<'m, H: PointHash, L: Link> Member<'m, H, L> {
     /// - `StaleProbe` or `NotAsked`: another pass ended the probe, or answered for its helper, in the meantime.
     /// - `ForeignPass`, `PassSpent`: the lock refused the pass.
     pub fn correcting_round<R: Wait>(&mut self, rt: &R, now: Moment) -> Result<Round, RoundError>
-        ensures { Done (IsCorrectingRound L.may_answer now) (widened error_of_round result) self.old self.new }
+        ensures done { Done (IsCorrectingRound L.may_answer now) (widened error_of_round result) self.old self.new }
+        ensures sent { Over (SendsToOne L.went) self.old self.new }
     {
         correcting_round(rt, self.alloc, self.node, self.pass, self.link, now).map_err(round_error)
     }
@@ -164,6 +170,7 @@ impl<'m, H: PointHash, L: Link> Member<'m, H, L> {
         now: Moment,
     ) -> Result<bool, CallError>
         ensures healed { Done (IsHealing L.may_answer now healing.old.hosts (after_round healing.old).0) (widened error_of_call result) self.old self.new }
+        ensures sent { Over (SendsByChoice L.went) self.old self.new }
         ensures healing { healing.new ≡ (after_round healing.old).1 }
     {
         heal(
@@ -185,7 +192,8 @@ impl<'m, H: PointHash, L: Link> Member<'m, H, L> {
         now: Moment,
         message: &Message,
     ) -> Result<Message, LockError>
-        ensures { Done (Serves H.hash_of L.may_answer (A.may_handle handler.now) message.now now message.now.content) (let_in result) self.old self.new }
+        ensures done { Done (Serves H.hash_of L.may_answer (A.may_handle handler.now) message.now now message.now.content) (let_in result) self.old self.new }
+        ensures sent { Over (SendsTo L.went []) self.old self.new }
     {
         serve_one(
             rt, self.alloc, self.node, self.pass, self.link, handler, now, message,
@@ -198,7 +206,8 @@ impl<'m, H: PointHash, L: Link> Member<'m, H, L> {
     ///
     /// - `ForeignPass`, `PassSpent`: the lock refused the pass.
     pub fn refuse<R: Wait>(&mut self, rt: &R, reason: Reason) -> Result<Message, LockError>
-        ensures { Done (Refuses reason) (let_in result) self.old self.new }
+        ensures done { Done (Refuses reason) (let_in result) self.old self.new }
+        ensures link { self.new.link ≡ self.old.link }
     {
         refuse(rt, self.node, self.pass, reason)
     }
@@ -224,7 +233,8 @@ impl<'m, H: PointHash, L: Link> Member<'m, H, L> {
         keys: Keys,
         body: Text,
     ) -> Result<Text, RequestError>
-        ensures { Done (IsRequest H.hash_of L.may_answer (A.may_handle handler.now) C.time keys body) (widened error_of_request result) self.old self.new }
+        ensures done { Done (IsRequest H.hash_of L.may_answer (A.may_handle handler.now) C.time keys body) (widened error_of_request result) self.old self.new }
+        ensures sent { Over (SendsRequest H.hash_of L.went keys body) self.old self.new }
     {
         let alloc = self.alloc;
         let answer = handle_or_forward(

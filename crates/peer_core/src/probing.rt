@@ -1,9 +1,10 @@
 //! The steps of a probe that runs: its target is pinged, and if it does not answer helpers are asked. Each step makes
 //! calls of the node, and at most one of the link.
-ghost use Rattle.std.specs.Prelude.{◌≡◌, IfErr};
+ghost use Rattle.std.specs.Prelude.{◌≡◌, [], IfErr};
 ghost use Rattle.locked_node.specs.Passes.{Fits};
 ghost use Rattle.peer_core.specs.Asking.{Asked, Pinged};
 ghost use Rattle.peer_core.specs.Errors.{IsRoundRefusal};
+ghost use Rattle.peer_core.specs.Exchanges.{Sent};
 ghost use Rattle.peer_core.specs.Parts.{Asks, Does};
 ghost use Rattle.peer_core.specs.Rounds.{Acknowledges, AsksHelper, AsksHelpers, GivesUp, HearsHelper, HearsTarget, LosesOnce, Probes, end_by, said_by};
 
@@ -53,6 +54,7 @@ pub(crate) fn ping_target<R: Wait, H: PointHash, L: Link>(
 ) -> Result<Heard, ClusterError>
     requires { Fits node.now pass.old }
     ensures did { Does node.now (Asks (Pinged L.may_answer target)) result pass.old pass.new }
+    ensures sent { Sent L.went node.now [] pass.old pass.new peers.old.link peers.new.link }
     ensures fits { Fits node.now pass.new }
     ensures named { IfErr result IsRoundRefusal }
 {
@@ -70,6 +72,7 @@ fn ask_about<R: Wait, H: PointHash, L: Link>(
 ) -> Result<Heard, ClusterError>
     requires { Fits node.now pass.old }
     ensures did { Does node.now (Asks (Asked L.may_answer helper target)) result pass.old pass.new }
+    ensures sent { Sent L.went node.now [] pass.old pass.new peers.old.link peers.new.link }
     ensures fits { Fits node.now pass.new }
     ensures named { IfErr result IsRoundRefusal }
 {
@@ -109,6 +112,7 @@ fn ask_helper<R: Wait, H: PointHash, L: Link>(
 ) -> Result<NodeOutcome, ClusterError>
     requires { Fits node.now pass.old }
     ensures did { Does node.now (AsksHelper L.may_answer now probe.now helper) result pass.old pass.new }
+    ensures sent { Sent L.went node.now [] pass.old pass.new peers.old.link peers.new.link }
     ensures fits { Fits node.now pass.new }
     ensures named { IfErr result IsRoundRefusal }
 {
@@ -139,6 +143,7 @@ fn ask_helpers<R: Wait, H: PointHash, L: Link>(
 ) -> Result<Option<Round>, ClusterError>
     requires { Fits node.now pass.old }
     ensures did { Does node.now (AsksHelpers L.may_answer now probe.now helpers.now) result pass.old pass.new }
+    ensures sent { Sent L.went node.now [] pass.old pass.new peers.old.link peers.new.link }
     ensures fits { Fits node.now pass.new }
     ensures named { IfErr result IsRoundRefusal }
 {
@@ -162,6 +167,7 @@ fn give_up_once<R: Wait, H: PointHash, L: Link>(
 ) -> Result<Option<Round>, ClusterError>
     requires { Fits node.now pass.old }
     ensures did { Does node.now (LosesOnce L.may_answer now probe.now) result pass.old pass.new }
+    ensures sent { Sent L.went node.now [] pass.old pass.new peers.old.link peers.new.link }
     ensures fits { Fits node.now pass.new }
     ensures named { IfErr result IsRoundRefusal }
 {
@@ -186,6 +192,7 @@ fn give_up<R: Wait, H: PointHash, L: Link>(
 ) -> Result<Round, ClusterError>
     requires { Fits node.now pass.old }
     ensures did { Does node.now (GivesUp L.may_answer now probe.now) result pass.old pass.new }
+    ensures sent { Sent L.went node.now [] pass.old pass.new peers.old.link peers.new.link }
     ensures fits { Fits node.now pass.new }
     ensures named { IfErr result IsRoundRefusal }
 {
@@ -228,6 +235,7 @@ pub(crate) fn hear_target<R: Wait, H: PointHash, L: Link>(
 ) -> Result<Round, ClusterError>
     requires { Fits node.now pass.old }
     ensures did { Does node.now (HearsTarget L.may_answer now probe.now heard.now) result pass.old pass.new }
+    ensures sent { Sent L.went node.now [] pass.old pass.new peers.old.link peers.new.link }
     ensures fits { Fits node.now pass.new }
     ensures named { IfErr result IsRoundRefusal }
 {
@@ -248,6 +256,7 @@ pub(crate) fn run_probe<R: Wait, H: PointHash, L: Link>(
 ) -> Result<Round, ClusterError>
     requires { Fits node.now pass.old }
     ensures did { Does node.now (Probes L.may_answer now probe.now) result pass.old pass.new }
+    ensures sent { Sent L.went node.now [] pass.old pass.new peers.old.link peers.new.link }
     ensures fits { Fits node.now pass.new }
     ensures named { IfErr result IsRoundRefusal }
 {

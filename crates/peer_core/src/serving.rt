@@ -1,8 +1,10 @@
 //! The answers of a node to messages. No turn is held while the link or the handler is called.
-ghost use Rattle.std.specs.Prelude.{◌≡◌, true, false, Ok, IfOk, IfErr};
+ghost use Rattle.std.specs.Prelude.{◌≡◌, true, false, [], Ok, IfOk, IfErr};
 ghost use Rattle.node_core.specs.Receiving.{is_answered, is_gossip};
 ghost use Rattle.locked_node.specs.Passes.{Fits};
+ghost use Rattle.peer_core.specs.Acts.{Makes};
 ghost use Rattle.peer_core.specs.Asking.{Pinged};
+ghost use Rattle.peer_core.specs.Exchanges.{Sent, SendsTo};
 ghost use Rattle.peer_core.specs.Parts.{Asks, Does, Next, let_in};
 ghost use Rattle.peer_core.specs.Serving.{message_from, Finds, Forwards, Gossips, IsDecided, IsRouted, PassesOn, Refuses, Reports, Says, Seeks, Serves, TellsRequester, reason_of};
 
@@ -141,6 +143,7 @@ fn ping_target<R: Wait, H: PointHash, L: Link>(
 ) -> Result<Option<bool>, LockError>
     requires { Fits node.now pass.old }
     ensures did { Does node.now (Next (Asks (Pinged L.may_answer target)) (Seeks now)) (let_in result) pass.old pass.new }
+    ensures sent { Sent L.went node.now [] pass.old pass.new peers.old.link peers.new.link }
     ensures fits { Fits node.now pass.new }
 {
     let heard = ping(node, pass, peers, target)?;
@@ -157,6 +160,7 @@ fn is_reachable<R: Wait, H: PointHash, L: Link>(
 ) -> Result<Option<bool>, LockError>
     requires { Fits node.now pass.old }
     ensures did { Does node.now (Finds L.may_answer now target) (let_in result) pass.old pass.new }
+    ensures sent { Sent L.went node.now [] pass.old pass.new peers.old.link peers.new.link }
     ensures fits { Fits node.now pass.new }
 {
     let own = node.own(peers.rt, pass)?;
@@ -200,6 +204,7 @@ fn report_target<R: Wait, H: PointHash, L: Link>(
 ) -> Result<Message, LockError>
     requires { Fits node.now pass.old }
     ensures did { Does node.now (Reports L.may_answer requester now target) (let_in result) pass.old pass.new }
+    ensures sent { Sent L.went node.now [] pass.old pass.new peers.old.link peers.new.link }
     ensures fits { Fits node.now pass.new }
 {
     let found = is_reachable(node, pass, peers, now, target)?;
@@ -219,6 +224,7 @@ fn serve_ping_req<R: Wait, H: PointHash, L: Link>(
     requires gossip { is_gossip message.now.content ≡ true }
     requires unanswered { is_answered message.now.content ≡ false }
     ensures did { Does node.now (PassesOn L.may_answer message.now now target) (let_in result) pass.old pass.new }
+    ensures sent { Sent L.went node.now [] pass.old pass.new peers.old.link peers.new.link }
     ensures fits { Fits node.now pass.new }
 {
     let received = node.receive(peers.rt, pass, message, now)?;
@@ -331,6 +337,7 @@ pub fn serve_one<R: Wait, H: PointHash, L: Link, A: Handler>(
 ) -> Result<Message, LockError>
     requires { Fits node.now pass.old }
     ensures served { Does node.now (Serves H.hash_of L.may_answer (A.may_handle handler.now) message.now now message.now.content) (let_in result) pass.old pass.new }
+    ensures sent { Makes node.now (SendsTo L.went [] link.old link.new) pass.old pass.new }
     ensures fits { Fits node.now pass.new }
 {
     match &message.content {

@@ -139,6 +139,8 @@ fn message_of(alloc: Global, answer: Answer, host: Address, content: &Content) -
 impl Link for Peers {
     ghost may_answer = { λ _ _ _. Unit {0} };
 
+    ghost went = { λ _ _ _ _ _. Unit {0} };
+
     ghost failed = { λ p. p.failures };
 
     fn failures(&self) -> u64 {

@@ -20,6 +20,8 @@ struct Cut {
 impl Link for Cut {
     ghost may_answer = { λ _ _ _. Unit {0} };
 
+    ghost went = { λ _ _ _ _ _. Unit {0} };
+
     ghost failed = { λ c. c.failures };
 
     fn failures(&self) -> u64 {

@@ -12,4 +12,6 @@ returns c =
     let a4 = grown text _ _ _ _ a3 c.in_ok-push_str-2.ensures.bytes in
     let a5 = grown text _ _ _ _ a4 c.in_ok-push_sample-4.ensures in
     let a6 = grown text _ _ _ _ a5 c.in_ok-push_str-3.ensures.bytes in
-    grown text _ _ _ _ a6 c.in_ok-push_sample-5.ensures
+    let a7 = grown text _ _ _ _ a6 c.in_ok-push_sample-5.ensures in
+    let a8 = grown text _ _ _ _ a7 c.in_ok-push_str-4.ensures.bytes in
+    grown text _ _ _ _ a8 c.in_ok-push_sample-6.ensures

@@ -8,4 +8,4 @@ use Rattle.cluster_core.proofs.clusters.answer_one.Goals as goal
 pub returns : goal.returns
 returns g c =
     subst (λ n. Done (Serves g.H.PointHash.hash_of any_answer (g.A.Handler.may_handle c.args.handler.now) c.args.message.now n c.args.message.now.content) (let_in c.serve.result) c.args.member.now c.serve.new.self)
-    c.beginning.ensures c.serve.ensures
+    c.beginning.ensures c.serve.ensures.done

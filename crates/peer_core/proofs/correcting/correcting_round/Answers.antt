@@ -1,4 +1,7 @@
 use Rattle.peer_core.proofs.Parts.{does_give, does_next, does_next_is, does_stop_at}
+use Rattle.std.proofs.Common.{rules}
+use Rattle.peer_core.proofs.Exchanges.{sent_hushed, sent_none_over, sent_one_over, sent_then}
+use Rattle.peer_core.proofs.Hushed.{hushes_expires}
 use Rattle.peer_core.proofs.correcting.correcting_round.Goals as goal
 
 pub returns-in_err-probe-clause-round : goal.returns-in_err-probe-clause-round
@@ -13,3 +16,17 @@ returns-in-None-clause-round g c =
 pub returns-in-Some-clause-round : goal.returns-in-Some-clause-round
 returns-in-Some-clause-round g c =
     does_next _ _ _ _ c.in_ok-expire_all.ensures.did (does_next_is _ _ _ _ _ c.in_ok-probe.ensures.did c.in-Some.is c.probe_and_correct.ensures.did)
+
+pub returns-in_err-expire_all-clause-sent : goal.returns-in_err-expire_all-clause-sent
+returns-in_err-expire_all-clause-sent g c = sent_none_over {a = c.new-peers.result.link} c.new-peers.ensures.link (search rules) (sent_hushed (hushes_expires c.args.now) c.expire_all.ensures.did)
+
+pub returns-in_err-probe-clause-sent : goal.returns-in_err-probe-clause-sent
+returns-in_err-probe-clause-sent g c = sent_none_over c.new-peers.ensures.link (search rules) (sent_then (sent_hushed (hushes_expires c.args.now) c.expire_all.ensures.did) c.start_probe.ensures.sent)
+
+pub returns-in-None-clause-sent : goal.returns-in-None-clause-sent
+returns-in-None-clause-sent g c = sent_none_over c.new-peers.ensures.link (search rules) (sent_then (sent_hushed (hushes_expires c.args.now) c.expire_all.ensures.did) c.start_probe.ensures.sent)
+
+pub returns-in-Some-clause-sent : goal.returns-in-Some-clause-sent
+returns-in-Some-clause-sent g c =
+    sent_one_over c.in-Some.probe.target c.new-peers.ensures.link (search rules)
+    (sent_then (sent_hushed (hushes_expires c.args.now) c.expire_all.ensures.did) (sent_then c.start_probe.ensures.sent c.probe_and_correct.ensures.sent))

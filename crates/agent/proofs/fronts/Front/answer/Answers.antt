@@ -4,16 +4,16 @@ use Rattle.agent.specs.Requests.{IsRefused}
 use Rattle.agent.proofs.Answering.{answered_by_refusal, answered_by_reply}
 use Rattle.agent.proofs.fronts.Front.answer.Goals as goal
 
-pub returns-in-Ok : goal.returns-in-Ok
-returns-in-Ok g c =
+pub returns-in-Ok-clause-answered : goal.returns-in-Ok-clause-answered
+returns-in-Ok-clause-answered g c =
     let own = c.args.self.now.agent.now.own in
     let replicas = c.args.self.now.agent.now.replicas in
     let request = c.args.request.now in
     let fits = IfOk-at_ok (IsReplied own replicas request) c.in-Ok.is c.reply-reply.ensures.reply in
     on_ok_weaker c.put_reply.result (answered_by_reply request own replicas c.closes-closes.result c.put_reply.new.response c.in-Ok.reply fits) c.put_reply.ensures
 
-pub returns : goal.returns
-returns g c =
+pub returns-clause-answered : goal.returns-clause-answered
+returns-clause-answered g c =
     let own = c.args.self.now.agent.now.own in
     let replicas = c.args.self.now.agent.now.replicas in
     let request = c.args.request.now in

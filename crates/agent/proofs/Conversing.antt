@@ -1,0 +1,59 @@
+-- What a connection sends, from what its loop says.
+use Rattle.std.proofs.Common.{◌≡◌, ◌∙◌, ℕ, List, [], ◌∷◌, ◌++◌, Option, All, ap, subst, sym}
+use Rattle.std.proofs.lemmas.List.Elements.{All-nil, All-cons}
+use Rattle.std.specs.Io.KnownBytes.{Appends, Consumes}
+use Rattle.http.specs.declared.request.Request.{Request}
+use Rattle.http_server.proofs.Theorems.{always_served}
+use Rattle.http_server.specs.Connection.{config_of, history}
+use Rattle.http_server.specs.Exchange.{Call, Chain}
+use Rattle.http_server.specs.History.{History, IsServed, new_history}
+use Rattle.http_server.specs.declared.connection.Connection.{Connection}
+use Rattle.http_server.specs.declared.state.Config.{Config}
+use Rattle.http_server.specs.declared.response.Response.{Response}
+use Rattle.agent.specs.Connections.{IsCallAnswered, SendsAnswers, connection_limits}
+use Rattle.agent.specs.Replies.{IsAnswered}
+
+module _ {S : Type 0} (answers : S → Request (List ℕ) → Response → S → Type 0) (own replicas : ℕ) (IsOfNode : S → Type 0)
+    (step : (a b : S) (request : Request (List ℕ)) (response : Response) → IsOfNode a → answers a request response b
+    → IsOfNode b × IsAnswered own replicas request response) where
+  -- each call of a chain is answered by the node, as each step from a service of the node leads to one
+  pub chain_answered : (calls : List Call) (old new : S) → IsOfNode old → Chain answers old calls new → All (IsCallAnswered own replicas) calls
+  chain_answered [] old new ours chain = All-nil (IsCallAnswered own replicas)
+  chain_answered (call ∷ calls) old new ours chain =
+      let first = step old chain.0 call.0 call.1 ours chain.1 in
+      All-cons (IsCallAnswered own replicas) call calls first.1 (chain_answered calls chain.0 new first.0 chain.2)
+
+limits_with : ℕ → ℕ → ℕ → ℕ → ℕ → Config
+limits_with pending read head extensions trailers = record {
+  limits = record { max_head_len = head; max_extensions_len = extensions; max_trailers_len = trailers };
+  max_body_len = 1048576;
+  max_pending = pending;
+  read_size = read;
+}
+
+limits_by : (d : Config) → (d.max_body_len ≡ 1048576) × (d.max_pending ≡ 65536) × (d.read_size ≡ 8192)
+    × (d.limits.max_head_len ≡ 16384) × (d.limits.max_extensions_len ≡ 16384) × (d.limits.max_trailers_len ≡ 16384)
+    → limits_with d.max_pending d.read_size d.limits.max_head_len d.limits.max_extensions_len d.limits.max_trailers_len
+    ≡ limits_with 65536 8192 16384 16384 16384
+limits_by d said = cc
+
+-- the limits that the code sets over the standard ones
+pub limits_are : (d : Config) → (d.max_body_len ≡ 1048576) × (d.max_pending ≡ 65536) × (d.read_size ≡ 8192)
+    × (d.limits.max_head_len ≡ 16384) × (d.limits.max_extensions_len ≡ 16384) × (d.limits.max_trailers_len ≡ 16384)
+    → record d { max_body_len = 1048576 } ≡ connection_limits
+unfolding limits_with
+limits_are d said = limits_by d said
+
+module _ (own replicas : ℕ) (first last : Connection) (unread left old new : Option (List ℕ)) (fresh : history first ≡ new_history)
+    (limits : config_of last ≡ connection_limits) where
+  -- a new connection that made these calls, and read and wrote so, sends answers
+  pub sends_answers : (came : List ℕ) → Consumes unread left came → (history last).received ≡ (history first).received ++ came
+      → (went : List ℕ) → Appends old new went → (history last).sent ≡ (history first).sent ++ went
+      → (calls : List Call) → (history last).calls ≡ (history first).calls ++ calls → All (IsCallAnswered own replicas) calls
+      → SendsAnswers own replicas (history last) unread left old new
+  sends_answers came read received went written sent calls made answered = record {
+    read = subst (Consumes unread left) (sym (received ∙ ap (λ (h : History). h.received ++ came) fresh)) read;
+    written = subst (Appends old new) (sym (sent ∙ ap (λ (h : History). h.sent ++ went) fresh)) written;
+    served = subst (λ config. ∥ IsServed config (history last) ∥₁) limits (always_served last);
+    answered = subst (All (IsCallAnswered own replicas)) (sym (made ∙ ap (λ (h : History). h.calls ++ calls) fresh)) answered;
+  }

@@ -4,7 +4,8 @@ usage: scripts/mutants.py CRATE/NAME FOLDER     plants one in FOLDER, a copy of 
 
 The mutants of a crate are in bugs/CRATE.edits, and those of the gate in crates/CRATE/must-fail/NAME.edit. A line '# NAME' starts a
 mutant of an .edits file. Its other lines are 'fn: PATH', a function that is to be refused, named as `rt check` names it without its
-crate; 'file: PATH', a file of the crate, in src/, or in specs/ where each function is one of `laws`, which does nothing; 'old: TEXT', a text that this file has once; and 'new: TEXT', what replaces it. A mutant has
+crate; 'file: PATH', a file of the crate, in src/, or in specs/ where each function is one of `laws`, which does nothing; 'old: TEXT',
+a text that this file has once, or else that the first function has once; and 'new: TEXT', what replaces it. A mutant has
 one function or several, and one replacement or several; a later one sees what the earlier ones made. A mutant of the gate has no
 function.
 """
@@ -35,11 +36,19 @@ class Edit:
         before = {path: source(folder, path) for path, _, _ in self.replacements}
         after = dict(before)
         for path, old, new in self.replacements:
-            count = after[path].count(old)
+            text = after[path]
+            start, end = (0, len(text)) if text.count(old) == 1 or not self.functions else span(text, self.functions[0].rpartition("::")[2])
+            count = text.count(old, start, end)
             if count != 1:
                 raise Fault(f"an 'old:' text stands in {path} {count} times, and not once: {old.strip()}")
-            after[path] = after[path].replace(old, new)
+            after[path] = text[:start] + text[start:end].replace(old, new) + text[end:]
         return before, after
+
+
+def span(text, name):
+    """Where the one function of this name begins and ends in a file; the whole file if it has several, or none. The layout is that of `rt fmt`."""
+    found = list(re.finditer(rf"^( *)(?:pub(?:\([^)]*\))? )?fn {name}\b.*?^\1}}\n", text, re.MULTILINE | re.DOTALL))
+    return found[0].span() if len(found) == 1 else (0, len(text))
 
 
 def source(folder, path):

@@ -6,7 +6,7 @@ ghost use Rattle.locked_node.specs.Passes.{Fits};
 ghost use Rattle.node_core.specs.declared.events.Event.TheVariants as call;
 ghost use Rattle.node_core.specs.declared.events.Reply.TheVariants as reply;
 ghost use Rattle.peer_core.specs.Acts.{Makes};
-ghost use Rattle.peer_core.specs.Exchanges.{SendsByChoice, SendsTo, SendsToOne};
+ghost use Rattle.peer_core.specs.Exchanges.{SendsByDraws, SendsTo, SendsToPinged};
 ghost use Rattle.peer_core.specs.Joining.{IsJoin};
 ghost use Rattle.peer_core.specs.Parts.{Calls, Does, Tries, allowed, let_in};
 ghost use Rattle.agent.specs.Calling.{Looks, hash_of};
@@ -114,7 +114,7 @@ impl Caller {
     ) -> Result<Round, ClusterError>
         ensures node { self.new.node ≡ self.old.node }
         ensures did { Does self.old.node (IsCorrectingRound L.may_answer now) result self.old.pass self.new.pass }
-        ensures sent { Makes self.old.node (SendsToOne L.went link.old link.new) self.old.pass self.new.pass }
+        ensures sent { Makes self.old.node (SendsToPinged L.went link.old link.new) self.old.pass self.new.pass }
     {
         let round = correcting_round(rt, alloc, &*self.node, &mut self.pass, link, now);
         self.is_spent |= tells_spent(&round);
@@ -141,7 +141,7 @@ impl Caller {
     ) -> Result<bool, ClusterError>
         ensures node { self.new.node ≡ self.old.node }
         ensures did { Does self.old.node (IsHealing L.may_answer now healing.old.hosts (after_round healing.old).0) result self.old.pass self.new.pass }
-        ensures sent { Makes self.old.node (SendsByChoice L.went link.old link.new) self.old.pass self.new.pass }
+        ensures sent { Makes self.old.node (SendsByDraws L.went healing.old.hosts (after_round healing.old).0 link.old link.new) self.old.pass self.new.pass }
         ensures healing { healing.new ≡ (after_round healing.old).1 }
     {
         let healed = heal(rt, alloc, &*self.node, &mut self.pass, link, now, healing);

@@ -1,5 +1,5 @@
 -- What goes over a link, one act after the other.
-use Rattle.std.proofs.Common.{◌≡◌, ℕ, ◌+◌, ◌<◌, length, get_or, drop, append_assoc, false, is_ok, refl, sym, ap, ◌∙◌, subst, inl, inr, arith, ◌≤◌, suc, Option, Some, Result, Ok, Err, List, [], ◌∷◌, ◌++◌}
+use Rattle.std.proofs.Common.{◌≡◌, ℕ, ◌+◌, ◌<◌, length, get_or, drop, append_assoc, false, is_ok, refl, sym, ap, ◌∙◌, subst, inl, inr, arith, ◌≤◌, suc, Option, Some, None, Result, Ok, Err, List, [], ◌∷◌, ◌++◌}
 use denote.Ref.{MutBor}
 use Rattle.std.proofs.lemmas.List.{append_cancel_left}
 use Rattle.change_core.specs.declared.addresses.Address.{Address}
@@ -12,29 +12,55 @@ use Rattle.node_core.specs.declared.events.Reply.TheVariants as reply
 use Rattle.node_core.specs.Calls.{OfEvent, WithReply}
 use Rattle.turn_lock.specs.Passes as lock
 use Rattle.locked_node.specs.declared.node.LockedNode.{LockedNode}
+use Rattle.locked_node.specs.History.{CallEntry}
 use Rattle.locked_node.specs.Passes.{NodePass, IsCalled}
 use Rattle.peer_core.specs.declared.errors.ClusterError.{ClusterError}
-use Rattle.peer_core.specs.Acts.{Act, OfActs, did, Then, Makes}
-use Rattle.peer_core.specs.Exchanges.{Errand, stays, goes_to, joins, errand_of, IsPart, GoesOver, GoesTimes, listed, messages_in, joins_in, one_if_join, one_if_sent, CallsAgree, Runs, Sends, SendingsCount, SendsByChoice, SendsTo, SendsToOne, Sent, SentByChoice}
-use Rattle.peer_core.specs.Links.{Went}
-use Rattle.peer_core.specs.Parts.{Part, Turn, Calls, Tries, Gives, Fails, Next, Until, Does}
+use Rattle.peer_core.specs.declared.healing.Choice.{Choice}
+use Rattle.peer_core.specs.declared.healing.Draws.{Draws}
+use Rattle.peer_core.specs.declared.hearing.Heard.{Heard}
+use Rattle.peer_core.specs.Acts.{Act, OfActs, acts_of, did, Then, Makes}
+use Rattle.peer_core.specs.Asking.{Pinged}
+use Rattle.peer_core.specs.Exchanges.{Errand, stays, goes_to, joins, errand_of, IsPart, GoesOver, GoesTimes, listed, messages_in, joins_in, one_if_join, one_if_sent, CallsAgree, Runs, Sends, SendingsCount, SendsByDraws, SendsTo, SendsToPinged, Sent, SentAs, chosen_hosts, pinged_by, pinged_in}
+use Rattle.peer_core.specs.Healing.{Chooses}
+use Rattle.peer_core.specs.Links.{MayAnswer, Went}
+use Rattle.peer_core.specs.Parts.{Part, Turn, Asks, Calls, Tries, Gives, Fails, Next, Until, Does}
 use Rattle.peer_core.proofs.Acts.{makes_none, makes_one, makes_then, makes_as}
 use Rattle.peer_core.proofs.Turns.{drop_here}
 
-part_behind : (hs : List Address) (host : Address) (hosts : List Address) → IsPart hs hosts → IsPart hs (host ∷ hosts)
-part_behind [] host hosts h = tt
-part_behind (k ∷ ks) host hosts h = inr h
+pub calls_agree : {H : Type 0} → CallsAgree H
+calls_agree locked p q es fs m n = append_cancel_left (lock.calls_of p) es fs (sym m.calls ∙ n.calls)
 
-part_all : (hosts : List Address) → IsPart hosts hosts
-part_all [] = tt
-part_all (h ∷ hs) = inl (refl, part_all hs)
+module _ {A : Type 0} where
+  part_behind : (xs : List A) (y : A) (ys : List A) → IsPart xs ys → IsPart xs (y ∷ ys)
+  part_behind [] y ys h = tt
+  part_behind (x ∷ xs) y ys h = inr h
 
-part_append : (hs hosts ks more : List Address) → IsPart hs hosts → IsPart ks more → IsPart (hs ++ ks) (hosts ++ more)
-part_append [] [] ks more h k = k
-part_append [] (host ∷ hosts) ks more h k = part_behind ks host (hosts ++ more) (part_append [] hosts ks more tt k)
-part_append (a ∷ hs) [] ks more h k = absurd h
-part_append (a ∷ hs) (host ∷ hosts) ks more (inl h) k = inl (h.0, part_append hs hosts ks more h.1 k)
-part_append (a ∷ hs) (host ∷ hosts) ks more (inr h) k = inr (part_append (a ∷ hs) hosts ks more h k)
+  part_all : (xs : List A) → IsPart xs xs
+  part_all [] = tt
+  part_all (x ∷ xs) = inl (refl, part_all xs)
+
+  -- with others before them
+  pub part_later : (before xs ys : List A) → IsPart xs ys → IsPart xs (before ++ ys)
+  part_later [] xs ys h = h
+  part_later (b ∷ before) xs ys h = part_behind xs b (before ++ ys) (part_later before xs ys h)
+
+  -- and behind them
+  part_sooner : (xs ys behind : List A) → IsPart xs ys → IsPart xs (ys ++ behind)
+  part_sooner [] ys behind h = tt
+  part_sooner (x ∷ xs) [] behind h = absurd h
+  part_sooner (x ∷ xs) (y ∷ ys) behind (inl h) = inl (h.0, part_sooner xs ys behind h.1)
+  part_sooner (x ∷ xs) (y ∷ ys) behind (inr h) = inr (part_sooner (x ∷ xs) ys behind h)
+
+  part_append : (xs all ys more : List A) → IsPart xs all → IsPart ys more → IsPart (xs ++ ys) (all ++ more)
+  part_append [] all ys more h k = part_later all ys more k
+  part_append (x ∷ xs) [] ys more h k = absurd h
+  part_append (x ∷ xs) (y ∷ all) ys more (inl h) k = inl (h.0, part_append xs all ys more h.1 k)
+  part_append (x ∷ xs) (y ∷ all) ys more (inr h) k = inr (part_append (x ∷ xs) all ys more h k)
+
+  -- none are part of any
+  part_none : (xs ys : List A) → IsPart xs [] → IsPart xs ys
+  part_none [] ys h = tt
+  part_none (x ∷ xs) ys h = absurd h
 
 module _ {L : Type 0} (went : Went L) where
   runs_more : (e : Errand) (hs left ks : List Address) (a b : L) → Runs went e hs left a b → Runs went e (hs ++ ks) (left ++ ks) a b
@@ -109,7 +135,7 @@ module _ {H : Type 0} where
       go u r acts (Until.goes_on {r = q} {first = xs} {rest = ys} x t p e more) = silent_append xs ys ((f u).silent (Ok x) xs p) (go t q ys more)
 
 module _ {L H : Type 0} (went : Went L) where
-  sends_silent : (b : L) (acts : List (Act H)) → Silent acts → Sends went [] b b acts
+  pub sends_silent : (b : L) (acts : List (Act H)) → Silent acts → Sends went [] b b acts
   sends_silent b [] s = (refl, refl)
   sends_silent b (x ∷ xs) s = ([], b, subst (λ (e : Errand). Runs went e [] [] b b) (sym s.0) (refl, refl), sends_silent b xs s.1)
 
@@ -121,12 +147,71 @@ module _ {L H : Type 0} (went : Went L) where
     subst (λ (xs : List (Act H)). Sends went (t.3.0 ++ t.4.0) a c xs) (sym t.2) (sends_append went t.3.0 t.4.0 a b c t.0 t.1 t.3.2 t.4.2),
   )
 
+module _ {H : Type 0} where
+  pinged_append : (xs ys : List (Act H)) → pinged_in (xs ++ ys) ≡ pinged_in xs ++ pinged_in ys
+  pinged_append [] ys = refl
+  pinged_append (x ∷ xs) ys =
+      ap (λ (hs : List Address). pinged_by x ++ hs) (pinged_append xs ys) ∙ sym (append_assoc (pinged_by x) (pinged_in xs) (pinged_in ys))
+
+  pinged_both : (acts xs ys : List (Act H)) → acts ≡ xs ++ ys → pinged_in acts ≡ pinged_in xs ++ pinged_in ys
+  pinged_both acts xs ys e = ap pinged_in e ∙ pinged_append xs ys
+
+  -- the same acts, of which both are said
+  makes_both : {locked : LockedNode H} {P Q : OfActs H} {p q : NodePass H}
+      → Makes locked P p q → Makes locked Q p q → Makes locked (λ acts. P acts × Q acts) p q
+  makes_both {locked} {P} {Q} {p} {q} m n = record {
+    entries = m.entries;
+    made = m.made;
+    so = (m.so, subst (λ (es : List (CallEntry H)). Q (acts_of es)) (calls_agree locked p q n.entries m.entries n.made m.made) n.so);
+  }
+
+module _ {L H : Type 0} (went : Went L) where
+  -- first no Join, and then some to members that were pinged
+  pinged_later : (a b c : L) (acts : List (Act H)) → Then (SendsTo went [] a b) (SendsToPinged went b c) acts → SendsToPinged went a c acts
+  pinged_later a b c acts t =
+      let (asked, part, sends) = sends_then went [] (pinged_in t.1) a b c acts (t.0, t.1, t.2, t.3, t.4) in
+      (asked, subst (IsPart asked) (sym (pinged_both acts t.0 t.1 t.2)) (part_later (pinged_in t.0) asked (pinged_in t.1) part), sends)
+
+  -- first a Ping, and then Joins to its target
+  pinged_first : (Came : MayAnswer) (target : Address) (heard : Heard) (a b c : L) (acts : List (Act H))
+      → Then (λ acts. Asks (Pinged Came target) (Ok heard) acts × SendsTo went [] a b acts) (SendsTo went (target ∷ []) b c) acts → SendsToPinged went a c acts
+  pinged_first Came target heard a b c acts t =
+      let (asked, part, sends) = sends_then went [] (target ∷ []) a b c acts (t.0, t.1, t.2, t.3.1, t.4) in
+      let first : pinged_in t.0 ≡ target ∷ [] = ap pinged_in t.3.0.1 in
+      let whole : pinged_in acts ≡ (target ∷ []) ++ pinged_in t.1 = pinged_both acts t.0 t.1 t.2 ∙ ap (λ (hs : List Address). hs ++ pinged_in t.1) first in
+      (asked, subst (IsPart asked) (sym whole) (part_sooner asked (target ∷ []) (pinged_in t.1) part), sends)
+
 module _ {L H : Type 0} (went : Went L) where
   -- The Joins to the first of the hosts were sent, as many as this.
   pub record JoinsSome (locked : LockedNode H) (hosts : List Address) (i : ℕ) (p q : NodePass H) (a b : MutBor L) : Type 0 where
     pub first : List Address
     pub all : first ++ drop i hosts ≡ hosts
     pub sent : Sent went locked first p q a b
+
+-- what was sent over the link that is lent, as of the link itself
+pub sent_as_over : {L H : Type 0} {locked : LockedNode H} {p q : NodePass H} {a b : MutBor L} {x y : L} (So : L → L → OfActs H)
+    → a.now ≡ x → y ≡ b.now → SentAs So locked p q a b → Makes locked (So x y) p q
+sent_as_over {locked = locked} {p = p} {q = q} {a = a} {b = b} {x = x} {y = y} So e f s =
+    subst (λ z. Makes locked (So z y) p q) e (subst (λ z. Makes locked (So a.now z) p q) (sym f) s.makes)
+
+module _ {L H : Type 0} (went : Went L) {locked : LockedNode H} where
+  -- no Join was sent, whatever the numbers
+  pub sent_drawn_none : {p q : NodePass H} {a b : MutBor L} (hosts : List Address) (draws : Option Draws)
+      → Sent went locked [] p q a b → SentAs (SendsByDraws went hosts draws) locked p q a b
+  sent_drawn_none {a = a} {b = b} hosts None s = record { same = s.same; makes = makes_as (SendsByDraws went hosts None a.now b.now) (λ acts h. h) s.makes }
+  sent_drawn_none {a = a} {b = b} hosts (Some draws) s = record {
+    same = s.same;
+    makes = makes_as (SendsByDraws went hosts (Some draws) a.now b.now) (λ acts h. inl h) s.makes;
+  }
+
+  -- over the link itself, by the hosts and the numbers that are known
+  pub sent_drawn_over : {p q : NodePass H} {a b : MutBor L} {x y : L} {hosts known : List Address} {draws given : Option Draws}
+      → known ≡ hosts → given ≡ draws → a.now ≡ x → y ≡ b.now → SentAs (SendsByDraws went known given) locked p q a b
+      → Makes locked (SendsByDraws went hosts draws x y) p q
+  sent_drawn_over {p} {q} {a} {b} {x} {y} {hosts} {known} {draws} {given} is are e f s =
+      sent_as_over (SendsByDraws went hosts draws) e f
+      (subst (λ (hs : List Address). SentAs (SendsByDraws went hs draws) locked p q a b) is
+      (subst (λ (o : Option Draws). SentAs (SendsByDraws went known o) locked p q a b) are s))
 
 module _ {L H : Type 0} {went : Went L} {locked : LockedNode H} where
   pub sent_then : {hs ks : List Address} {p q s : NodePass H} {a b c : MutBor L}
@@ -156,17 +241,38 @@ module _ {L H : Type 0} {went : Went L} {locked : LockedNode H} where
   sent_over {hosts} {p} {q} {a} {b} {x} {y} e f s =
       subst (λ (z : L). Makes locked (SendsTo went hosts z y) p q) e (subst (λ (z : L). Makes locked (SendsTo went hosts a.now z) p q) (sym f) s.makes)
 
-  pub sent_none_over : {p q : NodePass H} {a b : MutBor L} {x y : L} → a.now ≡ x → y ≡ b.now → Sent went locked [] p q a b → Makes locked (SendsToOne went x y) p q
-  sent_none_over {x = x} {y = y} e f s = makes_as (SendsToOne went x y) (λ acts h. ([], omega arith, h)) (sent_over e f s)
+  -- no Join was sent, so none to a member that was not pinged
+  pub sent_pinged_none : {p q : NodePass H} {a b : MutBor L} → Sent went locked [] p q a b → SentAs (SendsToPinged went) locked p q a b
+  sent_pinged_none {a = a} {b = b} s = record {
+    same = s.same;
+    makes = makes_as (SendsToPinged went a.now b.now) (λ acts h. (h.0, part_none h.0 (pinged_in acts) h.1, h.2)) s.makes;
+  }
 
-  pub sent_one_over : {p q : NodePass H} {a b : MutBor L} {x y : L} (host : Address)
-      → a.now ≡ x → y ≡ b.now → Sent went locked (host ∷ []) p q a b → Makes locked (SendsToOne went x y) p q
-  sent_one_over {x = x} {y = y} host e f s = makes_as (SendsToOne went x y) (λ acts h. (host ∷ [], omega arith, h)) (sent_over e f s)
+  pub sent_pinged_later : {p q s : NodePass H} {a b c : MutBor L}
+      → Sent went locked [] p q a b → SentAs (SendsToPinged went) locked q s b c → SentAs (SendsToPinged went) locked p s a c
+  sent_pinged_later {a = a} {b = b} {c = c} x y = record {
+    same = y.same ∙ x.same;
+    makes = makes_as (SendsToPinged went a.now c.now) (pinged_later went a.now b.now c.now) (makes_then x.makes y.makes);
+  }
 
-  pub sent_choice_over : {p q : NodePass H} {a b : MutBor L} {x y : L} → a.now ≡ x → y ≡ b.now → SentByChoice went locked p q a b → Makes locked (SendsByChoice went x y) p q
-  sent_choice_over {x = x} {y = y} e f s = makes_as (SendsByChoice went x y) (λ acts h. (s.0, h)) (sent_over e f s.1)
+  -- a member was pinged, and then Joins went to it alone
+  pub sent_pinged : {p q s : NodePass H} {a b c : MutBor L} (Came : MayAnswer) (target : Address) (heard : Heard)
+      → Does locked (Asks (Pinged Came target)) (Ok heard) p q → Sent went locked [] p q a b → Sent went locked (target ∷ []) q s b c
+      → SentAs (SendsToPinged went) locked p s a c
+  sent_pinged {a = a} {b = b} {c = c} Came target heard d x y = record {
+    same = y.same ∙ x.same;
+    makes = makes_as (SendsToPinged went a.now c.now) (pinged_first went Came target heard a.now b.now c.now) (makes_then (makes_both d.makes x.makes) y.makes);
+  }
 
-  -- a part without errands was done, and the link is as it was
+  -- the numbers chose, and Joins went to what they chose
+  pub sent_drawn : {p q s : NodePass H} {a b : MutBor L} (hosts : List Address) (draws : Draws) (choice : Choice)
+      → Does locked (Chooses hosts draws) (Ok choice) p q → Sent went locked (chosen_hosts choice) q s a b → SentAs (SendsByDraws went hosts (Some draws)) locked p s a b
+  sent_drawn {a = a} {b = b} hosts draws choice d s = record {
+    same = s.same;
+    makes = makes_as (SendsByDraws went hosts (Some draws) a.now b.now) (λ acts t. inr (choice, t)) (makes_then d.makes s.makes);
+  }
+
+  -- a part without errands was done, and the link is unchanged
   pub sent_hushed : {A : Type 0} {P : Part H A} {r : Result A ClusterError} {p q : NodePass H} {a : MutBor L} → Hushes P → Does locked P r p q → Sent went locked [] p q a a
   sent_hushed {a = a} h d = record {
     same = refl;
@@ -183,7 +289,7 @@ module _ {L H : Type 0} {went : Went L} {locked : LockedNode H} where
         (λ acts e. subst (SendsTo went hosts a.now b.now) (sym e) (hosts, part_all hosts, ([], b.now, r, (refl, refl)))) (makes_one c);
   }
 
-  -- a Ping was made and sent, or there was no memory to make it
+  -- a Ping was made and sent, or memory ran out as it was made
   pub sent_ping : {hash_of : H → List ℕ → ℕ} {p q : NodePass H} {a b : MutBor L} (target : Address) (made : Result Message NodeError) (message : Message)
       → IsCalled hash_of locked p q (OfEvent (call.PingTo target)) (WithReply (reply.PingTo made)) → made ≡ Ok message
       → b.ghost_name ≡ a.ghost_name → GoesOver went target message a.now b.now → Sent went locked [] p q a b
@@ -268,7 +374,7 @@ module _ {L : Type 0} (went : Went L) where
       let (times, count) = sends_count s.0 s.1 new acts s.3 in
       (counts_one (errand_of act) hosts s.0 old s.1 new (messages_in acts) s.2 times, omega (arith, count, counts_hosts (errand_of act) hosts s.0 old s.1 s.2))
 
-part_fewer : (hs hosts : List Address) → IsPart hs hosts → length hs ≤ length hosts
+part_fewer : {A : Type 0} (hs hosts : List A) → IsPart hs hosts → length hs ≤ length hosts
 part_fewer [] hosts h = omega arith
 part_fewer (k ∷ ks) [] h = absurd h
 part_fewer (k ∷ ks) (host ∷ hosts) (inl h) = omega (arith, part_fewer ks hosts h.1)
@@ -277,6 +383,3 @@ part_fewer (k ∷ ks) (host ∷ hosts) (inr h) = omega (arith, part_fewer (k ∷
 pub sendings_count : {H L : Type 0} (went : Went L) → SendingsCount H went
 sendings_count went hosts old new acts s =
     let (times, count) = sends_count went s.0 old new acts s.2 in (times, omega (arith, count, part_fewer s.0 hosts s.1))
-
-pub calls_agree : {H : Type 0} → CallsAgree H
-calls_agree locked p q es fs m n = append_cancel_left (lock.calls_of p) es fs (sym m.calls ∙ n.calls)

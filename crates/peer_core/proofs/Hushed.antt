@@ -1,5 +1,5 @@
 -- Parts whose acts have no errand: nothing goes over the link for them.
-use Rattle.std.proofs.Common.{ℕ, Bool, true, false, refl, Option, Some, None, Result, Ok, Err, List}
+use Rattle.std.proofs.Common.{ℕ, ◌≤◌, Bool, true, false, refl, inl, inr, arith, Option, Some, None, Result, Ok, Err, List, [], ◌++◌, length}
 use Rattle.change_core.specs.declared.addresses.Address.{Address}
 use Rattle.detector_core.specs.declared.asked.Said.{Said}
 use Rattle.detector_core.specs.declared.asked.Said.TheVariants as said
@@ -24,14 +24,15 @@ use Rattle.peer_core.specs.declared.hearing.Heard.{Heard}
 use Rattle.peer_core.specs.declared.hearing.Heard.TheVariants as heard
 use Rattle.peer_core.specs.declared.rounds.Round.TheVariants.{Reached}
 use Rattle.peer_core.specs.Acts.{Act, looked}
+use Rattle.peer_core.specs.Exchanges.{HealingsCount, SendsTo, chosen_hosts, listed}
 use Rattle.peer_core.specs.Handling.{MayHandle}
 use Rattle.peer_core.specs.Healing.{Chooses, choice_of}
 use Rattle.peer_core.specs.Joining.{HearsHost}
-use Rattle.peer_core.specs.Links.{word_on}
+use Rattle.peer_core.specs.Links.{Went, word_on}
 use Rattle.peer_core.specs.Parts.{Calls, Tries}
 use Rattle.peer_core.specs.Rounds.{Acknowledges, Expires, FailsFrom, FailsOne, HearsHelper, LooksOn, Takes, TellsWord, said_by, waited_for}
 use Rattle.peer_core.specs.Serving.{Answers, Decides, Forwards, GivesMade, Gossips, Receives, Says, Seeks, TellsRequester, Views, message_by, reason_of}
-use Rattle.peer_core.proofs.Exchanges.{Hushes, Silent, hushes_calls, hushes_fails, hushes_gives, hushes_next, hushes_tries, hushes_until, silent_none, silent_one}
+use Rattle.peer_core.proofs.Exchanges.{Hushes, Silent, hushes_calls, hushes_fails, hushes_gives, hushes_next, hushes_tries, hushes_until, sendings_count, sends_silent, sends_then, silent_none, silent_one}
 
 module _ {H : Type 0} where
   pub hushes_takes : (now : ℕ) (message : Message) → Hushes {H = H} (Takes now message)
@@ -144,3 +145,17 @@ module _ {H : Type 0} where
 
   pub hushes_forwards : (hash_of : H → List ℕ → ℕ) (Handled : MayHandle) (keys : List (List ℕ)) (body : List ℕ) → Hushes (Forwards hash_of Handled keys body)
   hushes_forwards hash_of Handled keys body = hushes_next hushes_views (hushes_decides hash_of Handled keys body)
+
+chosen_few : (member host : Option Address) → length (listed member ++ listed host) ≤ 2
+chosen_few None None = omega arith
+chosen_few None (Some host) = omega arith
+chosen_few (Some member) None = omega arith
+chosen_few (Some member) (Some host) = omega arith
+
+pub healings_count : {H L : Type 0} (went : Went L) → HealingsCount H went
+healings_count went hosts None old new acts s = let (times, count) = sendings_count went [] old new acts s in (times, omega (arith, count))
+healings_count went hosts (Some draws) old new acts (inl s) = let (times, count) = sendings_count went [] old new acts s in (times, omega (arith, count))
+healings_count went hosts (Some draws) old new acts (inr (choice, t)) =
+    let first : SendsTo went [] old old t.0 = ([], tt, sends_silent went old t.0 ((hushes_chooses hosts draws).silent (Ok choice) t.0 t.3)) in
+    let (times, count) = sendings_count went (chosen_hosts choice) old new acts (sends_then went [] (chosen_hosts choice) old old new acts (t.0, t.1, t.2, first, t.4)) in
+    (times, omega (arith, count, chosen_few choice.member choice.host))

@@ -1,5 +1,5 @@
 -- What goes over a link for a request, try after try.
-use Rattle.std.proofs.Common.{◌≡◌, ◌≢◌, ℕ, suc, ◌+◌, ◌-◌, ◌<◌, ◌≤◌, refl, sym, ap, ◌∙◌, subst, inl, inr, arith, Result, Ok, Err, Some, List, [], ◌∷◌, ◌++◌, length, append_assoc}
+use Rattle.std.proofs.Common.{◌≡◌, ◌≢◌, ℕ, suc, ◌+◌, ◌-◌, ◌<◌, ◌≤◌, refl, sym, ap, ◌∙◌, subst, inl, inr, arith, Result, Ok, Err, Some, List, [], ◌∷◌, ◌++◌, length, map, append_assoc}
 use Rattle.std.specs.Prelude.{IsErrAnd}
 use Rattle.change_core.specs.declared.addresses.Address.{Address}
 use Rattle.message_core.specs.declared.messages.Content.TheVariants as content
@@ -17,12 +17,14 @@ use Rattle.peer_core.specs.declared.forwarding.Request.{Request}
 use Rattle.peer_core.specs.declared.forwarding.Tried.{Tried}
 use Rattle.peer_core.specs.declared.forwarding.Tried.TheVariants.{Answered, Again}
 use Rattle.peer_core.specs.Acts.{Act, OfActs, looked, Makes}
+use Rattle.peer_core.specs.Exchanges.{IsPart}
 use Rattle.peer_core.specs.Forwarding.{IsFailure, IsJudged, LooksUp}
 use Rattle.peer_core.specs.Links.{Went}
 use Rattle.peer_core.specs.Parts.{Does}
-use Rattle.peer_core.specs.Resending.{AllButLastFailed, ForwardsOver, GoesToOwner, IsSentOnce, Resends, ResendsFirst, ResendingsCount, SendsRequest, TrySends, sends_left}
+use Rattle.peer_core.specs.Resending.{AllButLastFailed, ForwardsOver, GoesToOwner, IsSentOnce, Resends, ResendsFirst, ResendingsCount, Sending, SendsRequest, TrySends, sends_left, viewed_by, viewed_in}
 use Rattle.peer_core.specs.Serving.{message_from}
 use Rattle.peer_core.proofs.Acts.{makes_as, makes_none, makes_then}
+use Rattle.peer_core.proofs.Exchanges.{part_later}
 
 -- the message of a request whose keys are lent out is that of the request
 pub once_lent : {L H : Type 0} (went : Went L) (view : Viewed H) (owner : Address) (request : Request) (keys : List (List ℕ)) (lent : LentState)
@@ -209,15 +211,21 @@ all_but_more answer (next ∷ answers) h k = (h, k)
 
 module _ {L H : Type 0} (hash_of : H → List ℕ → ℕ) (went : Went L) (keys : List (List ℕ)) (body : List ℕ) where
   resends_count : (n : ℕ) (old new : L) (acts : List (Act H)) → Resends hash_of went keys body n old new acts
-      → (answers : List (Result Message LinkError)) × (length answers ≤ n) × (length answers ≤ length acts) × AllButLastFailed answers × ForwardsOver went keys body answers old new
-  resends_count n old new acts Resends.is_over = ([], omega arith, omega arith, tt, refl)
+      → (sends : List (Sending H)) × (length sends ≤ n) × IsPart (map (λ (s : Sending H). s.0) sends) (viewed_in acts)
+      × AllButLastFailed (map (λ (s : Sending H). s.1) sends) × ForwardsOver hash_of went keys body sends old new
+  resends_count n old new acts Resends.is_over = ([], omega arith, tt, tt, refl)
   resends_count n old new acts (Resends.stays {acts = rest} act h) =
-      let (answers, few, some, failed, over) = resends_count n old new rest h in (answers, few, omega (arith, some), failed, over)
+      let (sends, few, part, failed, over) = resends_count n old new rest h in
+      (sends, few, part_later (viewed_by act) (map (λ (s : Sending H). s.0) sends) (viewed_in rest) part, failed, over)
   resends_count n old new acts (Resends.failed {n = k} {mid = mid} {acts = rest} view answer gone fails h) =
-      let (answers, few, some, failed, over) = resends_count k mid new rest h in
-      (answer ∷ answers, omega (arith, few), omega (arith, some), all_but_more answer answers fails failed, (gone.0, message_from view (content.Forward keys body), mid, refl, gone.3, over))
-  resends_count n old new acts (Resends.last {n = k} view answer gone) =
-      (answer ∷ [], omega arith, omega arith, tt, (gone.0, message_from view (content.Forward keys body), new, refl, gone.3, refl))
+      let (sends, few, part, failed, over) = resends_count k mid new rest h in (
+        (view, answer) ∷ sends,
+        omega (arith, few),
+        inl (refl, part),
+        all_but_more answer (map (λ (s : Sending H). s.1) sends) fails failed,
+        (mid, gone, over),
+      )
+  resends_count n old new acts (Resends.last {n = k} view answer gone) = ((view, answer) ∷ [], omega arith, inl (refl, tt), tt, (new, gone, refl))
 
 pub resendings_count : {L H : Type 0} (hash_of : H → List ℕ → ℕ) (went : Went L) → ResendingsCount hash_of went
 resendings_count hash_of went keys body old new acts h = resends_count hash_of went keys body most_sends old new acts h

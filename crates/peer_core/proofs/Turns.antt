@@ -87,7 +87,7 @@ module _ {H : Type 0} where
       does_left (subst (λ (hs : List Address). Leads locked (AsksHelpers Came now probe helpers) (AsksHelpers Came now probe hs) p q) (drop_past helpers i le) m)
       (does_give locked q None)
 
-  -- the probe that runs waits for nobody, and is brought to its end
+  -- the probe that runs waits for no helper, and is completed
   pub finishing : (Came : MayAnswer) (now : ℕ) (found : Option Running) (running : Running) {r : Result (Unit {0}) ClusterError} {locked : LockedNode H} {p q : NodePass H}
       → found ≡ Some running → is_none running.waiting ≡ true
       → Does locked (FinishesBy Came now running None) r p q → Does locked (Finishes Came now found) r p q

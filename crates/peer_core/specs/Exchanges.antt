@@ -11,7 +11,9 @@ use Rattle.locked_node.specs.History.{CallEntry}
 use Rattle.locked_node.specs.Passes.{NodePass, Made}
 use Rattle.peer_core.specs.declared.errors.LinkError.{LinkError}
 use Rattle.peer_core.specs.declared.healing.Choice.{Choice}
-use Rattle.peer_core.specs.Acts.{Act, OfActs, Makes}
+use Rattle.peer_core.specs.declared.healing.Draws.{Draws}
+use Rattle.peer_core.specs.Acts.{Act, OfActs, Then, Makes}
+use Rattle.peer_core.specs.Healing.{Chooses}
 use Rattle.peer_core.specs.Links.{Went}
 
 -- what is to be sent for an act: nothing, this message to this address, or this Join to a host
@@ -28,10 +30,10 @@ errand_of (OfEvent call.JoinMessage, WithReply (reply.JoinMessage (Ok message)))
 errand_of act = stays
 
 -- the first are some of the others, in their order
-abbrev pub IsPart : List Address → List Address → Type 0
-IsPart [] hosts = Unit {0}
-IsPart (h ∷ hs) [] = ⊥
-IsPart (h ∷ hs) (host ∷ hosts) = ((h ≡ host) × IsPart hs hosts) ⊎ IsPart (h ∷ hs) hosts
+abbrev pub IsPart : {A : Type 0} → List A → List A → Type 0
+IsPart [] all = Unit {0}
+IsPart (x ∷ xs) [] = ⊥
+IsPart (x ∷ xs) (y ∷ ys) = ((x ≡ y) × IsPart xs ys) ⊎ IsPart (x ∷ xs) ys
 
 -- the address, if there is one
 abbrev pub listed : Option Address → List Address
@@ -41,6 +43,16 @@ listed (Some a) = a ∷ []
 -- the addresses of a choice: the member, and then the host
 abbrev pub chosen_hosts : Choice → List Address
 chosen_hosts choice = listed choice.member ++ listed choice.host
+
+-- the target of an act, if it is a Ping
+abbrev pub pinged_by : {H : Type 0} → Act H → List Address
+pinged_by (OfEvent (call.PingTo a), told) = a ∷ []
+pinged_by act = []
+
+-- the targets of the Pings among acts, in their order
+abbrev pub pinged_in : {H : Type 0} → List (Act H) → List Address
+pinged_in [] = []
+pinged_in (act ∷ acts) = pinged_by act ++ pinged_in acts
 
 module _ {L : Type 0} (went : Went L) where
   -- the message went over the link to the address, once
@@ -59,26 +71,30 @@ module _ {L : Type 0} (went : Went L) where
     Sends hosts old new [] = (hosts ≡ []) × (new ≡ old)
     Sends hosts old new (act ∷ acts) = (left : List Address) × (mid : L) × Runs (errand_of act) hosts left old mid × Sends left mid new acts
 
-    -- the same, the Joins to some of these hosts in their order, and to each at most once
+    -- the same, the Joins to some of these hosts in their order, at most one for each place in the list
     abbrev pub SendsTo : List Address → L → L → OfActs H
     SendsTo hosts old new acts = (asked : List Address) × IsPart asked hosts × Sends asked old new acts
 
-    -- the same to one host at most
-    abbrev pub SendsToOne : L → L → OfActs H
-    SendsToOne old new acts = (hosts : List Address) × (length hosts ≤ 1) × SendsTo hosts old new acts
+    -- the same, the Joins to members that the node pinged in these acts
+    abbrev pub SendsToPinged : L → L → OfActs H
+    SendsToPinged old new acts = SendsTo (pinged_in acts) old new acts
 
-    -- the same to the member and then the host of a choice
-    abbrev pub SendsByChoice : L → L → OfActs H
-    SendsByChoice old new acts = (choice : Choice) × SendsTo (chosen_hosts choice) old new acts
+    -- the same to the member and then the host that the numbers choose, by the entry and the members that the node was asked for; without
+    -- numbers, or without that choice, no Join
+    abbrev pub SendsByDraws : List Address → Option Draws → L → L → OfActs H
+    SendsByDraws hosts None old new acts = SendsTo [] old new acts
+    SendsByDraws hosts (Some draws) old new acts =
+        SendsTo [] old new acts ⊎ ((choice : Choice) × Then (Chooses hosts draws (Ok choice)) (SendsTo (chosen_hosts choice) old new) acts)
 
     -- By this pass, and over the link that is lent, the messages were sent, the Joins to some of these hosts.
     pub record Sent (locked : LockedNode H) (hosts : List Address) (p q : NodePass H) (old new : MutBor L) : Type 0 where
       pub same : new.ghost_name ≡ old.ghost_name
       pub makes : Makes locked (SendsTo hosts old.now new.now) p q
 
-    -- the same, the Joins to the member and the host of a choice
-    abbrev pub SentByChoice : LockedNode H → NodePass H → NodePass H → MutBor L → MutBor L → Type 0
-    SentByChoice locked p q old new = (choice : Choice) × Sent locked (chosen_hosts choice) p q old new
+-- By this pass, and over the link that is lent, messages were sent so.
+pub record SentAs {L H : Type 0} (So : L → L → OfActs H) (locked : LockedNode H) (p q : NodePass H) (old new : MutBor L) : Type 0 where
+  pub same : new.ghost_name ≡ old.ghost_name
+  pub makes : Makes locked (So old.now new.now) p q
 
 module _ {L : Type 0} (went : Went L) where
   -- the link was called as often as this
@@ -113,6 +129,12 @@ abbrev pub SendingsCount : (H : Type 0) → {L : Type 0} → Went L → Type 0
 SendingsCount H {L} went =
     (hosts : List Address) (old new : L) (acts : List (Act H)) → SendsTo went hosts old new acts
     → GoesTimes went (messages_in acts) old new × (joins_in acts ≤ length hosts)
+
+-- the same of healing: at most two Joins go out, to a member and to a host
+abbrev pub HealingsCount : (H : Type 0) → {L : Type 0} → Went L → Type 0
+HealingsCount H {L} went =
+    (hosts : List Address) (draws : Option Draws) (old new : L) (acts : List (Act H)) → SendsByDraws went hosts draws old new acts
+    → GoesTimes went (messages_in acts) old new × (joins_in acts ≤ 2)
 
 -- between two states a pass made the same calls, whoever says which: so the trace of a call and its messages are of the same acts
 abbrev pub CallsAgree : Type 0 → Type 0

@@ -1,9 +1,10 @@
 -- What goes over a link for a request: by each view of the node at most one Forward, to the owner of its keys in that view. Each but the last
 -- failed, and there are four at most.
-use Rattle.std.specs.Prelude.{◌≡◌, ◌≢◌, ℕ, suc, ◌-◌, ◌<◌, ◌≤◌, length, List, [], ◌∷◌, ◌++◌, Some, Result, Ok, Err}
+use Rattle.std.specs.Prelude.{◌≡◌, ◌≢◌, ℕ, suc, ◌-◌, ◌<◌, ◌≤◌, length, map, List, [], ◌∷◌, ◌++◌, Some, Result, Ok, Err}
 use Rattle.change_core.specs.declared.addresses.Address.{Address}
 use Rattle.message_core.specs.declared.messages.Content.TheVariants as content
 use Rattle.message_core.specs.declared.messages.Message.{Message}
+use Rattle.node_core.specs.Calls.{OfView, WithView}
 use Rattle.node_core.specs.Viewing.{Viewed}
 use Rattle.forward_core.specs.Attempts.{most_sends}
 use Rattle.forward_core.specs.Routes.{AllOwnedBy}
@@ -13,6 +14,7 @@ use Rattle.peer_core.specs.declared.forwarding.Request.{Request}
 use Rattle.peer_core.specs.declared.forwarding.Tried.{Tried}
 use Rattle.peer_core.specs.declared.forwarding.Tried.TheVariants.{Answered, Again}
 use Rattle.peer_core.specs.Acts.{Act, OfActs, looked}
+use Rattle.peer_core.specs.Exchanges.{IsPart}
 use Rattle.peer_core.specs.Forwarding.{IsFailure, IsJudged}
 use Rattle.peer_core.specs.Links.{Went}
 use Rattle.peer_core.specs.Serving.{message_from}
@@ -68,16 +70,29 @@ AllButLastFailed [] = Unit {0}
 AllButLastFailed (answer ∷ []) = Unit {0}
 AllButLastFailed (answer ∷ next ∷ answers) = IsFailure answer × AllButLastFailed (next ∷ answers)
 
--- Forwards of the keys and the body went over the link, and nothing else, with these answers
-abbrev pub ForwardsOver : {L : Type 0} → Went L → List (List ℕ) → List ℕ → List (Result Message LinkError) → L → L → Type 0
-ForwardsOver went keys body [] old new = new ≡ old
-ForwardsOver {L} went keys body (answer ∷ answers) old new =
-    (owner : Address) × (message : Message) × (mid : L) × (message.content ≡ content.Forward keys body) × went owner message answer old mid
-    × ForwardsOver went keys body answers mid new
+-- the view that an act shows, if the node gave one
+abbrev pub viewed_by : {H : Type 0} → Act H → List (Viewed H)
+viewed_by (OfView, WithView (Ok view)) = view ∷ []
+viewed_by act = []
 
--- for a request at most four Forwards go over the link, at most one by each view, and each but the last failed
-abbrev pub ResendingsCount : {L H : Type 0} → (H → List ℕ → ℕ) → Went L → Type 0
-ResendingsCount {L} {H} hash_of went =
-    (keys : List (List ℕ)) (body : List ℕ) (old new : L) (acts : List (Act H)) → SendsRequest hash_of went keys body old new acts
-    → (answers : List (Result Message LinkError)) × (length answers ≤ most_sends) × (length answers ≤ length acts) × AllButLastFailed answers
-    × ForwardsOver went keys body answers old new
+-- the views that the node gave among acts, in their order
+abbrev pub viewed_in : {H : Type 0} → List (Act H) → List (Viewed H)
+viewed_in [] = []
+viewed_in (act ∷ acts) = viewed_by act ++ viewed_in acts
+
+-- a Forward by a view, with its answer
+abbrev pub Sending : Type 0 → Type 0
+Sending H = Viewed H × Result Message LinkError
+
+module _ {L H : Type 0} (hash_of : H → List ℕ → ℕ) (went : Went L) where
+  -- these Forwards of the keys and the body went over the link, each to the owner of the keys in its view, and nothing else
+  abbrev pub ForwardsOver : List (List ℕ) → List ℕ → List (Sending H) → L → L → Type 0
+  ForwardsOver keys body [] old new = new ≡ old
+  ForwardsOver keys body ((view, answer) ∷ sends) old new = (mid : L) × GoesToOwner hash_of went keys body view answer old mid × ForwardsOver keys body sends mid new
+
+  -- for a request at most four Forwards go over the link, each by another of the views that the node gave, and each but the last failed
+  abbrev pub ResendingsCount : Type 0
+  ResendingsCount =
+      (keys : List (List ℕ)) (body : List ℕ) (old new : L) (acts : List (Act H)) → SendsRequest hash_of went keys body old new acts
+      → (sends : List (Sending H)) × (length sends ≤ most_sends) × IsPart (map (λ (s : Sending H). s.0) sends) (viewed_in acts)
+      × AllButLastFailed (map (λ (s : Sending H). s.1) sends) × ForwardsOver keys body sends old new

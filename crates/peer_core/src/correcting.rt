@@ -4,7 +4,7 @@ ghost use Rattle.locked_node.specs.Passes.{Fits};
 ghost use Rattle.peer_core.specs.Acts.{Makes};
 ghost use Rattle.peer_core.specs.Correcting.{CorrectsAfter, HearsAndCorrects, IsCorrectingRound, ProbesAndCorrects};
 ghost use Rattle.peer_core.specs.Errors.{IsRoundRefusal};
-ghost use Rattle.peer_core.specs.Exchanges.{Sent, SendsToOne};
+ghost use Rattle.peer_core.specs.Exchanges.{Sent, SentAs, SendsToPinged};
 ghost use Rattle.peer_core.specs.Parts.{Does};
 
 use crate::asking::Peers;
@@ -71,7 +71,7 @@ fn probe_and_correct<R: Wait, H: PointHash, L: Link>(
 ) -> Result<Round, ClusterError>
     requires { Fits node.now pass.old }
     ensures did { Does node.now (ProbesAndCorrects L.may_answer now probe.now) result pass.old pass.new }
-    ensures sent { Sent L.went node.now (probe.now.target ∷ []) pass.old pass.new peers.old.link peers.new.link }
+    ensures sent { SentAs (SendsToPinged L.went) node.now pass.old pass.new peers.old.link peers.new.link }
     ensures fits { Fits node.now pass.new }
     ensures named { IfErr result IsRoundRefusal }
 {
@@ -105,7 +105,7 @@ pub fn correcting_round<R: Wait, H: PointHash, L: Link>(
 ) -> Result<Round, ClusterError>
     requires { Fits node.now pass.old }
     ensures round { Does node.now (IsCorrectingRound L.may_answer now) result pass.old pass.new }
-    ensures sent { Makes node.now (SendsToOne L.went link.old link.new) pass.old pass.new }
+    ensures sent { Makes node.now (SendsToPinged L.went link.old link.new) pass.old pass.new }
     ensures fits { Fits node.now pass.new }
     ensures named { IfErr result IsRoundRefusal }
 {

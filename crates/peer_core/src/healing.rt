@@ -1,11 +1,11 @@
 //! How members that parted find one another again.
-ghost use Rattle.std.specs.Prelude.{◌≡◌, ◌<◌, ◌%◌, ◌==◌, ◌&&◌, ◌||◌, [], length, count_by, slice_get, IfOk, IfErr};
+ghost use Rattle.std.specs.Prelude.{◌≡◌, ◌<◌, ◌%◌, ◌==◌, ◌&&◌, ◌||◌, [], length, count_by, slice_get, Some, IfOk, IfErr};
 ghost use Rattle.locked_node.specs.Passes.{Fits};
 ghost use Rattle.node_core.specs.declared.events.Event.TheVariants as call;
 ghost use Rattle.node_core.specs.declared.events.Reply.TheVariants as reply;
 ghost use Rattle.peer_core.specs.Acts.{Makes};
 ghost use Rattle.peer_core.specs.Errors.{IsHealRefusal};
-ghost use Rattle.peer_core.specs.Exchanges.{Sent, SentByChoice, SendsByChoice, chosen_hosts, listed};
+ghost use Rattle.peer_core.specs.Exchanges.{Sent, SentAs, SendsByDraws, chosen_hosts, listed};
 ghost use Rattle.peer_core.specs.Healing.{CarriesOut, Chooses, IsHealing, IsMeeting, JoinsChosen, MeetsChosen, after_round, can_meet, choice_of, chosen_host, chosen_member, heals_first, holds_serving, met_at};
 ghost use Rattle.peer_core.specs.Parts.{Calls, Does, Tries};
 
@@ -246,7 +246,7 @@ fn meet_by<R: Wait, H: PointHash, L: Link>(
 ) -> Result<bool, ClusterError>
     requires { Fits node.now pass.old }
     ensures did { Does node.now (IsMeeting L.may_answer now hosts.now draws) result pass.old pass.new }
-    ensures sent { SentByChoice L.went node.now pass.old pass.new peers.old.link peers.new.link }
+    ensures sent { SentAs (SendsByDraws L.went hosts.now (Some draws)) node.now pass.old pass.new peers.old.link peers.new.link }
     ensures fits { Fits node.now pass.new }
     ensures named { IfErr result IsHealRefusal }
 {
@@ -265,7 +265,7 @@ fn heal_by<R: Wait, H: PointHash, L: Link>(
 ) -> Result<bool, ClusterError>
     requires { Fits node.now pass.old }
     ensures did { Does node.now (IsHealing L.may_answer now hosts.now draws) result pass.old pass.new }
-    ensures sent { SentByChoice L.went node.now pass.old pass.new peers.old.link peers.new.link }
+    ensures sent { SentAs (SendsByDraws L.went hosts.now draws) node.now pass.old pass.new peers.old.link peers.new.link }
     ensures fits { Fits node.now pass.new }
     ensures named { IfErr result IsHealRefusal }
 {
@@ -303,7 +303,7 @@ pub fn heal<R: Wait, H: PointHash, L: Link>(
     requires { Fits node.now pass.old }
     ensures healed { Does node.now (IsHealing L.may_answer now healing.old.hosts (after_round healing.old).0) result pass.old pass.new }
     ensures healing { healing.new ≡ (after_round healing.old).1 }
-    ensures sent { Makes node.now (SendsByChoice L.went link.old link.new) pass.old pass.new }
+    ensures sent { Makes node.now (SendsByDraws L.went healing.old.hosts (after_round healing.old).0 link.old link.new) pass.old pass.new }
     ensures fits { Fits node.now pass.new }
     ensures named { IfErr result IsHealRefusal }
 {

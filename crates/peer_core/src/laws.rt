@@ -1,6 +1,6 @@
 //! Theorems about the definitions, each the contract of a function that does nothing.
 ghost use Rattle.peer_core.specs.CorrectionProvenance.{CorrectionsRest};
-ghost use Rattle.peer_core.specs.Exchanges.{CallsAgree, SendingsCount};
+ghost use Rattle.peer_core.specs.Exchanges.{CallsAgree, HealingsCount, SendingsCount};
 ghost use Rattle.peer_core.specs.HealingProvenance.{HealsRest};
 ghost use Rattle.peer_core.specs.MemberErrors.{AnswersAgree};
 ghost use Rattle.peer_core.specs.Provenance.{JoinsRest, RoundsRest, ServingsRest};
@@ -66,16 +66,18 @@ pub fn requests<H: PointHash, L: Link, A: Handler, C: Clock>()
 {}
 
 /// Messages over the link in a round, a join, a correction, healing and an answer: the link is called exactly as often as the
-/// node made a Ping, a PingReq or a Join in it, and at most as many Joins go out as there are hosts. So also if it ends with
-/// an error. Between two states a pass made the same calls: so a contract says of the same calls which they are, and what
+/// node made a Ping, a PingReq or a Join in it, and at most as many Joins go out as there are hosts, or pinged members, or two
+/// in healing. So also if it ends with an error. Between two states a pass made the same calls: so a contract says of the same calls which they are, and what
 /// went over the link for them.
 pub fn sendings<H, L: Link>()
     ensures counted { SendingsCount H L.went }
+    ensures healed { HealingsCount H L.went }
     ensures agreed { CallsAgree H }
 {}
 
-/// Forwards over the link for a request: at most four, of its keys and its body, at most one by each view of the node, and
-/// each but the last was answered by a failure; nothing else. So also if the request ends with an error.
+/// Forwards over the link for a request: at most four, of its keys and its body, each by another of the views that the node
+/// gave in it, to the owner of the keys in that view, and each but the last was answered by a failure; nothing else. So also
+/// if the request ends with an error.
 pub fn resendings<H: PointHash, L: Link>()
     ensures { ResendingsCount H.hash_of L.went }
 {}

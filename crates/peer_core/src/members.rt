@@ -5,7 +5,7 @@ ghost use Rattle.node_core.specs.declared.events.Event.TheVariants as event;
 ghost use Rattle.node_core.specs.declared.events.Reply.TheVariants as reply;
 ghost use Rattle.locked_node.specs.Passes.{Fits};
 ghost use Rattle.peer_core.specs.Correcting.{IsCorrectingRound};
-ghost use Rattle.peer_core.specs.Exchanges.{SendsByChoice, SendsTo, SendsToOne};
+ghost use Rattle.peer_core.specs.Exchanges.{SendsByDraws, SendsTo, SendsToPinged};
 ghost use Rattle.peer_core.specs.Forwarding.{IsRequest};
 ghost use Rattle.peer_core.specs.Healing.{IsHealing, after_round};
 ghost use Rattle.peer_core.specs.Joining.{IsJoin};
@@ -149,7 +149,7 @@ impl<'m, H: PointHash, L: Link> Member<'m, H, L> {
     /// - `ForeignPass`, `PassSpent`: the lock refused the pass.
     pub fn correcting_round<R: Wait>(&mut self, rt: &R, now: Moment) -> Result<Round, RoundError>
         ensures done { Done (IsCorrectingRound L.may_answer now) (widened error_of_round result) self.old self.new }
-        ensures sent { Over (SendsToOne L.went) self.old self.new }
+        ensures sent { Over (SendsToPinged L.went) self.old self.new }
     {
         correcting_round(rt, self.alloc, self.node, self.pass, self.link, now).map_err(round_error)
     }
@@ -170,7 +170,7 @@ impl<'m, H: PointHash, L: Link> Member<'m, H, L> {
         now: Moment,
     ) -> Result<bool, CallError>
         ensures healed { Done (IsHealing L.may_answer now healing.old.hosts (after_round healing.old).0) (widened error_of_call result) self.old self.new }
-        ensures sent { Over (SendsByChoice L.went) self.old self.new }
+        ensures sent { Over (SendsByDraws L.went healing.old.hosts (after_round healing.old).0) self.old self.new }
         ensures healing { healing.new ≡ (after_round healing.old).1 }
     {
         heal(

@@ -46,6 +46,8 @@ struct Requests<'a, R> {
     /// Whether an answer was written since the last read.
     is_answering: &'a Flag,
     end: Deadline<'a, R>,
+    /// The time limit of the stream's reads, so that it is set only where it changes.
+    limit: Duration,
 }
 
 impl<'a, R: Host> Requests<'a, R> {
@@ -53,9 +55,12 @@ impl<'a, R: Host> Requests<'a, R> {
     fn read_once(&mut self, left: Duration, buf: &mut [u8]) -> io::Result<usize>
         ensures { ReadsAtMost result buf.new }
     {
-        let silence = Duration::from_millis(SILENCE);
+        let limit = left.min(Duration::from_millis(SILENCE));
         let mut stream = self.stream;
-        stream.set_read_timeout(Some(left.min(silence)))?;
+        if limit != self.limit {
+            stream.set_read_timeout(Some(limit))?;
+            self.limit = limit;
+        }
         stream.read(buf)
     }
 
@@ -98,15 +103,20 @@ struct Answers<'a, R> {
     is_answering: &'a Flag,
     /// The time for which writes may still wait.
     left: Duration,
+    /// The time limit of the stream's writes, so that it is set only where it changes.
+    limit: Duration,
 }
 
 impl<'a, R: Host> Answers<'a, R> {
     /// Writes once.
-    fn write_once(&mut self, left: Duration, buf: &[u8]) -> io::Result<usize>
+    fn write_once(&mut self, limit: Duration, buf: &[u8]) -> io::Result<usize>
         ensures { WritesAtMost result buf.now }
     {
         let mut stream = self.stream;
-        stream.set_write_timeout(Some(left))?;
+        if limit != self.limit {
+            stream.set_write_timeout(Some(limit))?;
+            self.limit = limit;
+        }
         stream.write(buf)
     }
 }
@@ -121,9 +131,10 @@ impl<'a, R: Host> Write for Answers<'a, R> {
         }
         let agent = self.agent;
         let end = Deadline::after(&agent.rt, self.left)?;
+        let mut limit = self.left;
         for _ in agent.rt.forever() {
-            match self.write_once(end.left()?, buf) {
-                Err(error) if error.kind() == ErrorKind::Interrupted => {}
+            match self.write_once(limit, buf) {
+                Err(error) if error.kind() == ErrorKind::Interrupted => limit = end.left()?,
                 outcome => {
                     self.left = end.left().unwrap_or(Duration::from_millis(0));
                     return outcome;
@@ -173,12 +184,14 @@ fn serve_connection<R: Host>(
         stream,
         is_answering: &is_answering,
         end: deadline(agent, IDLE)?,
+        limit: Duration::from_millis(0),
     };
     let mut answers = Answers {
         agent,
         stream,
         is_answering: &is_answering,
         left: Duration::from_millis(TAKEN),
+        limit: Duration::from_millis(0),
     };
     serve_over(front, keys, &mut requests, &mut answers)
 }

@@ -1,23 +1,23 @@
 -- What answers a request over HTTP.
-use Rattle.std.proofs.Common.{◌≡◌, ℕ, List, Bool, IsFalse, Ok, Err, inl, inr, subst, sym}
+use Rattle.std.proofs.Common.{◌≡◌, ℕ, false, List, Bool, Result, Ok, Err, true≢false}
+use Rattle.std.specs.Prelude.{[], ◌⊎◌, OnOk, is_err}
 use Rattle.http.specs.declared.request.Request.{Request}
 use Rattle.http_server.specs.declared.response.Response.{Response}
-use Rattle.agent_core.specs.declared.actions.Action.{Action}
-use Rattle.agent_core.specs.declared.refusals.Refusal.{Refusal}
-use Rattle.agent.specs.Replies.{IsAnswered, IsReplied, ShowsRefusal, ShowsReply}
-use Rattle.agent.specs.Requests.{AsksFor, IsRefused, Refuses, is_of_request}
-use Rattle.agent.specs.declared.replies.Reply.{Reply}
+use Rattle.http_server.specs.Response.{IsResponse}
+use Rattle.agent.specs.Answers.{IsAnswered, Settles, ShowsOutcome}
+use Rattle.agent.specs.Calling.{Calling, HasMade}
+use Rattle.agent.specs.Performing.{Outcome}
+use Rattle.agent.proofs.Performed.{made_as}
 
-module _ (request : Request (List ℕ)) where
-  -- a refusal of the node fits a request that asks for an action
-  pub refused_by_node : (asked : Action) (refusal : Refusal) → AsksFor request asked → IsFalse (is_of_request refusal) → IsRefused request refusal
-  refused_by_node asked refusal asks ours = inr (asks.0, subst (λ it. Refuses it refusal) (sym asks.1) ours)
+-- a response that shows the outcome, or a status alone, answers the request
+pub answered_by : (own replicas : ℕ) (request : Request (List ℕ)) (response : Response) (outcome : Outcome) (old new : Calling)
+    → HasMade (Settles own replicas request outcome) old new → ((closes : Bool) × ShowsOutcome outcome closes response) ⊎ IsResponse 503 [] [] response
+    → HasMade (IsAnswered own replicas request response) old new
+answered_by own replicas request response outcome old new made shown =
+    made_as (IsAnswered own replicas request response) (Settles own replicas request outcome) old new
+    (λ acts settled. record { outcome = outcome; settled = settled; shown = shown }) made
 
-  module _ (own replicas : ℕ) (closes : Bool) (response : Response) where
-    -- a reply that fits answers it
-    pub answered_by_reply : (reply : Reply) → IsReplied own replicas request reply → ShowsReply reply closes response → IsAnswered own replicas request response
-    answered_by_reply reply fits shows = record { answer = inl (reply, closes, fits, shows) }
-
-    -- so does a refusal
-    pub answered_by_refusal : (refusal : Refusal) → IsRefused request refusal → ShowsRefusal refusal closes response → IsAnswered own replicas request response
-    answered_by_refusal refusal fits shows = record { answer = inr (inl (refusal, closes, fits, shows)) }
+-- what holds where a result is no error
+pub shown_if_ok : {T E Q : Type 0} (result : Result T E) → is_err result ≡ false → OnOk result Q → Q
+shown_if_ok (Ok value) none shown = shown
+shown_if_ok (Err e) none shown = absurd (true≢false none)

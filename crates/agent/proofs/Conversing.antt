@@ -1,6 +1,5 @@
 -- What a connection sends, from what its loop says.
-use Rattle.std.proofs.Common.{◌≡◌, ◌∙◌, ℕ, List, [], ◌∷◌, ◌++◌, Option, All, ap, subst, sym}
-use Rattle.std.proofs.lemmas.List.Elements.{All-nil, All-cons}
+use Rattle.std.proofs.Common.{◌≡◌, ◌∙◌, ℕ, List, [], ◌∷◌, ◌++◌, Option, ap, refl, subst, sym}
 use Rattle.std.specs.Io.KnownBytes.{Appends, Consumes}
 use Rattle.http.specs.declared.request.Request.{Request}
 use Rattle.http_server.proofs.Theorems.{always_served}
@@ -10,18 +9,21 @@ use Rattle.http_server.specs.History.{History, IsServed, new_history}
 use Rattle.http_server.specs.declared.connection.Connection.{Connection}
 use Rattle.http_server.specs.declared.state.Config.{Config}
 use Rattle.http_server.specs.declared.response.Response.{Response}
-use Rattle.agent.specs.Connections.{IsCallAnswered, SendsAnswers, connection_limits}
-use Rattle.agent.specs.Replies.{IsAnswered}
+use Rattle.agent.specs.Answers.{IsAnswered}
+use Rattle.agent.specs.Calling.{Calling, HasMade}
+use Rattle.agent.specs.Connections.{AnswersEach, SendsAnswers, connection_limits}
+use Rattle.agent.proofs.Performed.{made_none, made_then}
 
-module _ {S : Type 0} (answers : S → Request (List ℕ) → Response → S → Type 0) (own replicas : ℕ) (IsOfNode : S → Type 0)
+module _ {S : Type 0} (answers : S → Request (List ℕ) → Response → S → Type 0) (own replicas : ℕ) (IsOfNode : S → Type 0) (calling : S → Calling)
     (step : (a b : S) (request : Request (List ℕ)) (response : Response) → IsOfNode a → answers a request response b
-    → IsOfNode b × IsAnswered own replicas request response) where
+    → IsOfNode b × HasMade (IsAnswered own replicas request response) (calling a) (calling b)) where
   -- each call of a chain is answered by the node, as each step from a service of the node leads to one
-  pub chain_answered : (calls : List Call) (old new : S) → IsOfNode old → Chain answers old calls new → All (IsCallAnswered own replicas) calls
-  chain_answered [] old new ours chain = All-nil (IsCallAnswered own replicas)
+  pub chain_answered : (calls : List Call) (old new : S) → IsOfNode old → Chain answers old calls new → HasMade (AnswersEach own replicas calls) (calling old) (calling new)
+  chain_answered [] old new ours chain = made_none (AnswersEach own replicas []) (calling old) (calling new) (ap calling chain) refl
   chain_answered (call ∷ calls) old new ours chain =
       let first = step old chain.0 call.0 call.1 ours chain.1 in
-      All-cons (IsCallAnswered own replicas) call calls first.1 (chain_answered calls chain.0 new first.0 chain.2)
+      made_then (IsAnswered own replicas call.0 call.1) (AnswersEach own replicas calls) (calling old) (calling chain.0) (calling new) first.1
+      (chain_answered calls chain.0 new first.0 chain.2)
 
 limits_with : ℕ → ℕ → ℕ → ℕ → ℕ → Config
 limits_with pending read head extensions trailers = record {
@@ -44,16 +46,16 @@ pub limits_are : (d : Config) → (d.max_body_len ≡ 1048576) × (d.max_pending
 unfolding limits_with
 limits_are d said = limits_by d said
 
-module _ (own replicas : ℕ) (first last : Connection) (unread left old new : Option (List ℕ)) (fresh : history first ≡ new_history)
+module _ (own replicas : ℕ) (first last : Connection) (unread left written after : Option (List ℕ)) (old new : Calling) (fresh : history first ≡ new_history)
     (limits : config_of last ≡ connection_limits) where
   -- a new connection that made these calls, and read and wrote so, sends answers
   pub sends_answers : (came : List ℕ) → Consumes unread left came → (history last).received ≡ (history first).received ++ came
-      → (went : List ℕ) → Appends old new went → (history last).sent ≡ (history first).sent ++ went
-      → (calls : List Call) → (history last).calls ≡ (history first).calls ++ calls → All (IsCallAnswered own replicas) calls
-      → SendsAnswers own replicas (history last) unread left old new
-  sends_answers came read received went written sent calls made answered = record {
+      → (went : List ℕ) → Appends written after went → (history last).sent ≡ (history first).sent ++ went
+      → (calls : List Call) → (history last).calls ≡ (history first).calls ++ calls → HasMade (AnswersEach own replicas calls) old new
+      → SendsAnswers own replicas (history last) unread left written after old new
+  sends_answers came read received went wrote sent calls made answered = record {
     read = subst (Consumes unread left) (sym (received ∙ ap (λ (h : History). h.received ++ came) fresh)) read;
-    written = subst (Appends old new) (sym (sent ∙ ap (λ (h : History). h.sent ++ went) fresh)) written;
+    wrote = subst (Appends written after) (sym (sent ∙ ap (λ (h : History). h.sent ++ went) fresh)) wrote;
     served = subst (λ config. ∥ IsServed config (history last) ∥₁) limits (always_served last);
-    answered = subst (All (IsCallAnswered own replicas)) (sym (made ∙ ap (λ (h : History). h.calls ++ calls) fresh)) answered;
+    answered = subst (λ (calls : List Call). HasMade (AnswersEach own replicas calls) old new) (sym (made ∙ ap (λ (h : History). h.calls ++ calls) fresh)) answered;
   }

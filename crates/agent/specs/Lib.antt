@@ -1,6 +1,8 @@
+pub mod Answers
 pub mod Calling
 pub mod Connections
 pub mod Exchanges
+pub mod Performing
 pub mod Relays
 pub mod Replies
 pub mod Requests

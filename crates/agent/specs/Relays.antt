@@ -15,10 +15,15 @@ use Rattle.node_core.specs.declared.events.Event.TheVariants as call
 use Rattle.node_core.specs.declared.events.Reply.TheVariants as reply
 use Rattle.peer_core.specs.Acts.{OfActs, Just, Then, did, looked}
 use Rattle.peer_core.specs.Links.{MayAnswer}
+use Rattle.peer_core.specs.Serving.{message_by}
 use Rattle.peer_core.specs.declared.errors.LinkError.{LinkError}
 use Rattle.peer_core.specs.declared.errors.LinkError.TheVariants as link
 use Rattle.server.specs.Answering.{line_text}
-use Rattle.agent.specs.Calling.{Anything, hash_number}
+use Rattle.server.specs.declared.inputs.Input.{Input}
+use Rattle.server.specs.declared.inputs.Input.TheVariants as input
+use Rattle.wire_json.specs.Lines.{IsLine}
+use Rattle.wire_json.specs.Messages.{MessageForm}
+use Rattle.agent.specs.Calling.{AnyAnswer, Anything, Calling, HasMade, hash_number}
 use Rattle.agent.specs.declared.relays.Relayed.{Relayed}
 use Rattle.agent.specs.declared.relays.Relayed.TheVariants.{Reply, NoReply, NotDone}
 
@@ -54,3 +59,19 @@ IsRelayedAs answer NotDone = IsNotDone answer
 -- a message was sent to an address, and this came of it
 abbrev pub IsRelayed : MayAnswer → Address → Message → Relayed → Type 0
 IsRelayed Came to message relayed = (answer : Result Message LinkError) × Came to message answer × IsRelayedAs answer relayed
+
+-- The node's views chose an owner, the node gave its own entry, and by that entry the request was sent to the owner. Other nodes may answer
+-- anything.
+abbrev pub PassesOn : Message → Relayed → OfActs Sha256Hash
+PassesOn request relayed acts =
+    (owner : Address) × (own : Change) × Then (Chooses request owner) (Just (did call.Own (reply.Own own))) acts
+    × IsRelayed AnyAnswer owner (message_by own request.content) relayed
+
+-- an input is the line of this message
+abbrev pub IsLineOf : Input → Message → Type 0
+IsLineOf (input.Line line) message = IsLine (λ v. MessageForm v message) line.items
+IsLineOf other message = ⊥
+
+-- what came of an input: its message was passed on, or no other node performed it
+abbrev pub IsPassedOn : Input → Relayed → Calling → Calling → Type 0
+IsPassedOn heard relayed old new = (relayed ≡ NotDone) ⊎ ((request : Message) × IsLineOf heard request × HasMade (PassesOn request relayed) old new)

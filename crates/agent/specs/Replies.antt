@@ -1,30 +1,18 @@
 -- The response that shows a reply, or a refusal: its status, its fields in their order, and its body.
-use Rattle.std.specs.Prelude.{◌≡◌, ◌⊎◌, ℕ, Bool, cond, List, [], ◌∷◌, ◌++◌, take, string_bytes, codes}
+use Rattle.std.specs.Prelude.{◌≡◌, ℕ, Bool, cond, List, [], ◌∷◌, ◌++◌, string_bytes, codes}
 use Rattle.change_core.specs.Address.{address_text}
-use Rattle.change_core.specs.declared.changes.Change.{Change}
-use Rattle.hash_ring.specs.Points.{owners}
-use Rattle.hash_ring.specs.declared.hash.Sha256Hash.{Sha256Hash}
-use Rattle.node_core.specs.Viewing.{Viewed}
-use Rattle.http.specs.declared.request.Request.{Request}
 use Rattle.http1.specs.Fields.{Header}
 use Rattle.http_server.specs.declared.response.Response.{Response}
 use Rattle.http_server.specs.Response.{IsResponse}
-use Rattle.agent_core.specs.Metrics.{metrics_text}
 use Rattle.agent_core.specs.Packs.{unpacked}
 use Rattle.agent_core.specs.Refusals.{kind_name, line_of, status_of}
-use Rattle.agent_core.specs.Texts.{digest_line, members_text, owners_text}
-use Rattle.agent_core.specs.declared.actions.Action.{Action}
-use Rattle.agent_core.specs.declared.actions.Action.TheVariants as action
 use Rattle.agent_core.specs.declared.answers.Kind.{Kind}
 use Rattle.agent_core.specs.declared.answers.Kind.TheVariants as kind
-use Rattle.agent_core.specs.declared.metrics.Counts.{Counts}
 use Rattle.agent_core.specs.declared.pages.TheConstants.{PAGE}
 use Rattle.agent_core.specs.declared.refusals.Refusal.{Refusal}
 use Rattle.agent_core.specs.declared.refusals.Refusal.TheVariants.{BadMethod}
 use Rattle.agent_core.specs.declared.verbs.Verb.{Verb}
 use Rattle.agent_core.specs.declared.verbs.Verb.TheVariants.{Get, Post}
-use Rattle.agent.specs.Calling.{hash_number}
-use Rattle.agent.specs.Requests.{AsksFor, IsRefused}
 use Rattle.agent.specs.declared.replies.Reply.{Reply}
 use Rattle.agent.specs.declared.replies.Reply.TheVariants.{Handled, Line, Text, Json, Page}
 
@@ -59,26 +47,6 @@ pub record IsText (content : Kind) (text : List ℕ) (reply : Reply) : Type 0 wh
   pub kind : reply_kind reply ≡ content
   pub body : reply_body reply ≡ text
 
--- a reply is an owner's answer, which may be any
-abbrev pub IsOwnersAnswer : Reply → Type 0
-IsOwnersAnswer reply = (owner : ℕ) × (text : List ℕ) × (reply ≡ Handled owner text)
-
--- A reply fits an action of the node at this address with this many replicas: of a request for a key an owner's answer; the
--- first owners of a key by a view of the ring; members, a digest and counts as their texts; or what was done.
-abbrev pub Replies : ℕ → ℕ → Action → Reply → Type 0
-Replies own replicas (action.Handle key body) reply = IsOwnersAnswer reply
-Replies own replicas (action.Owners key count) reply =
-    (view : Viewed Sha256Hash) × IsText kind.Json (owners_text (take count (owners hash_number view.replicas view.servers key))) reply
-Replies own replicas action.Members reply =
-    (digest : List ℕ) × (members : List Change) × IsText kind.Json (members_text own digest replicas members) reply
-Replies own replicas action.Digest reply = (digest : List ℕ) × IsText kind.Text (digest_line digest) reply
-Replies own replicas action.Health reply = IsText kind.Text (codes "ok" ++ 10 ∷ []) reply
-Replies own replicas action.Metrics reply = (counts : Counts) × (members : List Change) × IsText kind.Text (metrics_text counts members) reply
-Replies own replicas action.Page reply = reply ≡ Page
-Replies own replicas action.Leave reply = IsText kind.Text (codes "left" ++ 10 ∷ []) reply
-Replies own replicas action.Rejoin reply = IsText kind.Text (codes "back" ++ 10 ∷ []) reply
-Replies own replicas action.Stop reply = IsText kind.Text (codes "stopping" ++ 10 ∷ []) reply
-
 -- the field that says that the connection is closed, if it is
 abbrev pub closing : Bool → List Header
 closing closes = cond closes ((codes "connection", codes "close") ∷ []) []
@@ -109,13 +77,3 @@ ShowsReply reply closes response = IsResponse (reply_status reply) (fields_for c
 -- a response shows a refusal, and says whether the connection is closed
 abbrev pub ShowsRefusal : Refusal → Bool → Response → Type 0
 ShowsRefusal refusal closes response = IsResponse (status_of refusal) (fields_for closes kind.Text ++ allow_field refusal) (line_of refusal) response
-
--- a reply fits what a request asks for
-abbrev pub IsReplied : ℕ → ℕ → Request (List ℕ) → Reply → Type 0
-IsReplied own replicas request reply = (asked : Action) × AsksFor request asked × Replies own replicas asked reply
-
--- A response answers a request at the node with this address and this many replicas: by a reply that fits it, or by a refusal that does or,
--- out of memory, by a status alone.
-pub record IsAnswered (own replicas : ℕ) (request : Request (List ℕ)) (response : Response) : Type 0 where
-  pub answer : ((reply : Reply) × (closes : Bool) × IsReplied own replicas request reply × ShowsReply reply closes response)
-      ⊎ (((refusal : Refusal) × (closes : Bool) × IsRefused request refusal × ShowsRefusal refusal closes response) ⊎ IsResponse 503 [] [] response)

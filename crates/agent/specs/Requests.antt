@@ -1,5 +1,5 @@
 -- What a request over HTTP asks for, and the refusals that fit it.
-use Rattle.std.specs.Prelude.{◌≡◌, ◌≢◌, ◌⊎◌, Bool, true, false, cond, List, ℕ, bytes_eq, codes, IsFalse, Result, Ok, Err}
+use Rattle.std.specs.Prelude.{◌≡◌, ◌≢◌, ◌⊎◌, cond, List, ℕ, bytes_eq, codes, Result, Ok, Err}
 use Rattle.http.specs.Request.{body_of, head_of}
 use Rattle.http.specs.declared.request.Request.{Request}
 use Rattle.http_header.specs.HeaderMap.{ContainsKey}
@@ -7,7 +7,7 @@ use Rattle.http_uri.specs.Uri.{uri_path, uri_query}
 use Rattle.agent_core.specs.Requests.{asked}
 use Rattle.agent_core.specs.declared.actions.Action.{Action}
 use Rattle.agent_core.specs.declared.refusals.Refusal.{Refusal}
-use Rattle.agent_core.specs.declared.refusals.Refusal.TheVariants.{BadMethod, CrossSite, LongBody, Malformed, Memory, NotFound}
+use Rattle.agent_core.specs.declared.refusals.Refusal.TheVariants.{CrossSite, Memory}
 
 -- the method by which a request is answered: a HEAD as a GET (RFC 9110, section 9.3.2)
 abbrev pub answered_as : List ℕ → List ℕ
@@ -21,20 +21,10 @@ asked_by request = asked (answered_as (head_of request).method) (uri_path (head_
 abbrev pub IsCrossSite : Request (List ℕ) → Type 0
 IsCrossSite request = (answered_as (head_of request).method ≢ codes "GET") × ContainsKey (head_of request).headers (codes "origin")
 
--- whether a refusal says what is wrong with a request
-abbrev pub is_of_request : Refusal → Bool
-is_of_request (Malformed part) = true
-is_of_request CrossSite = true
-is_of_request NotFound = true
-is_of_request (BadMethod verb) = true
-is_of_request LongBody = true
-is_of_request _ = false
-
--- A refusal fits what was asked for: it says what is wrong with the request or that memory ran out or, if an action was asked for, why the
--- node does not perform it.
+-- A refusal fits what was asked for: it says what is wrong with the request, or that memory ran out for it.
 abbrev pub Refuses : Result Action Refusal → Refusal → Type 0
 Refuses (Err wrong) refusal = (refusal ≡ wrong) ⊎ (refusal ≡ Memory)
-Refuses (Ok action) refusal = IsFalse (is_of_request refusal)
+Refuses (Ok action) refusal = refusal ≡ Memory
 
 -- a request may be refused so: as that of a page of another site, or else as fits what it asks for
 abbrev pub IsRefused : Request (List ℕ) → Refusal → Type 0

@@ -83,6 +83,8 @@ pub struct Agent<R> {
     pub has_left: Flag,
     /// Held while the node leaves or comes back.
     pub moving: Mutex<()>,
+    /// Whether the node left or came back since the log last looked at its members. Set and read while `moving` is held.
+    pub has_moved: Flag,
     /// Whether the node has left and the agent is to end.
     pub is_stopping: Flag,
     /// Whether the leave was spread, so that HTTP ends: a connection is closed after a second in which it sends nothing.

@@ -262,8 +262,9 @@ impl<R: Host> Application<R> {
 }
 
 impl<R: Host> Handler for Application<R> {
-    // An application may answer anything.
-    ghost may_handle = { λ _ _ _ _. Unit {0} };
+    ghost use Rattle.agent.specs.Calling.{AnyHandling};
+
+    ghost may_handle = { λ _. AnyHandling };
 
     fn handle<W: Wait>(
         &self,
@@ -296,7 +297,9 @@ impl<'a, R: Host> Limited<'a, R> {
 }
 
 impl<'a, R: Host> Handler for Limited<'a, R> {
-    ghost may_handle = { λ _ _ _ _. Unit {0} };
+    ghost use Rattle.agent.specs.Calling.{AnyHandling};
+
+    ghost may_handle = { λ _. AnyHandling };
 
     fn handle<W: Wait>(
         &self,
@@ -314,7 +317,9 @@ impl<'a, R: Host> Handler for Limited<'a, R> {
 pub struct Overloaded;
 
 impl Handler for Overloaded {
-    ghost may_handle = { λ _ _ _ _. Unit {0} };
+    ghost use Rattle.agent.specs.Calling.{AnyHandling};
+
+    ghost may_handle = { λ _. AnyHandling };
 
     fn handle<W: Wait>(
         &self,

@@ -1,5 +1,5 @@
 //! The node as one thread calls it, and the passes that no thread has.
-ghost use Rattle.std.specs.Prelude.{◌≡◌, ◌∷◌, [], IfSome};
+ghost use Rattle.std.specs.Prelude.{◌≡◌, ◌∷◌, [], IfNone, IfSome};
 ghost use Rattle.std.specs.Arc.{arc_value};
 ghost use Rattle.std.specs.List.{All};
 ghost use Rattle.locked_node.specs.Passes.{Fits};
@@ -9,7 +9,8 @@ ghost use Rattle.peer_core.specs.Acts.{Makes};
 ghost use Rattle.peer_core.specs.Exchanges.{SendsByDraws, SendsTo, SendsToPinged};
 ghost use Rattle.peer_core.specs.Joining.{IsJoin};
 ghost use Rattle.peer_core.specs.Parts.{Calls, Does, Tries, allowed, let_in};
-ghost use Rattle.agent.specs.Calling.{Looks, hash_of};
+ghost use Rattle.agent.specs.Calling.{IsSilentOnce, Looks, hash_of};
+ghost use Rattle.server.specs.Answering.{Responds};
 ghost use Rattle.peer_core.specs.Correcting.{IsCorrectingRound};
 ghost use Rattle.peer_core.specs.Forwarding.{IsRequest};
 ghost use Rattle.peer_core.specs.Healing.{IsHealing, after_round};
@@ -185,7 +186,11 @@ impl Caller {
         handler: &A,
         now: Moment,
         input: &Input,
-    ) -> Option<Vec<u8>> {
+    ) -> Option<Vec<u8>>
+        ensures node { self.new.node ≡ self.old.node }
+        ensures sent { IfSome result (λ line. Makes self.old.node (Responds hash_of L.may_answer (A.may_handle handler.now) now input.now line.items) self.old.pass self.new.pass) }
+        ensures silent { IfNone result (IsSilentOnce L.may_answer (A.may_handle handler.now) now input.now self.old self.new) }
+    {
         let line = respond(
             rt,
             alloc,

@@ -14,14 +14,15 @@ fn log_new<R: Log>(rt: &R, change: &Change) {
 /// The most by which refutations raise the node's incarnation between two rounds: each raises it by 1.
 const MOST_RAISED: u64 = 10;
 
-/// Logs how the node's own entry changed: it left, it came back, or its incarnation was raised. A refutation raises it by 1
-/// since others held the node as suspect or faulty. If it was raised by much more, others hold the node at an incarnation
-/// that this one has not stated.
-fn log_own<R: Log>(rt: &R, before: &Change, after: &Change) {
+/// Logs how the node's own entry changed: it left, it came back (`has_moved` if it left and came back since `before`), or its
+/// incarnation was raised. A refutation raises it by 1 since others held the node as suspect or faulty. If it was raised by
+/// much more, others hold the node at an incarnation that this one has not stated.
+fn log_own<R: Log>(rt: &R, before: &Change, after: &Change, has_moved: bool) {
     let incarnation = after.incarnation.number();
     match (before.status, after.status) {
         (_, Status::Leave) => info!(rt; "this node has left, incarnation {incarnation}"),
         (Status::Leave, _) => info!(rt; "this node is back, incarnation {incarnation}"),
+        _ if has_moved => info!(rt; "this node is back, incarnation {incarnation}"),
         _ if incarnation.saturating_sub(before.incarnation.number()) > MOST_RAISED =>
             warn!(rt; "another node has this address, or the clock went back: others hold incarnation {incarnation}"),
         _ =>
@@ -71,31 +72,34 @@ fn is_suspected(round: &Result<Round, ClusterError>, address: &Address) -> bool 
     }
 }
 
-/// Logs a member that was known before, if it changed; `round` is this node's last.
+/// Logs a member that was known before, if it changed; `round` is this node's last, and `has_moved` means that the node left
+/// or came back in the meantime.
 fn log_known<R: Log>(
     rt: &R,
     own: &Address,
     before: &Change,
     after: &Change,
     round: &Result<Round, ClusterError>,
+    has_moved: bool,
 ) {
     if before == after {
         return;
     }
     if after.address == *own {
-        return log_own(rt, before, after);
+        return log_own(rt, before, after, has_moved);
     }
     log_other(rt, before, after, is_suspected(round, &after.address));
 }
 
 /// Logs how the members changed from one list to a later one, each ascending by address. The later list has each member
-/// of the earlier. `round` is this node's last.
+/// of the earlier. `round` is this node's last, and `has_moved` means that the node left or came back in the meantime.
 pub fn log_changes<R: Log>(
     rt: &R,
     own: &Address,
     before: &[Change],
     after: &[Change],
     round: &Result<Round, ClusterError>,
+    has_moved: bool,
 ) {
     let mut old = before.iter();
     let mut next = old.next();
@@ -103,7 +107,7 @@ pub fn log_changes<R: Log>(
         let known = next.filter(|known| known.address == change.address);
         match known {
             Some(known) => {
-                log_known(rt, own, known, change, round);
+                log_known(rt, own, known, change, round, has_moved);
                 next = old.next();
             }
             None => log_new(rt, change),

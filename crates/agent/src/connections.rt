@@ -160,7 +160,8 @@ fn serve_over<R: Host, I: Read, O: Write>(
     reader: &mut I,
     writer: &mut O,
 ) -> io::Result<()>
-    ensures { (h : History) × SendsAnswers front.old.agent.now.own front.old.agent.now.replicas h (I.remaining reader.old) (I.remaining reader.new) (O.contents writer.old) (O.contents writer.new) × OnOk result (IsDone h) }
+    ensures { (h : History) × SendsAnswers front.old.agent.now.own front.old.agent.now.replicas h (I.remaining reader.old) (I.remaining reader.new) (O.contents writer.old) (O.contents writer.new) front.old.caller.now front.new.caller.now
+        × OnOk result (IsDone h) }
 {
     let config = Config {
         max_body_len: LONGEST_READ,

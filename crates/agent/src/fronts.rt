@@ -1,10 +1,13 @@
 //! The service that answers HTTP requests.
-ghost use Rattle.std.specs.Prelude.{◌≡◌, codes, ◌++◌, ◌∷◌, [], IfOk, IfErr, OnOk, IsFalse};
+ghost use Rattle.std.specs.Prelude.{◌≡◌, Bool, OnOk, IfErr, IfOk};
 ghost use Rattle.http_server.specs.Response.{IsBlank};
+ghost use Rattle.node_core.specs.declared.events.Event.TheVariants as call;
+ghost use Rattle.node_core.specs.declared.events.Reply.TheVariants as reply;
+ghost use Rattle.peer_core.specs.Parts.{Does, Tries};
 ghost use Rattle.agent_core.specs.declared.actions.Action.TheVariants as action;
-ghost use Rattle.agent_core.specs.declared.answers.Kind.{Kind};
-ghost use Rattle.agent.specs.Replies.{IsAnswered, IsOwnersAnswer, IsReplied, IsText, Replies};
-ghost use Rattle.agent.specs.Requests.{IsRefused, is_of_request};
+ghost use Rattle.agent.specs.Answers.{IsAnswered, Settles, ShowsOutcome};
+ghost use Rattle.agent.specs.Calling.{HasMade};
+ghost use Rattle.agent.specs.Performing.{AsksOwner, IsHealth, Outcome, Performs, ShowsCounts, ShowsMembers, ShowsOwners, digest_by, refusal_of};
 
 use crate::agents::{Agent, Phase};
 use crate::callers::Caller;
@@ -16,10 +19,12 @@ use crate::systems::Host;
 use agent_core::{Action, Refusal};
 use bytes::Bytes;
 use change_core::{Address, Change, Digest, MAX_MEMBERS};
+use hash_ring::Sha256Hash;
 use http::{Request, StatusCode};
 use http_server::{Response, Service};
 use member_core::MemberTable;
 use message_core::{Keys, Text};
+use node_core::View;
 use peer_core::ClusterError;
 use std::alloc::{AllocError, Global};
 use std::sync::atomic::{AtomicBool, Ordering};
@@ -30,7 +35,7 @@ const MOST_WAITING: u64 = 224;
 
 /// Returns the refusal for an error of the node.
 fn refusal_of(error: ClusterError) -> Refusal
-    ensures { IsFalse (is_of_request result) }
+    ensures { result ≡ refusal_of error }
 {
     match error {
         ClusterError::Nobody => Refusal::Nobody,
@@ -46,7 +51,8 @@ fn refusal_of(error: ClusterError) -> Refusal
 
 /// Returns the digest of these members.
 fn digest_of(alloc: Global, members: &[Change]) -> Result<Digest, Refusal>
-    ensures { IfErr result (λ e. e ≡ Refusal.Memory) }
+    ensures digest { IfOk result (λ digest. digest.bytes ≡ digest_by members.now) }
+    ensures refused { IfErr result (λ e. e ≡ Refusal.Memory) }
 {
     let Ok(mut table) = MemberTable::new(alloc, MAX_MEMBERS) else {
         return Err(Refusal::Memory);
@@ -57,6 +63,24 @@ fn digest_of(alloc: Global, members: &[Change]) -> Result<Digest, Refusal>
         }
     }
     table.digest().map_err(|_| Refusal::Memory)
+}
+
+/// Makes the reply with the first owners of a key by a view.
+fn owners_by(
+    alloc: Global,
+    view: &View<Sha256Hash>,
+    key: &Text,
+    count: usize,
+) -> Result<Reply, Refusal>
+    ensures { ShowsOwners key.now count view.now result }
+{
+    let Ok(owners) = view.owners(key.as_str().as_bytes(), count) else {
+        return Err(Refusal::Memory);
+    };
+    if owners.as_slice().is_empty() {
+        return Err(Refusal::Nobody);
+    }
+    Reply::owners(alloc, owners.as_slice())
 }
 
 /// The service that answers the requests of one connection.
@@ -71,8 +95,7 @@ pub struct Front<'f, 'a, R> {
 impl<'f, 'a, R: Host> Front<'f, 'a, R> {
     /// Has the owner of a key answer a request, unless too many wait already. Returns the answer and the owner.
     fn handle(&mut self, key: Text, body: Text) -> Result<Reply, Refusal>
-        ensures reply { IfOk result (Replies self.old.agent.now.own self.old.agent.now.replicas (action.Handle key body)) }
-        ensures refused { IfErr result (λ e. IsFalse (is_of_request e)) }
+        ensures performed { HasMade (Performs self.old.agent.now.own self.old.agent.now.replicas (action.Handle key body) result) self.old.caller.now self.new.caller.now }
         ensures agent { self.new.agent ≡ self.old.agent }
     {
         if !self.agent.waiting.add_below(MOST_WAITING) {
@@ -85,12 +108,13 @@ impl<'f, 'a, R: Host> Front<'f, 'a, R> {
 
     /// Has the owner of a key answer a request, and returns the answer and the owner.
     fn ask_owner(&mut self, key: Text, body: Text) -> Result<Reply, Refusal>
-        ensures reply { IfOk result IsOwnersAnswer }
-        ensures refused { IfErr result (λ e. IsFalse (is_of_request e)) }
+        ensures asked { HasMade (AsksOwner key body result) self.old.caller.now self.new.caller.now }
         ensures agent { self.new.agent ≡ self.old.agent }
     {
         let agent = self.agent;
-        let keys = Keys::new(self.alloc, key).map_err(|_| Refusal::Memory)?;
+        let Ok(keys) = Keys::new(self.alloc, key) else {
+            return Err(Refusal::Memory);
+        };
         let handler = NotedHandler {
             handler: &agent.application,
             was_asked: AtomicBool::new(false),
@@ -105,111 +129,127 @@ impl<'f, 'a, R: Host> Front<'f, 'a, R> {
             keys,
             body,
         );
-        let text = answer.map_err(refusal_of)?;
         let owner = match self.link.last {
             Some(last) if !handler.was_asked.load(Ordering::SeqCst) => last,
             _ => agent.own,
         };
-        Ok(Reply::Handled { owner, text })
+        match answer {
+            Ok(text) => Ok(Reply::Handled { owner, text }),
+            Err(error) => Err(refusal_of(error)),
+        }
     }
 
     /// Returns the first owners of a key.
     fn owners(&mut self, key: &Text, count: usize) -> Result<Reply, Refusal>
-        ensures reply { IfOk result (Replies self.old.agent.now.own self.old.agent.now.replicas (action.Owners key.now count)) }
-        ensures refused { IfErr result (λ e. IsFalse (is_of_request e)) }
+        ensures performed { HasMade (Performs self.old.agent.now.own self.old.agent.now.replicas (action.Owners key.now count) result) self.old.caller.now self.new.caller.now }
         ensures agent { self.new.agent ≡ self.old.agent }
     {
-        let view = self.caller.view(&self.agent.rt).map_err(refusal_of)?;
-        let Ok(owners) = view.owners(key.as_str().as_bytes(), count) else {
-            return Err(Refusal::Memory);
-        };
-        if owners.as_slice().is_empty() {
-            return Err(Refusal::Nobody);
+        match self.caller.view(&self.agent.rt) {
+            Ok(view) => owners_by(self.alloc, &view, key, count),
+            Err(error) => Err(refusal_of(error)),
         }
-        Reply::owners(self.alloc, owners.as_slice())
     }
 
-    /// Returns the members, with their digest.
-    fn members(&mut self) -> Result<Reply, Refusal>
-        ensures reply { IfOk result (Replies self.old.agent.now.own self.old.agent.now.replicas action.Members) }
-        ensures refused { IfErr result (λ e. IsFalse (is_of_request e)) }
-        ensures agent { self.new.agent ≡ self.old.agent }
+    /// Makes the reply with these members and their digest.
+    fn show_members(&self, members: &[Change]) -> Result<Reply, Refusal>
+        ensures { ShowsMembers self.now.agent.now.own self.now.agent.now.replicas members.now result }
     {
-        let members = self.caller.members(&self.agent.rt).map_err(refusal_of)?;
-        let members = members.as_slice();
         let digest = digest_of(self.alloc, members)?;
         let (own, replicas) = (self.agent.own, self.agent.replicas);
         Reply::members(self.alloc, own, &digest, replicas, members)
     }
 
-    /// Returns the counts, with the members by status.
-    fn metrics(&mut self) -> Result<Reply, Refusal>
-        ensures reply { IfOk result (Replies self.old.agent.now.own self.old.agent.now.replicas action.Metrics) }
-        ensures refused { IfErr result (λ e. IsFalse (is_of_request e)) }
+    /// Returns the members, with their digest.
+    fn members(&mut self) -> Result<Reply, Refusal>
+        ensures performed { HasMade (Performs self.old.agent.now.own self.old.agent.now.replicas action.Members result) self.old.caller.now self.new.caller.now }
         ensures agent { self.new.agent ≡ self.old.agent }
     {
-        let members = self.caller.members(&self.agent.rt).map_err(refusal_of)?;
+        match self.caller.members(&self.agent.rt) {
+            Ok(members) => self.show_members(members.as_slice()),
+            Err(error) => Err(refusal_of(error)),
+        }
+    }
+
+    /// Makes the reply with the counts, and these members by status.
+    fn show_counts(&self, members: &[Change]) -> Result<Reply, Refusal>
+        ensures { ShowsCounts members.now result }
+    {
         let application = &self.agent.application;
         let counts = self
             .agent
             .counters
             .counts(application.handled.get(), application.failures.get());
-        Reply::metrics(self.alloc, &counts, members.as_slice())
+        Reply::metrics(self.alloc, &counts, members)
+    }
+
+    /// Returns the counts, with the members by status.
+    fn metrics(&mut self) -> Result<Reply, Refusal>
+        ensures performed { HasMade (Performs self.old.agent.now.own self.old.agent.now.replicas action.Metrics result) self.old.caller.now self.new.caller.now }
+        ensures agent { self.new.agent ≡ self.old.agent }
+    {
+        match self.caller.members(&self.agent.rt) {
+            Ok(members) => self.show_counts(members.as_slice()),
+            Err(error) => Err(refusal_of(error)),
+        }
     }
 
     /// Returns the digest of the members.
     fn digest(&mut self) -> Result<Reply, Refusal>
-        ensures reply { IfOk result (Replies self.old.agent.now.own self.old.agent.now.replicas action.Digest) }
-        ensures refused { IfErr result (λ e. IsFalse (is_of_request e)) }
+        ensures performed { HasMade (Performs self.old.agent.now.own self.old.agent.now.replicas action.Digest result) self.old.caller.now self.new.caller.now }
         ensures agent { self.new.agent ≡ self.old.agent }
     {
-        let digest = self.caller.digest(&self.agent.rt).map_err(refusal_of)?;
-        Reply::digest(self.alloc, &digest)
+        match self.caller.digest(&self.agent.rt) {
+            Ok(digest) => Reply::digest(self.alloc, &digest),
+            Err(error) => Err(refusal_of(error)),
+        }
     }
 
     /// Has the node leave. The caller holds `moving`.
-    fn depart(&mut self) -> Result<(), Refusal>
-        ensures refused { IfErr result (λ e. IsFalse (is_of_request e)) }
+    fn depart(&mut self) -> Result<Change, ClusterError>
         ensures agent { self.new.agent ≡ self.old.agent }
+        ensures node { self.new.caller.now.node ≡ self.old.caller.now.node }
+        ensures did { Does self.old.caller.now.node (Tries call.Leave reply.Leave) result self.old.caller.now.pass self.new.caller.now.pass }
     {
-        self.caller.leave(&self.agent.rt).map_err(refusal_of)?;
-        self.agent.has_left.set(true);
-        Ok(())
+        let left = self.caller.leave(&self.agent.rt);
+        if left.is_ok() {
+            self.agent.has_left.set(true);
+            self.agent.has_moved.set(true);
+        }
+        left
     }
 
     /// Has the node leave.
     fn leave(&mut self) -> Result<Reply, Refusal>
-        ensures reply { IfOk result (IsText Kind.Text (codes "left" ++ 10 ∷ [])) }
-        ensures refused { IfErr result (λ e. IsFalse (is_of_request e)) }
-        ensures agent { self.new.agent ≡ self.old.agent }
-    {
-        let agent = self.agent;
-        let _moving = agent.moving.lock(&agent.rt);
-        self.depart()?;
-        Ok(Reply::Line("left\n"))
-    }
-
-    /// Has the node leave, unless it has left already, and the agent end.
-    fn stop(&mut self) -> Result<Reply, Refusal>
-        ensures reply { IfOk result (IsText Kind.Text (codes "stopping" ++ 10 ∷ [])) }
-        ensures refused { IfErr result (λ e. IsFalse (is_of_request e)) }
+        ensures performed { HasMade (Performs self.old.agent.now.own self.old.agent.now.replicas action.Leave result) self.old.caller.now self.new.caller.now }
         ensures agent { self.new.agent ≡ self.old.agent }
     {
         let agent = self.agent;
         let _moving = agent.moving.lock(&agent.rt);
         match self.depart() {
-            Ok(()) | Err(Refusal::AlreadyLeft) => {
+            Ok(_) => Ok(Reply::Line("left\n")),
+            Err(error) => Err(refusal_of(error)),
+        }
+    }
+
+    /// Has the node leave, unless it has left already, and the agent end.
+    fn stop(&mut self) -> Result<Reply, Refusal>
+        ensures performed { HasMade (Performs self.old.agent.now.own self.old.agent.now.replicas action.Stop result) self.old.caller.now self.new.caller.now }
+        ensures agent { self.new.agent ≡ self.old.agent }
+    {
+        let agent = self.agent;
+        let _moving = agent.moving.lock(&agent.rt);
+        match self.depart() {
+            Ok(_) | Err(ClusterError::AlreadyLeft) => {
                 agent.is_stopping.set(true);
                 Ok(Reply::Line("stopping\n"))
             }
-            Err(refusal) => Err(refusal),
+            Err(error) => Err(refusal_of(error)),
         }
     }
 
     /// Has the node come back, unless the agent is to end.
     fn rejoin(&mut self) -> Result<Reply, Refusal>
-        ensures reply { IfOk result (IsText Kind.Text (codes "back" ++ 10 ∷ [])) }
-        ensures refused { IfErr result (λ e. IsFalse (is_of_request e)) }
+        ensures performed { HasMade (Performs self.old.agent.now.own self.old.agent.now.replicas action.Rejoin result) self.old.caller.now self.new.caller.now }
         ensures agent { self.new.agent ≡ self.old.agent }
     {
         let agent = self.agent;
@@ -217,15 +257,19 @@ impl<'f, 'a, R: Host> Front<'f, 'a, R> {
         if agent.is_stopping.get() {
             return Err(Refusal::HasLeft);
         }
-        self.caller.rejoin(&agent.rt).map_err(refusal_of)?;
-        agent.has_left.set(false);
-        Ok(Reply::Line("back\n"))
+        match self.caller.rejoin(&agent.rt) {
+            Ok(_) => {
+                agent.has_left.set(false);
+                agent.has_moved.set(true);
+                Ok(Reply::Line("back\n"))
+            }
+            Err(error) => Err(refusal_of(error)),
+        }
     }
 
     /// Returns `ok` if the agent handles requests, and else why it does not.
     fn health(&self) -> Result<Reply, Refusal>
-        ensures reply { IfOk result (IsText Kind.Text (codes "ok" ++ 10 ∷ [])) }
-        ensures refused { IfErr result (λ e. IsFalse (is_of_request e)) }
+        ensures { IsHealth result }
     {
         match self.agent.phase() {
             Phase::Joining => Err(Refusal::NotJoined),
@@ -237,8 +281,7 @@ impl<'f, 'a, R: Host> Front<'f, 'a, R> {
 
     /// Performs an action, and returns its reply.
     fn act(&mut self, action: Action) -> Result<Reply, Refusal>
-        ensures reply { IfOk result (Replies self.old.agent.now.own self.old.agent.now.replicas action) }
-        ensures refused { IfErr result (λ e. IsFalse (is_of_request e)) }
+        ensures performed { HasMade (Performs self.old.agent.now.own self.old.agent.now.replicas action result) self.old.caller.now self.new.caller.now }
         ensures agent { self.new.agent ≡ self.old.agent }
     {
         match action {
@@ -257,12 +300,13 @@ impl<'f, 'a, R: Host> Front<'f, 'a, R> {
 
     /// Returns the reply to a request.
     fn reply(&mut self, request: &Request<Bytes>) -> Result<Reply, Refusal>
-        ensures reply { IfOk result (IsReplied self.old.agent.now.own self.old.agent.now.replicas request.now) }
-        ensures refused { IfErr result (IsRefused request.now) }
+        ensures settled { HasMade (Settles self.old.agent.now.own self.old.agent.now.replicas request.now result) self.old.caller.now self.new.caller.now }
         ensures agent { self.new.agent ≡ self.old.agent }
     {
-        let action = action_of(self.alloc, request)?;
-        self.act(action)
+        match action_of(self.alloc, request) {
+            Ok(action) => self.act(action),
+            Err(refusal) => Err(refusal),
+        }
     }
 
     /// Counts a request of a key by its reply and its time.
@@ -292,7 +336,8 @@ impl<'f, 'a, R: Host> Front<'f, 'a, R> {
         response: &mut Response,
     ) -> Result<(), AllocError>
         requires { IsBlank response.old }
-        ensures answered { OnOk result (IsAnswered self.old.agent.now.own self.old.agent.now.replicas request.now response.new) }
+        ensures answered { (outcome : Outcome) × HasMade (Settles self.old.agent.now.own self.old.agent.now.replicas request.now outcome) self.old.caller.now self.new.caller.now
+            × OnOk result ((closes : Bool) × ShowsOutcome outcome closes response.new) }
         ensures agent { self.new.agent ≡ self.old.agent }
     {
         let start = Instant::now(&self.agent.rt).ok();
@@ -312,7 +357,9 @@ impl<'f, 'a, R: Host> Front<'f, 'a, R> {
 }
 
 impl<'f, 'a, R: Host> Service for Front<'f, 'a, R> {
-    ghost answers = { λ old request response new. (new.agent ≡ old.agent) × IsAnswered old.agent.now.own old.agent.now.replicas request response };
+    // The response answers the request, after calls of the node by the thread's pass.
+    ghost answers = { λ old request response new. (new.agent ≡ old.agent)
+        × HasMade (IsAnswered old.agent.now.own old.agent.now.replicas request response) old.caller.now new.caller.now };
 
     fn call(
         &mut self,

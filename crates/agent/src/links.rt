@@ -109,9 +109,9 @@ impl<'a, R: Host> NotedLink<'a, R> {
 
 impl<'a, R: Host> Link for NotedLink<'a, R> {
     ghost use Rattle.cluster_core.specs.Sockets.{failures_over};
+    ghost use Rattle.agent.specs.Calling.{AnyAnswer};
 
-    // Other nodes may answer anything.
-    ghost may_answer = { λ _ _ _. Unit {0} };
+    ghost may_answer = { AnyAnswer };
 
     ghost went = { λ _ _ _ _ _. Unit {0} };
 

@@ -4,7 +4,8 @@ ghost use Rattle.std.specs.Prelude.{◌≡◌, ◌≤◌, IfSome};
 ghost use Rattle.peer_core.specs.Acts.{Makes};
 ghost use Rattle.peer_core.specs.Exchanges.{GoesOver};
 ghost use Rattle.peer_core.specs.Serving.{message_by};
-ghost use Rattle.agent.specs.Relays.{Chooses, IsOwnerBy, IsRelayed, IsRelayedAs, Names};
+ghost use Rattle.agent.specs.Calling.{HasMade};
+ghost use Rattle.agent.specs.Relays.{Chooses, IsOwnerBy, IsPassedOn, IsRelayed, IsRelayedAs, Names, PassesOn};
 
 use crate::agents::Agent;
 use crate::callers::Caller;
@@ -103,7 +104,8 @@ fn agreed_owner<R: Host>(
     request: &Message,
     since: Moment,
 ) -> Option<Address>
-    ensures { IfSome result (λ owner. Makes caller.old.node (Chooses request.now owner) caller.old.pass caller.new.pass) }
+    ensures node { caller.new.node ≡ caller.old.node }
+    ensures chosen { IfSome result (λ owner. Makes caller.old.node (Chooses request.now owner) caller.old.pass caller.new.pass) }
 {
     let owner = owner_of(agent, caller, request)?;
     if owner != request.source {
@@ -172,9 +174,13 @@ fn ask_owner<R: Host>(
     caller: &mut Caller,
     request: Message,
     since: Moment,
-) -> Option<Relayed> {
+) -> Option<Relayed>
+    ensures { IfSome result (λ relayed. HasMade (PassesOn request relayed) caller.old caller.new) }
+{
     let owner = agreed_owner(agent, alloc, caller, &request, since)?;
-    let own = caller.own(&agent.rt).ok()?;
+    let Ok(own) = caller.own(&agent.rt) else {
+        return None;
+    };
     let mut link = link_for(agent, since)?;
     agent.counters.passed_on.add(1);
     let relayed = pass_on(&agent.rt, alloc, &mut link, &own, owner, request.content);
@@ -196,7 +202,9 @@ fn most_relayed<R: Host>(agent: &Agent<R>) -> u64
 
 /// Passes a request on to its owner, unless too many others are being relayed: then nothing is sent, not even a Join.
 /// Returns what came of it, `NotDone` also if this node is the owner now.
-pub fn relay<R: Host>(agent: &Agent<R>, alloc: Global, caller: &mut Caller, job: &Job) -> Relayed {
+pub fn relay<R: Host>(agent: &Agent<R>, alloc: Global, caller: &mut Caller, job: &Job) -> Relayed
+    ensures { IsPassedOn job.now.input result caller.old caller.new }
+{
     let Input::Line(line) = &job.input else {
         return Relayed::NotDone;
     };

@@ -83,32 +83,53 @@ pub fn join_hosts<R: Host>(
     }
 }
 
+/// The members after they changed, their digest, and whether this node left or came back in the meantime.
+#[derive(Drop)]
+struct Changed {
+    members: ChangeList,
+    digest: Digest,
+    has_moved: bool,
+}
+
 impl<'a, R: Host> Rounds<'a, R> {
+    /// Returns the members if they changed since they were last logged; None also if the node does not tell them.
+    fn changed(&mut self) -> Option<Changed> {
+        let agent = self.agent;
+        let _moving = agent.moving.lock(&agent.rt);
+        let digest = self.caller.digest(&agent.rt).ok()?;
+        if self.digest == Some(digest) {
+            return None;
+        }
+        let members = self.caller.members(&agent.rt).ok()?;
+        let has_moved = agent.has_moved.get();
+        agent.has_moved.set(false);
+        Some(Changed {
+            members,
+            digest,
+            has_moved,
+        })
+    }
+
     /// Logs how the members changed since they were last logged; `round` is the last round. Returns whether this node's own
     /// entry was refuted.
     fn log_members(&mut self, round: &Result<Round, ClusterError>) -> bool {
         let agent = self.agent;
-        let Ok(digest) = self.caller.digest(&agent.rt) else {
+        let Some(changed) = self.changed() else {
             return false;
         };
-        if self.digest == Some(digest) {
-            return false;
-        }
-        let Ok(members) = self.caller.members(&agent.rt) else {
-            return false;
-        };
-        let after = members.as_slice();
+        let after = changed.members.as_slice();
+        let has_moved = changed.has_moved;
         let mut is_own = false;
         let mut used = 0;
         if let Some(before) = &self.members {
             let before = before.as_slice();
-            log_changes(&agent.log(), &agent.own, before, after, round);
-            is_own = is_refuted(&agent.own, before, after);
+            log_changes(&agent.log(), &agent.own, before, after, round, has_moved);
+            is_own = !has_moved && is_refuted(&agent.own, before, after);
             used = before.len();
         }
         self.warn_of_addresses(used, after);
-        self.members = Some(members);
-        self.digest = Some(digest);
+        self.members = Some(changed.members);
+        self.digest = Some(changed.digest);
         is_own
     }
 

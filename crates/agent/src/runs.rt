@@ -153,6 +153,7 @@ fn agent_of<R: System>(
         has_joined: Flag::new(settings.hosts.is_empty()),
         has_left: Flag::new(false),
         moving: Mutex::new(()),
+        has_moved: Flag::new(false),
         is_stopping: Flag::new(false),
         is_ending: Flag::new(false),
         is_spent: Flag::new(false),

@@ -1,16 +1,14 @@
-use Rattle.std.proofs.lemmas.Result.{IfOk-weaker}
-use Rattle.agent_core.specs.Texts.{members_text}
-use Rattle.agent_core.specs.declared.actions.Action.TheVariants as action
-use Rattle.agent_core.specs.declared.answers.Kind.TheVariants as kind
-use Rattle.agent.specs.Replies.{IsText, Replies}
+use Rattle.std.proofs.Common.{Ok, subst}
+use Rattle.node_core.specs.declared.events.Event.TheVariants as call
+use Rattle.node_core.specs.declared.events.Reply.TheVariants as reply
+use Rattle.peer_core.specs.Parts.{Tries}
+use Rattle.agent.specs.Performing.{ComesOf, ShowsMembers}
+use Rattle.agent.proofs.Performed.{made_after}
 use Rattle.agent.proofs.fronts.Front.members.Goals as goal
 
-pub returns-clause-reply : goal.returns-clause-reply
-returns-clause-reply g c =
+pub returns-in-Ok-clause-performed : goal.returns-in-Ok-clause-performed
+returns-in-Ok-clause-performed g c =
     let own = c.args.self.now.agent.now.own in
     let replicas = c.args.self.now.agent.now.replicas in
-    let digest = c.in_ok-digest.digest.bytes in
-    let members = c.as_slice-members.result.now in
-    IfOk-weaker c.members-3.result (IsText kind.Json (members_text own digest replicas members)) (Replies own replicas action.Members)
-    (λ reply text. (digest, members, text))
-    c.members-3.ensures.reply
+    made_after (Tries call.Members reply.Members) (ComesOf (ShowsMembers own replicas)) (Ok c.in-Ok.members) c.show_members.result _ _ c.members.ensures.node c.in-Ok.ensures.did
+    (subst (λ held. ShowsMembers own replicas held c.show_members.result) c.as_slice.ensures c.show_members.ensures)

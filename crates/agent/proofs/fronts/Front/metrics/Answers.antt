@@ -1,15 +1,12 @@
-use Rattle.std.proofs.lemmas.Result.{IfOk-weaker}
-use Rattle.agent_core.specs.Metrics.{metrics_text}
-use Rattle.agent_core.specs.declared.actions.Action.TheVariants as action
-use Rattle.agent_core.specs.declared.answers.Kind.TheVariants as kind
-use Rattle.agent.specs.Replies.{IsText, Replies}
+use Rattle.std.proofs.Common.{Ok, subst}
+use Rattle.node_core.specs.declared.events.Event.TheVariants as call
+use Rattle.node_core.specs.declared.events.Reply.TheVariants as reply
+use Rattle.peer_core.specs.Parts.{Tries}
+use Rattle.agent.specs.Performing.{ComesOf, ShowsCounts}
+use Rattle.agent.proofs.Performed.{made_after}
 use Rattle.agent.proofs.fronts.Front.metrics.Goals as goal
 
-pub returns-clause-reply : goal.returns-clause-reply
-returns-clause-reply g c =
-    let counts = c.counts-counts.result in
-    let members = c.as_slice.result.now in
-    IfOk-weaker c.metrics.result (IsText kind.Text (metrics_text counts members))
-    (Replies c.args.self.now.agent.now.own c.args.self.now.agent.now.replicas action.Metrics)
-    (λ reply text. (counts, members, text))
-    c.metrics.ensures.reply
+pub returns-in-Ok-clause-performed : goal.returns-in-Ok-clause-performed
+returns-in-Ok-clause-performed g c =
+    made_after (Tries call.Members reply.Members) (ComesOf ShowsCounts) (Ok c.in-Ok.members) c.show_counts.result _ _ c.members.ensures.node c.in-Ok.ensures.did
+    (subst (λ held. ShowsCounts held c.show_counts.result) c.as_slice.ensures c.show_counts.ensures)

@@ -1,0 +1,59 @@
+-- The calls of a thread, one after the other, and what comes of them.
+use Rattle.std.proofs.Common.{◌≡◌, ◌∙◌, ℕ, false, List, [], Result, Ok, Err, inl, refl, subst, sym, true≢false}
+use Rattle.std.specs.Prelude.{IfErr, IfOk, is_err}
+use Rattle.hash_ring.specs.declared.hash.Sha256Hash.{Sha256Hash}
+use Rattle.locked_node.specs.declared.node.LockedNode.{LockedNode}
+use Rattle.node_core.specs.Viewing.{Viewed}
+use Rattle.peer_core.specs.Acts.{Act, OfActs, Makes, Then}
+use Rattle.peer_core.specs.Parts.{Part, Does}
+use Rattle.peer_core.specs.declared.errors.ClusterError.{ClusterError}
+use Rattle.peer_core.proofs.Acts.{makes_as, makes_none, makes_then}
+use Rattle.agent_core.specs.declared.answers.Kind.{Kind}
+use Rattle.agent_core.specs.declared.answers.Kind.TheVariants as kind
+use Rattle.agent_core.specs.Texts.{owners_text}
+use Rattle.agent_core.specs.declared.refusals.Refusal.TheVariants as refusal
+use Rattle.agent.specs.Calling.{Calling, HasMade}
+use Rattle.agent.specs.Performing.{After, Outcome, Shows, ShowsOwners, first_owners}
+use Rattle.agent.specs.Replies.{IsText}
+
+module _ (So : OfActs Sha256Hash) where
+  -- no call
+  pub made_none : (old new : Calling) → new ≡ old → So [] → HasMade So old new
+  made_none old new same so =
+      subst (HasMade So old) (sym same)
+      (record { node = refl; makes = makes_as So (λ acts none. subst So (sym none) so) (makes_none old.node old.pass) })
+
+  -- the same calls, of which more is said
+  pub made_as : (First : OfActs Sha256Hash) (old new : Calling) → ((acts : List (Act Sha256Hash)) → First acts → So acts) → HasMade First old new → HasMade So old new
+  made_as First old new more made = record { node = made.node; makes = makes_as So more made.makes }
+
+-- calls, and then others
+pub made_then : (First Next : OfActs Sha256Hash) (a b c : Calling) → HasMade First a b → HasMade Next b c → HasMade (Then First Next) a c
+made_then First Next a b c first next = record {
+  node = next.node ∙ first.node;
+  makes = makes_then first.makes (subst (λ (it : LockedNode Sha256Hash). Makes it Next b.pass c.pass) first.node next.makes);
+}
+
+-- a call, and what comes of its result
+pub made_after : {A : Type 0} (Done : Part Sha256Hash A) (Comes : Result A ClusterError → Outcome → Type 0) (result : Result A ClusterError) (outcome : Outcome)
+    (old new : Calling) → new.node ≡ old.node → Does old.node Done result old.pass new.pass → Comes result outcome → HasMade (After Done Comes outcome) old new
+made_after Done Comes result outcome old new same does comes = record {
+  node = same;
+  makes = makes_as (After Done Comes outcome) (λ acts done. (result, done, comes)) does.makes;
+}
+
+-- a text, or out of memory for it
+pub shows : (content : Kind) (text : List ℕ) (outcome : Outcome) → IfOk outcome (IsText content text) → IfErr outcome (λ e. e ≡ refusal.Memory) → Shows content text outcome
+shows content text (Ok reply) said refused = said
+shows content text (Err why) said refused = refused
+
+-- the owners by a view, or out of memory for them
+pub owners_shown : (view : Viewed Sha256Hash) (key : List ℕ) (count : ℕ) (outcome : Outcome)
+    → Shows kind.Json (owners_text (first_owners view key count)) outcome → ShowsOwners key count view outcome
+owners_shown view key count (Ok reply) said = said
+owners_shown view key count (Err why) said = inl said
+
+-- what is said beside, where a result is no error
+pub kept_if_ok : {T E Q : Type 0} (result : Result T E) (P : T → Type 0) → is_err result ≡ false → IfOk result (λ value. P value × Q) → Q
+kept_if_ok (Ok value) P none said = said.1
+kept_if_ok (Err e) P none said = absurd (true≢false none)

@@ -1,0 +1,14 @@
+use Rattle.std.proofs.Common.{refl, subst, sym}
+use Rattle.agent_core.specs.declared.actions.Action.{Action}
+use Rattle.agent_core.specs.declared.actions.Action.TheVariants as action
+use Rattle.agent.specs.Calling.{HasMade}
+use Rattle.agent.specs.Performing.{Performs}
+use Rattle.agent.proofs.Performed.{made_none}
+use Rattle.agent.proofs.fronts.Front.act.Goals as goal
+
+pub returns-in-Health-clause-performed : goal.returns-in-Health-clause-performed
+returns-in-Health-clause-performed g c =
+    let agent = c.args.self.now.agent.now in
+    let caller = c.args.self.now.caller.now in
+    subst (λ (it : Action). HasMade (Performs agent.own agent.replicas it c.health.result) caller caller) (sym c.in-Health.is)
+    (made_none (Performs agent.own agent.replicas action.Health c.health.result) caller caller refl (refl, c.health.ensures))

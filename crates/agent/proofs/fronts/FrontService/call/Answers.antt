@@ -1,0 +1,12 @@
+use Rattle.std.proofs.Common.{◌∙◌, inl, sym}
+use Rattle.agent.proofs.Answering.{answered_by, shown_if_ok}
+use Rattle.agent.proofs.fronts.FrontService.call.Goals as goal
+
+pub returns-else-is_err-clause-ok : goal.returns-else-is_err-clause-ok
+returns-else-is_err-clause-ok g c =
+    let agent = c.args.self.now.agent.now in
+    let said = c.answer.ensures.answered in (
+      c.answer.ensures.agent,
+      answered_by agent.own agent.replicas c.args.request.now c.answer.new.response said.0 _ _ said.1
+          (inl (shown_if_ok c.answer.result (sym c.is_err.ensures.value ∙ c.if-is_err.false) said.2)),
+    )

@@ -1,0 +1,30 @@
+-- The answer to a request over HTTP: what the request asks for, what was done by the node, and the response.
+use Rattle.std.specs.Prelude.{◌⊎◌, ℕ, Bool, List, [], Ok, Err}
+use Rattle.hash_ring.specs.declared.hash.Sha256Hash.{Sha256Hash}
+use Rattle.peer_core.specs.Acts.{Act, OfActs}
+use Rattle.http.specs.declared.request.Request.{Request}
+use Rattle.http_server.specs.declared.response.Response.{Response}
+use Rattle.http_server.specs.Response.{IsResponse}
+use Rattle.agent_core.specs.declared.actions.Action.{Action}
+use Rattle.agent_core.specs.declared.refusals.Refusal.{Refusal}
+use Rattle.agent.specs.Performing.{Declines, Outcome, Performs}
+use Rattle.agent.specs.Replies.{ShowsRefusal, ShowsReply}
+use Rattle.agent.specs.Requests.{AsksFor, IsRefused}
+
+-- a response shows an outcome, and says whether the connection is closed
+abbrev pub ShowsOutcome : Outcome → Bool → Response → Type 0
+ShowsOutcome (Ok reply) closes response = ShowsReply reply closes response
+ShowsOutcome (Err refusal) closes response = ShowsRefusal refusal closes response
+
+-- the action that a request asks for is performed, with this outcome; or the request is refused, and the node is not called
+abbrev pub Settles : ℕ → ℕ → Request (List ℕ) → Outcome → OfActs Sha256Hash
+Settles own replicas request outcome acts =
+    ((asked : Action) × AsksFor request asked × Performs own replicas asked outcome acts)
+    ⊎ ((refusal : Refusal) × IsRefused request refusal × Declines refusal outcome acts)
+
+-- A response answers a request at the node with this address and this many replicas, after these calls of the node: it shows the outcome or,
+-- out of memory, has a status alone.
+pub record IsAnswered (own replicas : ℕ) (request : Request (List ℕ)) (response : Response) (acts : List (Act Sha256Hash)) : Type 0 where
+  pub outcome : Outcome
+  pub settled : Settles own replicas request outcome acts
+  pub shown : ((closes : Bool) × ShowsOutcome outcome closes response) ⊎ IsResponse 503 [] [] response

@@ -1,6 +1,6 @@
 -- The calls of a thread, one after the other, and what comes of them.
-use Rattle.std.proofs.Common.{◌≡◌, ◌∙◌, ℕ, false, List, [], Result, Ok, Err, inl, refl, subst, sym, true≢false}
-use Rattle.std.specs.Prelude.{IfErr, IfOk, is_err}
+use Rattle.std.proofs.Common.{◌≡◌, ◌∙◌, ℕ, false, length, List, [], Result, Ok, Err, inl, refl, subst, sym, true≢false}
+use Rattle.std.specs.Prelude.{◌≢◌, ◌==◌, IfErr, IfOk, is_err}
 use Rattle.hash_ring.specs.declared.hash.Sha256Hash.{Sha256Hash}
 use Rattle.locked_node.specs.declared.node.LockedNode.{LockedNode}
 use Rattle.node_core.specs.Viewing.{Viewed}
@@ -47,11 +47,15 @@ pub shows : (content : Kind) (text : List ℕ) (outcome : Outcome) → IfOk outc
 shows content text (Ok reply) said refused = said
 shows content text (Err why) said refused = refused
 
+-- a list that has an element
+pub some_owners : (xs ys : List ℕ) → xs ≡ ys → false ≡ (length xs == 0) → ys ≢ []
+some_owners xs ys same some none = true≢false (sym (subst (λ (zs : List ℕ). false ≡ (length zs == 0)) (same ∙ none) some))
+
 -- the owners by a view, or out of memory for them
 pub owners_shown : (view : Viewed Sha256Hash) (key : List ℕ) (count : ℕ) (outcome : Outcome)
-    → Shows kind.Json (owners_text (first_owners view key count)) outcome → ShowsOwners key count view outcome
-owners_shown view key count (Ok reply) said = said
-owners_shown view key count (Err why) said = inl said
+    → first_owners view key count ≢ [] → Shows kind.Json (owners_text (first_owners view key count)) outcome → ShowsOwners key count view outcome
+owners_shown view key count (Ok reply) some said = (some, said)
+owners_shown view key count (Err why) some said = inl said
 
 -- what is said beside, where a result is no error
 pub kept_if_ok : {T E Q : Type 0} (result : Result T E) (P : T → Type 0) → is_err result ≡ false → IfOk result (λ value. P value × Q) → Q

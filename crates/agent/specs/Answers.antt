@@ -22,8 +22,8 @@ Settles own replicas request outcome acts =
     ((asked : Action) × AsksFor request asked × Performs own replicas asked outcome acts)
     ⊎ ((refusal : Refusal) × IsRefused request refusal × Declines refusal outcome acts)
 
--- A response answers a request at the node with this address and this many replicas, after these calls of the node: it shows the outcome or,
--- out of memory, has a status alone.
+-- A response answers a request at an agent that states this address and this many replicas, after these calls of its node: it shows the
+-- outcome or, out of memory, has a status alone.
 pub record IsAnswered (own replicas : ℕ) (request : Request (List ℕ)) (response : Response) (acts : List (Act Sha256Hash)) : Type 0 where
   pub outcome : Outcome
   pub settled : Settles own replicas request outcome acts

@@ -24,8 +24,8 @@ AnswersEach own replicas [] = Nothing
 AnswersEach own replicas (call ∷ calls) = Then (IsAnswered own replicas call.0 call.1) (AnswersEach own replicas calls)
 
 -- A connection's history is what was read and what was written. By HTTP, what was written, and then what waits, are responses to the requests
--- that were read, in order. Each of these responses is an answer of the node with this address and this many replicas, after calls of it by the
--- thread's pass.
+-- that were read, in order. Each of these responses is an answer of an agent that states this address and this many replicas, after calls of
+-- its node by the thread's pass.
 pub record SendsAnswers (own replicas : ℕ) (h : History) (unread left written after : Option (List ℕ)) (old new : Calling) : Type 0 where
   pub read : Consumes unread left h.received
   pub wrote : Appends written after h.sent

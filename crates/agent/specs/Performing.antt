@@ -1,5 +1,5 @@
 -- What an action makes the node do, and the reply or the refusal that comes of it.
-use Rattle.std.specs.Prelude.{◌≡◌, ◌⊎◌, ℕ, List, [], ◌∷◌, ◌++◌, take, codes, Result, Ok, Err}
+use Rattle.std.specs.Prelude.{◌≡◌, ◌≢◌, ◌⊎◌, ℕ, List, [], ◌∷◌, ◌++◌, take, codes, Result, Ok, Err}
 use Rattle.change_core.specs.Members.{members}
 use Rattle.change_core.specs.declared.changes.Change.{Change}
 use Rattle.hash_ring.specs.Points.{owners}
@@ -69,9 +69,9 @@ Says line (Err why) = ⊥
 abbrev pub first_owners : Viewed Sha256Hash → List ℕ → ℕ → List ℕ
 first_owners view key count = take count (owners hash_number view.replicas view.servers key)
 
--- the reply is the first owners of a key by this view; it is refused if there are none, or memory ran out
+-- the reply is the first owners of a key by this view, if there are any; it is refused if there are none, or memory ran out
 abbrev pub ShowsOwners : List ℕ → ℕ → Viewed Sha256Hash → Outcome → Type 0
-ShowsOwners key count view (Ok shown) = IsText kind.Json (owners_text (first_owners view key count)) shown
+ShowsOwners key count view (Ok shown) = (first_owners view key count ≢ []) × IsText kind.Json (owners_text (first_owners view key count)) shown
 ShowsOwners key count view (Err why) = (why ≡ refusal.Memory) ⊎ ((why ≡ refusal.Nobody) × (first_owners view key count ≡ []))
 
 -- the digest of changes: that of the members that they come to

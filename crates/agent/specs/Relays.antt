@@ -50,7 +50,7 @@ abbrev pub IsNotDone : Result Message LinkError → Type 0
 IsNotDone (Ok message) = kind_of message.content ≡ kind.NotOwner
 IsNotDone (Err error) = error ≡ link.Spent
 
--- what comes of a request by the answer to it: a Reply goes back as it came; and only if the request was not performed, that is said
+-- what comes of a request by the answer to it: what goes back is the Reply that came; and only if the request was not performed, that is said
 abbrev pub IsRelayedAs : Result Message LinkError → Relayed → Type 0
 IsRelayedAs answer (Reply line) = (message : Message) × (answer ≡ Ok message) × (kind_of message.content ≡ kind.Reply) × (line.items ≡ line_text message)
 IsRelayedAs answer NoReply = ¬ (IsNotDone answer)
@@ -72,6 +72,6 @@ abbrev pub IsLineOf : Input → Message → Type 0
 IsLineOf (input.Line line) message = IsLine (λ v. MessageForm v message) line.items
 IsLineOf other message = ⊥
 
--- what came of an input: its message was passed on, or no other node performed it
+-- what came of an input: its message was passed on, with this result; or it is said not to be performed, of which nothing more is known here
 abbrev pub IsPassedOn : Input → Relayed → Calling → Calling → Type 0
 IsPassedOn heard relayed old new = (relayed ≡ NotDone) ⊎ ((request : Message) × IsLineOf heard request × HasMade (PassesOn request relayed) old new)

@@ -14,14 +14,13 @@ fn log_new<R: Log>(rt: &R, change: &Change) {
 /// The most by which refutations raise the node's incarnation between two rounds: each raises it by 1.
 const MOST_RAISED: u64 = 10;
 
-/// Logs how the node's own entry changed: it left, it came back (`has_moved` if it left and came back since `before`), or its
-/// incarnation was raised. A refutation raises it by 1 since others held the node as suspect or faulty. If it was raised by
-/// much more, others hold the node at an incarnation that this one has not stated.
+/// Logs how the node's own entry changed: it left or came back since `before`, if `has_moved`, or its incarnation was raised.
+/// A refutation raises it by 1 since others held the node as suspect or faulty. If it was raised by much more, others hold the
+/// node at an incarnation that this one has not stated.
 fn log_own<R: Log>(rt: &R, before: &Change, after: &Change, has_moved: bool) {
     let incarnation = after.incarnation.number();
-    match (before.status, after.status) {
-        (_, Status::Leave) => info!(rt; "this node has left, incarnation {incarnation}"),
-        (Status::Leave, _) => info!(rt; "this node is back, incarnation {incarnation}"),
+    match after.status {
+        Status::Leave if has_moved => info!(rt; "this node has left, incarnation {incarnation}"),
         _ if has_moved => info!(rt; "this node is back, incarnation {incarnation}"),
         _ if incarnation.saturating_sub(before.incarnation.number()) > MOST_RAISED =>
             warn!(rt; "another node has this address, or the clock went back: others hold incarnation {incarnation}"),
@@ -37,6 +36,9 @@ fn log_other<R: Log>(rt: &R, before: &Change, after: &Change, is_silent: bool) {
     let status = after.status.word();
     let incarnation = after.incarnation.number();
     match after.status {
+        Status::Alive | Status::Leave if was == status => {
+            info!(rt; "{address} is still {status}, incarnation {incarnation}")
+        }
         Status::Alive | Status::Leave => {
             info!(rt; "{address} is {status}, was {was}; incarnation {incarnation}")
         }
@@ -53,15 +55,13 @@ fn entry_of<'a>(members: &'a [Change], address: &Address) -> Option<&'a Change> 
     members.iter().find(|change| change.address == *address)
 }
 
-/// Returns whether the node's own entry changed from one list of members to a later one though the node neither left nor
-/// came back.
+/// Returns whether the incarnation of the node's own entry changed from one list of members to a later one. If the node neither
+/// left nor came back in the meantime, it was refuted.
 pub fn is_refuted(own: &Address, before: &[Change], after: &[Change]) -> bool {
     let (Some(before), Some(after)) = (entry_of(before, own), entry_of(after, own)) else {
         return false;
     };
     before.incarnation != after.incarnation
-        && before.status != Status::Leave
-        && after.status != Status::Leave
 }
 
 /// Returns whether a round found that an address does not answer.

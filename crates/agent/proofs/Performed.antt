@@ -57,7 +57,7 @@ pub owners_shown : (view : Viewed Sha256Hash) (key : List ℕ) (count : ℕ) (ou
 owners_shown view key count (Ok reply) some said = (some, said)
 owners_shown view key count (Err why) some said = inl said
 
--- what is said beside, where a result is no error
+-- what is said in addition, where a result is no error
 pub kept_if_ok : {T E Q : Type 0} (result : Result T E) (P : T → Type 0) → is_err result ≡ false → IfOk result (λ value. P value × Q) → Q
 kept_if_ok (Ok value) P none said = said.1
 kept_if_ok (Err e) P none said = absurd (true≢false none)

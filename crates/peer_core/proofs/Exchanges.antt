@@ -289,7 +289,7 @@ module _ {L H : Type 0} {went : Went L} {locked : LockedNode H} where
         (λ acts e. subst (SendsTo went hosts a.now b.now) (sym e) (hosts, part_all hosts, ([], b.now, r, (refl, refl)))) (makes_one c);
   }
 
-  -- a Ping was made and sent, or memory ran out as it was made
+  -- a Ping was made and sent, or memory ran out for it
   pub sent_ping : {hash_of : H → List ℕ → ℕ} {p q : NodePass H} {a b : MutBor L} (target : Address) (made : Result Message NodeError) (message : Message)
       → IsCalled hash_of locked p q (OfEvent (call.PingTo target)) (WithReply (reply.PingTo made)) → made ≡ Ok message
       → b.ghost_name ≡ a.ghost_name → GoesOver went target message a.now b.now → Sent went locked [] p q a b

@@ -130,7 +130,7 @@ SendingsCount H {L} went =
     (hosts : List Address) (old new : L) (acts : List (Act H)) → SendsTo went hosts old new acts
     → GoesTimes went (messages_in acts) old new × (joins_in acts ≤ length hosts)
 
--- the same of healing: at most two Joins go out, to a member and to a host
+-- the same of healing: at most two Joins go out
 abbrev pub HealingsCount : (H : Type 0) → {L : Type 0} → Went L → Type 0
 HealingsCount H {L} went =
     (hosts : List Address) (draws : Option Draws) (old new : L) (acts : List (Act H)) → SendsByDraws went hosts draws old new acts

@@ -1,15 +1,13 @@
 -- The calls of a thread, by what the lock and the node answered.
-use Rattle.std.proofs.Common.{◌≡◌, ℕ, List, Option, Some, None, Result, Ok, Err, subst, sym, inl, inr, refl}
-use Rattle.std.specs.Prelude.{IfErr, IfNone, IfOk}
+use Rattle.std.proofs.Common.{◌≡◌, ℕ, List, Result, Ok, Err, subst, sym, inl, inr, refl}
+use Rattle.std.specs.Prelude.{IfErr, IfOk}
 use Rattle.hash_ring.specs.declared.hash.Sha256Hash.{Sha256Hash}
 use Rattle.turn_lock.specs.declared.errors.LockError.{LockError}
 use Rattle.node_core.specs.Calls.{OfEvent, OfView, WithReply, WithView}
 use Rattle.node_core.specs.Viewing.{Viewed}
 use Rattle.node_core.specs.declared.errors.NodeError.{NodeError}
 use Rattle.node_core.specs.declared.events.Event.{Event}
-use Rattle.node_core.specs.declared.events.Event.TheVariants as call
 use Rattle.node_core.specs.declared.events.Reply.{Reply}
-use Rattle.node_core.specs.declared.events.Reply.TheVariants as reply
 use Rattle.locked_node.specs.declared.node.LockedNode.{LockedNode}
 use Rattle.locked_node.specs.Passes.{NodePass, IsBarred, IsCalled}
 use Rattle.peer_core.specs.Errors.{error_of_node}
@@ -17,12 +15,7 @@ use Rattle.peer_core.specs.Parts.{Part, Calls, Does, Tries, allowed, let_in}
 use Rattle.peer_core.specs.declared.errors.ClusterError.{ClusterError}
 use Rattle.peer_core.proofs.Acts.{makes_as, makes_one}
 use Rattle.peer_core.proofs.Parts.{bars_node, does_call, does_try, locked_out}
-use Rattle.change_core.specs.declared.changes.Change.{Change}
-use Rattle.peer_core.specs.Handling.{MayHandle}
-use Rattle.peer_core.specs.Links.{MayAnswer}
-use Rattle.server.specs.Answering.{IsSilent}
-use Rattle.server.specs.declared.inputs.Input.{Input}
-use Rattle.agent.specs.Calling.{Calling, IsSilentOnce, Looks, hash_of}
+use Rattle.agent.specs.Calling.{Calling, Looks}
 
 module _ (hash : Sha256Hash → List ℕ → ℕ) (locked : LockedNode Sha256Hash) (p q : NodePass Sha256Hash) where
   -- a call that the lock alone may refuse
@@ -59,17 +52,3 @@ pub as_seen : {A : Type 0} (P : Part Sha256Hash A) (r : Result A ClusterError) (
     → record { node = node; pass = p } ≡ caller → locked ≡ node → Does locked P r p q → Does caller.node P r caller.pass q
 as_seen P r caller locked node p q seen same does =
     subst (λ (it : Calling). Does it.node P r it.pass q) seen (subst (λ it. Does it P r p q) same does)
-
--- no line goes back for an input, and the node is asked for its own entry
-pub silent_then : {T : Type 0} (Came : MayAnswer) (Handles : MayHandle) (now : ℕ) (heard : Input) (line : Option T) (own : Result Change ClusterError)
-    (old new : Calling) (locked later node : LockedNode Sha256Hash) (p mid : NodePass Sha256Hash) → record { node = node; pass = p } ≡ old → locked ≡ node → later ≡ node
-    → IfNone line (IsSilent hash_of Came Handles now heard locked p mid) → Does later (Calls call.Own reply.Own) own mid new.pass
-    → IfNone line (IsSilentOnce Came Handles now heard old new)
-silent_then Came Handles now heard (Some it) own old new locked later node p mid seen same also silent does = tt
-silent_then Came Handles now heard None own old new locked later node p mid seen same also silent does =
-    subst (λ (it : Calling). IsSilentOnce Came Handles now heard it new) seen (
-      mid,
-      own,
-      subst (λ (it : LockedNode Sha256Hash). IsSilent hash_of Came Handles now heard it p mid) same silent,
-      subst (λ (it : LockedNode Sha256Hash). Does it (Calls call.Own reply.Own) own mid new.pass) also does,
-    )

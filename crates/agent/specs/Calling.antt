@@ -1,13 +1,10 @@
 -- A thread of an agent as it calls the node.
-use Rattle.std.specs.Prelude.{◌≡◌, ◌⊎◌, ℕ, List, take, Result, Ok, Err}
+use Rattle.std.specs.Prelude.{◌≡◌, ◌⊎◌, ℕ, List, take, Ok, Err}
 use Rattle.std.specs.Int.{from_be_bytes, w64}
 use Rattle.sha2.specs.Sha256.{sha256}
-use Rattle.change_core.specs.declared.changes.Change.{Change}
 use Rattle.hash_ring.specs.declared.hash.Sha256Hash.{Sha256Hash}
 use Rattle.node_core.specs.Viewing.{Viewed}
 use Rattle.node_core.specs.declared.errors.NodeError.{NodeError}
-use Rattle.node_core.specs.declared.events.Event.TheVariants as call
-use Rattle.node_core.specs.declared.events.Reply.TheVariants as reply
 use Rattle.locked_node.specs.declared.node.LockedNode.{LockedNode}
 use Rattle.locked_node.specs.Passes.{NodePass}
 use Rattle.peer_core.specs.Acts.{OfActs, Just, Nothing, Makes, looked}
@@ -15,10 +12,7 @@ use Rattle.peer_core.specs.Errors.{error_of_node}
 use Rattle.peer_core.specs.Forwarding.{Times}
 use Rattle.peer_core.specs.Handling.{MayHandle}
 use Rattle.peer_core.specs.Links.{MayAnswer}
-use Rattle.peer_core.specs.Parts.{Part, Calls, Does, IsOfLock}
-use Rattle.peer_core.specs.declared.errors.ClusterError.{ClusterError}
-use Rattle.server.specs.Answering.{IsSilent}
-use Rattle.server.specs.declared.inputs.Input.{Input}
+use Rattle.peer_core.specs.Parts.{Part, IsOfLock}
 
 -- The node, and the pass by which a thread calls it.
 pub record Calling : Type 0 where
@@ -43,20 +37,10 @@ abbrev pub Looks : Part Sha256Hash (Viewed Sha256Hash)
 Looks (Ok view) acts = Just (looked (Ok view)) acts
 Looks (Err e) acts = (Nothing acts × IsOfLock e) ⊎ ((n : NodeError) × Just (looked (Err n)) acts × (e ≡ error_of_node n))
 
--- any acts
-abbrev pub Anything : OfActs Sha256Hash
-Anything acts = Unit {0}
-
 -- By its pass a thread made calls of its node that satisfy this.
 pub record HasMade (So : OfActs Sha256Hash) (old new : Calling) : Type 0 where
   pub node : new.node ≡ old.node
   pub makes : Makes old.node So old.pass new.pass
-
--- No line goes back for an input, as `IsSilent` says; then the node was asked for its own entry, or the lock refused that.
-abbrev pub IsSilentOnce : MayAnswer → MayHandle → ℕ → Input → Calling → Calling → Type 0
-IsSilentOnce Came Handles now heard old new =
-    (mid : NodePass Sha256Hash) × (own : Result Change ClusterError)
-    × IsSilent hash_of Came Handles now heard old.node old.pass mid × Does old.node (Calls call.Own reply.Own) own mid new.pass
 
 -- other nodes may answer anything
 abbrev pub AnyAnswer : MayAnswer

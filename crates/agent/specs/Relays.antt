@@ -1,5 +1,5 @@
 -- A request of another node that is passed on to its owner.
-use Rattle.std.specs.Prelude.{◌≡◌, ◌≢◌, ◌⊎◌, ◌≤◌, ℕ, List, length, slice_get, Some, Result, Ok, Err}
+use Rattle.std.specs.Prelude.{◌≡◌, ◌≢◌, ◌⊎◌, ◌≤◌, ℕ, List, [], ◌∷◌, length, slice_get, Some, Result, Ok, Err}
 use Rattle.change_core.specs.Status.{IsServing}
 use Rattle.change_core.specs.declared.addresses.Address.{Address}
 use Rattle.change_core.specs.declared.changes.Change.{Change}
@@ -14,7 +14,9 @@ use Rattle.node_core.specs.Viewing.{Viewed}
 use Rattle.node_core.specs.declared.events.Event.TheVariants as call
 use Rattle.node_core.specs.declared.events.Reply.TheVariants as reply
 use Rattle.peer_core.specs.Acts.{OfActs, Just, Then, did, looked}
-use Rattle.peer_core.specs.Links.{MayAnswer}
+use Rattle.peer_core.specs.Exchanges.{SendsTo, messages_in}
+use Rattle.peer_core.specs.Joining.{IsJoin}
+use Rattle.peer_core.specs.Links.{MayAnswer, Went}
 use Rattle.peer_core.specs.Serving.{message_by}
 use Rattle.peer_core.specs.declared.errors.LinkError.{LinkError}
 use Rattle.peer_core.specs.declared.errors.LinkError.TheVariants as link
@@ -23,7 +25,7 @@ use Rattle.server.specs.declared.inputs.Input.{Input}
 use Rattle.server.specs.declared.inputs.Input.TheVariants as input
 use Rattle.wire_json.specs.Lines.{IsLine}
 use Rattle.wire_json.specs.Messages.{MessageForm}
-use Rattle.agent.specs.Calling.{AnyAnswer, Anything, Calling, HasMade, hash_number}
+use Rattle.agent.specs.Calling.{Calling, HasMade, hash_number}
 use Rattle.agent.specs.declared.relays.Relayed.{Relayed}
 use Rattle.agent.specs.declared.relays.Relayed.TheVariants.{Reply, NoReply, NotDone}
 
@@ -37,13 +39,13 @@ IsOwnerBy view told a = ⊥
 abbrev pub Names : Message → Address → OfActs Sha256Hash
 Names request a acts = (view : Viewed Sha256Hash) × Just (looked (Ok view)) acts × IsOwnerBy view request.content a
 
--- the owner is not the sender, or the node's own entry was found not to serve
-abbrev pub IsNotReturned : Message → Address → OfActs Sha256Hash
-IsNotReturned request a acts = (a ≢ request.source) ⊎ ((own : Change) × Just (did call.Own (reply.Own own)) acts × ¬ (IsServing own.status))
+-- calls by which the node makes no message for another
+abbrev pub MakesNone : OfActs Sha256Hash
+MakesNone acts = messages_in acts ≡ 0
 
--- after any acts a view of the node names the owner, to which the request may be sent
-abbrev pub Chooses : Message → Address → OfActs Sha256Hash
-Chooses request a = Then Anything (Then (Names request a) (IsNotReturned request a))
+-- the node gave its own entry; the owner is not the sender, or the node does not serve
+abbrev pub IsNotReturned : Message → Address → OfActs Sha256Hash
+IsNotReturned request a acts = (own : Change) × Just (did call.Own (reply.Own own)) acts × ((a ≢ request.source) ⊎ ¬ (IsServing own.status))
 
 -- the answer to a request shows that it was not performed: the node called does not own it, or nothing was sent
 abbrev pub IsNotDone : Result Message LinkError → Type 0
@@ -56,22 +58,46 @@ IsRelayedAs answer (Reply line) = (message : Message) × (answer ≡ Ok message)
 IsRelayedAs answer NoReply = ¬ (IsNotDone answer)
 IsRelayedAs answer NotDone = IsNotDone answer
 
--- a message was sent to an address, and this came of it
-abbrev pub IsRelayed : MayAnswer → Address → Message → Relayed → Type 0
-IsRelayed Came to message relayed = (answer : Result Message LinkError) × Came to message answer × IsRelayedAs answer relayed
-
--- The node's views chose an owner, the node gave its own entry, and by that entry the request was sent to the owner. Other nodes may answer
--- anything.
-abbrev pub PassesOn : Message → Relayed → OfActs Sha256Hash
-PassesOn request relayed acts =
-    (owner : Address) × (own : Change) × Then (Chooses request owner) (Just (did call.Own (reply.Own own))) acts
-    × IsRelayed AnyAnswer owner (message_by own request.content) relayed
-
 -- an input is the line of this message
 abbrev pub IsLineOf : Input → Message → Type 0
 IsLineOf (input.Line line) message = IsLine (λ v. MessageForm v message) line.items
 IsLineOf other message = ⊥
 
--- what came of an input: its message was passed on, with this result; or it is said not to be performed, of which nothing more is known here
-abbrev pub IsPassedOn : Input → Relayed → Calling → Calling → Type 0
-IsPassedOn heard relayed old new = (relayed ≡ NotDone) ⊎ ((request : Message) × IsLineOf heard request × HasMade (PassesOn request relayed) old new)
+module _ {L : Type 0} (Came : MayAnswer) (went : Went L) where
+  -- the sender of the request was sent a Join, and its Joined came
+  abbrev pub Meets : Message → L → L → OfActs Sha256Hash
+  Meets request old new acts =
+      ((now joined : ℕ) × IsJoin Came now (request.source ∷ []) (Ok joined) acts) × SendsTo went (request.source ∷ []) old new acts
+
+  -- a view of the node names the owner, another than the sender, and nothing is sent; or it names the sender, and after a Join to it another
+  -- view names an owner to which the request may be sent
+  abbrev pub Chooses : Message → Address → L → L → OfActs Sha256Hash
+  Chooses request a old new acts =
+      (Names request a acts × (a ≢ request.source) × (new ≡ old))
+      ⊎ Then (Names request request.source) (Then (Meets request old new) (Then (Names request a) (IsNotReturned request a))) acts
+
+  -- a message went over the link to an address, once, and this came of its answer
+  abbrev pub IsRelayed : Address → Message → Relayed → L → L → Type 0
+  IsRelayed to message relayed old new =
+      (answer : Result Message LinkError) × Came to message answer × went to message answer old new × IsRelayedAs answer relayed
+
+  -- the node's views chose an owner, the node gave its own entry, and by that entry the request went over the link to the owner, once
+  abbrev pub PassesOn : Message → Relayed → L → L → OfActs Sha256Hash
+  PassesOn request relayed old new acts =
+      (owner : Address) × (own : Change) × (mid : L) × Then (Chooses request owner old mid) (Just (did call.Own (reply.Own own))) acts
+      × IsRelayed owner (message_by own request.content) relayed mid new
+
+  -- no request goes over the link: of messages that the node made, at most a Join to one node
+  abbrev pub Withholds : L → L → Calling → Calling → Type 0
+  Withholds before after old new = (hosts : List Address) × (length hosts ≤ 1) × HasMade (SendsTo went hosts before after) old new
+
+  -- a request was passed on, with this result; or none was sent, and it is said not to be done
+  abbrev pub IsPassedOn : Message → Relayed → L → L → Calling → Calling → Type 0
+  IsPassedOn request relayed before after old new =
+      HasMade (PassesOn request relayed before after) old new ⊎ ((relayed ≡ NotDone) × Withholds before after old new)
+
+  -- the same of an input: its message was passed on, or nothing was
+  abbrev pub IsRelayOf : Input → Relayed → L → L → Calling → Calling → Type 0
+  IsRelayOf heard relayed before after old new =
+      ((request : Message) × IsLineOf heard request × HasMade (PassesOn request relayed before after) old new)
+      ⊎ ((relayed ≡ NotDone) × Withholds before after old new)

@@ -14,7 +14,7 @@ use std::sync::atomic::{AtomicBool, Ordering};
 use std::thread::Parker;
 
 /// The most HTTP connections that are kept open between requests. While there are more, others may be waiting for a thread.
-const MOST_KEPT: u64 = 240;
+const MAX_KEPT_CONNECTIONS: u64 = 240;
 
 /// The phase of an agent.
 #[derive(Clone, Copy, Debug, PartialEq, Eq)]
@@ -125,7 +125,7 @@ impl<R: Host> Agent<R> {
     /// Returns whether each HTTP connection is closed after its next answer, and also if it sends nothing for a second, so
     /// that others are served: more than 240 are.
     pub fn is_crowded(&self) -> bool {
-        self.connections.get() > MOST_KEPT
+        self.connections.get() > MAX_KEPT_CONNECTIONS
     }
 
     /// Returns the node with a pass that no thread has; None if no pass is left.

@@ -9,7 +9,7 @@ use crate::exchanges::{Answer, Asked, exchange};
 use crate::journals::Journal;
 use crate::notices::Notices;
 use crate::systems::Host;
-use agent_core::{Failure, GREATEST_STATUS, LEAST_STATUS, LONGEST_BODY, Refusal, pack};
+use agent_core::{Failure, MAX_BODY_BYTES, MAX_STATUS, MIN_STATUS, Refusal, pack};
 use change_core::Address;
 use cluster_core::{Deadline, Timed, socket_address};
 use http1::{Client, Limits};
@@ -24,10 +24,10 @@ use std::sync::{Mutex, Wait};
 use std::time::Duration;
 
 /// The most milliseconds for a request to the application and its answer, connecting and a second try included.
-const LIMIT: u64 = 4_000;
+const MAX_APPLICATION_MILLIS: u64 = 4_000;
 
 /// The most connections to the application that are kept between requests.
-const MOST_KEPT: usize = 128;
+const MAX_APPLICATION_CONNECTIONS: usize = 128;
 
 /// A connection to the application.
 #[derive(Drop)]
@@ -85,7 +85,7 @@ fn packed(
     body: &[u8],
 ) -> Option<Result<Text, HandlerFault>> {
     let text = str::from_utf8(body).ok()?;
-    if status < LEAST_STATUS || status > GREATEST_STATUS || body.len() > LONGEST_BODY {
+    if status < MIN_STATUS || status > MAX_STATUS || body.len() > MAX_BODY_BYTES {
         return None;
     }
     Some(pack(alloc, status, is_json, text).map_err(handler_fault))
@@ -124,7 +124,7 @@ impl<R: Host> Application<R> {
             return;
         }
         let mut kept = self.kept.lock(&self.rt);
-        if kept.len() < MOST_KEPT {
+        if kept.len() < MAX_APPLICATION_CONNECTIONS {
             let _kept = kept.push(connection);
         }
     }
@@ -141,7 +141,9 @@ impl<R: Host> Application<R> {
     /// Returns whether the application accepts a connection; the echo always does.
     pub fn is_up(&self) -> bool {
         match self.at {
-            Some(at) => self.connect(at, Duration::from_millis(LIMIT)).is_some(),
+            Some(at) => self
+                .connect(at, Duration::from_millis(MAX_APPLICATION_MILLIS))
+                .is_some(),
             None => true,
         }
     }
@@ -273,7 +275,12 @@ impl<R: Host> Handler for Application<R> {
         keys: &Keys,
         body: &Text,
     ) -> Result<Text, HandlerFault> {
-        self.answer(alloc, keys, body, Duration::from_millis(LIMIT))
+        self.answer(
+            alloc,
+            keys,
+            body,
+            Duration::from_millis(MAX_APPLICATION_MILLIS),
+        )
     }
 }
 
@@ -287,11 +294,11 @@ pub struct Limited<'a, R> {
 impl<'a, R: Host> Limited<'a, R> {
     /// Makes the application with this number of milliseconds for a request, or its own limit if that is less.
     pub fn new(application: &'a Application<R>, millis: u64) -> Self
-        ensures { as_nanos result.limit ≤ LIMIT * 1_000_000 }
+        ensures { as_nanos result.limit ≤ MAX_APPLICATION_MILLIS * 1_000_000 }
     {
         Limited {
             application,
-            limit: Duration::from_millis(millis.min(LIMIT)),
+            limit: Duration::from_millis(millis.min(MAX_APPLICATION_MILLIS)),
         }
     }
 }

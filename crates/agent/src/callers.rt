@@ -1,5 +1,5 @@
 //! The node as one thread calls it, and the passes that no thread has.
-ghost use Rattle.std.specs.Prelude.{◌≡◌, ◌∷◌, [], IfNone, IfSome};
+ghost use Rattle.std.specs.Prelude.{◌≡◌, ◌↔◌, ◌∷◌, [], IfNone, IfSome, IsTrue};
 ghost use Rattle.std.specs.Arc.{arc_value};
 ghost use Rattle.std.specs.List.{All};
 ghost use Rattle.locked_node.specs.Passes.{Fits};
@@ -9,13 +9,14 @@ ghost use Rattle.peer_core.specs.Acts.{Makes};
 ghost use Rattle.peer_core.specs.Exchanges.{SendsByDraws, SendsTo, SendsToPinged};
 ghost use Rattle.peer_core.specs.Joining.{IsJoin};
 ghost use Rattle.peer_core.specs.Parts.{Calls, Does, Tries, allowed, let_in};
-ghost use Rattle.agent.specs.Calling.{IsSilentOnce, Looks, hash_of};
-ghost use Rattle.server.specs.Answering.{Responds};
+ghost use Rattle.agent.specs.Calling.{Looks, hash_of};
+ghost use Rattle.server.specs.Answering.{IsSilent, Responds};
 ghost use Rattle.peer_core.specs.Correcting.{IsCorrectingRound};
 ghost use Rattle.peer_core.specs.Forwarding.{IsRequest};
 ghost use Rattle.peer_core.specs.Healing.{IsHealing, after_round};
 ghost use Rattle.peer_core.specs.Resending.{SendsRequest};
 ghost use Rattle.peer_core.specs.Rounds.{IsRound};
+ghost use Rattle.turn_lock.specs.Passes.{left_of};
 
 use change_core::{Address, Change, Digest, Entry, Moment};
 use hash_ring::Sha256Hash;
@@ -40,7 +41,6 @@ pub type Node = LockedNode<Sha256Hash>;
 pub struct Caller {
     node: Arc<Node, Global>,
     pass: NodePass<Sha256Hash>,
-    is_spent: bool,
 }
 
 impl Model for Caller {
@@ -55,15 +55,12 @@ impl Model for Caller {
     ghost invariant = { λ c. Fits (arc_value c.node) c.pass };
 }
 
-/// Returns whether a call was refused because the pass has made all its calls.
-fn tells_spent<T>(answer: &Result<T, ClusterError>) -> bool {
-    matches!(answer, Err(ClusterError::PassSpent))
-}
-
 impl Caller {
-    /// Returns whether a call was refused because the pass has made all its calls: the pass has to be replaced.
-    pub fn is_spent(&self) -> bool {
-        self.is_spent
+    /// Returns whether the pass has made all its calls: it has to be replaced.
+    pub fn is_spent(&self) -> bool
+        ensures { IsTrue result ↔ (left_of self.now.pass ≡ 0) }
+    {
+        self.pass.left() == 0
     }
 
     /// Makes one round of gossip at a moment, and returns how it ended.
@@ -89,9 +86,7 @@ impl Caller {
         ensures did { Does self.old.node (IsRound L.may_answer now) result self.old.pass self.new.pass }
         ensures sent { Makes self.old.node (SendsTo L.went [] link.old link.new) self.old.pass self.new.pass }
     {
-        let round = gossip_round(rt, alloc, &*self.node, &mut self.pass, link, now);
-        self.is_spent |= tells_spent(&round);
-        round
+        gossip_round(rt, alloc, &*self.node, &mut self.pass, link, now)
     }
 
     /// Makes one round of gossip that corrects its target, and returns how it ended. It is [`correcting_round`].
@@ -117,9 +112,7 @@ impl Caller {
         ensures did { Does self.old.node (IsCorrectingRound L.may_answer now) result self.old.pass self.new.pass }
         ensures sent { Makes self.old.node (SendsToPinged L.went link.old link.new) self.old.pass self.new.pass }
     {
-        let round = correcting_round(rt, alloc, &*self.node, &mut self.pass, link, now);
-        self.is_spent |= tells_spent(&round);
-        round
+        correcting_round(rt, alloc, &*self.node, &mut self.pass, link, now)
     }
 
     /// Heals a cluster whose members parted; to be called after each round, at its moment. It is [`heal`]. Returns whether a
@@ -145,9 +138,7 @@ impl Caller {
         ensures sent { Makes self.old.node (SendsByDraws L.went healing.old.hosts (after_round healing.old).0 link.old link.new) self.old.pass self.new.pass }
         ensures healing { healing.new ≡ (after_round healing.old).1 }
     {
-        let healed = heal(rt, alloc, &*self.node, &mut self.pass, link, now, healing);
-        self.is_spent |= tells_spent(&healed);
-        healed
+        heal(rt, alloc, &*self.node, &mut self.pass, link, now, healing)
     }
 
     /// Sends a Join to one host, and processes its Joined at a moment. Returns 1, the number of hosts that answered.
@@ -172,9 +163,7 @@ impl Caller {
         ensures did { Does self.old.node (IsJoin L.may_answer now (host ∷ [])) result self.old.pass self.new.pass }
         ensures sent { Makes self.old.node (SendsTo L.went (host ∷ []) link.old link.new) self.old.pass self.new.pass }
     {
-        let joined = join(rt, alloc, &*self.node, &mut self.pass, link, &[host], now);
-        self.is_spent |= tells_spent(&joined);
-        joined
+        join(rt, alloc, &*self.node, &mut self.pass, link, &[host], now)
     }
 
     /// Returns the line that answers the input from another node; None if it needs no answer, or none could be made.
@@ -189,9 +178,9 @@ impl Caller {
     ) -> Option<Vec<u8>>
         ensures node { self.new.node ≡ self.old.node }
         ensures sent { IfSome result (λ line. Makes self.old.node (Responds hash_of L.may_answer (A.may_handle handler.now) now input.now line.items) self.old.pass self.new.pass) }
-        ensures silent { IfNone result (IsSilentOnce L.may_answer (A.may_handle handler.now) now input.now self.old self.new) }
+        ensures silent { IfNone result (IsSilent hash_of L.may_answer (A.may_handle handler.now) now input.now self.old.node self.old.pass self.new.pass) }
     {
-        let line = respond(
+        respond(
             rt,
             alloc,
             &*self.node,
@@ -200,13 +189,7 @@ impl Caller {
             handler,
             now,
             input,
-        );
-        if line.is_none() {
-            // (there may be no line because the pass has made all its calls: another call shows that)
-            let own = let_in(self.node.own(rt, &mut self.pass));
-            self.is_spent |= tells_spent(&own);
-        }
-        line
+        )
     }
 
     /// Returns the answer to a request of these keys with this body: by the handler if this node owns the keys, else by the
@@ -235,9 +218,9 @@ impl Caller {
     ) -> Result<Text, ClusterError>
         ensures node { self.new.node ≡ self.old.node }
         ensures did { Does self.old.node (IsRequest hash_of L.may_answer (A.may_handle handler.now) C.time keys body) result self.old.pass self.new.pass }
-        ensures sent { Makes self.old.node (SendsRequest hash_of L.went keys body link.old link.new) self.old.pass self.new.pass }
+        ensures sent { Makes self.old.node (SendsRequest hash_of L.went keys body result link.old link.new) self.old.pass self.new.pass }
     {
-        let answer = handle_or_forward(
+        handle_or_forward(
             rt,
             alloc,
             &*self.node,
@@ -247,9 +230,7 @@ impl Caller {
             clock,
             keys,
             body,
-        );
-        self.is_spent |= tells_spent(&answer);
-        answer
+        )
     }
 
     /// Returns a copy of the node's ring.
@@ -265,9 +246,7 @@ impl Caller {
         ensures node { self.new.node ≡ self.old.node }
         ensures did { Does self.old.node Looks result self.old.pass self.new.pass }
     {
-        let view = answered(self.node.view(rt, &mut self.pass));
-        self.is_spent |= tells_spent(&view);
-        view
+        answered(self.node.view(rt, &mut self.pass))
     }
 
     /// Returns the node's own entry, as a change.
@@ -282,9 +261,7 @@ impl Caller {
         ensures node { self.new.node ≡ self.old.node }
         ensures did { Does self.old.node (Calls call.Own reply.Own) result self.old.pass self.new.pass }
     {
-        let own = let_in(self.node.own(rt, &mut self.pass));
-        self.is_spent |= tells_spent(&own);
-        own
+        let_in(self.node.own(rt, &mut self.pass))
     }
 
     /// Returns the entry that the node holds of an address; None if it holds none.
@@ -303,9 +280,7 @@ impl Caller {
         ensures node { self.new.node ≡ self.old.node }
         ensures did { Does self.old.node (Calls (call.Member address) reply.Member) result self.old.pass self.new.pass }
     {
-        let member = let_in(self.node.member(rt, &mut self.pass, address));
-        self.is_spent |= tells_spent(&member);
-        member
+        let_in(self.node.member(rt, &mut self.pass, address))
     }
 
     /// Returns the members that the node holds, ascending by address.
@@ -321,9 +296,7 @@ impl Caller {
         ensures node { self.new.node ≡ self.old.node }
         ensures did { Does self.old.node (Tries call.Members reply.Members) result self.old.pass self.new.pass }
     {
-        let members = answered(self.node.members(rt, &mut self.pass));
-        self.is_spent |= tells_spent(&members);
-        members
+        answered(self.node.members(rt, &mut self.pass))
     }
 
     /// Returns the digest of the members.
@@ -339,9 +312,7 @@ impl Caller {
         ensures node { self.new.node ≡ self.old.node }
         ensures did { Does self.old.node (Tries call.Digest reply.Digest) result self.old.pass self.new.pass }
     {
-        let digest = answered(self.node.digest(rt, &mut self.pass));
-        self.is_spent |= tells_spent(&digest);
-        digest
+        answered(self.node.digest(rt, &mut self.pass))
     }
 
     /// Leaves the cluster. Returns the node's new own entry, as a change.
@@ -358,9 +329,7 @@ impl Caller {
         ensures node { self.new.node ≡ self.old.node }
         ensures did { Does self.old.node (Tries call.Leave reply.Leave) result self.old.pass self.new.pass }
     {
-        let left = answered(self.node.leave(rt, &mut self.pass));
-        self.is_spent |= tells_spent(&left);
-        left
+        answered(self.node.leave(rt, &mut self.pass))
     }
 
     /// Comes back after leaving. Returns the node's new own entry, as a change.
@@ -378,9 +347,7 @@ impl Caller {
         ensures node { self.new.node ≡ self.old.node }
         ensures did { Does self.old.node (Tries call.Rejoin reply.Rejoin) result self.old.pass self.new.pass }
     {
-        let back = answered(self.node.rejoin(rt, &mut self.pass));
-        self.is_spent |= tells_spent(&back);
-        back
+        answered(self.node.rejoin(rt, &mut self.pass))
     }
 }
 
@@ -453,10 +420,6 @@ impl Passes {
     {
         let node = Arc::try_clone(&self.node).ok()?;
         let pass = take_pass(&self.node, &mut self.passes)?;
-        Some(Caller {
-            node,
-            pass,
-            is_spent: false,
-        })
+        Some(Caller { node, pass })
     }
 }

@@ -12,7 +12,7 @@ fn log_new<R: Log>(rt: &R, change: &Change) {
 }
 
 /// The most by which refutations raise the node's incarnation between two rounds: each raises it by 1.
-const MOST_RAISED: u64 = 10;
+const MAX_RAISE: u64 = 10;
 
 /// Logs how the node's own entry changed: it left or came back since `before`, if `has_moved`, or its incarnation was raised.
 /// A refutation raises it by 1 since others held the node as suspect or faulty. If it was raised by much more, others hold the
@@ -22,7 +22,7 @@ fn log_own<R: Log>(rt: &R, before: &Change, after: &Change, has_moved: bool) {
     match after.status {
         Status::Leave if has_moved => info!(rt; "this node has left, incarnation {incarnation}"),
         _ if has_moved => info!(rt; "this node is back, incarnation {incarnation}"),
-        _ if incarnation.saturating_sub(before.incarnation.number()) > MOST_RAISED =>
+        _ if incarnation.saturating_sub(before.incarnation.number()) > MAX_RAISE =>
             warn!(rt; "another node has this address, or the clock went back: others hold incarnation {incarnation}"),
         _ =>
             warn!(rt; "refuted: others held this node as suspect or faulty; incarnation {incarnation}"),

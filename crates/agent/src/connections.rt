@@ -22,16 +22,16 @@ use std::time::Duration;
 
 /// The most bytes in a request's body that are read. One that is longer than 131,072 is refused with a line of text, and
 /// one that is longer than this by the HTTP server, which sends no text.
-const LONGEST_READ: usize = 1_048_576;
+const MAX_READ_BYTES: usize = 1_048_576;
 
 /// The most milliseconds from one answer of a connection to the end of its next request.
-const IDLE: u64 = 30_000;
+const MAX_IDLE: u64 = 30_000;
 
 /// The most milliseconds for which a connection may send nothing while more are served than are kept open, or HTTP ends.
-const SILENCE: u64 = 1_000;
+const MAX_SILENCE: u64 = 1_000;
 
 /// The most milliseconds that the client may take to receive an answer, or the answers to requests that it sent together.
-const TAKEN: u64 = 5_000;
+const MAX_TAKEN: u64 = 5_000;
 
 /// The deadline of this many milliseconds from now.
 fn deadline<R: Host>(agent: &Agent<R>, millis: u64) -> io::Result<Deadline<'_, R>> {
@@ -55,7 +55,7 @@ impl<'a, R: Host> Requests<'a, R> {
     fn read_once(&mut self, left: Duration, buf: &mut [u8]) -> io::Result<usize>
         ensures { ReadsAtMost result buf.new }
     {
-        let limit = left.min(Duration::from_millis(SILENCE));
+        let limit = left.min(Duration::from_millis(MAX_SILENCE));
         let mut stream = self.stream;
         if limit != self.limit {
             stream.set_read_timeout(Some(limit))?;
@@ -81,7 +81,7 @@ impl<'a, R: Host> Read for Requests<'a, R> {
     fn read(&mut self, buf: &mut [u8]) -> io::Result<usize> {
         if self.is_answering.get() {
             self.is_answering.set(false);
-            self.end = deadline(self.agent, IDLE)?;
+            self.end = deadline(self.agent, MAX_IDLE)?;
         }
         for _ in self.agent.rt.forever() {
             let left = self.end.left()?;
@@ -127,7 +127,7 @@ impl<'a, R: Host> Write for Answers<'a, R> {
     fn write(&mut self, buf: &[u8]) -> io::Result<usize> {
         if !self.is_answering.get() {
             self.is_answering.set(true);
-            self.left = Duration::from_millis(TAKEN);
+            self.left = Duration::from_millis(MAX_TAKEN);
         }
         let agent = self.agent;
         let end = Deadline::after(&agent.rt, self.left)?;
@@ -164,7 +164,7 @@ fn serve_over<R: Host, I: Read, O: Write>(
         × OnOk result (IsDone h) }
 {
     let config = Config {
-        max_body_len: LONGEST_READ,
+        max_body_len: MAX_READ_BYTES,
         ..Config::default()
     };
     let mut connection = Connection::new(front.alloc, keys, config);
@@ -184,14 +184,14 @@ fn serve_connection<R: Host>(
         agent,
         stream,
         is_answering: &is_answering,
-        end: deadline(agent, IDLE)?,
+        end: deadline(agent, MAX_IDLE)?,
         limit: Duration::from_millis(0),
     };
     let mut answers = Answers {
         agent,
         stream,
         is_answering: &is_answering,
-        left: Duration::from_millis(TAKEN),
+        left: Duration::from_millis(MAX_TAKEN),
         limit: Duration::from_millis(0),
     };
     serve_over(front, keys, &mut requests, &mut answers)

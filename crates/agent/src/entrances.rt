@@ -15,7 +15,7 @@ use std::time::Duration;
 const REST: u64 = 10;
 
 /// The most connections that the end makes at a time, so that others find room to wait.
-const KNOCKS: u64 = 16;
+const MAX_KNOCKS: u64 = 16;
 
 /// The milliseconds after which it looks again whether threads accept.
 const BETWEEN_KNOCKS: u64 = 1;
@@ -93,7 +93,7 @@ impl Entrance {
             if accepting == 0 || deadline.left().is_err() {
                 return;
             }
-            for _ in 0..accepting.min(KNOCKS) {
+            for _ in 0..accepting.min(MAX_KNOCKS) {
                 let rest = Duration::from_millis(REST);
                 let _stream = TcpStream::connect_timeout(rt, &socket_address(address), rest);
             }

@@ -14,7 +14,7 @@ use std::io;
 use std::io::{ErrorKind, Read, Write};
 
 /// The most bytes in the body of an answer that is read.
-const LONGEST_ANSWER: usize = 1_048_576;
+const MAX_ANSWER_BYTES: usize = 1_048_576;
 
 /// The bytes that a read asks for.
 const READ_SIZE: usize = 8_192;
@@ -197,7 +197,7 @@ fn read_answer<S: Read>(
             },
             Step::Ended => return Err(Failure::BadAnswer),
         }
-        if answer.body.len() > LONGEST_ANSWER {
+        if answer.body.len() > MAX_ANSWER_BYTES {
             return Err(Failure::BadAnswer);
         }
     }

@@ -31,7 +31,7 @@ use std::sync::atomic::{AtomicBool, Ordering};
 use std::time::Instant;
 
 /// The most requests that wait for a key's owner at a time. The other threads answer what needs no wait.
-const MOST_WAITING: u64 = 224;
+const MAX_WAITING_REQUESTS: u64 = 224;
 
 /// Returns the refusal for an error of the node.
 fn refusal_of(error: ClusterError) -> Refusal
@@ -98,7 +98,7 @@ impl<'f, 'a, R: Host> Front<'f, 'a, R> {
         ensures performed { HasMade (Performs self.old.agent.now.own self.old.agent.now.replicas (action.Handle key body) result) self.old.caller.now self.new.caller.now }
         ensures agent { self.new.agent ≡ self.old.agent }
     {
-        if !self.agent.waiting.add_below(MOST_WAITING) {
+        if !self.agent.waiting.add_below(MAX_WAITING_REQUESTS) {
             return Err(Refusal::Busy);
         }
         let reply = self.ask_owner(key, body);

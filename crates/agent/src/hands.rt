@@ -4,7 +4,7 @@ use crate::applications::Limited;
 use crate::callers::Caller;
 use crate::links::NotedHandler;
 use crate::peers::{Job, line_for, send_back};
-use crate::relays::{Relayed, millis_left, relay};
+use crate::relays::{Relayed, millis_left, relay, relay_link};
 use crate::systems::Host;
 use cluster_core::TcpLink;
 use crossbeam_channel::Receiver;
@@ -42,7 +42,8 @@ fn serve_request<R: Host>(
 ) {
     let (mut line, was_asked) = own_answer(agent, alloc, caller, link, &job);
     if !was_asked {
-        line = match relay(agent, alloc, caller, &job) {
+        let mut relay_link = relay_link(agent);
+        line = match relay(agent, alloc, caller, &mut relay_link, &job) {
             Relayed::Reply(reply) => Some(reply),
             Relayed::NoReply => None,
             Relayed::NotDone => own_answer(agent, alloc, caller, link, &job).0,

@@ -1,11 +1,11 @@
 //! Requests that other nodes sent to this one though it does not own them: they are passed on to the owner, and its reply
 //! goes back.
-ghost use Rattle.std.specs.Prelude.{◌≡◌, ◌≤◌, IfSome};
-ghost use Rattle.peer_core.specs.Acts.{Makes};
-ghost use Rattle.peer_core.specs.Exchanges.{GoesOver};
+ghost use Rattle.std.specs.Prelude.{◌≡◌, ◌≤◌, ◌∷◌, [], IfNone, IfSome, IsTrue};
+ghost use Rattle.peer_core.specs.Acts.{Then};
+ghost use Rattle.peer_core.specs.Exchanges.{SendsTo};
 ghost use Rattle.peer_core.specs.Serving.{message_by};
 ghost use Rattle.agent.specs.Calling.{HasMade};
-ghost use Rattle.agent.specs.Relays.{Chooses, IsOwnerBy, IsPassedOn, IsRelayed, IsRelayedAs, Names, PassesOn};
+ghost use Rattle.agent.specs.Relays.{Chooses, IsOwnerBy, IsNotReturned, IsPassedOn, IsRelayOf, IsRelayed, IsRelayedAs, MakesNone, Meets, Names};
 
 use crate::agents::Agent;
 use crate::callers::Caller;
@@ -26,11 +26,12 @@ use wire_json::{decode, encode};
 
 /// The most milliseconds from the moment at which a request came until it is answered. The node that sent it waits 5,000
 /// for an answer.
-const LIMIT: u64 = 4_500;
+const MAX_WAIT: u64 = 4_500;
 
-/// The least milliseconds that a request has left when it is passed on: the 4,000 that the owner's application has, and 100
-/// for the way there and back. With less, this node would stop waiting while an owner that is not late performs the request.
-const LEAST: u64 = 4_100;
+/// The most milliseconds that the owner of a request that is passed on has to answer: the 4,000 that its application has,
+/// and 100 for the way there and back. With less time left a request is not passed on: this node would stop waiting while an
+/// owner that is not late performs the request.
+const MAX_RELAY: u64 = 4_100;
 
 /// The result of a request that was to be passed on.
 #[derive(Debug, Drop)]
@@ -45,23 +46,24 @@ pub enum Relayed {
 
 /// Returns how many milliseconds a request that came at this moment has left.
 pub fn millis_left<R: Host>(agent: &Agent<R>, since: Moment) -> u64
-    ensures { result ≤ LIMIT }
+    ensures { result ≤ MAX_WAIT }
 {
     let waited = agent.now().number().saturating_sub(since.number());
-    LIMIT.saturating_sub(waited)
+    MAX_WAIT.saturating_sub(waited)
 }
 
-/// Makes a link that waits for an answer as long as a request has left. None if that is too little for the owner to answer.
-fn link_for<R: Host>(agent: &Agent<R>, since: Moment) -> Option<NotedLink<'_, R>> {
-    let left = millis_left(agent, since);
-    if left < LEAST {
-        return None;
-    }
+/// Returns whether enough time is left to pass on a request that came at this moment.
+fn has_time<R: Host>(agent: &Agent<R>, since: Moment) -> bool {
+    millis_left(agent, since) >= MAX_RELAY
+}
+
+/// Makes a link by which a request is passed on: it waits for an answer as long as an owner may take.
+pub fn relay_link<R: Host>(agent: &Agent<R>) -> NotedLink<'_, R> {
     let limits = Limits {
-        other: Duration::from_millis(left),
+        other: Duration::from_millis(MAX_RELAY),
         ..agent.timeouts.links
     };
-    Some(NotedLink::with_limits(agent, limits))
+    NotedLink::with_limits(agent, limits)
 }
 
 /// Returns the owner of a request of one key by a view, if it is another node than the one whose view it is. None for a
@@ -85,8 +87,8 @@ fn owner_by(view: &View<Sha256Hash>, request: &Content) -> Option<Address>
 
 /// Returns the owner of a request by this node's view, if it is another node.
 fn owner_of<R: Host>(agent: &Agent<R>, caller: &mut Caller, request: &Message) -> Option<Address>
-    ensures node { caller.new.node ≡ caller.old.node }
-    ensures named { IfSome result (λ owner. Makes caller.old.node (Names request.now owner) caller.old.pass caller.new.pass) }
+    ensures named { IfSome result (λ owner. HasMade (Names request.now owner) caller.old caller.new) }
+    ensures quiet { HasMade MakesNone caller.old caller.new }
 {
     let Ok(view) = caller.view(&agent.rt) else {
         return None;
@@ -94,28 +96,35 @@ fn owner_of<R: Host>(agent: &Agent<R>, caller: &mut Caller, request: &Message) -
     owner_by(&view, &request.content)
 }
 
-/// Returns the owner of a request by this node's view, if it is another node to which the request may be sent. If the sender
-/// is the owner by that view, one of the two holds old members: a Join and its answer tell each the other's entry. Only a
-/// node that has left sends a request back to its sender then.
-fn agreed_owner<R: Host>(
+/// Sends a Join to the sender of a request, if enough time is left. Returns whether its Joined came.
+fn meet_sender<R: Host, L: Link>(
     agent: &Agent<R>,
     alloc: Global,
     caller: &mut Caller,
+    link: &mut L,
     request: &Message,
     since: Moment,
-) -> Option<Address>
-    ensures node { caller.new.node ≡ caller.old.node }
-    ensures chosen { IfSome result (λ owner. Makes caller.old.node (Chooses request.now owner) caller.old.pass caller.new.pass) }
+) -> bool
+    ensures met { IsTrue result → HasMade (Meets L.may_answer L.went request.now link.old link.new) caller.old caller.new }
+    ensures sent { HasMade (SendsTo L.went (request.now.source ∷ []) link.old link.new) caller.old caller.new }
 {
-    let owner = owner_of(agent, caller, request)?;
-    if owner != request.source {
-        return Some(owner);
+    if !has_time(agent, since) {
+        return false;
     }
-    let mut link = link_for(agent, since)?;
-    let joined = caller.join(&agent.rt, alloc, &mut link, owner, agent.now());
-    if joined.is_err() {
-        return None;
-    }
+    let joined = caller.join(&agent.rt, alloc, link, request.source, agent.now());
+    joined.is_ok()
+}
+
+/// Returns the owner of a request by this node's view, after a Join to the request's sender. None also if that is the
+/// sender, unless this node has left.
+fn owner_after_join<R: Host>(
+    agent: &Agent<R>,
+    caller: &mut Caller,
+    request: &Message,
+) -> Option<Address>
+    ensures chosen { IfSome result (λ owner. HasMade (Then (Names request.now owner) (IsNotReturned request.now owner)) caller.old caller.new) }
+    ensures quiet { HasMade MakesNone caller.old caller.new }
+{
     let owner = owner_of(agent, caller, request)?;
     let Ok(own) = caller.own(&agent.rt) else {
         return None;
@@ -124,6 +133,30 @@ fn agreed_owner<R: Host>(
         return None;
     }
     Some(owner)
+}
+
+/// Returns the owner of a request by this node's view, if it is another node to which the request may be sent. If the sender
+/// is the owner by that view, one of the two holds old members: a Join and its answer tell each the other's entry. Only a
+/// node that has left sends a request back to its sender then.
+fn agreed_owner<R: Host, L: Link>(
+    agent: &Agent<R>,
+    alloc: Global,
+    caller: &mut Caller,
+    link: &mut L,
+    request: &Message,
+    since: Moment,
+) -> Option<Address>
+    ensures chosen { IfSome result (λ owner. HasMade (Chooses L.may_answer L.went request.now owner link.old link.new) caller.old caller.new) }
+    ensures withheld { IfNone result (HasMade (SendsTo L.went (request.now.source ∷ []) link.old link.new) caller.old caller.new) }
+{
+    let owner = owner_of(agent, caller, request)?;
+    if owner != request.source {
+        return Some(owner);
+    }
+    if !meet_sender(agent, alloc, caller, link, request, since) {
+        return None;
+    }
+    owner_after_join(agent, caller, request)
 }
 
 /// Returns what the owner's answer makes of a request that was sent to it. Only a `NotOwner` and a link that sends nothing
@@ -154,8 +187,7 @@ fn pass_on<W: Wait, L: Link>(
     owner: Address,
     request: Content,
 ) -> Relayed
-    ensures relayed { IsRelayed L.may_answer owner (message_by own.now request) result }
-    ensures once { GoesOver L.went owner (message_by own.now request) link.old link.new }
+    ensures { IsRelayed L.may_answer L.went owner (message_by own.now request) result link.old link.new }
 {
     let message = Message {
         source: own.address,
@@ -167,24 +199,28 @@ fn pass_on<W: Wait, L: Link>(
 }
 
 /// Passes a request that came at this moment on to its owner, if it is another node and enough time is left. Returns what
-/// came of it; None if nothing was sent.
-fn ask_owner<R: Host>(
+/// came of it, `NotDone` also if it was not sent.
+fn ask_owner<R: Host, L: Link>(
     agent: &Agent<R>,
     alloc: Global,
     caller: &mut Caller,
+    link: &mut L,
     request: Message,
     since: Moment,
-) -> Option<Relayed>
-    ensures { IfSome result (λ relayed. HasMade (PassesOn request relayed) caller.old caller.new) }
+) -> Relayed
+    ensures { IsPassedOn L.may_answer L.went request result link.old link.new caller.old caller.new }
 {
-    let owner = agreed_owner(agent, alloc, caller, &request, since)?;
-    let Ok(own) = caller.own(&agent.rt) else {
-        return None;
+    let Some(owner) = agreed_owner(agent, alloc, caller, link, &request, since) else {
+        return Relayed::NotDone;
     };
-    let mut link = link_for(agent, since)?;
+    let Ok(own) = caller.own(&agent.rt) else {
+        return Relayed::NotDone;
+    };
+    if !has_time(agent, since) {
+        return Relayed::NotDone;
+    }
     agent.counters.passed_on.add(1);
-    let relayed = pass_on(&agent.rt, alloc, &mut link, &own, owner, request.content);
-    Some(relayed)
+    pass_on(&agent.rt, alloc, link, &own, owner, request.content)
 }
 
 /// Returns how many requests are relayed at a time, at most: as many as half of the hands, so that the others answer what
@@ -202,8 +238,14 @@ fn most_relayed<R: Host>(agent: &Agent<R>) -> u64
 
 /// Passes a request on to its owner, unless too many others are being relayed: then nothing is sent, not even a Join.
 /// Returns what came of it, `NotDone` also if this node is the owner now.
-pub fn relay<R: Host>(agent: &Agent<R>, alloc: Global, caller: &mut Caller, job: &Job) -> Relayed
-    ensures { IsPassedOn job.now.input result caller.old caller.new }
+pub fn relay<R: Host, L: Link>(
+    agent: &Agent<R>,
+    alloc: Global,
+    caller: &mut Caller,
+    link: &mut L,
+    job: &Job,
+) -> Relayed
+    ensures { IsRelayOf L.may_answer L.went job.now.input result link.old link.new caller.old caller.new }
 {
     let Input::Line(line) = &job.input else {
         return Relayed::NotDone;
@@ -214,7 +256,7 @@ pub fn relay<R: Host>(agent: &Agent<R>, alloc: Global, caller: &mut Caller, job:
     if !agent.relaying.add_below(most_relayed(agent)) {
         return Relayed::NotDone;
     }
-    let relayed = ask_owner(agent, alloc, caller, request, job.since);
+    let relayed = ask_owner(agent, alloc, caller, link, request, job.since);
     agent.relaying.subtract(1);
-    relayed.unwrap_or(Relayed::NotDone)
+    relayed
 }

@@ -43,16 +43,16 @@ const PEERS: u32 = 4;
 const PASSES: u32 = 1_023;
 
 /// The most requests of other nodes that wait for the application.
-const MOST_WAITING: usize = 256;
+const MAX_QUEUED_REQUESTS: usize = 256;
 
 /// The number of threads that answer HTTP, each one connection at a time.
 const FRONTS: u32 = 256;
 
 /// The most HTTP connections that wait for a thread when HTTP ends.
-const MOST_ACCEPTED: usize = 256;
+const MAX_ACCEPTED_CONNECTIONS: usize = 256;
 
 /// The most milliseconds that the end waits for HTTP connections to close.
-const LAST_WAIT: u64 = 10_000;
+const MAX_LAST_WAIT: u64 = 10_000;
 
 /// The milliseconds between two tests whether they have.
 const REST: u64 = 10;
@@ -240,7 +240,7 @@ fn start_fronts<R: System>(
     listener: TcpListener,
 ) -> Result<(), AgentError> {
     let keys = RandomState::new(rt).map_err(|_| AgentError::NoRandom)?;
-    let (sender, streams) = bounded(alloc, MOST_ACCEPTED)?;
+    let (sender, streams) = bounded(alloc, MAX_ACCEPTED_CONNECTIONS)?;
     agent.entrance.open(rt, Arc::new(alloc, listener)?, sender);
     for _ in 0..FRONTS {
         start_front(rt, alloc, agent, &streams, keys)?;
@@ -282,12 +282,12 @@ fn say_serving<W: Write>(alloc: Global, address: Address, writer: &mut W) -> Res
 
 /// Ends HTTP, whose address this is: answers the connections that were made, and closes each, ten seconds at most.
 fn end_http<R: System>(rt: &R, agent: &Agent<R>, address: Address) {
-    let Ok(deadline) = Deadline::after(rt, Duration::from_millis(LAST_WAIT)) else {
+    let Ok(deadline) = Deadline::after(rt, Duration::from_millis(MAX_LAST_WAIT)) else {
         return;
     };
     agent.is_ending.set(true);
     agent.entrance.close(rt, address, &deadline);
-    for _ in 0..LAST_WAIT / REST {
+    for _ in 0..MAX_LAST_WAIT / REST {
         if agent.fronts.get() == 0 || deadline.left().is_err() {
             return;
         }
@@ -324,7 +324,7 @@ fn start<R: System>(
         Some(address) => Some(listen(rt, address)?),
         None => None,
     };
-    let (hands, jobs) = bounded(alloc, MOST_WAITING)?;
+    let (hands, jobs) = bounded(alloc, MAX_QUEUED_REQUESTS)?;
     start_peers(rt, alloc, agent, &listener, &hands)?;
     start_hands(rt, alloc, agent, &jobs, settings.hands)?;
     let mut caller = caller_of(agent)?;

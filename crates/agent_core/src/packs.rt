@@ -6,14 +6,14 @@ use message_core::{Text, WireError};
 use std::alloc::{AllocError, Global};
 
 /// The most bytes in the body of a request or of an answer. Escaped in JSON, such a body fits the line of a message.
-pub const LONGEST_BODY: usize = 131_072;
+pub const MAX_BODY_BYTES: usize = 131_072;
 
 /// The least status that an application's answer can have. A lower one is for the connection alone (RFC 9110, section
 /// 15.2).
-pub const LEAST_STATUS: u16 = 200;
+pub const MIN_STATUS: u16 = 200;
 
 /// The greatest status that an application's answer can have.
-pub const GREATEST_STATUS: u16 = 599;
+pub const MAX_STATUS: u16 = 599;
 
 /// An application's answer: its status, whether its content type is JSON, and its body.
 #[derive(Clone, Copy, Debug, PartialEq, Eq)]
@@ -35,8 +35,8 @@ fn is_marked(body: &[u8]) -> bool
 
 /// Returns the mark, the status, a space and the body.
 fn marked(alloc: Global, status: u16, is_json: bool, body: &str) -> Result<String, AllocError>
-    requires least { LEAST_STATUS ≤ status }
-    requires greatest { status ≤ GREATEST_STATUS }
+    requires least { MIN_STATUS ≤ status }
+    requires greatest { status ≤ MAX_STATUS }
     ensures { IfOk result (λ s. string_bytes s ≡ marked status is_json body.now) }
 {
     let mark = if is_json { "\u{2}" } else { "\u{1}" };
@@ -50,8 +50,8 @@ fn marked(alloc: Global, status: u16, is_json: bool, body: &str) -> Result<Strin
 ///
 /// - `Memory`: out of memory.
 pub fn pack(alloc: Global, status: u16, is_json: bool, body: &str) -> Result<Text, WireError>
-    requires least { LEAST_STATUS ≤ status }
-    requires greatest { status ≤ GREATEST_STATUS }
+    requires least { MIN_STATUS ≤ status }
+    requires greatest { status ≤ MAX_STATUS }
     ensures text { IfOk result (λ text. text ≡ packed status is_json body.now) }
     ensures refusal { IsOkUnless result WireError.Memory }
 {

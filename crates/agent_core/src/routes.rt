@@ -3,7 +3,7 @@ ghost use Rattle.std.specs.Prelude.{◌≡◌, ◌≢◌, IfOk, IfErr, OnOk, opt
 ghost use Rattle.agent_core.specs.Requests.{AsksForKey, asked, body_in, count_in, count_of, handled, key_in, named, place_of, plain, verb_name};
 
 use crate::actions::Action;
-use crate::packs::LONGEST_BODY;
+use crate::packs::MAX_BODY_BYTES;
 use crate::refusals::{Part, Refusal};
 use crate::verbs::Verb;
 use message_core::{Text, WireError};
@@ -11,10 +11,10 @@ use percent_encoding::{DecodeError, percent_decode};
 use std::alloc::Global;
 
 /// The most bytes in a key.
-pub const LONGEST_KEY: usize = 1_024;
+pub const MAX_KEY_BYTES: usize = 1_024;
 
 /// The most owners that a request can ask for, which is the most members that a node holds.
-pub const MOST_OWNERS: usize = 4_096;
+pub const MAX_OWNERS: usize = 4_096;
 
 /// Returns a copy of the text.
 fn text_of(alloc: Global, text: &str) -> Result<Text, Refusal>
@@ -34,7 +34,7 @@ fn key_of(alloc: Global, path: &str) -> Result<Text, Refusal>
         Err(DecodeError::OutOfMemory) => return Err(Refusal::Memory),
         Err(DecodeError::Utf8(_)) => return Err(Refusal::Malformed(Part::Key)),
     };
-    if decoded.is_empty() || decoded.len() > LONGEST_KEY {
+    if decoded.is_empty() || decoded.len() > MAX_KEY_BYTES {
         return Err(Refusal::Malformed(Part::Key));
     }
     text_of(alloc, &decoded)
@@ -45,7 +45,7 @@ fn body_of(alloc: Global, body: &[u8]) -> Result<Text, Refusal>
     ensures body { IfOk result (λ text. body_in body.now ≡ Ok text) }
     ensures refused { IfErr result (λ e. e ≢ Refusal.Memory → body_in body.now ≡ Err e) }
 {
-    if body.len() > LONGEST_BODY {
+    if body.len() > MAX_BODY_BYTES {
         return Err(Refusal::LongBody);
     }
     match str::from_utf8(body) {
@@ -64,7 +64,7 @@ fn count_of(digits: &str) -> Option<usize>
     let Ok(count) = digits.parse::<usize>() else {
         return None;
     };
-    if count >= 1 && count <= MOST_OWNERS {
+    if count >= 1 && count <= MAX_OWNERS {
         Some(count)
     } else {
         None

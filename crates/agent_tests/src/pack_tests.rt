@@ -26,7 +26,7 @@ const ROWS: [(u16, bool, &str, &str); 11] = [
 fn packs_and_unpacks_each_row(rt: HostRuntime) {
     packs();
     for (status, is_json, body, text) in &ROWS {
-        assert!(rt; *status >= LEAST_STATUS && *status <= GREATEST_STATUS);
+        assert!(rt; *status >= MIN_STATUS && *status <= MAX_STATUS);
         let packed = again!(
             &rt,
             WireError::Memory,

@@ -1,6 +1,7 @@
--- What goes over a link for a request: by each view of the node at most one Forward, to the owner of its keys in that view. Each but the last
--- failed, and there are four at most.
-use Rattle.std.specs.Prelude.{◌≡◌, ◌≢◌, ℕ, suc, ◌-◌, ◌<◌, ◌≤◌, length, map, List, [], ◌∷◌, ◌++◌, Some, Result, Ok, Err}
+-- What goes over a link for a request: by a view of the node at most one Forward, to the owner of its keys in that view. Four fail and the
+-- retries are spent; or fewer fail, and then at most one more goes.
+use Rattle.std.specs.Prelude.{◌≡◌, ◌≢◌, ◌⊎◌, ℕ, suc, ◌+◌, ◌<◌, ◌≤◌, length, map, List, [], ◌∷◌, ◌++◌, Some, Result, Ok, Err}
+use Rattle.std.specs.List.{All}
 use Rattle.change_core.specs.declared.addresses.Address.{Address}
 use Rattle.message_core.specs.declared.messages.Content.TheVariants as content
 use Rattle.message_core.specs.declared.messages.Message.{Message}
@@ -9,11 +10,12 @@ use Rattle.node_core.specs.Viewing.{Viewed}
 use Rattle.forward_core.specs.Attempts.{most_sends}
 use Rattle.forward_core.specs.Routes.{AllOwnedBy}
 use Rattle.peer_core.specs.declared.errors.ClusterError.{ClusterError}
+use Rattle.peer_core.specs.declared.errors.ClusterError.TheVariants as error
 use Rattle.peer_core.specs.declared.errors.LinkError.{LinkError}
 use Rattle.peer_core.specs.declared.forwarding.Request.{Request}
 use Rattle.peer_core.specs.declared.forwarding.Tried.{Tried}
-use Rattle.peer_core.specs.declared.forwarding.Tried.TheVariants.{Answered, Again}
-use Rattle.peer_core.specs.Acts.{Act, OfActs, looked}
+use Rattle.peer_core.specs.declared.forwarding.Tried.TheVariants.{Again}
+use Rattle.peer_core.specs.Acts.{Act, OfActs, Just, Then, looked}
 use Rattle.peer_core.specs.Exchanges.{IsPart}
 use Rattle.peer_core.specs.Forwarding.{IsFailure, IsJudged}
 use Rattle.peer_core.specs.Links.{Went}
@@ -25,38 +27,33 @@ module _ {L H : Type 0} (hash_of : H → List ℕ → ℕ) (went : Went L) (keys
   GoesToOwner view answer old new =
       (owner : Address) × AllOwnedBy hash_of view keys (Some owner) × (owner ≢ view.own) × went owner (message_from view (content.Forward keys body)) answer old new
 
-  -- The tries of a request, which may be sent so often still.
-  pub data Resends : ℕ → L → L → List (Act H) → Type 0 where
-    -- there is none
-    is_over : {n : ℕ} {now : L} → Resends n now now []
-    -- one that sends nothing: the request rests, or ends
-    stays : {n : ℕ} {old new : L} {acts : List (Act H)} (act : Act H) → Resends n old new acts → Resends n old new (act ∷ acts)
-    -- one whose send failed
-    failed : {n : ℕ} {old mid new : L} {acts : List (Act H)} (view : Viewed H) (answer : Result Message LinkError)
-        → GoesToOwner view answer old mid → IsFailure answer → Resends n mid new acts → Resends (suc n) old new (looked (Ok view) ∷ acts)
-    -- the last, whatever its answer
-    last : {n : ℕ} {old new : L} (view : Viewed H) (answer : Result Message LinkError) → GoesToOwner view answer old new → Resends (suc n) old new (looked (Ok view) ∷ [])
+  -- This number of Forwards went over the link, each by a view that these tries asked for, and each failed.
+  pub data Failed : ℕ → L → L → List (Act H) → Type 0 where
+    is_over : {now : L} → Failed 0 now now []
+    -- a try that sends nothing: the request rests, or ends
+    stays : {n : ℕ} {old new : L} {acts : List (Act H)} (act : Act H) → Failed n old new acts → Failed n old new (act ∷ acts)
+    sent : {n : ℕ} {old mid new : L} {acts : List (Act H)} (view : Viewed H) (answer : Result Message LinkError)
+        → GoesToOwner view answer old mid → IsFailure answer → Failed n mid new acts → Failed (suc n) old new (looked (Ok view) ∷ acts)
 
-  -- what goes over a link for a request
-  abbrev pub SendsRequest : L → L → OfActs H
-  SendsRequest old new acts = Resends most_sends old new acts
+  -- nothing more goes over the link, or one Forward by the last view, whatever its answer
+  abbrev pub EndsBy : L → L → OfActs H
+  EndsBy old new acts =
+      Failed 0 old new acts ⊎ ((view : Viewed H) × (answer : Result Message LinkError) × Just (looked (Ok view)) acts × GoesToOwner view answer old new)
 
-  -- after these tries the request may be sent so often still, and whatever goes over the link then
-  abbrev pub ResendsFirst : ℕ → ℕ → L → L → OfActs H
-  ResendsFirst n k old mid first = (new : L) (acts : List (Act H)) → Resends k mid new acts → Resends n old new (first ++ acts)
-
--- how often a request may be sent still
-abbrev pub sends_left : Request → ℕ
-sends_left request = most_sends - request.attempt.sends
+  -- what goes over a link for a request with this result
+  abbrev pub SendsRequest : Result (List ℕ) ClusterError → L → L → OfActs H
+  SendsRequest (Err error.RetriesSpent) old new acts = Failed most_sends old new acts
+  SendsRequest r old new acts = (n : ℕ) × (n < most_sends) × ((mid : L) × Then (Failed n old mid) (EndsBy mid new) acts)
 
 module _ {L H : Type 0} (hash_of : H → List ℕ → ℕ) (went : Went L) where
-  -- what one try sends: the request is then to be tried again, with the same keys and the same body; or that was all
+  -- What one try sends. If the request is to be tried again, with the same keys and the same body, it was sent as often more as Forwards failed.
   abbrev pub TrySends : Request → L → L → Result Tried ClusterError → OfActs H
   TrySends request old new (Ok (Again back)) acts =
       (back.attempt.keys ≡ request.attempt.keys) × (back.body ≡ request.body) × (back.attempt.sends < most_sends)
-      × ResendsFirst hash_of went request.attempt.keys request.body (sends_left request) (sends_left back) old new acts
-  TrySends request old new (Ok (Answered text)) acts = Resends hash_of went request.attempt.keys request.body (sends_left request) old new acts
-  TrySends request old new (Err e) acts = Resends hash_of went request.attempt.keys request.body (sends_left request) old new acts
+      × ((n : ℕ) × (request.attempt.sends + n ≡ back.attempt.sends) × Failed hash_of went request.attempt.keys request.body n old new acts)
+  TrySends request old new (Err error.RetriesSpent) acts =
+      (request.attempt.sends + 1 ≡ most_sends) × Failed hash_of went request.attempt.keys request.body 1 old new acts
+  TrySends request old new r acts = EndsBy hash_of went request.attempt.keys request.body old new acts
 
 -- a request went over the link to the owner, once, as a Forward by the node whose view this is, and its answer was judged
 abbrev pub IsSentOnce : {L H : Type 0} → Went L → Viewed H → Address → Request → Result Tried ClusterError → L → L → Type 0
@@ -90,9 +87,12 @@ module _ {L H : Type 0} (hash_of : H → List ℕ → ℕ) (went : Went L) where
   ForwardsOver keys body [] old new = new ≡ old
   ForwardsOver keys body ((view, answer) ∷ sends) old new = (mid : L) × GoesToOwner hash_of went keys body view answer old mid × ForwardsOver keys body sends mid new
 
-  -- for a request at most four Forwards go over the link, each by another of the views that the node gave, and each but the last failed
+  -- For a request at most four Forwards go over the link, each by another of the views that the node gave, and each but the last failed. If its
+  -- retries are spent there were four, and all failed.
   abbrev pub ResendingsCount : Type 0
   ResendingsCount =
-      (keys : List (List ℕ)) (body : List ℕ) (old new : L) (acts : List (Act H)) → SendsRequest hash_of went keys body old new acts
+      (keys : List (List ℕ)) (body : List ℕ) (r : Result (List ℕ) ClusterError) (old new : L) (acts : List (Act H))
+      → SendsRequest hash_of went keys body r old new acts
       → (sends : List (Sending H)) × (length sends ≤ most_sends) × IsPart (map (λ (s : Sending H). s.0) sends) (viewed_in acts)
       × AllButLastFailed (map (λ (s : Sending H). s.1) sends) × ForwardsOver keys body sends old new
+      × (r ≡ Err error.RetriesSpent → (length sends ≡ most_sends) × All IsFailure (map (λ (s : Sending H). s.1) sends))

@@ -214,7 +214,7 @@ pub fn handle_or_forward<R: Wait, H: PointHash, L: Link, A: Handler, C: Clock>(
 ) -> Result<Text, ClusterError>
     requires { Fits node.now pass.old }
     ensures request { Does node.now (IsRequest H.hash_of L.may_answer (A.may_handle handler.now) C.time keys body) result pass.old pass.new }
-    ensures sent { Makes node.now (SendsRequest H.hash_of L.went keys body link.old link.new) pass.old pass.new }
+    ensures sent { Makes node.now (SendsRequest H.hash_of L.went keys body result link.old link.new) pass.old pass.new }
     ensures fits { Fits node.now pass.new }
     ensures named { IfErr result IsRequestRefusal }
 {

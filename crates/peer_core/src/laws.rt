@@ -77,7 +77,7 @@ pub fn sendings<H, L: Link>()
 
 /// Forwards over the link for a request: at most four, of its keys and its body, each by another of the views that the node
 /// gave in it, to the owner of the keys in that view, and each but the last was answered by a failure; nothing else. So also
-/// if the request ends with an error.
+/// if the request ends with an error; if that is `RetriesSpent`, there were four, and all failed.
 pub fn resendings<H: PointHash, L: Link>()
     ensures { ResendingsCount H.hash_of L.went }
 {}

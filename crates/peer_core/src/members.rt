@@ -234,7 +234,7 @@ impl<'m, H: PointHash, L: Link> Member<'m, H, L> {
         body: Text,
     ) -> Result<Text, RequestError>
         ensures done { Done (IsRequest H.hash_of L.may_answer (A.may_handle handler.now) C.time keys body) (widened error_of_request result) self.old self.new }
-        ensures sent { Over (SendsRequest H.hash_of L.went keys body) self.old self.new }
+        ensures sent { Over (SendsRequest H.hash_of L.went keys body (widened error_of_request result)) self.old self.new }
     {
         let alloc = self.alloc;
         let answer = handle_or_forward(

@@ -10,6 +10,8 @@ mod connections;
 #[cfg(test)]
 mod faults;
 #[cfg(test)]
+mod library;
+#[cfg(test)]
 mod limits;
 #[cfg(test)]
 mod lines;

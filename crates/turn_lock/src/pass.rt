@@ -1,4 +1,6 @@
 //! The right to enter a lock.
+ghost use Rattle.std.specs.Prelude.{◌≡◌};
+
 use crate::kept::Kept;
 use crate::table::Place;
 use std::fmt;
@@ -11,6 +13,17 @@ pub struct Pass<S: Kept> {
     pub(crate) number: u64,
     pub(crate) left: u64,
     pub(crate) seat: Place<S>,
+}
+
+impl<S: Kept> Pass<S> {
+    ghost use Rattle.turn_lock.specs.Passes.{left_of};
+
+    /// Returns how many turns the pass may still take.
+    pub fn left(&self) -> u64
+        ensures { result ≡ left_of self.now }
+    {
+        self.left
+    }
 }
 
 impl<S: Kept> fmt::Debug for Pass<S> {

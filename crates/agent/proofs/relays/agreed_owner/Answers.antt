@@ -1,20 +1,28 @@
-use Rattle.std.proofs.Common.{rules, inl, inr}
-use Rattle.std.specs.Prelude.{◌≢◌}
-use Rattle.change_core.specs.Status.{IsServing}
-use Rattle.agent.proofs.Relaying.{MayGo, chosen_after, chosen_at_once}
+use Rattle.std.proofs.Common.{◌≡◌, rules}
+use Rattle.std.proofs.lemmas.Option.{IfSome_then}
+use Rattle.std.specs.Prelude.{IsTrue}
+use Rattle.agent.proofs.Relaying.{chosen_after, if_none, sent_before, sent_later, sent_none}
 use Rattle.agent.proofs.relays.agreed_owner.Goals as goal
-use Rattle.agent.proofs.relays.agreed_owner.Goals.{else-eq-via-then-eq+else-serving, else-eq-via-else-eq}
 
-pub returns-then-ne-clause-chosen : goal.returns-then-ne-clause-chosen
-returns-then-ne-clause-chosen g c =
-    let other : c.in_ok-owner.owner ≢ c.args.request.now.source = search rules in
-    chosen_at_once c.args.request.now c.in_ok-owner.owner _ _ _ c.in_ok-owner.ensures.named other
+pub returns-in_err-owner-clause-withheld : goal.returns-in_err-owner-clause-withheld
+returns-in_err-owner-clause-withheld g c =
+    if_none c.from_residual.result (sent_none g.L.Link.may_answer g.L.Link.went _ c.args.link.now c.args.caller.now _ c.in_err-owner.ensures.quiet)
+
+pub returns-then-not-meet_sender-clause-withheld : goal.returns-then-not-meet_sender-clause-withheld
+returns-then-not-meet_sender-clause-withheld g c =
+    sent_later g.L.Link.may_answer g.L.Link.went _ c.args.link.now _ c.args.caller.now _ _ c.in_ok-owner.ensures.quiet c.meet_sender.ensures.sent
 
 pub returns-clause-chosen : goal.returns-clause-chosen
 returns-clause-chosen g c =
-    let goes : MayGo c.args.request.now c.in_ok-owner-2.owner c.in-Ok.own = elim c.else-eq.branch [
-      | else-eq-via-then-eq+else-serving w ↦ (let left : ¬ (IsServing c.in-Ok.own.status) = search rules in inr left)
-      | else-eq-via-else-eq w ↦ (let other : c.in_ok-owner-2.owner ≢ c.args.request.now.source = search rules in inl other)
-    ] in
-    chosen_after c.args.request.now c.in_ok-owner-2.owner _ _ _ _ _ _ _ _ _ _ _ c.in-Ok.own c.owner_of.ensures.node c.join-joined.ensures.node c.owner_of-2.ensures.node
-    c.in_ok-owner.ensures.named c.join-joined.ensures.did.makes c.in_ok-owner-2.ensures.named c.in-Ok.ensures.did.makes goes
+    let same : c.in_ok-owner.owner ≡ c.args.request.now.source = search rules in
+    let came : IsTrue c.meet_sender.result = search rules in
+    IfSome_then c.owner_after_join.result c.owner_after_join.ensures.chosen
+    (λ owner later. chosen_after g.L.Link.may_answer g.L.Link.went c.args.request.now c.in_ok-owner.owner owner c.args.link.now _ c.args.caller.now _ _ _ same
+    c.in_ok-owner.ensures.named (c.meet_sender.ensures.met came) later)
+
+pub returns-clause-withheld : goal.returns-clause-withheld
+returns-clause-withheld g c =
+    if_none c.owner_after_join.result
+    (sent_before g.L.Link.may_answer g.L.Link.went _ c.args.link.now _ c.args.caller.now _ _
+    (sent_later g.L.Link.may_answer g.L.Link.went _ c.args.link.now _ c.args.caller.now _ _ c.in_ok-owner.ensures.quiet c.meet_sender.ensures.sent)
+    c.owner_after_join.ensures.quiet)

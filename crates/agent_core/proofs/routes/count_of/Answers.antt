@@ -4,8 +4,8 @@ use Rattle.std.proofs.lemmas.Str.Pattern.{starts_char}
 use Rattle.agent_core.proofs.Requesting.{count_of-parsed, count_of-unread}
 use Rattle.agent_core.proofs.routes.count_of.Goals as goal
 
-pub returns-then-count-le-MOST_OWNERS : goal.returns-then-count-le-MOST_OWNERS
-returns-then-count-le-MOST_OWNERS c =
+pub returns-then-count-le-MAX_OWNERS : goal.returns-then-count-le-MAX_OWNERS
+returns-then-count-le-MAX_OWNERS c =
     let sign = starts_char 43 c.args.digits.now c.starts_with.result c.starts_with.ensures.cases (lit< tt) (lit< tt) in
     let unsigned : get_or c.args.digits.now 0 0 ≢ 43 = λ e. both_ways _ c.if-starts_with.false (sign.1 e) in
     count_of-parsed c.args.digits.now c.in-Ok.count c.in-Ok.ensures.value.0 unsigned (omega arith) (omega arith)

@@ -31,7 +31,8 @@ loop-preserved g c = record {
 }
 
 pub returns-in_err-tried-clause-sent : goal.returns-in_err-tried-clause-sent
-returns-in_err-tried-clause-sent g c = resent_failed g.H.PointHash.hash_of g.L.Link.went c.loop.request c.in_err-tried.field-0.0 c.loop.invariant.resent c.in_err-tried.ensures.sent
+returns-in_err-tried-clause-sent g c = resent_failed g.H.PointHash.hash_of g.L.Link.went _ c.loop.request c.in_err-tried.field-0.0
+    c.from_residual.result c.from_residual.ensures.1 c.loop.invariant.resent c.in_err-tried.ensures.sent
 
 pub returns-in-Answered-clause-sent : goal.returns-in-Answered-clause-sent
 returns-in-Answered-clause-sent g c = resent_answered g.H.PointHash.hash_of g.L.Link.went c.loop.request c.in_ok-tried.tried c.in-Answered.text c.in-Answered.is c.loop.invariant.resent c.in_ok-tried.ensures.sent

@@ -2,7 +2,7 @@ use Rattle.std.proofs.Common.{Ok, Err, ap}
 use Rattle.forward_core.specs.declared.attempts.Step.{Step}
 use Rattle.peer_core.proofs.Parts.{does_give, does_next, does_next_is, does_stop_at}
 use Rattle.peer_core.proofs.Forwarded.{does_rest, handled_for, handles_so, sends_so, tries_at}
-use Rattle.peer_core.proofs.Resent.{try_ends, try_fails, try_rests, try_sends}
+use Rattle.peer_core.proofs.Resent.{try_ends, try_fails, try_rests, try_sends, unspent_handled, unspent_step}
 use Rattle.peer_core.proofs.forwarding.try_once.Goals as goal
 
 pub returns-in_err-view-clause-did : goal.returns-in_err-view-clause-did
@@ -38,13 +38,15 @@ returns-in-Send-clause-did g c =
     (does_next_is _ _ _ _ _ c.in_ok-view.ensures.did (ap (λ (s : Step). (c.in_ok-view.view, s)) c.in-Send.is) (sends_so _ _ g.L.Link.may_answer g.C.Clock.time c.in_ok-view.view _ _ _ c.send.ensures.sent))
 
 pub returns-in_err-view-clause-sent : goal.returns-in_err-view-clause-sent
-returns-in_err-view-clause-sent g c = try_fails g.H.PointHash.hash_of g.L.Link.went c.args.request _ c.from_residual.result c.in_err-view.field-0.0 _ c.from_residual.ensures.1 c.in_err-view.ensures.did
+returns-in_err-view-clause-sent g c = try_fails g.H.PointHash.hash_of g.L.Link.went c.args.request _ c.from_residual.result c.in_err-view.field-0.0 _ c.from_residual.ensures.1
+    (unspent_step g.H.PointHash.hash_of c.now.result _ _ _ _ c.requires.open c.in_err-view.ensures.did.makes.so) c.in_err-view.ensures.did
 
 pub returns-in-Wait-clause-sent : goal.returns-in-Wait-clause-sent
 returns-in-Wait-clause-sent g c = try_rests g.H.PointHash.hash_of g.L.Link.went c.now.result c.args.request c.plan_attempt.new.attempt c.in_ok-view.view c.in_ok-view.step c.in-Wait.until _ c.requires.few c.in_ok-view.ensures.did c.in-Wait.is
 
 pub returns-in_err-text-in-Here-clause-sent : goal.returns-in_err-text-in-Here-clause-sent
-returns-in_err-text-in-Here-clause-sent g c = try_fails g.H.PointHash.hash_of g.L.Link.went c.args.request _ c.from_residual-in_err-text-in-Here.result c.in_err-text-in-Here.field-0.0 _ c.from_residual-in_err-text-in-Here.ensures.1 c.in_ok-view.ensures.did
+returns-in_err-text-in-Here-clause-sent g c = try_fails g.H.PointHash.hash_of g.L.Link.went c.args.request _ c.from_residual-in_err-text-in-Here.result c.in_err-text-in-Here.field-0.0 _ c.from_residual-in_err-text-in-Here.ensures.1
+    (unspent_handled (g.A.Handler.may_handle c.args.handler.now) c.keys.result.now c.args.request.body c.in_err-text-in-Here.field-0.0 c.in_err-text-in-Here.ensures.handled) c.in_ok-view.ensures.did
 
 pub returns-in_ok-text-in-Here-clause-sent : goal.returns-in_ok-text-in-Here-clause-sent
 returns-in_ok-text-in-Here-clause-sent g c = try_ends g.H.PointHash.hash_of g.L.Link.went c.args.request _ c.in_ok-text-in-Here.text _ c.in_ok-view.ensures.did

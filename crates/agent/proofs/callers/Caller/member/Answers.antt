@@ -6,5 +6,5 @@ use Rattle.agent.proofs.callers.Caller.member.Goals as goal
 
 pub returns-clause-did : goal.returns-clause-did
 returns-clause-did g c =
-    as_seen (Calls (call.Member c.args.address) reply.Member) c.let_in-member.result c.args.self.now _ _ _ _ c.self.view_is c.deref.ensures
-    (called_once _ _ _ _ (call.Member c.args.address) reply.Member c.member.result c.let_in-member.result c.member.ensures.called c.member.ensures.refused c.let_in-member.ensures)
+    as_seen (Calls (call.Member c.args.address) reply.Member) c.let_in.result c.args.self.now _ _ _ _ c.self.view_is c.deref.ensures
+    (called_once _ _ _ _ (call.Member c.args.address) reply.Member c.member.result c.let_in.result c.member.ensures.called c.member.ensures.refused c.let_in.ensures)

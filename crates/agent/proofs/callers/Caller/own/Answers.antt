@@ -6,5 +6,5 @@ use Rattle.agent.proofs.callers.Caller.own.Goals as goal
 
 pub returns-clause-did : goal.returns-clause-did
 returns-clause-did g c =
-    as_seen (Calls call.Own reply.Own) c.let_in-own.result c.args.self.now _ _ _ _ c.self.view_is c.deref.ensures
-    (called_once _ _ _ _ call.Own reply.Own c.own.result c.let_in-own.result c.own.ensures.called c.own.ensures.refused c.let_in-own.ensures)
+    as_seen (Calls call.Own reply.Own) c.let_in.result c.args.self.now _ _ _ _ c.self.view_is c.deref.ensures
+    (called_once _ _ _ _ call.Own reply.Own c.own.result c.let_in.result c.own.ensures.called c.own.ensures.refused c.let_in.ensures)

@@ -37,7 +37,7 @@ def words(text):
 
 def find(program):
     if not program.is_file():
-        sys.exit(f"{program}: no program: run rt ci first, or rt run in crates/ringpop_cli")
+        sys.exit(f"{program}: no program: run rt ci first, or rt run in its crate")
     return str(program.resolve())
 
 

@@ -24,7 +24,7 @@ use locked_node::{LockedNode, NodePass};
 use message_core::{Keys, Text};
 use node_core::{ChangeList, View};
 use peer_core::{
-    Clock, ClusterError, Handler, Healing, Link, Round, correcting_round, gossip_round,
+    Clock, ClusterError, Handler, Healing, Link, Member, Round, correcting_round, gossip_round,
     handle_or_forward, heal, join,
 };
 use server::{Input, respond};
@@ -35,6 +35,28 @@ use turn_lock::LockError;
 
 /// The node of an agent.
 pub type Node = LockedNode<Sha256Hash>;
+
+/// Returns the line that answers an input by a node and a pass; None if it needs no answer, or none could be made.
+fn respond_by<R: Wait, L: Link, A: Handler>(
+    rt: &R,
+    alloc: Global,
+    node: &Node,
+    pass: &mut NodePass<Sha256Hash>,
+    link: &mut L,
+    handler: &A,
+    now: Moment,
+    input: &Input,
+) -> Option<Vec<u8>>
+    requires { Fits node.now pass.old }
+    ensures sent { IfSome result (λ line. Makes node.now (Responds hash_of L.may_answer (A.may_handle handler.now) now input.now line.items) pass.old pass.new) }
+    ensures silent { IfNone result (IsSilent hash_of L.may_answer (A.may_handle handler.now) now input.now node.now pass.old pass.new) }
+    ensures fits { Fits node.now pass.new }
+{
+    let mut member = Member::new(node, pass, link, alloc);
+    let line = respond(rt, alloc, &mut member, handler, now, input);
+    let _pass = member.into_pass();
+    line
+}
 
 /// The node, and the pass by which one thread calls it.
 #[derive(Drop)]
@@ -180,7 +202,7 @@ impl Caller {
         ensures sent { IfSome result (λ line. Makes self.old.node (Responds hash_of L.may_answer (A.may_handle handler.now) now input.now line.items) self.old.pass self.new.pass) }
         ensures silent { IfNone result (IsSilent hash_of L.may_answer (A.may_handle handler.now) now input.now self.old.node self.old.pass self.new.pass) }
     {
-        respond(
+        respond_by(
             rt,
             alloc,
             &*self.node,

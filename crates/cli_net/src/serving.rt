@@ -182,15 +182,8 @@ fn serve_by<
     let echo = Echo {
         address: words.address,
     };
-    let server = Server::new(
-        node,
-        echo,
-        stopwatch,
-        timeouts,
-        healing,
-        listener,
-        words.requests,
-    );
+    let mut server = Server::new(node, echo, stopwatch, healing, listener, words.requests);
+    server.timeouts = timeouts;
     say_serving(alloc, words.address, writer)?;
     let closed = serve_all(rt, alloc, server, timer, passes, words.period)?;
     say(writer, "done")?;

@@ -8,12 +8,12 @@ use crate::shared::again;
 use crate::talks::{ECHO, MALFORMED, NOT_REACHED, PING_REQ};
 use change_core::{Address, Change, Incarnation, Moment, Sourced, Status, Weight};
 use cli_net::Echo;
-use cluster_core::{Handler, HandlerFault, Limits, TcpLink, share};
+use cluster_core::{Handler, HandlerFault, Limits, Member, TcpLink, share};
 use hash_ring::SumHash;
 use locked_node::{LockedNode, NodePass};
 use message_core::{Keys, Text};
 use node_core::{Config, NodeState};
-use server::{Server, Stopwatch, Timeouts, hear, respond, serve_connection};
+use server::{Server, Stopwatch, hear, respond, serve_connection};
 use std::alloc::Global;
 use std::net::{Net, TcpListener, TcpStream};
 use std::sync::Wait;
@@ -73,9 +73,8 @@ pub(crate) fn server_of<C: Clock>(
 ) -> Server<SumHash, Echo>
     ensures { result.node ≡ node }
 {
-    let (stopwatch, timeouts) = (Stopwatch::start(clock), Timeouts::standard());
     let echo = Echo { address: own };
-    Server::new(node, echo, stopwatch, timeouts, None, listener, 1)
+    Server::new(node, echo, Stopwatch::start(clock), None, listener, 1)
 }
 
 /// Whether a node of a server has an entry that is due at this moment, or at the last one at which it was called, if
@@ -108,7 +107,9 @@ fn serve_peer<R: Net + Wait>(
 {
     let (town, links) = (Town { rt, peer }, Town { rt, peer });
     let mut link = TcpLink::with_limits(links, Limits::standard());
-    serve_connection(server, pass, &town, alloc, &mut link, Wire { peer });
+    let mut member = Member::new(&server.node, pass, &mut link, alloc);
+    serve_connection(server, &mut member, &town, alloc, Wire { peer });
+    let _pass = member.into_pass();
 }
 
 /// The millisecond at which a server with the standard timeouts has served a peer of this manner, how many bytes of its
@@ -249,9 +250,9 @@ fn line_for<R: Wait>(rt: &R, alloc: Global, letters: usize) -> Option<Vec<u8>> {
     let mut link = TcpLink::new(Town { rt, peer: &peer });
     let input = hear(alloc, ECHO.text.as_bytes());
     let (handler, now) = (Wordy { letters }, Moment::new(0)?);
-    let line = respond(
-        rt, alloc, &node, &mut pass, &mut link, &handler, now, &input,
-    );
+    let mut member = Member::new(&node, &mut pass, &mut link, alloc);
+    let line = respond(rt, alloc, &mut member, &handler, now, &input);
+    drop(member);
     drop(input);
     drop(node);
     drop(pass);

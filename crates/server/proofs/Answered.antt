@@ -1,6 +1,7 @@
 -- What is answered to a line, and what is sent for an answer.
-use Rattle.std.proofs.Common.{◌≢◌, ℕ, inl, inr, List, Option, Some, None, Result, Ok, Err, Vec}
+use Rattle.std.proofs.Common.{◌≢◌, ℕ, inl, inr, List, Option, Some, None, Result, Ok, Err, Vec, ◌≡◌, subst, sym}
 use Rattle.std.specs.Prelude.{IfNone, IfSome}
+use Rattle.std.specs.Result.{result_ok}
 use Rattle.std.specs.Global.{Global}
 use Rattle.turn_lock.specs.declared.errors.LockError.{LockError}
 use Rattle.wire_json.specs.Lines.{Faults, IsLine}
@@ -73,6 +74,27 @@ module _ {H : Type 0} (hash_of : H → List ℕ → ℕ) (Came : MayAnswer) (Han
   pub unread_so : (line : List ℕ) (why : Reason) (r : Result Message LockError) → IsUnread line why
       → Does locked (Refuses why) (let_in r) p q → Does locked (AnswersLine hash_of Came Handles now line) (let_in r) p q
   unread_so line why r is d = does_part (AnswersLine hash_of Came Handles now line) (λ acts h. inr (why, is, h)) d
+
+  -- an answer was made, or the lock refused a call of it
+  answered_so : (heard : Input) (r : Result Message LockError) (o : Option Message) → o ≡ result_ok r
+      → Does locked (AnswersInput hash_of Came Handles now heard) (let_in r) p q → IfSome o (λ m. Makes locked (AnswersInput hash_of Came Handles now heard (Ok m)) p q)
+  answered_so heard (Ok m) o e d = subst (λ (x : Option Message). IfSome x (λ m. Makes locked (AnswersInput hash_of Came Handles now heard (Ok m)) p q)) (sym e) d.makes
+  answered_so heard (Err l) o e d = subst (λ (x : Option Message). IfSome x (λ m. Makes locked (AnswersInput hash_of Came Handles now heard (Ok m)) p q)) (sym e) tt
+
+  refused_so : (heard : Input) (r : Result Message LockError) (o : Option Message) → o ≡ result_ok r
+      → Does locked (AnswersInput hash_of Came Handles now heard) (let_in r) p q → IfNone o (IsNotAnswered hash_of Came Handles now heard locked p q)
+  refused_so heard (Ok m) o e d = subst (λ (x : Option Message). IfNone x (IsNotAnswered hash_of Came Handles now heard locked p q)) (sym e) tt
+  refused_so (input.Line line) (Err l) o e d = subst (λ (x : Option Message). IfNone x (IsNotAnswered hash_of Came Handles now (input.Line line) locked p q)) (sym e) (l, d)
+  refused_so (input.Refused why) (Err l) o e d = subst (λ (x : Option Message). IfNone x (IsNotAnswered hash_of Came Handles now (input.Refused why) locked p q)) (sym e) (l, d)
+  refused_so input.Nothing (Err l) o e d = absurd d.makes.so
+
+  pub answered_line : (heard : Input) (line : Vec ℕ Global) (came : List ℕ) (r : Result Message LockError) (o : Option Message)
+      → heard ≡ input.Line line → came ≡ line.items → o ≡ result_ok r → Does locked (AnswersLine hash_of Came Handles now came) (let_in r) p q
+      → IfSome o (λ m. Makes locked (AnswersInput hash_of Came Handles now heard (Ok m)) p q) × IfNone o (IsNotAnswered hash_of Came Handles now heard locked p q)
+  answered_line heard line came r o is same value d =
+      let e : Does locked (AnswersLine hash_of Came Handles now line.items) (let_in r) p q = subst (λ (xs : List ℕ). Does locked (AnswersLine hash_of Came Handles now xs) (let_in r) p q) same d in
+      subst (λ (h : Input). IfSome o (λ m. Makes locked (AnswersInput hash_of Came Handles now h (Ok m)) p q) × IfNone o (IsNotAnswered hash_of Came Handles now h locked p q)) (sym is)
+      (answered_so (input.Line line) r o value e, refused_so (input.Line line) r o value e)
 
   -- an answer, and what was sent for it
   pub responded : (heard : Input) (answer : Message) (o : Option (Vec ℕ Global)) (s : NodePass H)

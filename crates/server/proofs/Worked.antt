@@ -13,17 +13,30 @@ use Rattle.peer_core.specs.Acts.{Act, OfActs, Makes}
 use Rattle.peer_core.specs.Correcting.{IsCorrectingRound}
 use Rattle.peer_core.specs.Healing.{Heals, IsHealing, after_round, heals_first}
 use Rattle.peer_core.specs.Joining.{IsJoin}
-use Rattle.peer_core.specs.Parts.{Does}
+use Rattle.peer_core.specs.Members.{Caller, Done}
+use Rattle.peer_core.specs.Parts.{Part, Does}
 use Rattle.peer_core.specs.Rounds.{IsRound}
 use Rattle.peer_core.proofs.Acts.{makes_as, makes_none, makes_then}
 use Rattle.cluster_core.specs.Channels.{any_answer}
 use Rattle.peer_core.specs.Handling.{MayHandle}
-use Rattle.server.specs.Answering.{Hears, IsSilent, Responds}
+use Rattle.server.specs.Answering.{Hears, IsSame, IsSilent, Responds}
 use Rattle.change_core.specs.declared.addresses.Address.{Address}
 use Rattle.server.specs.Working.{AreRounds, HealsRounds, IsAnsweredOver, IsConnection, IsConnectionOver, IsOneCorrectingRound, IsOneHealing, IsOneRound, IsTreated, JoinsAt, JoinsIfDue, MakesRounds, RoundTimes, Times, first_join, next_join, sent_for}
 use Rattle.server.specs.declared.healing.HealingPlan.{HealingPlan}
 use Rattle.server.specs.declared.inputs.Input.{Input}
 use Rattle.server.specs.declared.inputs.Input.TheVariants as input
+
+module _ {H L : Type 0} where
+  -- one call after another leaves the same node, pass and link
+  pub then_same : {a b c : Caller H L} → IsSame a b → IsSame b c → IsSame a c
+  then_same ab bc = record { node = bc.node ∙ ab.node; pass = bc.pass ∙ ab.pass; link = bc.link ∙ ab.link }
+
+  pub done_same : {A : Type 0} {P : Part H A} {r : Result A ClusterError} {a b : Caller H L} → Done P r a b → IsSame a b
+  done_same d = record { node = d.node; pass = d.pass; link = d.link }
+
+  -- what is done to the node of the one is done to that of the other
+  pub by_same : {a b : Caller H L} {Calls : OfActs H} {p q : NodePass H} → IsSame a b → Makes b.node Calls p q → Makes a.node Calls p q
+  by_same {Calls = Calls} {p = p} {q = q} same m = subst (λ (n : LockedNode H). Makes n Calls p q) same.node m
 
 module _ {H : Type 0} (locked : LockedNode H) where
   -- none was made yet

@@ -17,6 +17,7 @@ use Rattle.locked_node.specs.Passes.{NodePass}
 use Rattle.peer_core.specs.Acts.{OfActs, Nothing, Then}
 use Rattle.peer_core.specs.Errors.{error_of_lock}
 use Rattle.peer_core.specs.Links.{MayAnswer}
+use Rattle.peer_core.specs.Members.{Caller}
 use Rattle.peer_core.specs.Parts.{Part, Does, Gives, Next, let_in}
 use Rattle.peer_core.specs.Serving.{Never, Refuses, Serves}
 use Rattle.peer_core.specs.Handling.{MayHandle}
@@ -57,6 +58,12 @@ abbrev pub IsUnsent : Message → Reason → Type 0
 IsUnsent answer reason.Failed = max_line < length (line_text answer)
 IsUnsent answer reason.Memory = Unit {0}
 IsUnsent answer other = ⊥
+
+-- a member has the same node, the same pass and the same link
+pub record IsSame {H L : Type 0} (old new : Caller H L) : Type 0 where
+  pub node : new.node ≡ old.node
+  pub pass : new.pass.ghost_name ≡ old.pass.ghost_name
+  pub link : new.link.ghost_name ≡ old.link.ghost_name
 
 module _ {H : Type 0} where
   -- the line of a refusal of the node's for this reason

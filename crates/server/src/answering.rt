@@ -2,21 +2,17 @@
 ghost use Rattle.std.specs.Prelude.{◌≡◌, ◌≤◌, ◌<◌, Ok, IfOk, IfErr, IfNone, IfSome, length, vec_capacity, vec_len};
 ghost use Rattle.wire_json.specs.Lines.{IsLine, max_line};
 ghost use Rattle.wire_json.specs.Messages.{MessageForm};
-ghost use Rattle.locked_node.specs.Passes.{Fits};
 ghost use Rattle.peer_core.specs.Acts.{Makes};
-ghost use Rattle.peer_core.specs.Parts.{Does, let_in};
 ghost use Rattle.peer_core.specs.Serving.{Refuses};
-ghost use Rattle.server.specs.Answering.{AnswersInput, AnswersLine, IsNotAnswered, IsRefusalLine, IsSentAs, IsSilent, IsTried, IsUnread, IsUnsent, Responds, SendsNothing, line_text, unread_as};
+ghost use Rattle.server.specs.Answering.{AnswersInput, IsNotAnswered, IsRefusalLine, IsSame, IsSentAs, IsSilent, IsTried, IsUnread, IsUnsent, Responds, SendsNothing, line_text, unread_as};
 
 use crate::inputs::Input;
 use change_core::Moment;
 use hash_ring::PointHash;
-use locked_node::{LockedNode, NodePass};
 use message_core::{Message, Reason, WireError};
-use peer_core::{Handler, Link, refuse, serve_one};
+use peer_core::{Handler, Link, Member};
 use std::alloc::Global;
 use std::sync::Wait;
-use turn_lock::LockError;
 use wire_json::{decode, encode};
 
 /// Returns the reason of a refusal for an error of a line.
@@ -41,48 +37,25 @@ fn read_message(alloc: Global, line: &[u8]) -> Result<Message, Reason>
     }
 }
 
-/// Returns the answer to a line.
-fn answer_line<R: Wait, H: PointHash, L: Link, A: Handler>(
-    rt: &R,
-    alloc: Global,
-    node: &LockedNode<H>,
-    pass: &mut NodePass<H>,
-    link: &mut L,
-    handler: &A,
-    now: Moment,
-    line: &[u8],
-) -> Result<Message, LockError>
-    requires { Fits node.now pass.old }
-    ensures did { Does node.now (AnswersLine H.hash_of L.may_answer (A.may_handle handler.now) now line.now) (let_in result) pass.old pass.new }
-    ensures fits { Fits node.now pass.new }
-{
-    match read_message(alloc, line) {
-        Ok(message) => serve_one(rt, alloc, node, pass, link, handler, now, &message),
-        Err(reason) => refuse(rt, node, pass, reason),
-    }
-}
-
 /// Returns the answer to an input; None if it needs none, or the lock refused a call of the answer.
 fn answer<R: Wait, H: PointHash, L: Link, A: Handler>(
     rt: &R,
     alloc: Global,
-    node: &LockedNode<H>,
-    pass: &mut NodePass<H>,
-    link: &mut L,
+    member: &mut Member<'_, H, L>,
     handler: &A,
     now: Moment,
     input: &Input,
 ) -> Option<Message>
-    requires { Fits node.now pass.old }
-    ensures answered { IfSome result (λ m. Makes node.now (AnswersInput H.hash_of L.may_answer (A.may_handle handler.now) now input.now (Ok m)) pass.old pass.new) }
-    ensures unanswered { IfNone result (IsNotAnswered H.hash_of L.may_answer (A.may_handle handler.now) now input.now node.now pass.old pass.new) }
-    ensures fits { Fits node.now pass.new }
+    ensures answered { IfSome result (λ m. Makes member.old.node (AnswersInput H.hash_of L.may_answer (A.may_handle handler.now) now input.now (Ok m)) member.old.pass.now member.new.pass.now) }
+    ensures unanswered { IfNone result (IsNotAnswered H.hash_of L.may_answer (A.may_handle handler.now) now input.now member.old.node member.old.pass.now member.new.pass.now) }
+    ensures same { IsSame member.old member.new }
 {
     match input {
-        Input::Line(line) => {
-            answer_line(rt, alloc, node, pass, link, handler, now, line.as_slice()).ok()
-        }
-        Input::Refused(reason) => refuse(rt, node, pass, *reason).ok(),
+        Input::Line(line) => match read_message(alloc, line.as_slice()) {
+            Ok(message) => member.serve(rt, handler, now, &message).ok(),
+            Err(reason) => member.refuse(rt, reason).ok(),
+        },
+        Input::Refused(reason) => member.refuse(rt, *reason).ok(),
         Input::Nothing => None,
     }
 }
@@ -119,20 +92,18 @@ fn own_line(alloc: Global, answer: &Message) -> Result<Vec<u8>, Reason>
 
 /// Returns the line of a refusal, with room for its newline; None if the lock refuses the call for it, or out of memory
 /// for its line.
-fn refusal_line<R: Wait, H: PointHash>(
+fn refusal_line<R: Wait, H: PointHash, L: Link>(
     rt: &R,
     alloc: Global,
-    node: &LockedNode<H>,
-    pass: &mut NodePass<H>,
+    member: &mut Member<'_, H, L>,
     reason: Reason,
 ) -> Option<Vec<u8>>
-    requires { Fits node.now pass.old }
-    ensures refusal { IfSome result (λ v. Makes node.now (IsRefusalLine reason v.items) pass.old pass.new) }
+    ensures refusal { IfSome result (λ v. Makes member.old.node (IsRefusalLine reason v.items) member.old.pass.now member.new.pass.now) }
     ensures room { IfSome result (λ v. vec_len v < vec_capacity v) }
-    ensures silent { IfNone result (IsTried (Refuses reason) node.now pass.old pass.new) }
-    ensures fits { Fits node.now pass.new }
+    ensures silent { IfNone result (IsTried (Refuses reason) member.old.node member.old.pass.now member.new.pass.now) }
+    ensures same { IsSame member.old member.new }
 {
-    let Ok(refusal) = refuse(rt, node, pass, reason) else {
+    let Ok(refusal) = member.refuse(rt, reason) else {
         return None;
     };
     let Ok(line) = encode(alloc, &refusal) else {
@@ -145,22 +116,20 @@ fn refusal_line<R: Wait, H: PointHash>(
 }
 
 /// Returns the line of an answer, with room for its newline, or of the refusal in its stead if it has none.
-fn line_of<R: Wait, H: PointHash>(
+fn line_of<R: Wait, H: PointHash, L: Link>(
     rt: &R,
     alloc: Global,
-    node: &LockedNode<H>,
-    pass: &mut NodePass<H>,
+    member: &mut Member<'_, H, L>,
     answer: &Message,
 ) -> Option<Vec<u8>>
-    requires { Fits node.now pass.old }
-    ensures sent { IfSome result (λ v. Makes node.now (IsSentAs answer.now v.items) pass.old pass.new) }
+    ensures sent { IfSome result (λ v. Makes member.old.node (IsSentAs answer.now v.items) member.old.pass.now member.new.pass.now) }
     ensures room { IfSome result (λ v. vec_len v < vec_capacity v) }
-    ensures silent { IfNone result (IsTried (SendsNothing answer.now) node.now pass.old pass.new) }
-    ensures fits { Fits node.now pass.new }
+    ensures silent { IfNone result (IsTried (SendsNothing answer.now) member.old.node member.old.pass.now member.new.pass.now) }
+    ensures same { IsSame member.old member.new }
 {
     match own_line(alloc, answer) {
         Ok(line) => Some(line),
-        Err(reason) => refusal_line(rt, alloc, node, pass, reason),
+        Err(reason) => refusal_line(rt, alloc, member, reason),
     }
 }
 
@@ -175,19 +144,16 @@ fn line_of<R: Wait, H: PointHash>(
 pub fn respond<R: Wait, H: PointHash, L: Link, A: Handler>(
     rt: &R,
     alloc: Global,
-    node: &LockedNode<H>,
-    pass: &mut NodePass<H>,
-    link: &mut L,
+    member: &mut Member<'_, H, L>,
     handler: &A,
     now: Moment,
     input: &Input,
 ) -> Option<Vec<u8>>
-    requires { Fits node.now pass.old }
-    ensures sent { IfSome result (λ v. Makes node.now (Responds H.hash_of L.may_answer (A.may_handle handler.now) now input.now v.items) pass.old pass.new) }
+    ensures sent { IfSome result (λ v. Makes member.old.node (Responds H.hash_of L.may_answer (A.may_handle handler.now) now input.now v.items) member.old.pass.now member.new.pass.now) }
     ensures room { IfSome result (λ v. vec_len v < vec_capacity v) }
-    ensures silent { IfNone result (IsSilent H.hash_of L.may_answer (A.may_handle handler.now) now input.now node.now pass.old pass.new) }
-    ensures fits { Fits node.now pass.new }
+    ensures silent { IfNone result (IsSilent H.hash_of L.may_answer (A.may_handle handler.now) now input.now member.old.node member.old.pass.now member.new.pass.now) }
+    ensures same { IsSame member.old member.new }
 {
-    let answer = answer(rt, alloc, node, pass, link, handler, now, input)?;
-    line_of(rt, alloc, node, pass, &answer)
+    let answer = answer(rt, alloc, member, handler, now, input)?;
+    line_of(rt, alloc, member, &answer)
 }

@@ -1,9 +1,9 @@
 //! One connection of a server: one line in and one line out.
 ghost use Rattle.std.specs.Prelude.{◌++◌, ◌∷◌, [], IfSome};
 ghost use Rattle.std.specs.Io.KnownBytes.{Appends};
-ghost use Rattle.locked_node.specs.Passes.{Fits};
 ghost use Rattle.cluster_core.specs.Deadlines.{stream_of};
 ghost use Rattle.peer_core.specs.Acts.{Makes};
+ghost use Rattle.server.specs.Answering.{IsSame};
 ghost use Rattle.server.specs.Working.{IsAnsweredOver, IsConnection, IsConnectionOver};
 
 use crate::answering::respond;
@@ -11,8 +11,7 @@ use crate::inputs::{Input, hear};
 use crate::servers::Server;
 use cluster_core::{Deadline, TcpLink, Timed, send_owned_line};
 use hash_ring::PointHash;
-use locked_node::NodePass;
-use peer_core::Handler;
+use peer_core::{Handler, Member};
 use std::alloc::Global;
 use std::io::{Read, Write};
 use std::net::{Net, OpenStream};
@@ -43,35 +42,23 @@ fn send_back<R: Clock, S: Write + OpenStream + Drop>(
 /// failed.
 fn answer_over<R: Net + Wait + Clock, H: PointHash, A: Handler, S: Write + OpenStream + Drop>(
     server: &Server<H, A>,
-    pass: &mut NodePass<H>,
+    member: &mut Member<'_, H, TcpLink<R>>,
     rt: &R,
     alloc: Global,
-    link: &mut TcpLink<R>,
     stream: Timed<'_, S, R>,
     input: &Input,
 ) -> Option<S>
-    requires { Fits server.now.node pass.old }
-    ensures over { Makes server.now.node (IsAnsweredOver S.contents H.hash_of (A.may_handle server.now.handler) (stream_of stream.entry) input.now result) pass.old pass.new }
-    ensures fits { Fits server.now.node pass.new }
+    ensures over { Makes member.old.node (IsAnsweredOver S.contents H.hash_of (A.may_handle server.now.handler) (stream_of stream.entry) input.now result) member.old.pass.now member.new.pass.now }
+    ensures same { IsSame member.old member.new }
 {
     let now = server.stopwatch.moment(rt);
-    let answer = respond(
-        rt,
-        alloc,
-        &server.node,
-        pass,
-        link,
-        &server.handler,
-        now,
-        input,
-    );
-    match answer {
+    match respond(rt, alloc, member, &server.handler, now, input) {
         Some(line) => send_back(rt, server.timeouts.line, stream, line),
         None => Some(stream.into_inner()),
     }
 }
 
-/// Serves one connection, and returns it: its line has to arrive within the limit, and its answer's line has to be taken
+/// Serves one connection by a member, and returns it: its line has to arrive within the limit, and its answer's line has to be taken
 /// within it, from the start of each. Nothing is written but the answer's line and a newline; nothing at all where no
 /// answer is due. None if the answer was not taken whole, and if the clock failed.
 pub fn serve_connection<
@@ -81,21 +68,19 @@ pub fn serve_connection<
     S: Read + Write + OpenStream + Drop,
 >(
     server: &Server<H, A>,
-    pass: &mut NodePass<H>,
+    member: &mut Member<'_, H, TcpLink<R>>,
     rt: &R,
     alloc: Global,
-    link: &mut TcpLink<R>,
     stream: S,
 ) -> Option<S>
-    requires { Fits server.now.node pass.old }
-    ensures made { Makes server.now.node (IsConnection H.hash_of (A.may_handle server.now.handler)) pass.old pass.new }
-    ensures over { Makes server.now.node (IsConnectionOver S.remaining S.contents H.hash_of (A.may_handle server.now.handler) stream result) pass.old pass.new }
-    ensures fits { Fits server.now.node pass.new }
+    ensures made { Makes member.old.node (IsConnection H.hash_of (A.may_handle server.now.handler)) member.old.pass.now member.new.pass.now }
+    ensures over { Makes member.old.node (IsConnectionOver S.remaining S.contents H.hash_of (A.may_handle server.now.handler) stream result) member.old.pass.now member.new.pass.now }
+    ensures same { IsSame member.old member.new }
 {
     let Ok(deadline) = Deadline::after(rt, server.timeouts.line) else {
         return None;
     };
     let mut stream = Timed::new(stream, deadline);
     let input = hear(alloc, &mut stream);
-    answer_over(server, pass, rt, alloc, link, stream, &input)
+    answer_over(server, member, rt, alloc, stream, &input)
 }

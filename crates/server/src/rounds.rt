@@ -3,6 +3,7 @@ ghost use Rattle.std.specs.Prelude.{◌≡◌, None, Some};
 ghost use Rattle.locked_node.specs.Passes.{Fits};
 ghost use Rattle.cluster_core.specs.Sockets.{limits_of};
 ghost use Rattle.peer_core.specs.Acts.{Makes};
+ghost use Rattle.server.specs.Answering.{IsSame};
 ghost use Rattle.server.specs.Working.{AreRounds, JoinsAt, JoinsIfDue, first_join, hosts_of};
 
 use crate::healing::HealingPlan;
@@ -12,7 +13,7 @@ use change_core::{Address, Moment};
 use cluster_core::TcpLink;
 use hash_ring::PointHash;
 use locked_node::NodePass;
-use peer_core::{Healing, correcting_round, gossip_round, heal, join};
+use peer_core::{Healing, Member};
 use std::alloc::Global;
 use std::net::Net;
 
@@ -32,19 +33,16 @@ fn first_join(hosts: &[Address]) -> Option<u64>
 /// Joins the hosts at a moment. Returns the moment from which on they are joined again; none if one of them answered.
 fn join_hosts<R: Net + RoundClock, H: PointHash, A>(
     server: &Server<H, A>,
-    pass: &mut NodePass<H>,
+    member: &mut Member<'_, H, TcpLink<R>>,
     rt: &R,
-    alloc: Global,
-    link: &mut TcpLink<R>,
     now: Moment,
 ) -> Option<u64>
-    requires { Fits server.now.node pass.old }
-    ensures joined { Makes server.now.node (JoinsAt now (hosts_of server.now.hosts) result) pass.old pass.new }
-    ensures fits { Fits server.now.node pass.new }
+    ensures joined { Makes member.old.node (JoinsAt now (hosts_of server.now.hosts) result) member.old.pass.now member.new.pass.now }
+    ensures same { IsSame member.old member.new }
 {
     let hosts = server.hosts();
     let asked = &hosts[..hosts.len().min(MAX_HOSTS)];
-    match join(rt, alloc, &server.node, pass, link, asked, now) {
+    match member.join(rt, asked, now) {
         Ok(_) => None,
         Err(_) => Some(now.number() + BETWEEN_JOINS),
     }
@@ -54,49 +52,43 @@ fn join_hosts<R: Net + RoundClock, H: PointHash, A>(
 /// moment of the next join; none if there is to be none.
 fn join_if_due<R: Net + RoundClock, H: PointHash, A>(
     server: &Server<H, A>,
-    pass: &mut NodePass<H>,
+    member: &mut Member<'_, H, TcpLink<R>>,
     rt: &R,
-    alloc: Global,
-    link: &mut TcpLink<R>,
     last: Moment,
     due: Option<u64>,
 ) -> Option<u64>
-    requires { Fits server.now.node pass.old }
-    ensures joined { Makes server.now.node (JoinsIfDue R.times (hosts_of server.now.hosts) last due result) pass.old pass.new }
-    ensures fits { Fits server.now.node pass.new }
+    ensures joined { Makes member.old.node (JoinsIfDue R.times (hosts_of server.now.hosts) last due result) member.old.pass.now member.new.pass.now }
+    ensures same { IsSame member.old member.new }
 {
     let moment = due?;
     let now = rt.moment(&server.stopwatch, last);
     if now.number() < moment {
         return due;
     }
-    join_hosts(server, pass, rt, alloc, link, now)
+    join_hosts(server, member, rt, now)
 }
 
 /// Makes rounds alone until the server ends, and joins its hosts, over a link with its own limits.
 fn make_rounds_over<R: Net + RoundClock, H: PointHash, A>(
     server: &Server<H, A>,
-    pass: &mut NodePass<H>,
+    member: &mut Member<'_, H, TcpLink<R>>,
     rt: &R,
-    alloc: Global,
-    link: &mut TcpLink<R>,
     period: u64,
 )
-    requires fits { Fits server.now.node pass.old }
-    requires limits { limits_of link.old ≡ server.now.timeouts.links }
-    ensures made { Makes server.now.node (AreRounds R.times period (hosts_of server.now.hosts) None) pass.old pass.new }
-    ensures fits { Fits server.now.node pass.new }
+    requires { limits_of member.old.link.now ≡ server.now.timeouts.links }
+    ensures made { Makes member.old.node (AreRounds R.times period (hosts_of server.now.hosts) None) member.old.pass.now member.new.pass.now }
+    ensures same { IsSame member.old member.new }
 {
     let first = first_join(server.hosts());
     let mut last = Moment::beginning();
-    let mut due = join_if_due(server, pass, rt, alloc, link, last, first);
+    let mut due = join_if_due(server, member, rt, last, first);
     for _ in rt.forever() {
         if !rt.rest(server, last, period) {
             return;
         }
         let now = rt.moment(&server.stopwatch, last);
-        let _round = gossip_round(rt, alloc, &server.node, pass, link, now);
-        due = join_if_due(server, pass, rt, alloc, link, now, due);
+        let _round = member.round(rt, now);
+        due = join_if_due(server, member, rt, now, due);
         last = now;
     }
 }
@@ -106,30 +98,45 @@ fn make_rounds_over<R: Net + RoundClock, H: PointHash, A>(
 fn make_healing_rounds_over<R: Net + RoundClock, H: PointHash, A>(
     server: &Server<H, A>,
     plan: &HealingPlan,
-    pass: &mut NodePass<H>,
+    member: &mut Member<'_, H, TcpLink<R>>,
     rt: &R,
-    alloc: Global,
-    link: &mut TcpLink<R>,
     period: u64,
 )
-    requires fits { Fits server.now.node pass.old }
-    requires limits { limits_of link.old ≡ server.now.timeouts.links }
-    ensures made { Makes server.now.node (AreRounds R.times period (hosts_of server.now.hosts) (Some plan.now)) pass.old pass.new }
-    ensures fits { Fits server.now.node pass.new }
+    requires { limits_of member.old.link.now ≡ server.now.timeouts.links }
+    ensures made { Makes member.old.node (AreRounds R.times period (hosts_of server.now.hosts) (Some plan.now)) member.old.pass.now member.new.pass.now }
+    ensures same { IsSame member.old member.new }
 {
     let mut healing = Healing::new(plan.own, plan.hosts.as_slice());
     let start = first_join(server.hosts());
     let mut last = Moment::beginning();
-    let mut due = join_if_due(server, pass, rt, alloc, link, last, start);
+    let mut due = join_if_due(server, member, rt, last, start);
     for _ in rt.forever() {
         if !rt.rest(server, last, period) {
             return;
         }
         let now = rt.moment(&server.stopwatch, last);
-        let _made = correcting_round(rt, alloc, &server.node, pass, link, now);
-        let _healed = heal(rt, alloc, &server.node, pass, link, now, &mut healing);
-        due = join_if_due(server, pass, rt, alloc, link, now, due);
+        let _made = member.correcting_round(rt, now);
+        let _healed = member.heal(rt, &mut healing, now);
+        due = join_if_due(server, member, rt, now, due);
         last = now;
+    }
+}
+
+/// Makes rounds until the server ends, with healing after each if the server has a plan for that, over a link with its own
+/// limits.
+fn make_rounds_by_plan<R: Net + RoundClock, H: PointHash, A>(
+    server: &Server<H, A>,
+    member: &mut Member<'_, H, TcpLink<R>>,
+    rt: &R,
+    period: u64,
+)
+    requires { limits_of member.old.link.now ≡ server.now.timeouts.links }
+    ensures made { Makes member.old.node (AreRounds R.times period (hosts_of server.now.hosts) server.now.healing) member.old.pass.now member.new.pass.now }
+    ensures same { IsSame member.old member.new }
+{
+    match &server.healing {
+        Some(plan) => make_healing_rounds_over(server, plan, member, rt, period),
+        None => make_rounds_over(server, member, rt, period),
     }
 }
 
@@ -149,10 +156,7 @@ pub fn make_rounds<R: Net + RoundClock + Copy, H: PointHash, A>(
     ensures fits { Fits server.now.node pass.new }
 {
     let mut link = TcpLink::with_limits(*rt, server.timeouts.links);
-    match &server.healing {
-        Some(plan) => {
-            make_healing_rounds_over(server, plan, pass, rt, alloc, &mut link, period);
-        }
-        None => make_rounds_over(server, pass, rt, alloc, &mut link, period),
-    }
+    let mut member = Member::new(&server.node, pass, &mut link, alloc);
+    make_rounds_by_plan(server, &mut member, rt, period);
+    let _pass = member.into_pass();
 }

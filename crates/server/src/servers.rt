@@ -3,6 +3,8 @@ ghost use Rattle.std.specs.Prelude.{◌≡◌, None, Some};
 ghost use Rattle.locked_node.specs.Passes.{Fits};
 ghost use Rattle.cluster_core.specs.Sockets.{limits_of};
 ghost use Rattle.peer_core.specs.Acts.{Makes};
+ghost use Rattle.server.specs.Answering.{IsSame};
+ghost use Rattle.server.specs.Timeouts.{AreStandardTimeouts};
 ghost use Rattle.server.specs.Working.{IsConnection, Times, hosts_of};
 
 use crate::connections::serve_connection;
@@ -14,7 +16,7 @@ use change_core::Address;
 use cluster_core::{Deadline, TcpLink};
 use hash_ring::PointHash;
 use locked_node::{LockedNode, NodePass};
-use peer_core::Handler;
+use peer_core::{Handler, Member};
 use std::alloc::Global;
 use std::net::{IpAddr, Ipv4Addr, Net, SocketAddr, TcpListener, TcpStream};
 use std::sync::atomic::{AtomicBool, AtomicU64, Ordering};
@@ -55,12 +57,11 @@ pub struct Server<H: PointHash, A> {
 }
 
 impl<H: PointHash, A> Server<H, A> {
-    /// Makes a server of this number of connections; none has been served yet. It joins no hosts.
+    /// Makes a server of this number of connections, with the standard timeouts; none has been served yet. It joins no hosts.
     pub fn new(
         node: LockedNode<H>,
         handler: A,
         stopwatch: Stopwatch,
-        timeouts: Timeouts,
         healing: Option<HealingPlan>,
         listener: TcpListener,
         connections: u64,
@@ -68,7 +69,7 @@ impl<H: PointHash, A> Server<H, A> {
         ensures node { result.node ≡ node }
         ensures handler { result.handler ≡ handler }
         ensures stopwatch { result.stopwatch ≡ stopwatch }
-        ensures timeouts { result.timeouts ≡ timeouts }
+        ensures timeouts { AreStandardTimeouts result.timeouts }
         ensures healing { result.healing ≡ healing }
         ensures hosts { result.hosts ≡ None }
         ensures connections { result.connections ≡ connections }
@@ -77,7 +78,7 @@ impl<H: PointHash, A> Server<H, A> {
             node,
             handler,
             stopwatch,
-            timeouts,
+            timeouts: Timeouts::standard(),
             healing,
             hosts: None,
             connections,
@@ -224,26 +225,24 @@ impl<H: PointHash, A> Server<H, A> {
     }
 }
 
-/// Serves connections until none is left, once the threads may start, and returns how many. PingReqs are relayed over a
-/// link with the server's timeouts.
+/// Serves connections by a member until none is left, once the threads may start, and returns how many. PingReqs are
+/// relayed over its link, which has the server's timeouts.
 fn work_over<R: Net + Wait + Clock, H: PointHash, A: Handler>(
     server: &Server<H, A>,
-    pass: &mut NodePass<H>,
+    member: &mut Member<'_, H, TcpLink<R>>,
     rt: &R,
     alloc: Global,
-    link: &mut TcpLink<R>,
 ) -> u64
-    requires fits { Fits server.now.node pass.old }
-    requires limits { limits_of link.old ≡ server.now.timeouts.links }
-    ensures made { Makes server.now.node (Times (IsConnection H.hash_of (A.may_handle server.now.handler)) result) pass.old pass.new }
-    ensures fits { Fits server.now.node pass.new }
+    requires { limits_of member.old.link.now ≡ server.now.timeouts.links }
+    ensures made { Makes member.old.node (Times (IsConnection H.hash_of (A.may_handle server.now.handler)) result) member.old.pass.now member.new.pass.now }
+    ensures same { IsSame member.old member.new }
 {
     server.wait_for_start(rt);
     for served in 0..server.connections {
         let Some(stream) = server.next_connection(rt) else {
             return served;
         };
-        serve_connection(server, pass, rt, alloc, link, stream);
+        serve_connection(server, member, rt, alloc, stream);
     }
     server.connections
 }
@@ -260,5 +259,8 @@ pub fn work<R: Net + Wait + Clock + Copy, H: PointHash, A: Handler>(
     ensures fits { Fits server.now.node pass.new }
 {
     let mut link = TcpLink::with_limits(*rt, server.timeouts.links);
-    work_over(server, pass, rt, alloc, &mut link)
+    let mut member = Member::new(&server.node, pass, &mut link, alloc);
+    let connections = work_over(server, &mut member, rt, alloc);
+    let _pass = member.into_pass();
+    connections
 }

@@ -256,16 +256,10 @@ pub fn start<
     let (node, rounds, workers, handles) = share_out(alloc, created, settings)?;
     let hosts = hosts_of(alloc, settings)?;
     let healing = plan_of(alloc, settings)?;
-    let server = Server::new(
-        node,
-        handler,
-        Stopwatch::start(rt),
-        settings.timeouts,
-        healing,
-        listener,
-        u64::MAX,
-    )
-    .joining(hosts);
+    let stopwatch = Stopwatch::start(rt);
+    let server = Server::new(node, handler, stopwatch, healing, listener, u64::MAX);
+    let mut server = server.joining(hosts);
+    server.timeouts = settings.timeouts;
     let running = Running::start(rt, alloc, server, rounds, workers, settings.period)?;
     Ok((running, handles))
 }

@@ -1,4 +1,4 @@
-use Rattle.std.proofs.Common.{None, ap}
+use Rattle.std.proofs.Common.{None, ap, refl}
 use Rattle.cli_net.specs.declared.echoes.Echo.{Echo}
 use Rattle.cluster_core.specs.Channels.{any_answer}
 use Rattle.peer_core.proofs.Acts.{said_so}
@@ -84,7 +84,7 @@ pub returns-clause-serves : goal.returns-clause-serves
 returns-clause-serves g c =
     served_by g.H.PointHash.hash_of any_answer c.args.hash c.args.words.now c.in_ok-node.node c.in_ok-node.passes.items c.in_ok-node.timer c.join_hosts.new.pass
     c.as_slice-hosts.result.now c.moment-now.result c.in_ok-node.ensures.created c.in_ok-node.ensures.fresh c.as_slice-hosts.ensures.value (λ none. (c.in_ok-join_hosts.ensures.alone none).1)
-    g.R.RoundClock.times c.args.timeouts c.new-server.result c.in_ok-closed.closed c.new-server.ensures.node (ap (λ (e : Echo). e.address) c.new-server.ensures.handler)
-    c.new-server.ensures.timeouts
+    g.R.RoundClock.times c.args.timeouts _ c.in_ok-closed.closed c.new-server.ensures.node (ap (λ (e : Echo). e.address) c.new-server.ensures.handler)
+    refl
     (healed_by c.args.words.now.heal c.args.words.now.address c.args.words.now.hosts.items c.in_ok-healing.healing c.new-server.result.healing c.new-server.ensures.healing c.in_ok-healing.ensures.heals)
     c.new-server.ensures.hosts c.new-server.ensures.connections c.in_ok-node.ensures.count c.in_ok-node.ensures.all c.in_ok-join_hosts.ensures.joined c.in_ok-closed.ensures.ended

@@ -6,19 +6,19 @@ use Rattle.server.proofs.connections.serve_connection.Goals as goal
 -- nobody was heard
 pub returns-in_default-clause-over : goal.returns-in_default-clause-over
 returns-in_default-clause-over g c =
-    over_quiet g.H.PointHash.hash_of (g.A.Handler.may_handle c.args.server.now.handler) c.args.server.now.node g.S.Read.remaining g.S.Write.contents c.args.stream c.args.pass.now
+    over_quiet g.H.PointHash.hash_of (g.A.Handler.may_handle c.args.server.now.handler) c.args.member.now.node g.S.Read.remaining g.S.Write.contents c.args.stream c.args.member.now.pass.now
 
 pub returns-in_default-clause-made : goal.returns-in_default-clause-made
 returns-in_default-clause-made g c =
-    a_connection g.H.PointHash.hash_of (g.A.Handler.may_handle c.args.server.now.handler) c.args.server.now.node g.S.Read.remaining g.S.Write.contents c.args.stream None c.args.pass.now c.args.pass.now
+    a_connection g.H.PointHash.hash_of (g.A.Handler.may_handle c.args.server.now.handler) c.args.member.now.node g.S.Read.remaining g.S.Write.contents c.args.stream None c.args.member.now.pass.now c.args.member.now.pass.now
     (returns-in_default-clause-over g c)
 
 pub returns-clause-over : goal.returns-clause-over
 returns-clause-over g c =
-    over_heard g.H.PointHash.hash_of (g.A.Handler.may_handle c.args.server.now.handler) c.args.server.now.node g.S.Read.remaining g.S.Write.contents c.args.stream c.hear-input.result (stream_of c.new-stream.result)
-    _ c.answer_over.result c.args.pass.now c.answer_over.new.pass c.new-stream.ensures.stream c.hear-input.ensures c.answer_over.ensures.over
+    over_heard g.H.PointHash.hash_of (g.A.Handler.may_handle c.args.server.now.handler) c.args.member.now.node g.S.Read.remaining g.S.Write.contents c.args.stream c.hear-input.result (stream_of c.new-stream.result)
+    _ c.answer_over.result c.args.member.now.pass.now c.answer_over.new.member.pass.now c.new-stream.ensures.stream c.hear-input.ensures c.answer_over.ensures.over
 
 pub returns-clause-made : goal.returns-clause-made
 returns-clause-made g c =
-    a_connection g.H.PointHash.hash_of (g.A.Handler.may_handle c.args.server.now.handler) c.args.server.now.node g.S.Read.remaining g.S.Write.contents c.args.stream c.answer_over.result c.args.pass.now
-    c.answer_over.new.pass (returns-clause-over g c)
+    a_connection g.H.PointHash.hash_of (g.A.Handler.may_handle c.args.server.now.handler) c.args.member.now.node g.S.Read.remaining g.S.Write.contents c.args.stream c.answer_over.result c.args.member.now.pass.now
+    c.answer_over.new.member.pass.now (returns-clause-over g c)

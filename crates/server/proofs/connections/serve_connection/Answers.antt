@@ -3,7 +3,7 @@ use Rattle.cluster_core.specs.Deadlines.{stream_of}
 use Rattle.server.proofs.Worked.{a_connection, over_heard, over_quiet}
 use Rattle.server.proofs.connections.serve_connection.Goals as goal
 
--- nobody was heard
+-- no line was heard
 pub returns-in_default-clause-over : goal.returns-in_default-clause-over
 returns-in_default-clause-over g c =
     over_quiet g.H.PointHash.hash_of (g.A.Handler.may_handle c.args.server.now.handler) c.args.member.now.node g.S.Read.remaining g.S.Write.contents c.args.stream c.args.member.now.pass.now

@@ -1,27 +1,43 @@
-# How the program is built and tried. `make try` proves nothing and takes four minutes of CPU time; `make` proves the program, and takes
-# over an hour of CPU time at first. Both leave build/ringpop, and `make install` installs it.
+# How the program is built and tried. `make demo` shows a cluster on this machine, by an unproved program that it builds first if there is none;
+# `make test` runs all tests without proofs. `make` proves the program, which takes over an hour of CPU time at first. `make install`
+# installs what either left as build/ringpop.
 PREFIX = /usr/local
 INSTALLED = $(DESTDIR)$(PREFIX)
+NEEDS = @scripts/needs rt python3 cc
 
 all:
+	$(NEEDS)
 	cd crates/ringpop_cli && rt run < stdin > /dev/null
 	install -D crates/ringpop_cli/out/ringpop_cli build/ringpop
 
+# Three agents on this machine. PORT=17946 takes other ports, STAY=1 leaves it running until Ctrl-C.
+demo: build/ringpop
+	@scripts/demo $(if $(PORT),--port $(PORT)) $(if $(STAY),--stay)
+
+build/ringpop:
+	$(NEEDS)
+	@scripts/unproved
+
 try:
-	scripts/unproved
+	$(NEEDS)
+	@scripts/unproved
 
 # The C library, proved: crates/ringpop_c/out/libringpop_c.a.
 library:
+	$(NEEDS)
 	cd crates/ringpop_c && rt lib
 
 # The files to pass on, in dist/. GATE=LOG names the output of make check on this commit.
 package: all library
+	@scripts/needs git
 	scripts/package $(if $(GATE),--gate $(GATE))
 
 test:
-	scripts/test
+	$(NEEDS)
+	@scripts/test
 
 check:
+	$(NEEDS) git
 	.ci/run
 
 install:
@@ -35,4 +51,4 @@ install:
 clean:
 	rm -rf build dist
 
-.PHONY: all try library package test check install clean
+.PHONY: all demo try library package test check install clean

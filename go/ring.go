@@ -1,202 +1,189 @@
-// Package ringpop names the owners of a cluster's keys in process, by the C library of ringpop, from what a node answers:
+// Package ringpop names the owners of a cluster's keys: in process by a Ring, or by the agent that a Client asks.
 //
-//	ring, err := ringpop.FromMembers(lines, ringpop.StandardReplicas) // of `ringpop members --lines HOST`
-//	owner, found := ring.Owner("trip-42")
+//	client, err := ringpop.NewClient("http://127.0.0.1:7980") // an agent, `ringpop agent --http 127.0.0.1:7980 ..`
+//	answer, err := client.Request(ctx, "trip-42", []byte("hello")) // of the service whose node owns the key
+//	ring, err := client.Ring(ctx)
+//	owner, found := ring.Owner("trip-42") // without asking anyone
+//	for ring := range client.Watch(ctx) { .. } // now, and again after each change of the ring
 //
-// It is built with cgo, and finds header and library by pkg-config.
+// It is written in Go alone: it calls no C, and needs nothing built.
 package ringpop
 
-// #cgo pkg-config: ringpop
-// #include <ringpop.h>
-import "C"
-
 import (
-	"bytes"
+	"crypto/sha256"
+	"encoding/binary"
+	"encoding/hex"
 	"fmt"
 	"net/netip"
-	"runtime"
-	"sync"
-	"unsafe"
+	"sort"
+	"strconv"
+	"strings"
 )
 
 const (
-	// StandardReplicas is how many points a member has for each unit of its weight, where a cluster sets no other number.
+	// StandardReplicas is how many points a member has for each unit of its weight, if a cluster sets no other number.
 	StandardReplicas = 100
-	// MaxMembers of a ring: the library holds 4,096, and the ring's own node is one of them.
-	MaxMembers = 4095
-
-	// The ring's own node: where no node can listen.
-	ownIP   = 0xFFFFFFFF
-	ownPort = 0xFFFF
+	// MaxMembers of a cluster.
+	MaxMembers = 4096
 )
 
-// An Error is what the library refuses: a RINGPOP code of ringpop.h, and the number of the line, from 1, or 0 where no line is at fault.
-type Error struct {
-	Code uint32
-	Line int
+// A Member of the cluster. It serves, and so may own keys, while it is alive or suspect.
+type Member struct {
+	Address     netip.AddrPort
+	Weight      int
+	Status      string
+	Incarnation uint64
 }
 
-// Error says the code in English.
-func (fault *Error) Error() string {
-	text := C.GoString(C.ringpop_code_text(C.uint32_t(fault.Code)))
-	if fault.Line > 0 {
-		return fmt.Sprintf("ringpop: line %d: %s", fault.Line, text)
-	}
-	return "ringpop: " + text
+// Serves is whether the member may own keys.
+func (member Member) Serves() bool { return member.Status == "alive" || member.Status == "suspect" }
+
+// A Move is a key whose owner is another one than before. The zero AddrPort stands for no owner: no member served.
+type Move struct {
+	Key           string
+	Before, After netip.AddrPort
+}
+
+// A point of a server on the circle.
+type point struct {
+	hash   uint64
+	server int
 }
 
 // A Ring names the owners of keys among members that do not change: for other members make another ring. It names the same owners, in the
-// same order, as `ringpop owner` and every node of the cluster do from these members. A member serves while it is alive or suspect.
-//
-// A Ring may be used by several goroutines; one look-up at a time is made.
+// same order, as each node of a cluster with these members and this number of replicas, and as `ringpop owner`. Any number of goroutines may
+// use it at a time, without waiting for one another.
 type Ring struct {
-	mutex   sync.Mutex
-	view    C.ringpop_view
-	members int
-	// Where the library writes, with the mutex held.
-	ip   C.uint32_t
-	port C.uint16_t
+	members  []Member
+	serving  []Member
+	replicas int
+	own      netip.AddrPort
+	points   []point
 }
 
-// FromMembers makes the ring of change lines, as `ringpop members --lines` prints them; replicas is that of the cluster, 1 to 1,000. Of
-// changes of one member the greatest counts, wherever it stands. It answers an *Error at the first line that is no change, or is a member
-// past MaxMembers, where replicas is out of its range, and where memory ran out.
-func FromMembers(lines []byte, replicas int) (*Ring, error) {
-	node, err := newNode(replicas)
-	if err != nil {
-		return nil, err
-	}
-	defer C.ringpop_node_free(node)
-	for number := 1; len(lines) > 0; number++ {
-		line, rest, _ := bytes.Cut(lines, []byte{'\n'})
-		if err := check(C.ringpop_node_take(node, first(line), C.size_t(len(line)), 0), number); err != nil {
-			return nil, err
-		}
-		lines = rest
-	}
-	return newRing(node)
-}
-
-// FromJoined makes the ring of a `joined` message, the line that a node answers to a `join`. It answers an *Error where the line is no
-// message of the membership, or has more than MaxMembers, where replicas is out of its range, and where memory ran out.
-func FromJoined(line []byte, replicas int) (*Ring, error) {
-	node, err := newNode(replicas)
-	if err != nil {
-		return nil, err
-	}
-	defer C.ringpop_node_free(node)
-	line = bytes.TrimSuffix(line, []byte{'\n'})
-	out, count := make([]byte, C.RINGPOP_MAX_LINE), C.size_t(0)
-	code := C.ringpop_node_receive(node, first(line), C.size_t(len(line)), 0, first(out), C.size_t(len(out)), &count)
-	if err := check(code, 0); err != nil {
-		return nil, err
-	}
-	return newRing(node)
-}
-
-// Owner is the address of the key's owner, and whether a member serves. A closed ring has no owner.
-func (ring *Ring) Owner(key string) (netip.AddrPort, bool) {
-	ring.mutex.Lock()
-	defer ring.mutex.Unlock()
-	if C.ringpop_view_owner(&ring.view, begin(key), C.size_t(len(key)), &ring.ip, &ring.port) != C.RINGPOP_DONE {
-		return netip.AddrPort{}, false
-	}
-	return address(ring.ip, ring.port), true
-}
-
-// Owners is the first n owners of the key, all different, the owner first, or all that serve where those are fewer. It answers an *Error
-// where memory ran out or the ring is closed. A negative n counts as 0.
-func (ring *Ring) Owners(key string, n int) ([]netip.AddrPort, error) {
-	if n < 0 {
-		n = 0
-	}
-	if n > ring.members {
-		n = ring.members
-	}
-	places, count := make([]C.ringpop_address, n+1), C.size_t(0)
-	ring.mutex.Lock()
-	code := C.ringpop_view_owners(&ring.view, begin(key), C.size_t(len(key)), C.size_t(n), &places[0], C.size_t(len(places)), &count)
-	ring.mutex.Unlock()
-	if err := check(code, 0); err != nil {
-		return nil, err
-	}
-	owners := make([]netip.AddrPort, count)
-	for i := range owners {
-		owners[i] = address(places[i].ip, places[i].port)
-	}
-	return owners, nil
-}
-
-// Len is how many members the ring was made of, those that do not serve among them.
-func (ring *Ring) Len() int { return ring.members }
-
-// Close frees the ring. Closing it again does nothing; a ring that is not closed is freed by the collector.
-func (ring *Ring) Close() {
-	ring.mutex.Lock()
-	defer ring.mutex.Unlock()
-	C.ringpop_view_free(&ring.view)
-}
-
-// newNode makes a node that has left, so that it owns no key.
-func newNode(replicas int) (*C.ringpop_node, error) {
+// NewRing makes the ring of members with different addresses; replicas is that of the cluster, 1 to 1,000. It answers ErrReplicas, and
+// ErrTooManyMembers.
+func NewRing(members []Member, replicas int) (*Ring, error) {
 	if replicas < 1 || replicas > 1000 {
-		return nil, &Error{Code: C.RINGPOP_BAD_REPLICAS}
+		return nil, fmt.Errorf("%w: it is %d", ErrReplicas, replicas)
 	}
-	var config C.ringpop_config
-	C.ringpop_config_standard(&config)
-	config.replicas = C.uint32_t(replicas)
-	node := new(C.ringpop_node)
-	if err := check(C.ringpop_node_new(node, &config, ownIP, ownPort, 0, 0, 0), 0); err != nil {
-		return nil, err
+	if len(members) > MaxMembers {
+		return nil, fmt.Errorf("%w: there are %d", ErrTooManyMembers, len(members))
 	}
-	if err := check(C.ringpop_node_leave(node), 0); err != nil {
-		C.ringpop_node_free(node)
-		return nil, err
+	ring := &Ring{members: append([]Member(nil), members...), replicas: replicas}
+	sort.Slice(ring.members, func(i, j int) bool {
+		one, other := ring.members[i].Address, ring.members[j].Address
+		order := one.Addr().Compare(other.Addr())
+		return order < 0 || order == 0 && one.Port() < other.Port()
+	})
+	for _, member := range ring.members {
+		if member.Serves() {
+			ring.place(member)
+		}
 	}
-	return node, nil
-}
-
-// newRing makes the ring of what the node holds.
-func newRing(node *C.ringpop_node) (*Ring, error) {
-	ring, count := new(Ring), C.size_t(0)
-	if err := check(C.ringpop_node_len(node, &count), 0); err != nil {
-		return nil, err
-	}
-	if err := check(C.ringpop_view_new(&ring.view, node), 0); err != nil {
-		return nil, err
-	}
-	ring.members = int(count) - 1
-	runtime.SetFinalizer(ring, (*Ring).Close)
+	sort.Slice(ring.points, func(i, j int) bool {
+		one, other := ring.points[i], ring.points[j]
+		return one.hash < other.hash || one.hash == other.hash && one.server < other.server
+	})
 	return ring, nil
 }
 
-// check is the error of a code, nil where it is DONE or NOTHING.
-func check(code C.uint32_t, line int) error {
-	if code == C.RINGPOP_DONE || code == C.RINGPOP_NOTHING {
-		return nil
+// place gives a server its points on the circle. At one hash the lower address comes first, which is the lower place among the servers.
+func (ring *Ring) place(member Member) {
+	text := []byte(member.Address.String())
+	for i := 0; i < ring.replicas*member.Weight; i++ {
+		ring.points = append(ring.points, point{hashOf(strconv.AppendInt(text, int64(i), 10)), len(ring.serving)})
 	}
-	return &Error{Code: uint32(code), Line: line}
+	ring.serving = append(ring.serving, member)
 }
 
-// none is where an empty slice or text begins: the library wants a place there, too.
-var none [1]byte
-
-func first(slice []byte) *C.uint8_t {
-	if len(slice) == 0 {
-		slice = none[:]
-	}
-	return (*C.uint8_t)(unsafe.Pointer(&slice[0]))
+// hashOf is the first eight bytes of the SHA-256, the first of them the greatest.
+func hashOf(text []byte) uint64 {
+	sum := sha256.Sum256(text)
+	return binary.BigEndian.Uint64(sum[:8])
 }
 
-// begin is where the bytes of a text lie, which are not copied.
-func begin(text string) *C.uint8_t {
-	if len(text) == 0 {
-		return first(nil)
-	}
-	return (*C.uint8_t)(*(*unsafe.Pointer)(unsafe.Pointer(&text)))
+// at is the place of the first point at or after the key's hash, wrapping around. Some member has to serve.
+func (ring *Ring) at(key string) int {
+	hash := hashOf([]byte(key))
+	place := sort.Search(len(ring.points), func(i int) bool { return ring.points[i].hash >= hash })
+	return place % len(ring.points)
 }
 
-func address(ip C.uint32_t, port C.uint16_t) netip.AddrPort {
-	parts := [4]byte{byte(ip >> 24), byte(ip >> 16), byte(ip >> 8), byte(ip)}
-	return netip.AddrPortFrom(netip.AddrFrom4(parts), uint16(port))
+// Owner is the address of the key's owner, and whether a member serves.
+func (ring *Ring) Owner(key string) (netip.AddrPort, bool) {
+	if len(ring.points) == 0 {
+		return netip.AddrPort{}, false
+	}
+	return ring.serving[ring.points[ring.at(key)].server].Address, true
+}
+
+// Owners is the first n owners of the key, all different, the owner first, or all that serve if those are fewer. A negative n counts as 0.
+func (ring *Ring) Owners(key string, n int) []netip.AddrPort {
+	if n > len(ring.serving) {
+		n = len(ring.serving)
+	}
+	owners := []netip.AddrPort{}
+	if n < 1 {
+		return owners
+	}
+	named := make([]bool, len(ring.serving))
+	for place := ring.at(key); len(owners) < n; place = (place + 1) % len(ring.points) {
+		if server := ring.points[place].server; !named[server] {
+			named[server] = true
+			owners = append(owners, ring.serving[server].Address)
+		}
+	}
+	return owners
+}
+
+// Moved is those keys that have another owner here than in another ring, such as the ring before: in their order, with both owners.
+func (ring *Ring) Moved(keys []string, other *Ring) []Move {
+	moves := []Move{}
+	for _, key := range keys {
+		before, _ := other.Owner(key)
+		after, _ := ring.Owner(key)
+		if before != after {
+			moves = append(moves, Move{key, before, after})
+		}
+	}
+	return moves
+}
+
+// Members are those that the ring was made of, ascending by address, those that do not serve included.
+func (ring *Ring) Members() []Member { return append([]Member(nil), ring.members...) }
+
+// Serving are the members that serve, ascending by address.
+func (ring *Ring) Serving() []Member { return append([]Member(nil), ring.serving...) }
+
+// Replicas is how many points a member has for each unit of its weight.
+func (ring *Ring) Replicas() int { return ring.replicas }
+
+// Own is the address of the node whose members they are, and the zero AddrPort if it is not known.
+func (ring *Ring) Own() netip.AddrPort { return ring.own }
+
+// Len is how many members the ring was made of, those that do not serve included.
+func (ring *Ring) Len() int { return len(ring.members) }
+
+// Digest is the ring's digest in 64 hexadecimal digits, as `GET /ring` of an agent gives it: equal digests, equal serving members.
+func (ring *Ring) Digest() string {
+	parts := make([]string, len(ring.serving))
+	for i, member := range ring.serving {
+		parts[i] = member.Address.String() + "alive0"
+		if member.Weight > 1 {
+			parts[i] += fmt.Sprintf("*%d", member.Weight)
+		}
+	}
+	sum := sha256.Sum256([]byte(strings.Join(parts, ";")))
+	return hex.EncodeToString(sum[:])
+}
+
+// Equal is whether two rings have the same serving members, weights and replicas, so that they name the same owners.
+func (ring *Ring) Equal(other *Ring) bool {
+	return other != nil && ring.replicas == other.replicas && ring.Digest() == other.Digest()
+}
+
+// String says how many members a ring has, and the beginning of its digest.
+func (ring *Ring) String() string {
+	return fmt.Sprintf("ring of %d members, %d serving, %d replicas, digest %s", len(ring.members), len(ring.serving), ring.replicas, ring.Digest()[:8])
 }

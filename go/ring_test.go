@@ -1,7 +1,6 @@
 package ringpop
 
 import (
-	"bytes"
 	"errors"
 	"fmt"
 	"os"
@@ -17,20 +16,6 @@ func change(last, incarnation int, status string) string {
 		last, incarnation, status)
 }
 
-// read is a file of the folder that scripts/bindings makes.
-func read(t *testing.T, name string) []byte {
-	t.Helper()
-	folder := os.Getenv("RINGPOP_ANSWERS")
-	if folder == "" {
-		t.Fatal("RINGPOP_ANSWERS names no folder: scripts/bindings makes one")
-	}
-	text, err := os.ReadFile(filepath.Join(folder, name))
-	if err != nil {
-		t.Fatal(err)
-	}
-	return text
-}
-
 func made(t *testing.T, lines ...string) *Ring {
 	t.Helper()
 	ring, err := FromMembers([]byte(strings.Join(lines, "\n")), StandardReplicas)
@@ -40,102 +25,113 @@ func made(t *testing.T, lines ...string) *Ring {
 	return ring
 }
 
-// joined is the message that has these lines as its changes.
-func joined(lines []byte) []byte {
-	changes := bytes.ReplaceAll(bytes.TrimSpace(lines), []byte("\n"), []byte(","))
-	return []byte(fmt.Sprintf(`{"changes":[%s],"checksum":"%064d","kind":"joined","source":"10.9.9.9:1","sourceIncarnationNumber":1}`+"\n",
-		changes, 0))
+// The members, keys and answers of the program, which scripts/rings makes.
+func read(t *testing.T, name string) string {
+	t.Helper()
+	folder := os.Getenv("RINGPOP_ANSWERS")
+	if folder == "" {
+		t.Skip("RINGPOP_ANSWERS names no folder: scripts/rings makes one")
+	}
+	text, err := os.ReadFile(filepath.Join(folder, name))
+	if err != nil {
+		t.Fatal(err)
+	}
+	return string(text)
 }
 
-// answered counts the program's answers that the ring names.
-func answered(t *testing.T, ring *Ring) int {
-	t.Helper()
-	seen := 0
-	for _, line := range strings.Split(strings.TrimSuffix(string(read(t, "answers")), "\n"), "\n") {
+func TestTheProgramsAnswers(t *testing.T) {
+	ring, err := FromMembers([]byte(read(t, "members")), StandardReplicas)
+	if err != nil {
+		t.Fatal(err)
+	}
+	answers := strings.Split(strings.TrimSuffix(read(t, "answers"), "\n"), "\n")
+	if len(answers) != 10000 {
+		t.Fatalf("%d answers", len(answers))
+	}
+	for _, line := range answers {
 		key, wanted, _ := strings.Cut(line, "\t")
-		owners, err := ring.Owners(key, 3)
-		if err != nil {
-			t.Fatal(err)
-		}
+		owners := ring.Owners(key, 3)
 		if said := strings.Trim(fmt.Sprint(owners), "[]"); said != wanted {
 			t.Fatalf("%q is on %s, and not %s", key, said, wanted)
 		}
 		if owner, found := ring.Owner(key); !found || owner != owners[0] {
 			t.Fatalf("%q has another owner, %s", key, owner)
 		}
-		seen++
 	}
-	return seen
-}
-
-func TestTheProgramsAnswers(t *testing.T) {
-	lines := read(t, "members")
-	ring, err := FromMembers(lines, StandardReplicas)
-	if err != nil {
-		t.Fatal(err)
+	if digest := strings.TrimSuffix(read(t, "digest"), "\n"); ring.Digest() != digest {
+		t.Fatalf("the digest is %s, and not %s", ring.Digest(), digest)
 	}
-	defer ring.Close()
-	if seen := answered(t, ring); seen != 10000 {
-		t.Fatalf("%d answers", seen)
-	}
-	ring, err = FromJoined(joined(lines), StandardReplicas)
-	if err != nil {
-		t.Fatal(err)
-	}
-	defer ring.Close()
-	answered(t, ring)
 }
 
 func TestServersAlone(t *testing.T) {
 	ring := made(t, change(1, 1, "alive"), change(2, 1, "suspect"), change(3, 1, "faulty"), change(4, 1, "leave"), change(1, 2, "faulty"), change(1, 1, "alive"))
-	owners, err := ring.Owners("trip-42", 9)
-	if err != nil || fmt.Sprint(owners) != "[10.0.0.2:7946]" || ring.Len() != 4 {
-		t.Fatalf("%v of %d, %v", owners, ring.Len(), err)
+	if owners := ring.Owners("trip-42", 9); fmt.Sprint(owners) != "[10.0.0.2:7946]" || ring.Len() != 4 || len(ring.Serving()) != 1 {
+		t.Fatalf("%v of %d", owners, ring.Len())
 	}
-	if owners, err := ring.Owners("", -1); err != nil || len(owners) != 0 {
-		t.Fatalf("%v, %v", owners, err)
+	if owners := ring.Owners("", -1); len(owners) != 0 {
+		t.Fatalf("%v", owners)
 	}
-	if owner, found := made(t).Owner("trip-42"); found {
+	if owner, found := made(t).Owner("trip-42"); found || len(made(t).Owners("trip-42", 3)) != 0 {
 		t.Fatalf("an owner, %s, where there is no member", owner)
 	}
 }
 
+func TestMoved(t *testing.T) {
+	before, after := made(t, change(1, 1, "alive"), change(2, 1, "alive")), made(t, change(1, 1, "alive"), change(2, 1, "suspect"), change(3, 1, "alive"))
+	keys, moved := []string{}, map[string]Move{}
+	for i := 0; i < 300; i++ {
+		keys = append(keys, fmt.Sprint("trip-", i))
+	}
+	for _, move := range after.Moved(keys, before) {
+		moved[move.Key] = move
+	}
+	for _, key := range keys {
+		old, _ := before.Owner(key)
+		now, _ := after.Owner(key)
+		if move, found := moved[key]; found != (old != now) || found && (move.Before != old || move.After != now) {
+			t.Fatalf("%s: %v, and it was on %s and is on %s", key, move, old, now)
+		}
+	}
+	if len(moved) == 0 || len(moved) == len(keys) {
+		t.Fatalf("%d moved", len(moved))
+	}
+	if same := made(t, change(2, 7, "suspect"), change(1, 1, "alive"), change(4, 1, "leave")); !same.Equal(before) || before.Equal(after) || before.Equal(nil) {
+		t.Fatal("rings are equal, or not, and should be the other")
+	}
+	if more, err := NewRing(before.Members(), 99); err != nil || more.Equal(before) {
+		t.Fatalf("rings with other replicas are equal, %v", err)
+	}
+}
+
 func TestFaults(t *testing.T) {
-	var fault *Error
-	_, err := FromMembers([]byte(change(1, 1, "alive")+"\n[]\n"), StandardReplicas)
-	if !errors.As(err, &fault) || err.Error() != "ringpop: line 2: not an object" {
-		t.Fatal(err)
+	good := change(1, 1, "alive")
+	for wanted, line := range map[string]string{
+		"line 2: not an object":                                  `[]`,
+		"line 2: not JSON":                                       `{"address":`,
+		"line 2: the field address is missing":                   `{}`,
+		`line 2: the field address is bad: "10.0.0.01:7946"`:     strings.Replace(good, "10.0.0.1:7946", "10.0.0.01:7946", 1),
+		"line 2: the field incarnationNumber is bad: 1.0":        strings.Replace(good, `"incarnationNumber":1`, `"incarnationNumber":1.0`, 1),
+		`line 2: the field status is bad: "Alive"`:               strings.Replace(good, "alive", "Alive", 1),
+		"line 2: the field weight is bad: 9":                     strings.Replace(good, "{", `{"weight":9,`, 1),
+		"line 2: the field tombstone is bad: 1":                  strings.Replace(change(1, 1, "faulty"), "{", `{"tombstone":1,`, 1),
+		"line 2: the field sourceIncarnationNumber is bad: null": strings.Replace(good, `"sourceIncarnationNumber":1`, `"sourceIncarnationNumber":null`, 1),
+	} {
+		_, err := FromMembers([]byte(good+"\n"+line+"\n"), StandardReplicas)
+		var fault *LineError
+		if !errors.Is(err, ErrLine) || !errors.As(err, &fault) || err.Error() != "ringpop: "+wanted || !errors.Is(err, &LineError{2, fault.Reason}) {
+			t.Errorf("%v, and not %s", err, wanted)
+		}
 	}
-	_, err = FromMembers(nil, 1001)
-	if !errors.As(err, &fault) || err.Error() != "ringpop: replicas is out of its range" {
-		t.Fatal(err)
+	for _, replicas := range []int{0, 1001, -1} {
+		if _, err := FromMembers(nil, replicas); !errors.Is(err, ErrReplicas) || !strings.HasSuffix(err.Error(), fmt.Sprint(replicas)) {
+			t.Error(err)
+		}
 	}
-	_, err = FromJoined([]byte(change(1, 1, "alive")), StandardReplicas)
-	if !errors.As(err, &fault) || fault.Line != 0 {
-		t.Fatal(err)
+	if _, err := NewRing(make([]Member, MaxMembers+1), 1); !errors.Is(err, ErrTooManyMembers) {
+		t.Error(err)
 	}
-}
-
-func TestTooManyMembers(t *testing.T) {
-	lines := new(strings.Builder)
-	for i := 0; i <= MaxMembers; i++ {
-		fmt.Fprintln(lines, strings.Replace(change(1, 1, "leave"), "10.0.0.1", fmt.Sprintf("10.1.%d.%d", i>>8, i&255), 1))
-	}
-	_, err := FromMembers([]byte(lines.String()), 1)
-	if err == nil || err.Error() != "ringpop: line 4096: too many members" {
-		t.Fatal(err)
-	}
-}
-
-func TestClosed(t *testing.T) {
-	ring := made(t, change(1, 1, "alive"))
-	ring.Close()
-	ring.Close()
-	if _, found := ring.Owner("trip-42"); found {
-		t.Fatal("a closed ring has an owner")
-	}
-	if _, err := ring.Owners("trip-42", 1); err == nil {
-		t.Fatal("a closed ring has owners")
+	if _, err := NewClient("127.0.0.1:7980"); !errors.Is(err, ErrURL) {
+		t.Error(err)
 	}
 }
 
@@ -156,4 +152,20 @@ func TestManyGoroutines(t *testing.T) {
 		}()
 	}
 	group.Wait()
+}
+
+func BenchmarkOwner(b *testing.B) {
+	members := make([]Member, 100)
+	for i := range members {
+		text := strings.Replace(change(1, 1, "alive"), "10.0.0.1:7946", fmt.Sprintf("10.1.0.%d:7946", i), 1)
+		members[i], _ = memberOf([]byte(text))
+	}
+	ring, err := NewRing(members, StandardReplicas)
+	if err != nil {
+		b.Fatal(err)
+	}
+	b.ReportAllocs()
+	for i := 0; i < b.N; i++ {
+		ring.Owner("trip-42")
+	}
 }

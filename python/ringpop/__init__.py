@@ -1,10 +1,20 @@
-"""The owners of a cluster's keys, in process: a ring made of what a node answers.
+"""Which node owns a key: asked of an agent, or found in process.
 
-    from ringpop import Ring
+    from ringpop import Client, Ring
 
-    ring = Ring.from_members(lines)       # of `ringpop members --lines HOST`
-    ring.owner("trip-42")                 # '10.0.0.2:7946'
+    client = Client("http://127.0.0.1:7980")    # an agent, `ringpop agent --http 127.0.0.1:7980 ..`
+    client.request("trip-42", b"hello")         # the answer of the service whose node owns the key
+    ring = Ring.from_agent("http://127.0.0.1:7980")
+    ring.owner("trip-42")                       # '10.0.0.2:7946', without asking anyone
+    for ring in client.watch():                 # now, and again after each change of the ring
+        ...
 """
-from ._ring import MAX_MEMBERS, Ring, RingpopError
+from ._client import Answer, Client
+from ._errors import AgentError, BadAnswer, BadLine, BadReplicas, RingpopError, TooManyMembers, Unreachable
+from ._ring import MAX_MEMBERS, Member, Move, Ring
 
-__all__ = ["MAX_MEMBERS", "Ring", "RingpopError"]
+__version__ = "1.0.0-dev"
+__all__ = [
+    "MAX_MEMBERS", "AgentError", "Answer", "BadAnswer", "BadLine", "BadReplicas", "Client", "Member", "Move", "Ring", "RingpopError",
+    "TooManyMembers", "Unreachable",
+]

@@ -1,25 +1,12 @@
-"""The calls of the shared library that a ring needs, as ctypes has them."""
+"""Look-ups by the C library, where it is installed: RINGPOP_LIBRARY names its file, or the system finds it."""
+from __future__ import annotations
+
 import ctypes as c
 import os
 
-DONE, NOTHING = 0, 1
-MAX_LINE = 1 << 20
-# What a call may answer about a line or the members, as in ringpop.h.
-TEXTS = {
-    7: "the weight is not 1 to 8",
-    8: "replicas is out of its range",
-    15: "no incarnation is left",
-    16: "too many members",
-    23: "out of memory",
-    24: "the line is too long",
-    25: "not JSON",
-    26: "not an object",
-    27: "an unknown kind",
-    28: "a field is missing",
-    29: "a field is bad",
-    30: "too many changes or keys",
-    31: "no message of the membership",
-}
+DONE = 0
+# (the node of a view holds one member more, itself, at an address where no node can listen)
+MOST, OWN_IP, OWN_PORT = 4095, 0xFFFFFFFF, 0xFFFF
 
 
 class Handle(c.Structure):
@@ -56,8 +43,6 @@ _CALLS = {
     "node_free": [_HANDLE],
     "node_leave": [_HANDLE],
     "node_take": [_HANDLE, *_BYTES, c.c_uint64],
-    "node_receive": [_HANDLE, *_BYTES, c.c_uint64, c.c_char_p, c.c_size_t, _SIZE],
-    "node_len": [_HANDLE, _SIZE],
     "view_new": [_HANDLE, _HANDLE],
     "view_free": [_HANDLE],
     "view_owner": [_HANDLE, *_BYTES, _IP, _PORT],
@@ -65,15 +50,86 @@ _CALLS = {
 }
 
 
-def load() -> c.CDLL:
-    """Loads the file that RINGPOP_LIBRARY names, or the system's library.
-
-    A call holds the interpreter's lock (PyDLL): a ring has one call at a time, and a lookup is shorter than a turn of the lock.
-    """
-    library = c.PyDLL(os.environ.get("RINGPOP_LIBRARY", "libringpop.so.1"))
+def _load() -> c.CDLL | None:
+    """A call holds the interpreter's lock (PyDLL): a view has one call at a time, and a look-up is shorter than a turn of the lock."""
+    named = os.environ.get("RINGPOP_LIBRARY")
+    try:
+        library = c.PyDLL(named or "libringpop.so.1")
+    except OSError as error:
+        if named:
+            raise ImportError(f"RINGPOP_LIBRARY names no library that can be loaded: {error}") from error
+        return None
     library.ringpop_config_standard.argtypes = [c.POINTER(Config)]
     library.ringpop_config_standard.restype = None
     for name, types in _CALLS.items():
         call = getattr(library, f"ringpop_{name}")
         call.argtypes, call.restype = types, c.c_uint32
     return library
+
+
+_library = _load()
+
+
+def _done(code: int) -> None:
+    if code != DONE:
+        raise MemoryError
+
+
+def _name(place: int) -> str:
+    """The text of an address, an IPv4 number with a port above its 32 bits."""
+    return f"{place >> 24 & 255}.{place >> 16 & 255}.{place >> 8 & 255}.{place & 255}:{place >> 32}"
+
+
+class View:
+    """A view of a node that has left, so that it owns no key, and holds these members."""
+
+    def __init__(self, serving: tuple[tuple[str, int], ...], replicas: int) -> None:
+        node, config, self._view = Handle(), Config(), Handle()
+        _library.ringpop_config_standard(config)
+        config.replicas = replicas
+        _done(_library.ringpop_node_new(node, config, OWN_IP, OWN_PORT, 0, 0, 0))
+        try:
+            _done(_library.ringpop_node_leave(node))
+            for address, weight in serving:
+                line = (
+                    f'{{"address":"{address}","incarnationNumber":0,"source":"{address}","sourceIncarnationNumber":0,"status":"alive",'
+                    f'"weight":{weight}}}'
+                ).encode()
+                _done(_library.ringpop_node_take(node, line, len(line), 0))
+            _done(_library.ringpop_view_new(self._view, node))
+        finally:
+            _library.ringpop_node_free(node)
+        # What a look-up uses, made once: an address is written into eight bytes, and read as one number.
+        self._place = c.c_uint64()
+        ip, port = c.c_uint32.from_buffer(self._place), c.c_uint16.from_buffer(self._place, 4)
+        self._given = c.byref(self._view), c.byref(ip), c.byref(port)
+        self._names: dict[int, str] = {}
+        # The same call without the types of its arguments, which take as long to convert as the look-up. Then a length is a C int.
+        self._owner = _library["ringpop_view_owner"]
+        self._owner.restype = c.c_uint32
+
+    def owner(self, key: bytes) -> str | None:
+        view, ip, port = self._given
+        length = len(key)
+        look = self._owner if length < 1 << 31 else _library.ringpop_view_owner
+        if look(view, key, length, ip, port):
+            return None
+        place = self._place.value
+        name = self._names.get(place)
+        if name is None:
+            name = self._names[place] = _name(place)
+        return name
+
+    def owners(self, key: bytes, wanted: int) -> list[str]:
+        places, count = (Address * max(wanted, 1))(), c.c_size_t()
+        _done(_library.ringpop_view_owners(self._view, key, len(key), wanted, places, len(places), count))
+        return [_name(place.ip | place.port << 32) for place in places[: count.value]]
+
+    def __del__(self) -> None:
+        if _library is not None and self._view.full:
+            _library.ringpop_view_free(self._view)
+
+
+def view_of(serving: tuple[tuple[str, int], ...], replicas: int) -> View | None:
+    """The view of these servers; None where the library is not installed, or holds no more members."""
+    return View(serving, replicas) if _library is not None and len(serving) <= MOST else None

@@ -1,173 +1,237 @@
-"""A ring over a view of the C library: what a node would answer, without asking it."""
+"""The owners of keys among members that do not change."""
 from __future__ import annotations
 
-import ctypes as c
+import hashlib
+import json
+import re
+from bisect import bisect_left
 from collections.abc import Iterable
-from types import TracebackType
-from typing import Union
+from typing import Any, NamedTuple, Union
 
-from ._library import DONE, MAX_LINE, NOTHING, TEXTS, Address, Config, Handle, load
+from . import _library
+from ._errors import BadLine, BadReplicas, TooManyMembers
 
 Text = Union[str, bytes]
-MAX_MEMBERS = 4095
-"""Members of a ring at most: the library holds 4,096, and the ring's own node is one of them."""
-_OWN_IP, _OWN_PORT = 0xFFFFFFFF, 0xFFFF
-_library = load()
+MAX_MEMBERS = 4096
+"""Members of a cluster at most."""
+MAX_LINE = 1 << 20
+MAX_NUMBER = (1 << 53) - 1
+RANKS = {"alive": 0, "suspect": 1, "faulty": 2, "leave": 3, "tombstone": 4}
+_ADDRESS = re.compile(r"(\d{1,3})\.(\d{1,3})\.(\d{1,3})\.(\d{1,3}):(\d{1,5})", re.ASCII)
 
 
-class RingpopError(ValueError):
-    """A line or a value that the library refuses: its code, and the number of the line, from 1, if one has an error."""
+class Member(NamedTuple):
+    """A member of the cluster. It serves, and so may own keys, while it is alive or suspect."""
 
-    def __init__(self, code: int, line: int | None = None) -> None:
-        text = TEXTS.get(code, f"code {code}")
-        super().__init__(text if line is None else f"line {line}: {text}")
-        self.code = code
-        self.line = line
+    address: str
+    weight: int = 1
+    status: str = "alive"
+    incarnation: int = 0
 
-
-def _encoded(text: Text) -> bytes:
-    return text.encode() if isinstance(text, str) else text
-
-
-def _done(code: int, line: int | None = None) -> None:
-    if code not in (DONE, NOTHING):
-        if code == 23:
-            raise MemoryError
-        raise RingpopError(code, line)
+    @property
+    def serves(self) -> bool:
+        return RANKS[self.status] < 2
 
 
-class _Node:
-    """A node that has left, so that it owns no key, at 255.255.255.255:65535, where no node can listen."""
+class Move(NamedTuple):
+    """A key whose owner is another one than before. None stands for no owner: no member served."""
 
-    def __init__(self, replicas: int) -> None:
-        self.handle, config = Handle(), Config()
-        _library.ringpop_config_standard(config)
-        config.replicas = replicas if 0 <= replicas < 1 << 32 else 0
-        _done(_library.ringpop_node_new(self.handle, config, _OWN_IP, _OWN_PORT, 0, 0, 0))
+    key: Text
+    before: str | None
+    after: str | None
 
-    def __enter__(self) -> _Node:
-        _done(_library.ringpop_node_leave(self.handle))
-        return self
 
-    def __exit__(self, *_: object) -> None:
-        _library.ringpop_node_free(self.handle)
+def number_of(address: object) -> int | None:
+    """The number by which addresses ascend; None if it is not the one text of an address."""
+    parts = _ADDRESS.fullmatch(address) if isinstance(address, str) else None
+    if parts is None or any(len(part) > 1 and part[0] == "0" for part in parts.groups()):
+        return None
+    *octets, port = map(int, parts.groups())
+    return int.from_bytes(octets, "big") << 16 | port if max(octets) < 256 and 0 < port < 65536 else None
 
-    def take(self, line: bytes, number: int) -> None:
-        _done(_library.ringpop_node_take(self.handle, line, len(line), 0), number)
 
-    def receive(self, line: bytes) -> None:
-        out, count = c.create_string_buffer(MAX_LINE), c.c_size_t()
-        _done(_library.ringpop_node_receive(self.handle, line, len(line), 0, out, MAX_LINE, count))
+def encoded(key: Text) -> bytes:
+    """The bytes of a key: a text counts as its UTF-8."""
+    if isinstance(key, str):
+        return key.encode()
+    if isinstance(key, bytes):
+        return key
+    raise TypeError(f"a key is str or bytes, and not {type(key).__name__}: {key!r}")
+
+
+def _point(text: bytes) -> int:
+    return int.from_bytes(hashlib.sha256(text).digest()[:8], "big")
+
+
+def _is_number(value: object, most: int, least: int = 0) -> bool:
+    return type(value) is int and least <= value <= most
+
+
+# What each field of a change has to be.
+_FIELDS = {
+    "address": lambda it: number_of(it) is not None,
+    "incarnationNumber": lambda it: _is_number(it, MAX_NUMBER),
+    "source": lambda it: number_of(it) is not None,
+    "sourceIncarnationNumber": lambda it: _is_number(it, MAX_NUMBER),
+    "status": lambda it: isinstance(it, str) and it in RANKS,
+    "tombstone": lambda it: isinstance(it, bool),
+    "weight": lambda it: _is_number(it, 8, 1),
+}
+
+
+def _member_of(line: bytes, number: int) -> Member:
+    """The member that a change line tells of."""
+    if len(line) > MAX_LINE:
+        raise BadLine(number, "the line is too long")
+    try:
+        change = json.loads(line.decode())
+    except (ValueError, RecursionError):
+        raise BadLine(number, "not JSON") from None
+    if not isinstance(change, dict):
+        raise BadLine(number, "not an object")
+    for name, is_good in _FIELDS.items():
+        if name == "tombstone" and change["status"] != "faulty" or name in ("tombstone", "weight") and name not in change:
+            continue
+        if name not in change:
+            raise BadLine(number, f"the field {name} is missing")
+        if not is_good(change[name]):
+            raise BadLine(number, f"the field {name} is bad: {change[name]!r}")
+    is_tombstone = change["status"] == "faulty" and change.get("tombstone", False)
+    status = "tombstone" if is_tombstone else change["status"]
+    return Member(change["address"], change.get("weight", 1), status, change["incarnationNumber"])
+
+
+def _lines_of(lines: Text | Iterable[Text]) -> Iterable[bytes]:
+    if isinstance(lines, (str, bytes)):
+        # (not splitlines, which would split at other characters too)
+        whole = lines.encode() if isinstance(lines, str) else lines
+        lines = whole.removesuffix(b"\n").split(b"\n") if whole else []
+    for line in lines:
+        yield (line.encode() if isinstance(line, str) else line).removesuffix(b"\n")
 
 
 class Ring:
     """The owners of keys among members that do not change: for other members make another ring.
 
-    The same owners, in the same order, as `ringpop owner` and every node of the cluster name from these members. A member serves while it
-    is alive or suspect. Safe to share between threads while the interpreter has its lock.
+    It names the same owners, in the same order, as each node of a cluster with these members and this number of replicas, and as
+    `ringpop owner`. Rings with the same serving members, weights and replicas are equal. A ring may be shared between threads, and pickled.
+    The C library makes its look-ups where it is installed; they are the same without it.
     """
 
-    def __init__(self, node: _Node) -> None:
-        """Not for callers: `from_members` and `from_joined` make a ring."""
-        self._view = Handle()
-        _done(_library.ringpop_view_new(self._view, node.handle))
-        count = c.c_size_t()
-        _library.ringpop_node_len(node.handle, count)
-        self._members = count.value - 1
-        # What a lookup uses, made once: an address is written into eight bytes, and read as one number.
-        self._place = c.c_uint64()
-        ip, port = c.c_uint32.from_buffer(self._place), c.c_uint16.from_buffer(self._place, 4)
-        self._given = c.byref(self._view), c.byref(ip), c.byref(port)
-        self._names: dict[int, str] = {}
-        # The same call without the types of its arguments, which take as long to convert as the look-up. Then a length is a C int.
-        self._owner = _library["ringpop_view_owner"]
-        self._owner.restype = c.c_uint32
+    def __init__(self, members: Iterable[Member], *, replicas: int = 100, own: str | None = None) -> None:
+        """Makes the ring of members with different addresses, each of them checked already; `own` names the node that told them.
+
+        Raises BadReplicas if `replicas` is not 1 to 1,000, and TooManyMembers.
+        """
+        if not _is_number(replicas, 1000, 1):
+            raise BadReplicas(replicas)
+        self.members = tuple(sorted(members, key=lambda it: number_of(it.address) or 0))
+        """The members, ascending by address, those that do not serve included."""
+        if len(self.members) > MAX_MEMBERS:
+            raise TooManyMembers
+        self.replicas = replicas
+        self.own = own
+        """The address of the node whose members they are; None if it is not known."""
+        self.serving = tuple((it.address, it.weight) for it in self.members if it.serves)
+        """The addresses and weights of the members that serve."""
+        self._view = _library.view_of(self.serving, replicas)
+        if self._view is None:
+            self._place()
+
+    def _place(self) -> None:
+        """Places the points of the serving members on the circle; at one hash the lower address comes first."""
+        points = [
+            (_point(f"{address}{i}".encode()), place)
+            for place, (address, weight) in enumerate(self.serving)
+            for i in range(self.replicas * weight)
+        ]
+        points.sort()
+        self._hashes = [hash for hash, _ in points]
+        self._names = [self.serving[place][0] for _, place in points]
 
     @classmethod
     def from_members(cls, lines: Text | Iterable[Text], *, replicas: int = 100) -> Ring:
         """Makes the ring of change lines, as `ringpop members --lines` prints them: one text, or a line at a time.
 
-        `replicas` is that of the cluster, 1 to 1,000. Of changes of one member the greatest counts, wherever it is.
+        `replicas` is that of the cluster, 1 to 1,000. Of the changes of one member the greatest counts, wherever it stands.
 
-        Raises RingpopError at the first line that is not a change or is a member past MAX_MEMBERS, or if `replicas` is out of its range,
-        and MemoryError.
+        Raises BadLine at the first line that is not a change, BadReplicas, and TooManyMembers.
         """
-        if isinstance(lines, (str, bytes)):
-            # (not splitlines, which would split at other characters too)
-            lines = _encoded(lines).split(b"\n")
-            if not lines[-1]:
-                lines.pop()
-        with _Node(replicas) as node:
-            for number, line in enumerate(lines, 1):
-                encoded = _encoded(line)
-                node.take(encoded[:-1] if encoded.endswith(b"\n") else encoded, number)
-            return cls(node)
+        held: dict[str, Member] = {}
+        for number, line in enumerate(_lines_of(lines), 1):
+            member = _member_of(line, number)
+            known = held.get(member.address)
+            if known is None or _order(known) < _order(member):
+                held[member.address] = member
+        return cls(held.values(), replicas=replicas)
 
     @classmethod
-    def from_joined(cls, line: Text, *, replicas: int = 100) -> Ring:
-        """Makes the ring of a `joined` message, the line that a node answers to a `join`; `replicas` as above.
+    def from_agent(cls, url: str = "http://127.0.0.1:7980", *, timeout: float = 10.0) -> Ring:
+        """Makes the ring of what an agent holds now; `url` is where it answers HTTP.
 
-        Raises RingpopError if the line is not a message of the membership, or has more than MAX_MEMBERS, and MemoryError.
+        Raises Unreachable, AgentError and BadAnswer.
         """
-        with _Node(replicas) as node:
-            node.receive(_encoded(line).rstrip(b"\n"))
-            return cls(node)
+        from ._client import Client
+
+        return Client(url, timeout=timeout).ring()
 
     def owner(self, key: Text) -> str | None:
         """The address of the key's owner, as '10.0.0.1:7946'. None if no member serves. A text counts as its UTF-8."""
-        encoded = key.encode() if isinstance(key, str) else key
-        view, ip, port = self._given
-        length = len(encoded)
-        look = self._owner if length < 1 << 31 else _library.ringpop_view_owner
-        if look(view, encoded, length, ip, port):
-            self._check_open()
-            return None
-        place = self._place.value
-        name = self._names.get(place)
-        return self._name(place) if name is None else name
+        if self._view is not None:
+            return self._view.owner(encoded(key))
+        names = self._names
+        place = bisect_left(self._hashes, _point(encoded(key)))
+        return names[place] if place < len(names) else names[0] if names else None
 
     def owners(self, key: Text, n: int) -> list[str]:
-        """The first n owners of the key, all different, the owner first, or all that serve where those are fewer.
+        """The first n owners of the key, all different, the owner first, or all that serve if those are fewer.
 
-        Raises ValueError where n is negative or the ring is closed, and MemoryError.
+        Raises ValueError if n is negative.
         """
         if n < 0:
-            raise ValueError("n is negative")
-        encoded, wanted, count = _encoded(key), min(n, self._members), c.c_size_t()
-        places = (Address * max(wanted, 1))()
-        code = _library.ringpop_view_owners(self._view, encoded, len(encoded), wanted, places, len(places), count)
-        if code == DONE:
-            return [self._name(place.ip | place.port << 32) for place in places[: count.value]]
-        if code == 23:
-            raise MemoryError
-        raise ValueError("the ring is closed")
+            raise ValueError(f"n is {n}, and not 0 or more")
+        wanted = min(n, len(self.serving))
+        if self._view is not None:
+            return self._view.owners(encoded(key), wanted)
+        found: dict[str, None] = {}
+        place = bisect_left(self._hashes, _point(encoded(key)))
+        while len(found) < wanted:
+            found[self._names[place % len(self._names)]] = None
+            place += 1
+        return list(found)
+
+    def moved(self, keys: Iterable[Text], other: Ring) -> list[Move]:
+        """Those keys that have another owner here than in another ring, such as the ring before: in their order, with both owners."""
+        moves = (Move(key, other.owner(key), self.owner(key)) for key in keys)
+        return [move for move in moves if move.before != move.after]
+
+    @property
+    def digest(self) -> str:
+        """The ring's digest in 64 hexadecimal digits, as `GET /ring` of an agent gives it: equal digests, equal serving members."""
+        text = ";".join(f"{address}alive0" + (f"*{weight}" if weight > 1 else "") for address, weight in self.serving)
+        return hashlib.sha256(text.encode()).hexdigest()
 
     def __len__(self) -> int:
-        """How many members it was made of, those that do not serve among them."""
-        return self._members
+        """How many members it was made of, those that do not serve included."""
+        return len(self.members)
 
-    def close(self) -> None:
-        """Frees the ring; a lookup raises ValueError from then on. Closing it again does nothing."""
-        _library.ringpop_view_free(self._view)
+    def __eq__(self, other: object) -> bool:
+        return isinstance(other, Ring) and (self.serving, self.replicas) == (other.serving, other.replicas)
 
-    def __enter__(self) -> Ring:
-        return self
+    def __hash__(self) -> int:
+        return hash((self.serving, self.replicas))
 
-    def __exit__(self, kind: type[BaseException] | None, error: BaseException | None, trace: TracebackType | None) -> None:
-        self.close()
+    def __repr__(self) -> str:
+        return f"<Ring of {len(self.members)} members, {len(self.serving)} serving, {self.replicas} replicas, digest {self.digest[:8]}>"
 
-    def __del__(self) -> None:
-        if hasattr(self, "_view"):
-            self.close()
+    def __reduce__(self) -> Any:
+        return _made, (self.members, self.replicas, self.own)
 
-    def _check_open(self) -> None:
-        if not self._view.full:
-            raise ValueError("the ring is closed")
 
-    def _name(self, place: int) -> str:
-        """The text of an address, an IPv4 number with a port above its 32 bits: made once, and kept."""
-        name = self._names.get(place)
-        if name is None:
-            ip, port = place & 0xFFFFFFFF, place >> 32
-            name = self._names[place] = f"{ip >> 24}.{ip >> 16 & 255}.{ip >> 8 & 255}.{ip & 255}:{port}"
-        return name
+def _made(members: tuple[Member, ...], replicas: int, own: str | None) -> Ring:
+    return Ring(members, replicas=replicas, own=own)
+
+
+def _order(member: Member) -> tuple[int, int, int]:
+    """By which of two changes of one member the greater counts."""
+    return member.incarnation, RANKS[member.status], member.weight

@@ -46,9 +46,9 @@ class Picture:
         u, v = (x - a) / length * HEAD, (y - b) / length * HEAD
         self.path([(x, y), (x - u + v / 2, y - v - u / 2), (x - u - v / 2, y - v + u / 2)], "none", fill=fill)
 
-    def text(self, x, y, text, fill=INK, size=13, anchor="start", weight=None):
+    def text(self, x, y, text, fill=INK, size=13, anchor="start", weight=None, **more):
         """One line of text; y is the line below its letters."""
-        self.add("text", html.escape(text), x=float(x), y=float(y), fill=fill, font_size=size, text_anchor=anchor, font_weight=weight)
+        self.add("text", html.escape(text), x=float(x), y=float(y), fill=fill, font_size=size, text_anchor=anchor, font_weight=weight, **more)
 
     def lines(self, x, y, texts, gap=16, **more):
         for i, text in enumerate(texts):

@@ -4,9 +4,10 @@ import hashlib
 import json
 import pathlib
 import re
+import subprocess
 import sys
 
-from svg import AMBER, BLUE, CARD, FAINT, GREEN, GRID, INK, PURPLE, RED, Picture
+from svg import AMBER, BLUE, FAINT, GREEN, GRID, INK, PURPLE, RED, Picture
 
 ROOT = pathlib.Path(__file__).resolve().parent.parent
 LIMITS = "crates/cluster_core/src/tcp_links.rt"
@@ -189,8 +190,6 @@ def owner_picture():
 
 def owner_apart(program):
     """Yields what is wrong if the built program names another owner than the picture."""
-    import subprocess
-
     changes = read("data/changes.jsonl")
     printed = subprocess.run([program, "owner", KEY], input=changes, capture_output=True, text=True).stdout.strip()
     members = greatest([json.loads(line) for line in changes.splitlines()])

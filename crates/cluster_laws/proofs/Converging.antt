@@ -177,11 +177,11 @@ nodes_converge before after es are all each =
 
 -- two sweeps
 
-reaches-stays : (a : ℕ) (es : List Exchange) → Reaches a es a
+pub reaches-stays : (a : ℕ) (es : List Exchange) → Reaches a es a
 reaches-stays a [] = refl
 reaches-stays a (e ∷ es) = inl (reaches-stays a es)
 
-reaches-taken : (a b : ℕ) (es : List Exchange) → In (record { taker = b; giver = a; whole = true }) es → Reaches a es b
+pub reaches-taken : (a b : ℕ) (es : List Exchange) → In (record { taker = b; giver = a; whole = true }) es → Reaches a es b
 reaches-taken a b [] h = absurd h
 reaches-taken a b (e ∷ es) h = by_place h (λ k. reaches-taken a b es k)
   where

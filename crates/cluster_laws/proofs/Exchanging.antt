@@ -152,16 +152,10 @@ module _ {H : Type 0} (whole : Bool) (taker : Node H) (told : List Change) (new 
 
 -- a call of a node
 
--- a node whose members are a log holds no less than what was given for it
-pub merged-held : {H : Type 0} (own : ℕ) (L cs : List Change) (new : Node H) → new.members ≡ members (log_given own L cs) → HoldsNoLess new cs
-merged-held {H} own L cs new is c h = by_value (greatest log c.address) refl
+-- a node whose members are those of a list holds no less than the list
+pub listed-held : {H : Type 0} (log : List Change) (new : Node H) → new.members ≡ members log → HoldsNoLess new log
+listed-held {H} log new is c there = by_value (greatest log c.address) refl
   where
-    log : List Change
-    log = log_given own L cs
-
-    there : Contains log c
-    there = log_given-given own L cs c h
-
     by_value : (o : Option Change) → greatest log c.address ≡ o → (held : Change) × (greatest new.members c.address ≡ Some held) × (Exceeds c held → ⊥)
     by_value None e = absurd (unnamed-greatest log c.address e c there refl)
     by_value (Some d) e = (d, ap (λ (M : List Change). greatest M c.address) is ∙ greatest-members log c.address ∙ e, (IsGreatest-greatest log c.address d e).highest c there refl)
@@ -180,7 +174,7 @@ calls_take hash_of old new event reply kept step none =
     record {
       taken = given_in event reply;
       of_given = λ c h. h;
-      covers = λ w. merged-held old.own old.members (given_in event reply) new merged;
+      covers = λ w c h. listed-held (log_given old.own old.members (given_in event reply)) new merged c (log_given-given old.own old.members (given_in event reply) c h);
       members_are = merged;
       own_stays = (calls_leave_itself hash_of old new (OfEvent event) (WithReply reply) step).own_stays;
       kept = calls_keep_it hash_of old new event reply kept step;

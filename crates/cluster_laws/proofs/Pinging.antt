@@ -1,5 +1,5 @@
--- What one ping makes of both nodes: neither is less far after it, and where neither is further, the pinger holds nothing less than the pinged.
-use Rattle.std.proofs.Common.{arith, ◌≡◌, ℕ, ◌≤◌, Bool, true, false, cond, List, [], ◌∷◌, map, Option, refl, sym, ◌∙◌, ap, subst}
+-- What one ping makes of both nodes: neither has more left to do after it, and where the pinged passed nothing on, the pinger then holds nothing less than it.
+use Rattle.std.proofs.Common.{arith, ◌≡◌, ℕ, ◌≤◌, Bool, true, false, cond, List, [], ◌∷◌, map, Option, Some, refl, sym, ◌∙◌, ap, subst}
 use Rattle.std.specs.Cmp.Lexicographic.{same_text}
 use Rattle.change_core.specs.declared.changes.Change.{Change}
 use Rattle.change_core.specs.declared.changes.Sourced.{Sourced}
@@ -7,8 +7,6 @@ use Rattle.change_core.specs.declared.digests.Digest.{Digest}
 use Rattle.change_core.specs.declared.statuses.Status.{Status}
 use Rattle.change_core.specs.Ascending.{In}
 use Rattle.change_core.specs.Change.{change_of}
-use Rattle.change_core.specs.Members.{greatest, greater, members}
-use Rattle.change_core.proofs.Members.{greatest-append, greatest-members, members-IsMemberList}
 use Rattle.message_core.specs.declared.messages.Message.{Message}
 use Rattle.node_core.specs.declared.events.Event.TheVariants as call
 use Rattle.node_core.specs.declared.events.Received.TheVariants as received
@@ -18,12 +16,11 @@ use Rattle.node_core.specs.Messages.{ack_by, ack_changes, digest_of, full_sync, 
 use Rattle.node_core.specs.Node.{Node, at_moment, said_by}
 use Rattle.node_core.specs.Step.{NodeStep}
 use Rattle.node_core.specs.Taking.{TakesAll, took_all}
-use Rattle.node_core.proofs.Log.{took_all_members}
-use Rattle.cluster_laws.specs.Convergence.{Nodes}
+use Rattle.cluster_laws.specs.Convergence.{Nodes, Takes, HoldsNoLess}
 use Rattle.cluster_laws.specs.Rounds.{AnsweredPing, Ping, PingStep, Size}
-use Rattle.cluster_laws.proofs.Covering.{greatest-log_given}
-use Rattle.cluster_laws.proofs.Moving.{IsFit, IsFitNode, progress, Moves, moves-both, moves-at, moves-took_all, moves-told, told-silent}
-use Rattle.cluster_laws.proofs.Spreading.{Covers, covers-is}
+use Rattle.cluster_laws.proofs.Covering.{log_given-old}
+use Rattle.cluster_laws.proofs.Exchanging.{calls_take, listed-held}
+use Rattle.cluster_laws.proofs.Moving.{IsClosed, IsFitNode, Sent, unsent_of, less-sent, sent-less, unsent-falls, news_of, Moves, moves-both, moves-at, moves-took_all, moves-told, told-sent, told-silent}
 use Rattle.cluster_laws.proofs.Telling.{IsHeld, ack-held, piggyback-held}
 
 -- what a full synchronisation tells is what is held
@@ -34,35 +31,27 @@ changes_said node (c ∷ cs) = ap (λ (ds : List Change). c ∷ ds) (changes_sai
 same_digest : (d e : Digest) → is_same_digest d e ≡ true → d ≡ e
 same_digest d e same = ap (λ (bs : List ℕ). record { bytes = bs }) (same_text d.bytes e.bytes (sym same))
 
-module _ {H : Type 0} (size : Size) (status_of : ℕ → Option Status) where
+module _ {H : Type 0} (size : Size) (status_of : ℕ → Option Status) (closed : IsClosed size.changes status_of) where
   -- a batch is taken whole
-  module _ (old new : Node H) (given : List Sourced) (moment : ℕ) (is : IsFitNode size status_of old) (fits : (s : Sourced) → In s given → IsFit size status_of s.change) where
-    takes-moves : (taken : _) → TakesAll (at_moment old moment) given taken new → Moves size status_of old new
-    takes-moves taken all =
-        let first = moves-at size status_of old moment is in
-        subst (λ (n : Node H). Moves size status_of old n) (sym all.new_is)
-        (moves-both size status_of old (at_moment old moment) (took_all (at_moment old moment) given) first
-        (moves-took_all size status_of (at_moment old moment) given first.is all.none_refused fits))
+  takes-moves : (old new : Node H) (given : List Sourced) (moment : ℕ) → IsFitNode size status_of closed old → ((s : Sourced) → In s given → In s.change size.changes)
+      → (taken : _) → TakesAll (at_moment old moment) given taken new → Moves size status_of closed old new
+  takes-moves old new given moment is fits taken all =
+      let first = moves-at size status_of closed old moment is in
+      subst (λ (n : Node H). Moves size status_of closed old n) (sym all.new_is)
+      (moves-both size status_of closed old (at_moment old moment) (took_all (at_moment old moment) given) first
+      (moves-took_all size status_of closed (at_moment old moment) given first.is all.none_refused fits))
 
-    takes-covers : (taken : _) → TakesAll (at_moment old moment) given taken new → (x : ℕ) → Covers (greatest new.members x) (greatest (map change_of given) x)
-    takes-covers taken all x =
-        let L : List Change = log_given old.own old.members (map change_of given) in
-        let merged : new.members ≡ members L = ap (λ (n : Node H). n.members) all.new_is ∙ took_all_members (at_moment old moment) given (members-IsMemberList old.members is.kept.one_each) in
-        let holds : greatest new.members x ≡ greatest L x = ap (λ (M : List Change). greatest M x) merged ∙ greatest-members L x in
-        ap (λ (o : Option Change). greater o (greatest (map change_of given) x)) holds ∙ sym (greatest-append L (map change_of given) x)
-        ∙ greatest-log_given old.own old.members (map change_of given) x ∙ sym holds
-
-  held-fits : (node : Node H) → IsFitNode size status_of node → (s : Sourced) → IsHeld node s.change → IsFit size status_of s.change
+  held-fits : (node : Node H) → IsFitNode size status_of closed node → (s : Sourced) → IsHeld node s.change → In s.change size.changes
   held-fits node is s held = is.fit s.change.address s.change held
 
   module _ (hash_of : H → List ℕ → ℕ) (before : Nodes H) (p : Ping) (sent : AnsweredPing hash_of before p)
-      (pinger_is : IsFitNode size status_of sent.pinger) (pinged_is : IsFitNode size status_of sent.pinged) where
+      (pinger_is : IsFitNode size status_of closed sent.pinger) (pinged_is : IsFitNode size status_of closed sent.pinged) where
     -- the pinger makes its ping
     waiting_is : sent.waiting ≡ told sent.pinger p.pinged
     waiting_is = sent.makes.1
 
-    pub pinger-makes : Moves size status_of sent.pinger sent.waiting
-    pinger-makes = subst (λ (n : Node H). Moves size status_of sent.pinger n) (sym waiting_is) (moves-told size status_of sent.pinger p.pinged pinger_is)
+    pub pinger-makes : Moves size status_of closed sent.pinger sent.waiting
+    pinger-makes = subst (λ (n : Node H). Moves size status_of closed sent.pinger n) (sym waiting_is) (moves-told size status_of closed sent.pinger p.pinged pinger_is)
 
     -- the pinged takes it
     pinged-step : NodeStep hash_of sent.pinged (call.Receive (ping_by sent.pinger p.pinged) sent.pinged_moment) (answer.Receive (received.Answer sent.pinged_took sent.ack)) sent.answered
@@ -71,7 +60,7 @@ module _ {H : Type 0} (size : Size) (status_of : ℕ → Option Status) where
     abbrev pinged-mid : Node H
     pinged-mid = pinged-step.0
 
-    pinged-takes : Moves size status_of sent.pinged pinged-mid
+    pinged-takes : Moves size status_of closed sent.pinged pinged-mid
     pinged-takes = takes-moves sent.pinged pinged-mid (piggyback sent.pinger p.pinged) sent.pinged_moment pinged_is
         (λ s h. held-fits sent.pinger pinger_is s (piggyback-held sent.pinger pinger_is.kept p.pinged s h)) sent.pinged_took pinged-step.1
 
@@ -79,31 +68,33 @@ module _ {H : Type 0} (size : Size) (status_of : ℕ → Option Status) where
     answered-is : sent.answered ≡ told pinged-mid sent.pinger.own
     answered-is = pinged-step.2.1
 
-    pinged-makes : Moves size status_of pinged-mid sent.answered
-    pinged-makes = subst (λ (n : Node H). Moves size status_of pinged-mid n) (sym answered-is) (moves-told size status_of pinged-mid sent.pinger.own pinged-takes.is)
+    pinged-makes : Moves size status_of closed pinged-mid sent.answered
+    pinged-makes = subst (λ (n : Node H). Moves size status_of closed pinged-mid n) (sym answered-is) (moves-told size status_of closed pinged-mid sent.pinger.own pinged-takes.is)
 
-    pub pinged-moves : Moves size status_of sent.pinged sent.answered
-    pinged-moves = moves-both size status_of sent.pinged pinged-mid sent.answered pinged-takes pinged-makes
+    pub pinged-sent : Sent size status_of closed sent.pinger.own (Some sent.pinged) (Some sent.answered)
+    pinged-sent = less-sent size status_of closed sent.pinger.own (Some sent.pinged) (Some pinged-mid) (Some sent.answered) pinged-takes.less
+        (subst (λ (n : Node H). Sent size status_of closed sent.pinger.own (Some pinged-mid) (Some n)) (sym answered-is) (told-sent size status_of closed pinged-mid sent.pinger.own pinged-takes.is))
+        pinged-makes.less
+
+    pub pinged-moves : Moves size status_of closed sent.pinged sent.answered
+    pinged-moves = moves-both size status_of closed sent.pinged pinged-mid sent.answered pinged-takes pinged-makes
 
   module _ (hash_of : H → List ℕ → ℕ) (before : Nodes H) (p : Ping) (after : Nodes H) (step : PingStep hash_of before p after)
-      (pinger_is : IsFitNode size status_of step.sent.pinger) (pinged_is : IsFitNode size status_of step.sent.pinged) where
+      (pinger_is : IsFitNode size status_of closed step.sent.pinger) (pinged_is : IsFitNode size status_of closed step.sent.pinged) where
     abbrev mid : Node H
     mid = pinged-mid hash_of before p step.sent pinger_is pinged_is
 
     abbrev took : NodeStep hash_of step.sent.pinged (call.Receive (ping_by step.sent.pinger p.pinged) step.sent.pinged_moment) (answer.Receive (received.Answer step.sent.pinged_took step.sent.ack)) step.sent.answered
     took = pinged-step hash_of before p step.sent pinger_is pinged_is
 
-    first : Moves size status_of step.sent.pinger step.sent.waiting
-    first = pinger-makes hash_of before p step.sent pinger_is pinged_is
-
-    second : Moves size status_of step.sent.pinged mid
+    second : Moves size status_of closed step.sent.pinged mid
     second = pinged-takes hash_of before p step.sent pinger_is pinged_is
-
-    third : Moves size status_of mid step.sent.answered
-    third = pinged-makes hash_of before p step.sent pinger_is pinged_is
 
     answered_is : step.sent.answered ≡ told mid step.sent.pinger.own
     answered_is = answered-is hash_of before p step.sent pinger_is pinged_is
+
+    waiting : IsFitNode size status_of closed step.sent.waiting
+    waiting = (pinger-makes hash_of before p step.sent pinger_is pinged_is).is
 
     -- which the pinger takes
     abbrev checksum : Digest
@@ -115,46 +106,49 @@ module _ {H : Type 0} (size : Size) (status_of : ℕ → Option Status) where
     ended : NodeStep hash_of step.sent.waiting (call.Receive (ack_by mid step.sent.pinger.own checksum) step.acked_moment) (answer.Receive (received.Done step.pinger_took)) step.done
     ended = subst (λ (m : Message). NodeStep hash_of step.sent.waiting (call.Receive m step.acked_moment) (answer.Receive (received.Done step.pinger_took)) step.done) took.2.0 step.takes
 
-    fourth : Moves size status_of step.sent.waiting step.done
-    fourth = takes-moves step.sent.waiting step.done acked step.acked_moment first.is
+    pub waiting-moves : Moves size status_of closed step.sent.waiting step.done
+    waiting-moves = takes-moves step.sent.waiting step.done acked step.acked_moment waiting
         (λ s h. held-fits mid second.is s (ack-held mid second.is.kept checksum (piggyback mid step.sent.pinger.own) (piggyback-held mid second.is.kept step.sent.pinger.own) s h))
         step.pinger_took ended.2
 
-    pub pinger-moves : Moves size status_of step.sent.pinger step.done
-    pinger-moves = moves-both size status_of step.sent.pinger step.sent.waiting step.done first fourth
+    takes : Takes true step.sent.waiting (map change_of acked) step.done
+    takes = calls_take hash_of step.sent.waiting step.done (call.Receive (ack_by mid step.sent.pinger.own checksum) step.acked_moment) (answer.Receive (received.Done step.pinger_took)) waiting.kept ended refl
 
-    -- where neither is further
+    pub pinger-sent : Sent size status_of closed p.pinged (Some step.sent.pinger) (Some step.done)
+    pinger-sent = sent-less size status_of closed p.pinged (Some step.sent.pinger) (Some step.sent.waiting) (Some step.done)
+        (subst (λ (n : Node H). Sent size status_of closed p.pinged (Some step.sent.pinger) (Some n)) (sym (waiting_is hash_of before p step.sent pinger_is pinged_is))
+        (told-sent size status_of closed step.sent.pinger p.pinged pinger_is))
+        (pinger-makes hash_of before p step.sent pinger_is pinged_is).less waiting-moves.less
 
-    module _ (no_further : (x : ℕ) → In x size.named → progress size status_of step.sent.answered x ≤ progress size status_of step.sent.pinged x) where
+    -- where the pinged took nothing that was news to it and passed nothing on its ack is whole, unless both hold the same
+
+    module _ (no_news : news_of size status_of closed (Some step.sent.pinged) ≤ news_of size status_of closed (Some step.sent.answered))
+        (no_less : unsent_of size status_of closed (Some step.sent.pinged) ≤ unsent_of size status_of closed (Some step.sent.answered)) where
       silent : piggyback mid step.sent.pinger.own ≡ []
-      silent = told-silent size status_of mid step.sent.pinger.own second.is (λ x h.
-          let a : progress size status_of step.sent.pinged x ≤ progress size status_of mid x = second.grows x in
-          let b : progress size status_of (told mid step.sent.pinger.own) x ≤ progress size status_of step.sent.pinged x
-          = subst (λ (n : Node H). progress size status_of n x ≤ progress size status_of step.sent.pinged x) answered_is (no_further x h) in
-          omega (arith, a, b))
+      silent = told-silent size status_of closed mid step.sent.pinger.own second.is (
+          let after : news_of size status_of closed (Some step.sent.answered) ≤ news_of size status_of closed (Some mid)
+          = (pinged-makes hash_of before p step.sent pinger_is pinged_is).less.news in
+          let fell : unsent_of size status_of closed (Some mid) ≤ unsent_of size status_of closed (Some step.sent.pinged)
+          = unsent-falls size status_of closed (Some step.sent.pinged) (Some mid) second.less (omega (arith, no_news, after)) in
+          let rest : unsent_of size status_of closed (Some step.sent.pinged) ≤ unsent_of size status_of closed (Some (told mid step.sent.pinger.own))
+          = subst (λ (n : Node H). unsent_of size status_of closed (Some step.sent.pinged) ≤ unsent_of size status_of closed (Some n)) answered_is no_less in
+          omega (arith, fell, rest))
 
-      mid_same : mid.members ≡ step.sent.pinged.members
-      mid_same = (second.still (λ x h.
-          let a : progress size status_of mid x ≤ progress size status_of step.sent.answered x = third.grows x in
-          let b : progress size status_of step.sent.answered x ≤ progress size status_of step.sent.pinged x = no_further x h in
-          omega (arith, a, b))).0
+      told_same : step.sent.answered.members ≡ mid.members
+      told_same = ap (λ (n : Node H). n.members) answered_is
 
-      pub pinger-covers : ((x : ℕ) → In x size.named → progress size status_of step.done x ≤ progress size status_of step.sent.pinger x)
-          → (x : ℕ) → Covers (greatest step.sent.pinger.members x) (greatest step.sent.pinged.members x)
-      pinger-covers stays x = by_digest (is_same_digest checksum (digest_of mid.members)) refl
+      pub pinger-holds : HoldsNoLess step.done step.sent.answered.members
+      pinger-holds = by_digest (is_same_digest checksum (digest_of mid.members)) refl
         where
-          by_digest : (b : Bool) → is_same_digest checksum (digest_of mid.members) ≡ b → Covers (greatest step.sent.pinger.members x) (greatest step.sent.pinged.members x)
+          by_digest : (b : Bool) → is_same_digest checksum (digest_of mid.members) ≡ b → HoldsNoLess step.done step.sent.answered.members
           by_digest true e =
-              let told_same : step.sent.answered.members ≡ mid.members = ap (λ (n : Node H). n.members) answered_is in
               let digests : checksum ≡ digest_of step.sent.answered.members = same_digest checksum (digest_of mid.members) e ∙ ap digest_of (sym told_same) in
-              let same : step.sent.pinger.members ≡ step.sent.pinged.members = step.no_collision digests ∙ told_same ∙ mid_same in
-              covers-is (greatest step.sent.pinger.members x) (greatest step.sent.pinged.members x) (ap (λ (M : List Change). greatest M x) (sym same))
+              let kept : step.sent.waiting.members ≡ step.sent.pinger.members = ap (λ (n : Node H). n.members) (waiting_is hash_of before p step.sent pinger_is pinged_is) in
+              let same : step.sent.waiting.members ≡ step.sent.answered.members = kept ∙ step.no_collision digests in
+              subst (λ (M : List Change). HoldsNoLess step.done M) same
+              (λ c h. listed-held (log_given step.sent.waiting.own step.sent.waiting.members takes.taken) step.done takes.members_are c
+              (log_given-old step.sent.waiting.own step.sent.waiting.members takes.taken c h))
           by_digest false e =
               let all : acked ≡ full_sync mid = ap (ack_changes mid checksum) silent ∙ ap (λ b. cond b [] (full_sync mid)) e in
-              let done_same : step.done.members ≡ step.sent.pinger.members = (pinger-moves.still stays).0 in
-              let what : map change_of acked ≡ step.sent.pinged.members = ap (λ (ss : List Sourced). map change_of ss) all ∙ changes_said mid mid.members ∙ mid_same in
-              subst (λ (M : List Change). Covers (greatest step.sent.pinger.members x) (greatest M x)) what
-              (subst (λ (M : List Change). Covers (greatest M x) (greatest (map change_of acked) x)) done_same
-              (takes-covers step.sent.waiting step.done acked step.acked_moment first.is
-              (λ s h. held-fits mid second.is s (ack-held mid second.is.kept checksum (piggyback mid step.sent.pinger.own) (piggyback-held mid second.is.kept step.sent.pinger.own) s h))
-              step.pinger_took ended.2 x))
+              let what : map change_of acked ≡ step.sent.answered.members = ap (λ (ss : List Sourced). map change_of ss) all ∙ changes_said mid mid.members ∙ sym told_same in
+              subst (λ (M : List Change). HoldsNoLess step.done M) what (takes.covers refl)

@@ -1,18 +1,20 @@
--- Rounds of pings: after each, a node is further or all hold the same, and no node is ever further than the top.
-use Rattle.std.proofs.Common.{arith, ◌≡◌, ◌≢◌, ◌⊎◌, ℕ, suc, ◌+◌, ◌*◌, ◌≤◌, Bool, true, false, List, [], ◌∷◌, ◌++◌, length, map, Option, Some, None, Ok, refl, sym, ◌∙◌, ap, subst, inl, inr}
-use Rattle.std.specs.Prelude.{option_map}
-use Rattle.std.specs.List.{Contains, sum_by}
-use Rattle.std.proofs.Math.Nat.{suc-mul}
-use Rattle.std.proofs.lemmas.Bool.{cases_eq, cases_lt}
-use Rattle.std.proofs.lemmas.List.{length-map}
-use Rattle.std.proofs.lemmas.List.Sums.{sum_by-cons, sum_by-le-sum_by}
+-- Rounds of pings: in each in which a node takes something that is news to it or passes something on it has that much less left to do, and in any other all hear of it.
+use Rattle.std.proofs.Common.{arith, ◌≡◌, ◌≢◌, ◌⊎◌, ℕ, suc, ◌+◌, ◌-◌, ◌*◌, ◌<◌, ◌≤◌, ◌&&◌, Bool, true, false, eqb, not, List, [], ◌∷◌, ◌++◌, length, map, Option, Some, None, Ok, refl, sym, ◌∙◌, ap, subst, inl, inr, true≢false}
+use Rattle.std.specs.Prelude.{drop, option_map, take}
+use Rattle.std.specs.List.{Contains, count_by}
+use Rattle.std.proofs.Math.Nat.{max-le, mul-le-mul_right, suc-mul}
+use Rattle.std.proofs.lemmas.Bool.{cases_eq, cases_lt, eq-eqb, ne_eqb}
+use Rattle.std.proofs.lemmas.List.{length-drop, length-map, length-take-le, take-append-drop}
 use Rattle.change_core.specs.declared.changes.Change.{Change}
 use Rattle.change_core.specs.declared.changes.Sourced.{Sourced}
 use Rattle.change_core.specs.declared.statuses.Status.{Status}
 use Rattle.change_core.specs.Ascending.{In}
 use Rattle.change_core.specs.Change.{change_of}
-use Rattle.change_core.specs.Members.{greatest, IsMemberList}
-use Rattle.change_core.proofs.Members.{Contains-nil, IsGreatest-greatest, same_members}
+use Rattle.change_core.specs.Members.{greatest, IsRising}
+use Rattle.change_core.specs.Refutation.{refutation}
+use Rattle.change_core.proofs.Members.{Contains-nil, IsGreatest-greatest}
+use Rattle.change_core.proofs.Order.{in_append_left, in_append_right}
+use Rattle.gossip_core.specs.declared.pending.Pending.{Pending}
 use Rattle.message_core.specs.declared.messages.Message.{Message}
 use Rattle.node_core.specs.declared.events.Event.TheVariants as call
 use Rattle.node_core.specs.declared.events.Received.TheVariants as received
@@ -22,50 +24,19 @@ use Rattle.node_core.specs.Messages.{carried}
 use Rattle.node_core.specs.Node.{Node, own_change}
 use Rattle.node_core.specs.Step.{NodeStep}
 use Rattle.node_core.specs.World.{placed_at}
-use Rattle.node_core.proofs.Listed.{In-map, In-from_Contains, address-greatest}
-use Rattle.cluster_laws.specs.Convergence.{Nodes, IsThere, AreNodes, Takes, Exchange, ExchangeStep, ExchangeRun, HaveConverged, at_itself}
-use Rattle.cluster_laws.specs.Rounds.{AnsweredPing, Ping, PingStep, PingRun, RoundRun, Size, AreWithin, entry_changes, enough_rounds, RoundsConverge, Fate, Acknowledged, AckLost, PingLost, SentPing, AckLostStep, PingLostStep, FateStep, LossyRun, IsStretch, StretchRun, StretchesConverge}
-use Rattle.cluster_laws.proofs.Converging.{at_new, elsewhere, goes, still, stays, running, ending, staying}
-use Rattle.cluster_laws.proofs.Ending.{members_of, members-at, settled, IsHeldIn}
+use Rattle.node_core.proofs.Listed.{In-map, In-from_Contains}
+use Rattle.cluster_laws.specs.Convergence.{Nodes, IsThere, AreNodes, HoldsNoLess, Takes, Exchange, ExchangeStep, ExchangeRun, IsSweep, HaveConverged}
+use Rattle.cluster_laws.specs.Rounds.{AnsweredPing, Ping, PingStep, PingRun, RoundRun, Size, AreWithin, quiet_after, enough_rounds, RoundsConverge, Fate, Acknowledged, AckLost, PingLost, SentPing, PingLostStep, FateStep, LossyRun, IsStretch, StretchRun, StretchesConverge}
+use Rattle.cluster_laws.proofs.Converging.{at_new, elsewhere, ending, staying, sweeps_converge}
 use Rattle.cluster_laws.proofs.Exchanging.{calls_take}
-use Rattle.cluster_laws.proofs.Moving.{IsFitNode, progress, progress-top, Moves, moves-told}
-use Rattle.cluster_laws.proofs.Pinging.{pinger-makes, pinger-moves, pinged-moves, pinger-covers}
-use Rattle.cluster_laws.proofs.Spreading as spread
-use Rattle.cluster_laws.proofs.Spreading.{Covers, covers-is, covers-same}
+use Rattle.cluster_laws.proofs.Measure.{unsent}
+use Rattle.cluster_laws.proofs.Moving.{IsClosed, IsFitNode, Less, less-both, less-same, Moves, moves-told, news_of, pending_of, Sent, unsent-falls, unsent_of}
+use Rattle.cluster_laws.proofs.Pinging.{pinger-makes, pinged-moves, waiting-moves, pinger-holds, pinged-sent, pinger-sent}
+use Rattle.cluster_laws.proofs.Remaining as remaining
+use Rattle.cluster_laws.proofs.Sendings.{is_acked, is_pinged, is_pinger, none-sent, one-sent, reaches-each, sent_in, sent-more}
 use Rattle.cluster_laws.proofs.Telling.{calls_tell}
 
--- sums
-
-sum-top : {X : Type 0} (f : X → ℕ) (m : ℕ) (xs : List X) → ((x : X) → f x ≤ m) → sum_by f xs ≤ length xs * m
-sum-top f m [] top = omega arith
-sum-top f m (x ∷ xs) top =
-    let rest : sum_by f xs ≤ length xs * m = sum-top f m xs top in
-    let sum : sum_by f (x ∷ xs) ≡ f x + sum_by f xs = sum_by-cons f x xs in
-    let row : suc (length xs) * m ≡ length xs * m + m = suc-mul (length xs) m in
-    let one : f x ≤ m = top x in
-    omega (arith, rest, sum, row, one)
-
-sum-still : {X : Type 0} (f g : X → ℕ) (xs : List X) → ((x : X) → f x ≤ g x) → sum_by g xs ≤ sum_by f xs → (x : X) → In x xs → g x ≤ f x
-sum-still f g [] less no_more x h = absurd h
-sum-still f g (y ∷ ys) less no_more x h = by_place h (λ k. sum-still f g ys less (omega (arith, of_f, of_g, one, rest, no_more)) x k)
-  where
-    of_f : sum_by f (y ∷ ys) ≡ f y + sum_by f ys
-    of_f = sum_by-cons f y ys
-
-    of_g : sum_by g (y ∷ ys) ≡ g y + sum_by g ys
-    of_g = sum_by-cons g y ys
-
-    one : f y ≤ g y
-    one = less y
-
-    rest : sum_by f ys ≤ sum_by g ys
-    rest = sum_by-le-sum_by f g ys less
-
-    by_place : (x ≡ y) ⊎ In x ys → (In x ys → g x ≤ f x) → g x ≤ f x
-    by_place (inl e) again = subst (λ z. g z ≤ f z) (sym e) (omega (arith, of_f, of_g, one, rest, no_more))
-    by_place (inr k) again = again k
-
--- a ping is three exchanges of parts: what the pinger holds stays as it makes the ping, the pinged takes it, and the pinger takes the ack
+-- a ping is three exchanges: what the pinger holds stays as it makes the ping, the pinged takes a part of it, and the pinger takes of the ack
 
 takes-part : {H : Type 0} (whole : Bool) (taker : Node H) (given told : List Change) (new : Node H) → Takes whole taker given new
     → ((c : Change) → Contains given c → Contains told c) → Takes false taker told new
@@ -159,27 +130,12 @@ module _ {H : Type 0} (hash_of : H → List ℕ → ℕ) where
     half-run : ExchangeRun before half answering
     half-run = (making, first-step, (answering, second-step, refl))
 
-    half-elsewhere : (c : ℕ) → c ≢ p.pinger → c ≢ p.pinged → answering c ≡ before c
-    half-elsewhere c not_a not_b =
-        elsewhere making answering p.pinged sent.pinged sent.answered pinged_there refl c not_b
-        ∙ elsewhere before making p.pinger sent.pinger sent.waiting sent.pinger_is refl c not_a
-
   module _ (before : Nodes H) (p : Ping) (after : Nodes H) (step : PingStep hash_of before p after) (are : AreNodes before) where
     abbrev acking : Nodes H
     acking = answering before p step.sent are
 
     there : acking p.pinger ≡ Some step.sent.waiting
     there = still_waiting before p step.sent are
-
-    pub pinger_after : after p.pinger ≡ Some step.done
-    pinger_after = at_new acking after p.pinger step.sent.waiting step.done there step.after_is
-
-    pub pinged_after : after p.pinged ≡ Some step.sent.answered
-    pinged_after = elsewhere acking after p.pinger step.sent.waiting step.done there step.after_is p.pinged (λ k. step.sent.apart (sym k)) ∙ answered_there before p step.sent are
-
-    pub others_after : (c : ℕ) → c ≢ p.pinger → c ≢ p.pinged → after c ≡ before c
-    others_after c not_a not_b =
-        elsewhere acking after p.pinger step.sent.waiting step.done there step.after_is c not_a ∙ half-elsewhere before p step.sent are c not_a not_b
 
     acked : Takes false step.sent.waiting step.sent.answered.members step.done
     acked = takes-part true step.sent.waiting (map change_of (carried step.sent.ack.content)) step.sent.answered.members step.done
@@ -188,163 +144,91 @@ module _ {H : Type 0} (hash_of : H → List ℕ → ℕ) where
         (in_held step.sent.answered step.sent.ack (λ s h. calls_tell hash_of step.sent.pinged step.sent.answered (call.Receive step.sent.ping step.sent.pinged_moment)
         (answer.Receive (received.Answer step.sent.pinged_took step.sent.ack)) step.sent.ack s (are.kept p.pinged step.sent.pinged step.sent.pinged_is) step.sent.answers (inl refl) h))
 
-    abbrev last : List Exchange
-    last = record { taker = p.pinger; giver = p.pinged; whole = false } ∷ []
+    -- the ack is taken whole where the pinger then holds no less than the pinged
+    last-takes : (whole : Bool) → (whole ≡ true → HoldsNoLess step.done step.sent.answered.members) → Takes whole step.sent.waiting step.sent.answered.members step.done
+    last-takes whole covers = record {
+      taken = acked.taken;
+      of_given = acked.of_given;
+      covers = covers;
+      members_are = acked.members_are;
+      own_stays = acked.own_stays;
+      kept = acked.kept;
+    }
 
-    pub ping-run : ExchangeRun before (half before p step.sent are ++ last) after
-    ping-run = run-both before acking after (half before p step.sent are) last (half-run before p step.sent are) (
-      after,
-      record {
-        taker = step.sent.waiting;
-        giver = step.sent.answered;
-        new = step.done;
-        taker_is = there;
-        giver_is = answered_there before p step.sent are;
-        takes = acked;
-        after_is = step.after_is;
-      },
-      refl,
-    )
+    abbrev last : Bool → Exchange
+    last whole = record { taker = p.pinger; giver = p.pinged; whole = whole }
 
-  abbrev AsExchanges : Nodes H → Nodes H → Type 0
-  AsExchanges before after = (es : List Exchange) × ExchangeRun before es after
+    last-step : (whole : Bool) → (whole ≡ true → HoldsNoLess step.done step.sent.answered.members) → ExchangeStep acking (last whole) after
+    last-step whole covers = record {
+      taker = step.sent.waiting;
+      giver = step.sent.answered;
+      new = step.done;
+      taker_is = there;
+      giver_is = answered_there before p step.sent are;
+      takes = last-takes whole covers;
+      after_is = step.after_is;
+    }
 
-  both-exchanges : (before between after : Nodes H) → AsExchanges before between → AsExchanges between after → AsExchanges before after
-  both-exchanges before between after first second = (first.0 ++ second.0, run-both before between after first.0 second.0 first.1 second.1)
+    pub pinger_after : after p.pinger ≡ Some step.done
+    pinger_after = at_new acking after p.pinger step.sent.waiting step.done there step.after_is
 
-  as-exchanges : (before : Nodes H) (p : Ping) (after : Nodes H) → PingStep hash_of before p after → AreNodes before → AsExchanges before after
-  as-exchanges before p after step are = (half before p step.sent are ++ last before p after step are, ping-run before p after step are)
+    pub pinged_after : after p.pinged ≡ Some step.sent.answered
+    pinged_after = elsewhere acking after p.pinger step.sent.waiting step.done there step.after_is p.pinged (λ k. step.sent.apart (sym k)) ∙ answered_there before p step.sent are
 
-  are-after : (before after : Nodes H) → AsExchanges before after → AreNodes before → AreNodes after
-  are-after before after es are = ending before after es.0 are es.1
+  -- nodes go on by exchanges, and none has more left to do
 
-  there-before : (before after : Nodes H) → AsExchanges before after → AreNodes before → (a : ℕ) → IsThere after a → IsThere before a
-  there-before before after es are a there = let b = (staying before after es.0 are es.1).came a there.0 there.1 in (b.0, b.1)
+  module _ (size : Size) (status_of : ℕ → Option Status) (closed : IsClosed size.changes status_of) where
+    abbrev news : Option (Node H) → ℕ
+    news o = news_of size status_of closed o
 
-  -- of a ping that is lost, and of one whose ack is
+    abbrev unsent_by : Option (Node H) → ℕ
+    unsent_by o = unsent_of size status_of closed o
 
-  ping-lost-exchanges : (before : Nodes H) (p : Ping) (after : Nodes H) → PingLostStep hash_of before p after → AreNodes before → AsExchanges before after
-  ping-lost-exchanges before p after step are = (
-    record { taker = p.pinger; giver = p.pinger; whole = false } ∷ [],
-    (
-      after,
-      record {
-        taker = step.pinger;
-        giver = step.pinger;
-        new = step.waiting;
-        taker_is = step.pinger_is;
-        giver_is = step.pinger_is;
-        takes = makes-ping step.pinger step.waiting p.pinged step.ping (are.kept p.pinger step.pinger step.pinger_is) step.makes;
-        after_is = step.after_is;
-      },
-      refl,
-    ),
-  )
+    abbrev pending : Option (Node H) → List Pending
+    pending o = pending_of size status_of closed o
 
-  ack-lost-exchanges : (before : Nodes H) (p : Ping) (after : Nodes H) → AckLostStep hash_of before p after → AreNodes before → AsExchanges before after
-  ack-lost-exchanges before p after step are =
-      (half before p step.sent are, subst (λ (n : Nodes H). ExchangeRun before (half before p step.sent are) n) (sym step.after_is) (half-run before p step.sent are))
+    abbrev IsLess : Option (Node H) → Option (Node H) → Type 0
+    IsLess o p = Less size status_of closed o p
 
-  fate-exchanges : (before : Nodes H) (p : Ping) (fate : Fate) (after : Nodes H) → FateStep hash_of before p fate after → AreNodes before → AsExchanges before after
-  fate-exchanges before p Acknowledged after step are = as-exchanges before p after step are
-  fate-exchanges before p AckLost after step are = ack-lost-exchanges before p after step are
-  fate-exchanges before p PingLost after step are = ping-lost-exchanges before p after step are
+    abbrev IsQuiet : Option (Node H) → Option (Node H) → Type 0
+    IsQuiet o p = remaining.IsQuiet size status_of closed o p
 
-  lossy-exchanges : (before after : Nodes H) (ss : List SentPing) → LossyRun hash_of before ss after → AreNodes before → AsExchanges before after
-  lossy-exchanges before after [] run are = ([], run)
-  lossy-exchanges before after (s ∷ ss) run are =
-      let one = fate-exchanges before s.ping s.fate run.0 run.1 are in
-      both-exchanges before run.0 after one (lossy-exchanges run.0 after ss run.2 (are-after before run.0 one are))
+    abbrev messages : ℕ
+    messages = remaining.messages size
 
-  stretches-exchanges : (before after : Nodes H) (rs : List (List SentPing)) → StretchRun hash_of before rs after → AreNodes before → AsExchanges before after
-  stretches-exchanges before after [] run are = ([], run)
-  stretches-exchanges before after (r ∷ rs) run are =
-      let one = lossy-exchanges before run.0 r run.2 are in
-      both-exchanges before run.0 after one (stretches-exchanges run.0 after rs run.3 (are-after before run.0 one are))
+    abbrev left : Option (Node H) → ℕ
+    left o = remaining.left size status_of closed o
 
-  -- nodes that hold the same go on to hold it
-
-  abbrev HoldSame : Nodes H → Type 0
-  HoldSame nodes = (a b : ℕ) → IsThere nodes a → IsThere nodes b → members_of (nodes a) ≡ members_of (nodes b)
-
-  module _ (before : Nodes H) (e : Exchange) (after : Nodes H) (are : AreNodes before) (step : ExchangeStep before e after) (same : HoldSame before) where
-    to_giver : (x : ℕ) → greatest (members_of (before e.giver)) x ≡ greatest (members_of (before e.taker)) x
-    to_giver x = ap (λ (L : List Change). greatest L x) (same e.giver e.taker (step.giver, step.giver_is) (step.taker, step.taker_is))
-
-    greatest_still : (x : ℕ) → greatest (members_of (after e.taker)) x ≡ greatest (members_of (before e.taker)) x
-    greatest_still x = elim (cases_eq x e.taker) [
-      | inl own ↦ (goes before e after are step).of_itself x own (covers-is (greatest (members_of (before e.taker)) x) (greatest (members_of (before e.giver)) x) (to_giver x))
-      | inr other ↦ elim ((goes before e after are step).of_others x other) [ inl mine ↦ mine | inr theirs ↦ theirs ∙ to_giver x ]
-    ]
-
-    listed : (nodes : Nodes H) (a : ℕ) → AreNodes nodes → IsThere nodes a → IsMemberList (members_of (nodes a))
-    listed nodes a kept there = subst (λ (L : List Change). IsMemberList L) (sym (members-at nodes a there.0 there.1)) (kept.kept a there.0 there.1).one_each
-
-    taker_still : members_of (after e.taker) ≡ members_of (before e.taker)
-    taker_still = same_members (members_of (after e.taker)) (members_of (before e.taker))
-        (listed after e.taker (still before e after are step) (step.new, at_new before after e.taker step.taker step.new step.taker_is step.after_is))
-        (listed before e.taker are (step.taker, step.taker_is)) greatest_still
-
-    members_still : (a : ℕ) → members_of (after a) ≡ members_of (before a)
-    members_still a = elim (cases_eq a e.taker) [
-      | inl is ↦ subst (λ (b : ℕ). members_of (after b) ≡ members_of (before b)) (sym is) taker_still
-      | inr other ↦ ap (λ (o : Option (Node H)). members_of o) (elsewhere before after e.taker step.taker step.new step.taker_is step.after_is a other)
-    ]
-
-    pub same-step : HoldSame after
-    same-step a b at_a at_b =
-        let back = stays before e after are step in
-        let old_a = back.came a at_a.0 at_a.1 in
-        let old_b = back.came b at_b.0 at_b.1 in
-        members_still a ∙ same a b (old_a.0, old_a.1) (old_b.0, old_b.1) ∙ sym (members_still b)
-
-  same-run : (before after : Nodes H) (es : List Exchange) → AreNodes before → ExchangeRun before es after → HoldSame before → HoldSame after
-  same-run before after [] are run same = subst (λ (n : Nodes H). HoldSame n) (sym run) same
-  same-run before after (e ∷ es) are run same = same-run run.0 after es (still before e run.0 are run.1) run.2 (same-step before e run.0 are run.1 same)
-
-  -- how far the nodes are together
-
-  module _ (size : Size) (status_of : ℕ → Option Status) where
-    abbrev far : Option (Node H) → ℕ
-    far None = 0
-    far (Some node) = sum_by (progress size status_of node) size.named
-
-    abbrev total : Nodes H → ℕ
-    total nodes = sum_by (λ a. far (nodes a)) size.places
+    abbrev waits : List Pending → ℕ
+    waits qs = remaining.waits size qs
 
     record AreFit (nodes : Nodes H) : Type 0 where
       are : AreNodes nodes
-      each : (a : ℕ) (node : Node H) → nodes a ≡ Some node → IsFitNode size status_of node
-      placed : (a : ℕ) → IsThere nodes a → In a size.places
+      each : (a : ℕ) (node : Node H) → nodes a ≡ Some node → IsFitNode size status_of closed node
 
-    total-top : (nodes : Nodes H) → AreFit nodes → total nodes ≤ length size.places * (length size.named * (entry_changes size * (size.limit + 1) + size.limit))
-    total-top nodes fit = sum-top (λ a. far (nodes a)) (length size.named * (entry_changes size * (size.limit + 1) + size.limit)) size.places (λ a. by_node a (nodes a) refl)
-      where
-        by_node : (a : ℕ) (o : Option (Node H)) → nodes a ≡ o → far o ≤ length size.named * (entry_changes size * (size.limit + 1) + size.limit)
-        by_node a None e = omega arith
-        by_node a (Some node) e = sum-top (progress size status_of node) (entry_changes size * (size.limit + 1) + size.limit) size.named
-            (λ x. progress-top size status_of node (fit.each a node e) x)
-
-    -- the nodes are further, or they hold what they did
-    record GoFurther (before after : Nodes H) : Type 0 where
+    record Go (before after : Nodes H) (es : List Exchange) : Type 0 where
       fit : AreFit after
-      grows : total before ≤ total after
-      unmoved : total after ≤ total before → (c : ℕ) → members_of (after c) ≡ members_of (before c)
+      less : (c : ℕ) → IsLess (before c) (after c)
+      run : ExchangeRun before es after
 
-    go-both : (before between after : Nodes H) → GoFurther before between → GoFurther between after → GoFurther before after
-    go-both before between after one two =
-        let first : total before ≤ total between = one.grows in
-        let second : total between ≤ total after = two.grows in
-        record {
-          fit = two.fit;
-          grows = omega (arith, first, second);
-          unmoved = λ h c. two.unmoved (omega (arith, first, h)) c ∙ one.unmoved (omega (arith, second, h)) c;
-        }
+    go-none : (before after : Nodes H) → AreFit before → after ≡ before → Go before after []
+    go-none before after fit same = record {
+      fit = subst (λ (n : Nodes H). AreFit n) (sym same) fit;
+      less = λ c. subst (λ (n : Nodes H). IsLess (before c) (n c)) (sym same) (less-same size status_of closed (before c));
+      run = same;
+    }
 
-    -- one node moves
+    go-both : (before between after : Nodes H) (es fs : List Exchange) → Go before between es → Go between after fs → Go before after (es ++ fs)
+    go-both before between after es fs one two = record {
+      fit = two.fit;
+      less = λ c. less-both size status_of closed (before c) (between c) (after c) (one.less c) (two.less c);
+      run = run-both before between after es fs one.run two.run;
+    }
+
+    -- one node moves by an exchange
 
     module _ (before after : Nodes H) (a : ℕ) (old new : Node H) (was : before a ≡ Some old) (after_is : after ≡ placed_at a new before)
-        (moves : Moves size status_of old new) (fit : AreFit before) (moved : AsExchanges before after) where
+        (moves : Moves size status_of closed old new) (fit : AreFit before) (e : Exchange) (step : ExchangeStep before e after) where
       now_there : after a ≡ Some new
       now_there = at_new before after a old new was after_is
 
@@ -352,217 +236,324 @@ module _ {H : Type 0} (hash_of : H → List ℕ → ℕ) where
       of_each : (P : ℕ → Type 0) → P a → ((c : ℕ) → after c ≡ before c → P c) → (c : ℕ) → P c
       of_each P one rest c = elim (cases_eq c a) [ inl is ↦ subst P (sym is) one | inr other ↦ rest c (elsewhere before after a old new was after_is c other) ]
 
-      one_grows : (c : ℕ) → far (before c) ≤ far (after c)
-      one_grows = of_each (λ c. far (before c) ≤ far (after c))
-          (subst (λ (o : Option (Node H)). far o ≤ far (after a)) (sym was)
-          (subst (λ (o : Option (Node H)). sum_by (progress size status_of old) size.named ≤ far o) (sym now_there)
-          (sum_by-le-sum_by (progress size status_of old) (progress size status_of new) size.named moves.grows)))
-          (λ c same. subst (λ (o : Option (Node H)). far (before c) ≤ far o) (sym same) (omega arith))
-
-      one_still : total after ≤ total before → (x : ℕ) → In x size.named → progress size status_of new x ≤ progress size status_of old x
-      one_still h =
-          sum-still (progress size status_of old) (progress size status_of new) size.named moves.grows
-          (subst (λ (o : Option (Node H)). far o ≤ sum_by (progress size status_of old) size.named) now_there
-          (subst (λ (o : Option (Node H)). far (after a) ≤ far o) was
-          (sum-still (λ c. far (before c)) (λ c. far (after c)) size.places one_grows h a (fit.placed a (old, was)))))
-
-      one_moves : GoFurther before after
-      one_moves = record {
+      one_goes : Go before after (e ∷ [])
+      one_goes = record {
         fit = record {
-          are = are-after before after moved fit.are;
-          each = of_each (λ c. (node : Node H) → after c ≡ Some node → IsFitNode size status_of node)
-              (λ node e. subst (λ (n : Node H). IsFitNode size status_of n) (same_node node (sym now_there ∙ e)) moves.is)
-              (λ c same node e. fit.each c node (sym same ∙ e));
-          placed = λ c there. fit.placed c (there-before before after moved fit.are c there);
+          are = ending before after (e ∷ []) fit.are run;
+          each = of_each (λ c. (node : Node H) → after c ≡ Some node → IsFitNode size status_of closed node)
+              (λ node is. subst (λ (n : Node H). IsFitNode size status_of closed n) (same_node node (sym now_there ∙ is)) moves.is)
+              (λ c same node is. fit.each c node (sym same ∙ is));
         };
-        grows = sum_by-le-sum_by (λ c. far (before c)) (λ c. far (after c)) size.places one_grows;
-        unmoved = λ h. of_each (λ c. members_of (after c) ≡ members_of (before c))
-            (members-at after a new now_there ∙ (moves.still (one_still h)).0 ∙ sym (members-at before a old was))
-            (λ c same. ap (λ (o : Option (Node H)). members_of o) same);
+        less = of_each (λ c. IsLess (before c) (after c))
+            (subst (λ (o : Option (Node H)). IsLess (before a) o) (sym now_there) (subst (λ (o : Option (Node H)). IsLess o (Some new)) (sym was) moves.less))
+            (λ c same. subst (λ (o : Option (Node H)). IsLess (before c) o) (sym same) (less-same size status_of closed (before c)));
+        run = run;
       }
         where
-          same_node : (node : Node H) → Some new ≡ Some node → new ≡ node
-          same_node node e = cc
+          run : ExchangeRun before (e ∷ []) after
+          run = (after, step, refl)
 
-    -- after pings the nodes are further, or they hold what they did, and each pinger that was acknowledged nothing less than its pinged
+          same_node : (node : Node H) → Some new ≡ Some node → new ≡ node
+          same_node node is = cc
+
+    -- after pings the nodes have gone on; a pinger that was acknowledged took the whole of a pinged that was quiet; and while a change is pending each message to
+    -- any but its source issued something
     record Advance (before after : Nodes H) (ss : List SentPing) : Type 0 where
-      goes : GoFurther before after
-      covers : total after ≤ total before → (p : Ping) → In (record { ping = p; fate = Acknowledged }) ss
-          → (z : ℕ) → Covers (greatest (members_of (before p.pinger)) z) (greatest (members_of (before p.pinged)) z)
+      es : List Exchange
+      goes : Go before after es
+      wholes : (a b : ℕ) → In (record { ping = record { pinger = a; pinged = b }; fate = Acknowledged }) ss → IsQuiet (before b) (after b)
+          → In (record { taker = a; giver = b; whole = true }) es
+      issued : (b : ℕ) → news (before b) ≤ news (after b) → (q : Pending) → In q (pending (after b))
+          → unsent_by (after b) + sent_in b q.sourced.source ss ≤ unsent_by (before b)
+
+    -- a ping is answered
+    answered_goes : (before : Nodes H) (p : Ping) (sent : AnsweredPing hash_of before p) (fit : AreFit before)
+        → Go before (answering before p sent fit.are) (half before p sent fit.are)
+    answered_goes before p sent fit =
+        let made : Nodes H = making before p sent fit.are in
+        let answered : Nodes H = answering before p sent fit.are in
+        let pinger_fit : IsFitNode size status_of closed sent.pinger = fit.each p.pinger sent.pinger sent.pinger_is in
+        let pinged_fit : IsFitNode size status_of closed sent.pinged = fit.each p.pinged sent.pinged sent.pinged_is in
+        let one : Go before made (first before p sent fit.are ∷ [])
+        = one_goes before made p.pinger sent.pinger sent.waiting sent.pinger_is refl (pinger-makes size status_of closed hash_of before p sent pinger_fit pinged_fit) fit
+        (first before p sent fit.are) (first-step before p sent fit.are) in
+        go-both before made answered (first before p sent fit.are ∷ []) (second before p sent fit.are ∷ []) one
+        (one_goes made answered p.pinged sent.pinged sent.answered (pinged_there before p sent fit.are) refl (pinged-moves size status_of closed hash_of before p sent pinger_fit pinged_fit) one.fit
+        (second before p sent fit.are) (second-step before p sent fit.are))
+
+    -- and acknowledged
 
     module _ (before : Nodes H) (p : Ping) (after : Nodes H) (step : PingStep hash_of before p after) (fit : AreFit before) where
-      pinger_fit : IsFitNode size status_of step.sent.pinger
+      pinger_fit : IsFitNode size status_of closed step.sent.pinger
       pinger_fit = fit.each p.pinger step.sent.pinger step.sent.pinger_is
 
-      pinged_fit : IsFitNode size status_of step.sent.pinged
+      pinged_fit : IsFitNode size status_of closed step.sent.pinged
       pinged_fit = fit.each p.pinged step.sent.pinged step.sent.pinged_is
 
-      of_pinger : Moves size status_of step.sent.pinger step.done
-      of_pinger = pinger-moves size status_of hash_of before p after step pinger_fit pinged_fit
+      abbrev acked_es : Bool → List Exchange
+      acked_es whole = half before p step.sent fit.are ++ last before p after step fit.are whole ∷ []
 
-      of_pinged : Moves size status_of step.sent.pinged step.sent.answered
-      of_pinged = pinged-moves size status_of hash_of before p step.sent pinger_fit pinged_fit
+      acked_goes : (whole : Bool) → (whole ≡ true → HoldsNoLess step.done step.sent.answered.members) → Go before after (acked_es whole)
+      acked_goes whole covers =
+          let answered : Nodes H = answering before p step.sent fit.are in
+          let one = answered_goes before p step.sent fit in
+          go-both before answered after (half before p step.sent fit.are) (last before p after step fit.are whole ∷ []) one
+          (one_goes answered after p.pinger step.sent.waiting step.done (there before p after step fit.are) step.after_is
+          (waiting-moves size status_of closed hash_of before p after step pinger_fit pinged_fit) one.fit
+          (last before p after step fit.are whole) (last-step before p after step fit.are whole covers))
 
-      -- what holds of both and of the others holds of all
-      of_all : (P : ℕ → Type 0) → P p.pinger → P p.pinged → ((c : ℕ) → after c ≡ before c → P c) → (c : ℕ) → P c
-      of_all P a b rest c = elim (cases_eq c p.pinger) [
-        | inl is ↦ subst P (sym is) a
-        | inr not_a ↦ elim (cases_eq c p.pinged) [
-          | inl is ↦ subst P (sym is) b
-          | inr not_b ↦ rest c (others_after before p after step fit.are c not_a not_b)
-        ]
+      pinged_quiet : IsQuiet (before p.pinged) (after p.pinged) → IsQuiet (Some step.sent.pinged) (Some step.sent.answered)
+      pinged_quiet h = subst (λ (o : Option (Node H)). IsQuiet o (Some step.sent.answered)) step.sent.pinged_is
+          (subst (λ (o : Option (Node H)). IsQuiet (before p.pinged) o) (pinged_after before p after step fit.are) h)
+
+      pinger_sends : Sent size status_of closed p.pinged (before p.pinger) (after p.pinger)
+      pinger_sends = subst (λ (o : Option (Node H)). Sent size status_of closed p.pinged o (after p.pinger)) (sym step.sent.pinger_is)
+          (subst (λ (o : Option (Node H)). Sent size status_of closed p.pinged (Some step.sent.pinger) o) (sym (pinger_after before p after step fit.are))
+          (pinger-sent size status_of closed hash_of before p after step pinger_fit pinged_fit))
+
+      pinged_sends : Sent size status_of closed p.pinger (before p.pinged) (after p.pinged)
+      pinged_sends = subst (λ (o : Option (Node H)). Sent size status_of closed p.pinger o (after p.pinged)) (sym step.sent.pinged_is)
+          (subst (λ (o : Option (Node H)). Sent size status_of closed p.pinger (Some step.sent.pinged) o) (sym (pinged_after before p after step fit.are))
+          (subst (λ (t : ℕ). Sent size status_of closed t (Some step.sent.pinged) (Some step.sent.answered)) (fit.are.own p.pinger step.sent.pinger step.sent.pinger_is)
+          (pinged-sent size status_of closed hash_of before p step.sent pinger_fit pinged_fit)))
+
+      acked_issued : (whole : Bool) (goes : Go before after (acked_es whole)) (b : ℕ) → news (before b) ≤ news (after b) → (q : Pending) → In q (pending (after b))
+          → unsent_by (after b) + sent_in b q.sourced.source (record { ping = p; fate = Acknowledged } ∷ []) ≤ unsent_by (before b)
+      acked_issued whole goes b same q listed =
+          one-sent b q.sourced.source (record { ping = p; fate = Acknowledged }) (unsent_by (before b)) (unsent_by (after b)) step.sent.apart
+          (unsent-falls size status_of closed (before b) (after b) (goes.less b) same)
+          (λ is other. subst (λ (c : ℕ). Sent size status_of closed p.pinged (before c) (after c)) is pinger_sends same q listed (λ e. other (sym e)))
+          (λ is other. subst (λ (c : ℕ). Sent size status_of closed p.pinger (before c) (after c)) is pinged_sends same q listed (λ e. other (sym e)))
+
+      acked_advance : Advance before after (record { ping = p; fate = Acknowledged } ∷ [])
+      acked_advance = elim (remaining.quiet-or_not size status_of closed (before p.pinged) (after p.pinged)) [
+        | inl quiet ↦
+            let holds : HoldsNoLess step.done step.sent.answered.members
+            = pinger-holds size status_of closed hash_of before p after step pinger_fit pinged_fit (pinged_quiet quiet).no_news (pinged_quiet quiet).no_less in
+            let goes = acked_goes true (λ w. holds) in
+            record {
+              es = acked_es true;
+              goes = goes;
+              wholes = λ a b h same. elim h [
+                | inl is ↦ in_append_right (record { taker = a; giver = b; whole = true }) (half before p step.sent fit.are) (last before p after step fit.are true ∷ [])
+                    (inl (ap (λ (t : SentPing). record { taker = t.ping.pinger; giver = t.ping.pinged; whole = true }) is))
+                | inr k ↦ absurd k
+              ];
+              issued = acked_issued true goes;
+            }
+        | inr loud ↦
+            let goes = acked_goes false (λ w. let no : false ≡ true = w in cc) in
+            record {
+              es = acked_es false;
+              goes = goes;
+              wholes = λ a b h quiet. elim h [
+                | inl is ↦ absurd (loud (subst (λ (c : ℕ). IsQuiet (before c) (after c)) (ap (λ (t : SentPing). t.ping.pinged) is) quiet))
+                | inr k ↦ absurd k
+              ];
+              issued = acked_issued false goes;
+            }
       ]
-
-      fit_after : AreFit after
-      fit_after = record {
-        are = are-after before after (as-exchanges before p after step fit.are) fit.are;
-        each = of_all (λ c. (node : Node H) → after c ≡ Some node → IsFitNode size status_of node)
-            (λ node e. subst (λ (n : Node H). IsFitNode size status_of n) (one_node step.done node (sym (pinger_after before p after step fit.are) ∙ e)) of_pinger.is)
-            (λ node e. subst (λ (n : Node H). IsFitNode size status_of n) (one_node step.sent.answered node (sym (pinged_after before p after step fit.are) ∙ e)) of_pinged.is)
-            (λ c same node e. fit.each c node (sym same ∙ e));
-        placed = λ a there. fit.placed a (there-before before after (as-exchanges before p after step fit.are) fit.are a there);
-      }
-        where
-          one_node : (x y : Node H) → Some x ≡ Some y → x ≡ y
-          one_node x y e = cc
-
-      far_grows : (c : ℕ) → far (before c) ≤ far (after c)
-      far_grows = of_all (λ c. far (before c) ≤ far (after c))
-          (at_place p.pinger step.sent.pinger step.done step.sent.pinger_is (pinger_after before p after step fit.are) of_pinger)
-          (at_place p.pinged step.sent.pinged step.sent.answered step.sent.pinged_is (pinged_after before p after step fit.are) of_pinged)
-          (λ c same. subst (λ (o : Option (Node H)). far (before c) ≤ far o) (sym same) (omega arith))
-        where
-          at_place : (c : ℕ) (old new : Node H) → before c ≡ Some old → after c ≡ Some new → Moves size status_of old new → far (before c) ≤ far (after c)
-          at_place c old new was is moves =
-              subst (λ (o : Option (Node H)). far o ≤ far (after c)) (sym was)
-              (subst (λ (o : Option (Node H)). sum_by (progress size status_of old) size.named ≤ far o) (sym is)
-              (sum_by-le-sum_by (progress size status_of old) (progress size status_of new) size.named moves.grows))
-
-      -- where the nodes together are no further, neither is one of them
-      no_further : total after ≤ total before → (c : ℕ) (old new : Node H) → before c ≡ Some old → after c ≡ Some new → Moves size status_of old new
-          → (x : ℕ) → In x size.named → progress size status_of new x ≤ progress size status_of old x
-      no_further h c old new was is moves =
-          sum-still (progress size status_of old) (progress size status_of new) size.named moves.grows
-          (subst (λ (o : Option (Node H)). far o ≤ sum_by (progress size status_of old) size.named) is
-          (subst (λ (o : Option (Node H)). far (after c) ≤ far o) was
-          (sum-still (λ a. far (before a)) (λ a. far (after a)) size.places far_grows h c (fit.placed c (old, was)))))
-
-      still_pinger : total after ≤ total before → (x : ℕ) → In x size.named → progress size status_of step.done x ≤ progress size status_of step.sent.pinger x
-      still_pinger h = no_further h p.pinger step.sent.pinger step.done step.sent.pinger_is (pinger_after before p after step fit.are) of_pinger
-
-      still_pinged : total after ≤ total before → (x : ℕ) → In x size.named → progress size status_of step.sent.answered x ≤ progress size status_of step.sent.pinged x
-      still_pinged h = no_further h p.pinged step.sent.pinged step.sent.answered step.sent.pinged_is (pinged_after before p after step fit.are) of_pinged
-
-      ping_unmoved : total after ≤ total before → (c : ℕ) → members_of (after c) ≡ members_of (before c)
-      ping_unmoved h = of_all (λ c. members_of (after c) ≡ members_of (before c))
-          (members-at after p.pinger step.done (pinger_after before p after step fit.are) ∙ (of_pinger.still (still_pinger h)).0 ∙ sym (members-at before p.pinger step.sent.pinger step.sent.pinger_is))
-          (members-at after p.pinged step.sent.answered (pinged_after before p after step fit.are) ∙ (of_pinged.still (still_pinged h)).0 ∙ sym (members-at before p.pinged step.sent.pinged step.sent.pinged_is))
-          (λ c same. ap (λ (o : Option (Node H)). members_of o) same)
-
-      ping_covers : total after ≤ total before → (z : ℕ) → Covers (greatest (members_of (before p.pinger)) z) (greatest (members_of (before p.pinged)) z)
-      ping_covers h z =
-          subst (λ (L : List Change). Covers (greatest L z) (greatest (members_of (before p.pinged)) z)) (sym (members-at before p.pinger step.sent.pinger step.sent.pinger_is))
-          (subst (λ (L : List Change). Covers (greatest step.sent.pinger.members z) (greatest L z)) (sym (members-at before p.pinged step.sent.pinged step.sent.pinged_is))
-          (pinger-covers size status_of hash_of before p after step pinger_fit pinged_fit (still_pinged h) (still_pinger h) z))
-
-      ping_grows : total before ≤ total after
-      ping_grows = sum_by-le-sum_by (λ a. far (before a)) (λ a. far (after a)) size.places far_grows
-
-    ping_further : (before : Nodes H) (p : Ping) (after : Nodes H) → PingStep hash_of before p after → AreFit before → GoFurther before after
-    ping_further before p after step fit = record { fit = fit_after before p after step fit; grows = ping_grows before p after step fit; unmoved = ping_unmoved before p after step fit }
 
     -- a ping that is lost, and one whose ack is
 
-    ping_lost_further : (before : Nodes H) (p : Ping) (after : Nodes H) → PingLostStep hash_of before p after → AreFit before → GoFurther before after
-    ping_lost_further before p after step fit =
-        one_moves before after p.pinger step.pinger step.waiting step.pinger_is step.after_is
-        (subst (λ (n : Node H). Moves size status_of step.pinger n) (sym step.makes.1) (moves-told size status_of step.pinger p.pinged (fit.each p.pinger step.pinger step.pinger_is)))
-        fit (ping-lost-exchanges before p after step fit.are)
+    unwhole : (before : Nodes H) (after : Nodes H) (p : Ping) (fate : Fate) (es : List Exchange) → Go before after es → is_acked fate ≡ false
+        → Advance before after (record { ping = p; fate = fate } ∷ [])
+    unwhole before after p fate es goes lost = record {
+      es = es;
+      goes = goes;
+      wholes = λ a b h same. elim h [ inl is ↦ absurd (true≢false (ap (λ (t : SentPing). is_acked t.fate) is ∙ lost)) | inr k ↦ absurd k ];
+      issued = λ b same q listed.
+          none-sent b q.sourced.source (record { ping = p; fate = fate }) (unsent_by (before b)) (unsent_by (after b)) lost (unsent-falls size status_of closed (before b) (after b) (goes.less b) same);
+    }
 
-    answered_further : (before : Nodes H) (p : Ping) (sent : AnsweredPing hash_of before p) (fit : AreFit before) → GoFurther before (answering before p sent fit.are)
-    answered_further before p sent fit =
-        let made : Nodes H = making before p sent fit.are in
-        let answered : Nodes H = answering before p sent fit.are in
-        let pinger_fit : IsFitNode size status_of sent.pinger = fit.each p.pinger sent.pinger sent.pinger_is in
-        let pinged_fit : IsFitNode size status_of sent.pinged = fit.each p.pinged sent.pinged sent.pinged_is in
-        let one : GoFurther before made =
-        one_moves before made p.pinger sent.pinger sent.waiting sent.pinger_is refl (pinger-makes size status_of hash_of before p sent pinger_fit pinged_fit) fit
-        (first before p sent fit.are ∷ [], (made, first-step before p sent fit.are, refl)) in
-        go-both before made answered one
-        (one_moves made answered p.pinged sent.pinged sent.answered (pinged_there before p sent fit.are) refl (pinged-moves size status_of hash_of before p sent pinger_fit pinged_fit) one.fit
-        (second before p sent fit.are ∷ [], (answered, second-step before p sent fit.are, refl)))
+    ping_lost_goes : (before : Nodes H) (p : Ping) (after : Nodes H) (step : PingLostStep hash_of before p after) → AreFit before
+        → Go before after (record { taker = p.pinger; giver = p.pinger; whole = false } ∷ [])
+    ping_lost_goes before p after step fit =
+        let is : IsFitNode size status_of closed step.pinger = fit.each p.pinger step.pinger step.pinger_is in
+        one_goes before after p.pinger step.pinger step.waiting step.pinger_is step.after_is
+        (subst (λ (n : Node H). Moves size status_of closed step.pinger n) (sym step.makes.1) (moves-told size status_of closed step.pinger p.pinged is))
+        fit (record { taker = p.pinger; giver = p.pinger; whole = false })
+        (record {
+          taker = step.pinger;
+          giver = step.pinger;
+          new = step.waiting;
+          taker_is = step.pinger_is;
+          giver_is = step.pinger_is;
+          takes = makes-ping step.pinger step.waiting p.pinged step.ping is.kept step.makes;
+          after_is = step.after_is;
+        })
 
-    fate_further : (before : Nodes H) (p : Ping) (fate : Fate) (after : Nodes H) → FateStep hash_of before p fate after → AreFit before → GoFurther before after
-    fate_further before p Acknowledged after step fit = ping_further before p after step fit
-    fate_further before p AckLost after step fit = subst (λ (n : Nodes H). GoFurther before n) (sym step.after_is) (answered_further before p step.sent fit)
-    fate_further before p PingLost after step fit = ping_lost_further before p after step fit
-
-    fate_covers : (before : Nodes H) (p : Ping) (fate : Fate) (after : Nodes H) → FateStep hash_of before p fate after → AreFit before → fate ≡ Acknowledged
-        → total after ≤ total before → (z : ℕ) → Covers (greatest (members_of (before p.pinger)) z) (greatest (members_of (before p.pinged)) z)
-    fate_covers before p Acknowledged after step fit is = ping_covers before p after step fit
-    fate_covers before p AckLost after step fit is = cc
-    fate_covers before p PingLost after step fit is = cc
+    fate_advance : (before : Nodes H) (p : Ping) (fate : Fate) (after : Nodes H) → FateStep hash_of before p fate after → AreFit before
+        → Advance before after (record { ping = p; fate = fate } ∷ [])
+    fate_advance before p Acknowledged after step fit = acked_advance before p after step fit
+    fate_advance before p AckLost after step fit =
+        unwhole before after p AckLost (half before p step.sent fit.are)
+        (subst (λ (n : Nodes H). Go before n (half before p step.sent fit.are)) (sym step.after_is) (answered_goes before p step.sent fit)) refl
+    fate_advance before p PingLost after step fit =
+        unwhole before after p PingLost (record { taker = p.pinger; giver = p.pinger; whole = false } ∷ []) (ping_lost_goes before p after step fit) refl
 
     pings_advance : (before after : Nodes H) (ss : List SentPing) → LossyRun hash_of before ss after → AreFit before → Advance before after ss
-    pings_advance before after [] run fit = record {
-      goes = record {
-        fit = subst (λ (n : Nodes H). AreFit n) (sym run) fit;
-        grows = subst (λ (n : Nodes H). total before ≤ total n) (sym run) (omega arith);
-        unmoved = λ h c. ap (λ (n : Nodes H). members_of (n c)) run;
-      };
-      covers = λ h p k. absurd k;
-    }
-    pings_advance before after (s ∷ ss) run fit =
-        let one : GoFurther before run.0 = fate_further before s.ping s.fate run.0 run.1 fit in
-        let rest = pings_advance run.0 after ss run.2 one.fit in
-        let grown : total before ≤ total run.0 = one.grows in
-        let later : total run.0 ≤ total after = rest.goes.grows in
+    pings_advance before after [] run fit =
+        let goes = go-none before after fit run in
         record {
-          goes = go-both before run.0 after one rest.goes;
-          covers = λ h q place z. elim place [
-            | inl is ↦ subst (λ (r : Ping). Covers (greatest (members_of (before r.pinger)) z) (greatest (members_of (before r.pinged)) z)) (sym (ap (λ (t : SentPing). t.ping) is))
-                (fate_covers before s.ping s.fate run.0 run.1 fit (sym (ap (λ (t : SentPing). t.fate) is)) (omega (arith, later, h)) z)
-            | inr k ↦
-                let same = one.unmoved (omega (arith, later, h)) in
-                subst (λ (L : List Change). Covers (greatest L z) (greatest (members_of (before q.pinged)) z)) (same q.pinger)
-                (subst (λ (L : List Change). Covers (greatest (members_of (run.0 q.pinger)) z) (greatest L z)) (same q.pinged)
-                (rest.covers (omega (arith, grown, h)) q k z))
+          es = [];
+          goes = goes;
+          wholes = λ a b h same. absurd h;
+          issued = λ b same q listed.
+              let fell : unsent_by (after b) ≤ unsent_by (before b) = unsent-falls size status_of closed (before b) (after b) (goes.less b) same in
+              omega (arith, fell);
+        }
+    pings_advance before after (s ∷ ss) run fit =
+        let one = fate_advance before s.ping s.fate run.0 run.1 fit in
+        let rest = pings_advance run.0 after ss run.2 one.goes.fit in
+        record {
+          es = one.es ++ rest.es;
+          goes = go-both before run.0 after one.es rest.es one.goes rest.goes;
+          wholes = λ a b place quiet. elim place [
+            | inl is ↦ in_append_left (record { taker = a; giver = b; whole = true }) one.es rest.es
+                (one.wholes a b (inl is) (remaining.quiet-first size status_of closed (before b) (run.0 b) (after b) (one.goes.less b) (rest.goes.less b) quiet))
+            | inr k ↦ in_append_right (record { taker = a; giver = b; whole = true }) one.es rest.es
+                (rest.wholes a b k (remaining.quiet-rest size status_of closed (before b) (run.0 b) (after b) (one.goes.less b) (rest.goes.less b) quiet))
           ];
+          issued = λ b same q listed.
+              let early : news (run.0 b) ≤ news (before b) = (one.goes.less b).news in
+              let late : news (after b) ≤ news (run.0 b) = (rest.goes.less b).news in
+              let was = (rest.goes.less b).still (omega (arith, same, early)) q listed in
+              let first : unsent_by (run.0 b) + sent_in b q.sourced.source (s ∷ []) ≤ unsent_by (before b)
+              = subst (λ (x : Sourced). unsent_by (run.0 b) + sent_in b x.source (s ∷ []) ≤ unsent_by (before b)) was.2 (one.issued b (omega (arith, same, late)) was.0 was.1) in
+              let second : unsent_by (after b) + sent_in b q.sourced.source ss ≤ unsent_by (run.0 b) = rest.issued b (omega (arith, same, early)) q listed in
+              let both : sent_in b q.sourced.source (s ∷ ss) ≡ sent_in b q.sourced.source (s ∷ []) + sent_in b q.sourced.source ss = sent-more b q.sourced.source s ss in
+              omega (arith, first, second, both);
         }
 
-    -- a stretch that takes no node further leaves all with the same
-    stretch_same : (before after : Nodes H) (ss : List SentPing) → IsStretch before ss → AreFit before → Advance before after ss → total after ≤ total before → HoldSame before
-    stretch_same before after ss stretch fit advance h a b at_a at_b = elim (cases_eq a b) [
-      | inl is ↦ ap (λ (c : ℕ). members_of (before c)) is
-      | inr apart ↦ same_members (members_of (before a)) (members_of (before b)) (listed_at a at_a) (listed_at b at_b)
-          (λ z. covers-same (members_of (before a)) (members_of (before b)) z
-          (advance.covers h (record { pinger = a; pinged = b }) (stretch a b at_a at_b apart) z)
-          (advance.covers h (record { pinger = b; pinged = a }) (stretch b a at_b at_a (λ k. apart (sym k))) z))
-    ]
-      where
-        listed_at : (c : ℕ) → IsThere before c → IsMemberList (members_of (before c))
-        listed_at c there = subst (λ (L : List Change). IsMemberList L) (sym (members-at before c there.0 there.1)) (fit.are.kept c there.0 there.1).one_each
+    -- in a stretch a node is quiet, and all others take the whole of it, or it has so much less left to do
 
-    stretches_advance : (before after : Nodes H) (rs : List (List SentPing)) → StretchRun hash_of before rs after → AreFit before
-        → AreFit after × ((total before + length rs ≤ total after) ⊎ HoldSame after)
-    stretches_advance before after [] run fit = (
-      subst (λ (n : Nodes H). AreFit n) (sym run) fit,
-      inl (subst (λ (n : Nodes H). total before + 0 ≤ total n) (sym run) (omega arith)),
-    )
-    stretches_advance before after (r ∷ rs) run fit =
-        let one = pings_advance before run.0 r run.2 fit in
-        let rest = stretches_advance run.0 after rs run.3 one.goes.fit in (
-          rest.0,
-          elim (cases_lt (total before) (total run.0)) [
-            | inl further ↦ elim rest.1 [
-              | inl far ↦ inl (omega (arith, further, far))
-              | inr alike ↦ inr alike
-            ]
-            | inr no_further ↦
-                let es = stretches-exchanges before after (r ∷ rs) run fit.are in
-                inr (same-run before after es.0 fit.are es.1 (stretch_same before run.0 r run.1 fit one no_further))
-          ],
-        )
+    module _ (before after : Nodes H) (ss : List SentPing) (stretch : IsStretch before ss) (advance : Advance before after ss) (nodes_there : (a : ℕ) → In a size.nodes → IsThere before a)
+        (rising : IsRising size.nodes) (b : ℕ) (there : IsThere before b) where
+      less : IsLess (before b) (after b)
+      less = advance.goes.less b
+
+      fewer : news (after b) ≤ news (before b)
+      fewer = less.news
+
+      -- it took something that was news to it
+      by_news : news (after b) < news (before b) → left (after b) + messages ≤ left (before b)
+      by_news took =
+          let row : (news (after b) + 1) * (2 * messages) ≤ news (before b) * (2 * messages) = mul-le-mul_right (2 * messages) (omega (arith, took)) in
+          let split : (news (after b) + 1) * (2 * messages) ≡ news (after b) * (2 * messages) + 2 * messages
+          = ap (λ n. n * (2 * messages)) (omega arith) ∙ suc-mul (news (after b)) (2 * messages) in
+          let work : news (after b) * size.limit + unsent_by (after b) ≤ news (before b) * size.limit + unsent_by (before b) = less.work in
+          let wait : waits (pending (after b)) ≤ messages = remaining.waits-few size (pending (after b)) in
+          omega (arith, row, split, work, wait)
+
+      module _ (same : news (before b) ≤ news (after b)) where
+        equal : news (after b) ≡ news (before b)
+        equal = omega (arith, same, fewer)
+
+        rows : news (after b) * size.limit ≡ news (before b) * size.limit
+        rows = ap (λ n. n * size.limit) equal
+
+        twice : news (after b) * (2 * messages) ≡ news (before b) * (2 * messages)
+        twice = ap (λ n. n * (2 * messages)) equal
+
+        -- it passed on the last that was pending
+        by_last : unsent_by (after b) < unsent_by (before b) → pending (after b) ≡ [] → left (after b) + messages ≤ left (before b)
+        by_last fell none =
+            let gone : waits (pending (after b)) ≡ 0 = ap waits none in
+            let was : waits (pending (before b)) ≡ messages = some (pending (before b)) refl in
+            omega (arith, rows, twice, fell, gone, was)
+          where
+            some : (qs : List Pending) → pending (before b) ≡ qs → waits qs ≡ messages
+            some [] e = let nothing : unsent_by (before b) ≡ 0 = ap (λ (l : List Pending). unsent size.limit l) e in absurd (omega (arith, nothing, fell))
+            some (q ∷ qs) e = refl
+
+        -- something is pending still, so each message to any but its source issued something
+        by_rest : unsent_by (after b) < unsent_by (before b) → (q : Pending) → In q (pending (after b)) → left (after b) + messages ≤ left (before b)
+        by_rest fell q listed =
+            let source : ℕ = q.sourced.source in
+            let sent : unsent_by (after b) + sent_in b source ss ≤ unsent_by (before b) = advance.issued b same q listed in
+            let pings : length size.nodes ≤ 2 + count_by (is_pinger b source) ss
+            = reaches-each size.nodes b source (λ s. s.ping.pinged) (is_pinger b source) ss (λ a in_a apart other. (
+              record { ping = record { pinger = b; pinged = a }; fate = Acknowledged },
+              stretch b a there (nodes_there a in_a) (λ e. apart (sym e)),
+              refl,
+              ap (λ x. x && (not (eqb a source) && true)) (eq-eqb b b refl) ∙ ap (λ x. not x && true) (ne_eqb a source other),
+            )) rising in
+            let acks : length size.nodes ≤ 2 + count_by (is_pinged b source) ss
+            = reaches-each size.nodes b source (λ s. s.ping.pinger) (is_pinged b source) ss (λ a in_a apart other. (
+              record { ping = record { pinger = a; pinged = b }; fate = Acknowledged },
+              stretch a b (nodes_there a in_a) there apart,
+              refl,
+              ap (λ x. x && (not (eqb a source) && true)) (eq-eqb b b refl) ∙ ap (λ x. not x && true) (ne_eqb a source other),
+            )) rising in
+            let each : messages ≤ unsent_by (before b) - unsent_by (after b)
+            = max-le (omega (arith, fell)) (omega (arith, sent, pings, acks)) in
+            let now : waits (pending (after b)) ≤ messages = remaining.waits-few size (pending (after b)) in
+            let old = less.still same q listed in
+            let was : waits (pending (before b)) ≡ messages = remaining.waits-some size old.0 (pending (before b)) old.1 in
+            omega (arith, rows, twice, each, fell, now, was)
+
+        by_pending : unsent_by (after b) < unsent_by (before b) → (qs : List Pending) → pending (after b) ≡ qs → left (after b) + messages ≤ left (before b)
+        by_pending fell [] e = by_last fell e
+        by_pending fell (q ∷ qs) e = by_rest fell q (subst (λ (l : List Pending). In q l) (sym e) (inl refl))
+
+      quiet_or_less : IsQuiet (before b) (after b) ⊎ (left (after b) + messages ≤ left (before b))
+      quiet_or_less = elim (cases_lt (news (after b)) (news (before b))) [
+        | inl took ↦ inr (by_news took)
+        | inr same ↦ elim (cases_lt (unsent_by (after b)) (unsent_by (before b))) [
+          | inl fell ↦ inr (by_pending same fell (pending (after b)) refl)
+          | inr no_less ↦ inl (record { no_news = same; no_less = no_less })
+        ]
+      ]
+
+    abbrev IsHeard : Nodes H → List Exchange → ℕ → Type 0
+    IsHeard nodes es b = (a : ℕ) → IsThere nodes a → a ≢ b → In (record { taker = a; giver = b; whole = true }) es
+
+    record Stretches (before after : Nodes H) (n : ℕ) : Type 0 where
+      es : List Exchange
+      goes : Go before after es
+      heard : (b : ℕ) → IsThere before b → (left (after b) + n * messages ≤ left (before b)) ⊎ IsHeard before es b
+
+    module _ (rising : IsRising size.nodes) where
+      stretches_go : (before after : Nodes H) (rs : List (List SentPing)) → StretchRun hash_of before rs after → AreFit before → ((a : ℕ) → In a size.nodes → IsThere before a)
+          → Stretches before after (length rs)
+      stretches_go before after [] run fit nodes_there = record {
+        es = [];
+        goes = go-none before after fit run;
+        heard = λ b there. inl (subst (λ (n : Nodes H). left (n b) + 0 * messages ≤ left (before b)) (sym run) (omega arith));
+      }
+      stretches_go before after (r ∷ rs) run fit nodes_there =
+          let one = pings_advance before run.0 r run.2 fit in
+          let stay = staying before run.0 one.es fit.are one.goes.run in
+          let rest = stretches_go run.0 after rs run.3 one.goes.fit (λ a h. stay.goes_on a (nodes_there a h)) in
+          record {
+            es = one.es ++ rest.es;
+            goes = go-both before run.0 after one.es rest.es one.goes rest.goes;
+            heard = λ b there. elim (quiet_or_less before run.0 r run.1 one nodes_there rising b there) [
+              | inl quiet ↦ inr (λ a at apart. in_append_left (record { taker = a; giver = b; whole = true }) one.es rest.es (one.wholes a b (run.1 a b at there apart) quiet))
+              | inr less ↦ elim (rest.heard b (stay.goes_on b there)) [
+                | inl more ↦
+                    let row : suc (length rs) * messages ≡ length rs * messages + messages = suc-mul (length rs) messages in
+                    inl (omega (arith, less, more, row))
+                | inr all ↦ inr (λ a at apart. in_append_right (record { taker = a; giver = b; whole = true }) one.es rest.es (all a (stay.goes_on a at) apart))
+              ]
+            ];
+          }
+
+    -- so many stretches are a sweep
+    are_sweep : (before after : Nodes H) (n top : ℕ) (run : Stretches before after n) → ((b : ℕ) → left (before b) ≤ top) → top < n * messages → IsSweep before run.es
+    are_sweep before after n top run few enough a b at_a at_b apart = elim (run.heard b at_b) [
+      | inl less ↦ let most : left (before b) ≤ top = few b in absurd (omega (arith, less, most, enough))
+      | inr all ↦ all a at_a apart
+    ]
+
+    -- stretches in two parts
+    parts : (before after : Nodes H) (xs ys : List (List SentPing)) → StretchRun hash_of before (xs ++ ys) after
+        → (between : Nodes H) × StretchRun hash_of before xs between × StretchRun hash_of between ys after
+    parts before after [] ys run = (before, refl, run)
+    parts before after (x ∷ xs) ys run =
+        let rest = parts run.0 after xs ys run.3 in
+        (rest.0, (run.0, run.1, run.2, rest.1), rest.2)
 
 -- stretches enough
 
@@ -571,63 +562,62 @@ module _ {H : Type 0} (hash_of : H → List ℕ → ℕ) (before after : Nodes H
   abbrev status_of : ℕ → Option Status
   status_of a = option_map (λ (node : Node H). (own_change node).status) (before a)
 
-  fit : AreFit hash_of size status_of before
+  closed : IsClosed size.changes status_of
+  closed c d in_c in_d about own other = by_node (before d.address) refl own
+    where
+      by_node : (o : Option (Node H)) → before d.address ≡ o → option_map (λ (node : Node H). (own_change node).status) o ≡ Some d.status → In (refutation d c) size.changes
+      by_node None e is = let no : None ≡ Some d.status = is in cc
+      by_node (Some node) e is =
+          let same : (own_change node).status ≡ d.status = cc in
+          within.refuted d.address node c d e in_c in_d about refl (sym same) other
+
+  fit : AreFit hash_of size status_of closed before
   fit = record {
     are = are;
     each = λ a node e. record {
       kept = are.kept a node e;
-      fit = λ x c h. record {
-        named = subst (λ (y : ℕ). In y size.named) (sym (address-greatest node.members x c h)) (within.named a x node c e h);
-        light = within.weights a x node c e h;
-        early = inl (within.incarnations a x node c e h);
-      };
+      fit = λ x c h. within.held a x node c e h;
       own_status = ap status_of (are.own a node e) ∙ ap (option_map (λ (n : Node H). (own_change n).status)) e;
       limits = λ n h. within.limits a n node e h;
     };
-    placed = within.placed;
   }
 
-  same : HoldSame hash_of after
-  same =
-      let end = stretches_advance hash_of size status_of before after stretches run fit in
-      elim end.1 [
-        | inl far ↦
-            let top : total hash_of size status_of after ≤ length size.places * (length size.named * (entry_changes size * (size.limit + 1) + size.limit))
-            = total-top hash_of size status_of after end.0 in
-            absurd (omega (arith, far, top, enough))
-        | inr alike ↦ alike
-      ]
+  few : (b : ℕ) (p : Option (Node H)) → Less size status_of closed (before b) p → remaining.left size status_of closed p ≤ remaining.top size
+  few b p less = remaining.left-top size status_of closed (before b) p less (few_news (before b) refl) (few_pending (before b) refl)
+    where
+      few_news : (o : Option (Node H)) → before b ≡ o → news_of size status_of closed o ≤ size.news
+      few_news None e = omega arith
+      few_news (Some node) e = within.news b node e
 
-  es : AsExchanges hash_of before after
-  es = stretches-exchanges hash_of before after stretches run are
+      few_pending : (o : Option (Node H)) → before b ≡ o → length (pending_of size status_of closed o) ≤ size.pending
+      few_pending None e = omega arith
+      few_pending (Some node) e = within.pending b node e
 
-  as_run : spread.Run cases_eq at_itself (λ a. IsThere before a) (λ a. members_of (before a)) es.0 (λ a. members_of (after a))
-  as_run = running before before after es.0 are (λ a there. there) es.1
+  abbrev half_of : ℕ
+  half_of = quiet_after size
 
-  members_same : (a b : ℕ) (x y : Node H) → after a ≡ Some x → after b ≡ Some y → x.members ≡ y.members
-  members_same a b x y at_a at_b = sym (members-at after a x at_a) ∙ same a b (x, at_a) (y, at_b) ∙ members-at after b y at_b
-
-  no_less : (a b : ℕ) (x y : Node H) → after a ≡ Some x → before b ≡ Some y → (z : ℕ) → Covers (greatest x.members z) (greatest y.members z)
-  no_less a b x y at_a at_b z =
-      let there = (staying before after es.0 are es.1).goes_on b (y, at_b) in
-      let equal : members_of (after b) ≡ x.members = members-at after b there.0 there.1 ∙ members_same b a there.0 x there.1 at_a in
-      subst (λ (L : List Change). Covers (greatest x.members z) (greatest L z)) (members-at before b y at_b)
-      (subst (λ (L : List Change). Covers (greatest L z) (greatest (members_of (before b)) z)) equal
-      (spread.kept-all cases_eq at_itself (λ a. IsThere before a) (λ a. members_of (before a)) (λ a. members_of (after a)) es.0 as_run b z))
-
-  of_start : (z a : ℕ) (x : Node H) (c : Change) → before z ≡ None → after a ≡ Some x → greatest x.members z ≡ Some c → IsHeldIn before z c
-  of_start z a x c none at_a h =
-      let start = spread.from_start cases_eq at_itself (λ a. IsThere before a) (λ a. members_of (before a)) (λ a. members_of (after a)) es.0 as_run (λ p. ⊥) z
-      (λ there. let no : None ≡ Some there.0 = sym none ∙ there.1 in cc) a (there-before hash_of before after es are a (x, at_a)) in (
-        start.0,
-        start.1.0,
-        start.1.1,
-        ap (λ (L : List Change). greatest L z) (sym (members-at before start.0 start.1.0 start.1.1)) ∙ sym start.2 ∙ ap (λ (L : List Change). greatest L z) (members-at after a x at_a) ∙ h,
-      )
+  long-enough : (n : ℕ) → half_of ≤ n → remaining.top size < n * remaining.messages size
+  long-enough n h =
+      let row : half_of * remaining.messages size ≤ n * remaining.messages size = mul-le-mul_right (remaining.messages size) h in
+      let less : remaining.top size < half_of * remaining.messages size = remaining.top-less size in
+      omega (arith, row, less)
 
   converged : HaveConverged before after
-  converged = settled before after (are-after hash_of before after es are) (staying before after es.0 are es.1)
-      (λ a b x y at_a at_b z. ap (λ (L : List Change). greatest L z) (members_same a b x y at_a at_b)) no_less of_start
+  converged =
+      let cut = parts hash_of size status_of closed before after (take half_of stretches) (drop half_of stretches)
+      (subst (λ (rs : List (List SentPing)). StretchRun hash_of before rs after) (sym (take-append-drop half_of stretches)) run) in
+      let one = stretches_go hash_of size status_of closed within.ascending before cut.0 (take half_of stretches) cut.1 fit within.there in
+      let stay = staying before cut.0 one.es are one.goes.run in
+      let two = stretches_go hash_of size status_of closed within.ascending cut.0 after (drop half_of stretches) cut.2 one.goes.fit (λ a h. stay.goes_on a (within.there a h)) in
+      let long : length (take half_of stretches) ≡ half_of = length-take-le half_of stretches (omega (arith, enough)) in
+      let more : length (drop half_of stretches) ≡ length stretches - half_of = length-drop half_of stretches in
+      let later = are_sweep hash_of size status_of closed cut.0 after (length (drop half_of stretches)) (remaining.top size) two
+      (λ b. few b (cut.0 b) (one.goes.less b)) (long-enough (length (drop half_of stretches)) (omega (arith, more, enough))) in
+      sweeps_converge before after one.es two.es are
+      (run-both before cut.0 after one.es two.es one.goes.run two.goes.run)
+      (are_sweep hash_of size status_of closed before cut.0 (length (take half_of stretches)) (remaining.top size) one
+      (λ b. few b (before b) (less-same size status_of closed (before b))) (long-enough (length (take half_of stretches)) (omega (arith, long))))
+      (λ a b at_a at_b apart. later a b (stay.goes_on a at_a) (stay.goes_on b at_b) apart)
 
 pub stretches_converge : {H : Type 0} (hash_of : H → List ℕ → ℕ) → StretchesConverge hash_of
 stretches_converge hash_of before after stretches size are within run enough = converged hash_of before after stretches size are within run enough

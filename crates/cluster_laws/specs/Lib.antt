@@ -2,6 +2,7 @@ pub mod Convergence
 pub mod Delivery
 pub mod Disagreement
 pub mod Leaving
+pub mod Partition
 pub mod Reconciliation
 pub mod Rounds
 pub mod Running

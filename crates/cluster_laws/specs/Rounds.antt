@@ -1,9 +1,11 @@
 -- Rounds of pings: in a round every node pings every other node, and no message is lost; and stretches, in which some are. Pings and acks alone
 -- change nodes: a probe that begins or ends between them is no step here. That nodes converge so is this project's own theorem.
-use Rattle.std.specs.Prelude.{◌≡◌, ◌≢◌, ◌≤◌, ◌+◌, ◌*◌, ℕ, List, [], ◌∷◌, length, Some, Ok}
+use Rattle.std.specs.Prelude.{◌≡◌, ◌≢◌, ◌≤◌, ◌+◌, ◌-◌, ◌*◌, ◌/◌, max, ℕ, List, [], ◌∷◌, length, Some, Ok}
+use Rattle.std.specs.List.{count_by}
 use Rattle.change_core.specs.declared.changes.Change.{Change}
 use Rattle.change_core.specs.Ascending.{In}
-use Rattle.change_core.specs.Members.{greatest}
+use Rattle.change_core.specs.Members.{addresses, greatest, is_news, IsRising}
+use Rattle.change_core.specs.Refutation.{refutation}
 use Rattle.gossip_core.specs.Pending.{limit_for}
 use Rattle.message_core.specs.declared.messages.Message.{Message}
 use Rattle.node_core.specs.declared.events.Event.TheVariants as call
@@ -11,7 +13,7 @@ use Rattle.node_core.specs.declared.events.Received.TheVariants as received
 use Rattle.node_core.specs.declared.events.Reply.TheVariants as answer
 use Rattle.node_core.specs.declared.events.Taken.{Taken}
 use Rattle.node_core.specs.Messages.{digest_of}
-use Rattle.node_core.specs.Node.{Node}
+use Rattle.node_core.specs.Node.{Node, own_change}
 use Rattle.node_core.specs.Step.{NodeStep}
 use Rattle.node_core.specs.World.{placed_at}
 use Rattle.cluster_laws.specs.Convergence.{Nodes, IsThere, AreNodes, HaveConverged}
@@ -62,30 +64,51 @@ abbrev pub RoundRun : {H : Type 0} → (H → List ℕ → ℕ) → Nodes H → 
 RoundRun hash_of before [] after = after ≡ before
 RoundRun {H} hash_of before (r ∷ rs) after = (between : Nodes H) × IsRound before r × PingRun hash_of before r between × RoundRun hash_of between rs after
 
--- the size of a cluster: the addresses of its nodes, those that they hold, and the greatest incarnation, weight and number of times that a
--- change is passed on
+-- the size of a cluster: the addresses of its nodes, ascending, or of some of them; the changes that there may be, or more, as all up to one past the greatest
+-- incarnation; and at most how many of these are news to a node, how many a node has pending, and how often a change is passed on
 pub record Size : Type 0 where
-  pub places : List ℕ
-  pub named : List ℕ
-  pub incarnation : ℕ
-  pub weight : ℕ
+  pub nodes : List ℕ
+  pub changes : List Change
+  pub news : ℕ
+  pub pending : ℕ
   pub limit : ℕ
 
 -- these nodes are within the size
 pub record AreWithin {H : Type 0} (nodes : Nodes H) (size : Size) : Type 0 where
-  pub placed : (a : ℕ) → IsThere nodes a → In a size.places
-  pub named : (a x : ℕ) (node : Node H) (c : Change) → nodes a ≡ Some node → greatest node.members x ≡ Some c → In x size.named
-  pub incarnations : (a x : ℕ) (node : Node H) (c : Change) → nodes a ≡ Some node → greatest node.members x ≡ Some c → c.incarnation ≤ size.incarnation
-  pub weights : (a x : ℕ) (node : Node H) (c : Change) → nodes a ≡ Some node → greatest node.members x ≡ Some c → c.weight ≤ size.weight
-  pub limits : (a n : ℕ) (node : Node H) → nodes a ≡ Some node → n ≤ node.config.max_members → limit_for node.config.piggyback n ≤ size.limit
+  pub ascending : IsRising size.nodes
+  pub there : (a : ℕ) → In a size.nodes → IsThere nodes a
+  -- among the changes is what a node holds, and what it answers to a rumour about itself
+  pub held : (a x : ℕ) (node : Node H) (c : Change) → nodes a ≡ Some node → greatest node.members x ≡ Some c → In c size.changes
+  pub refuted : (a : ℕ) (node : Node H) (c d : Change) → nodes a ≡ Some node → In c size.changes → In d size.changes → c.address ≡ a → d.address ≡ a
+      → d.status ≡ (own_change node).status → c.status ≢ d.status → In (refutation d c) size.changes
+  pub news : (a : ℕ) (node : Node H) → nodes a ≡ Some node → count_by (is_news node.members) size.changes ≤ size.news
+  pub pending : (a : ℕ) (node : Node H) → nodes a ≡ Some node → length node.gossip.pending ≤ size.pending
+  pub limits : (a n : ℕ) (node : Node H) → nodes a ≡ Some node → n ≤ length (addresses size.changes) → limit_for node.config.piggyback n ≤ size.limit
 
--- how often an entry can change at most, each time to a greater one: the incarnations up to one past the greatest, five statuses, and the weights
-abbrev pub entry_changes : Size → ℕ
-entry_changes size = (size.incarnation + 2) * 5 * (size.weight + 1)
+-- how many messages a node sends in a round to all but one of the others: a ping and an ack to each
+abbrev pub round_messages : ℕ → ℕ
+round_messages nodes = max 1 (2 * (nodes - 2))
 
--- how many rounds are enough: in each but one an entry changes or a change is passed on
+-- the number of rounds among which each node has one in which it takes no news and passes nothing on, so that all others hear of all that it holds. To take news costs it a round,
+-- and one more in which the last that is pending is spent; in any other round it passes on what is pending with each message
+abbrev pub quiet_after : Size → ℕ
+quiet_after size = 2 * size.news + (size.news + size.pending) * size.limit / round_messages (length size.nodes) + 2
+
+-- how many rounds are enough: each node hears of all, and then all hear of it
 abbrev pub enough_rounds : Size → ℕ
-enough_rounds size = length size.places * (length size.named * (entry_changes size * (size.limit + 1) + size.limit)) + 1
+enough_rounds size = 2 * quiet_after size
+
+-- nodes that hold no changes but these entries, with one weight for each address, are within a size of twice as many changes, all of them news: of each
+-- entry also what the node at its address answers to it
+abbrev pub EntriesSize : Type 0 → Type 0
+EntriesSize H =
+    (nodes : Nodes H) (some : List ℕ) (entries : List Change) (weight_of : ℕ → ℕ) (pending limit : ℕ)
+    → ((a x : ℕ) (node : Node H) (c : Change) → nodes a ≡ Some node → greatest node.members x ≡ Some c → In c entries)
+    → ((c : Change) → In c entries → c.weight ≡ weight_of c.address)
+    → ((a : ℕ) (node : Node H) → nodes a ≡ Some node → length node.gossip.pending ≤ pending)
+    → ((a n : ℕ) (node : Node H) → nodes a ≡ Some node → n ≤ length (addresses entries) → limit_for node.config.piggyback n ≤ limit)
+    → IsRising some → ((a : ℕ) → In a some → IsThere nodes a)
+    → (changes : List Change) × AreWithin nodes (record { nodes = some; changes = changes; news = 2 * length entries; pending = pending; limit = limit })
 
 -- nodes converge in this many rounds of pings
 abbrev pub RoundsConverge : {H : Type 0} → (H → List ℕ → ℕ) → Type 0

@@ -5,7 +5,8 @@ ghost use Rattle.cluster_laws.specs.Leaving.{LeaversStayOut};
 ghost use Rattle.cluster_laws.specs.Witnesses.{NoneWithoutWitness};
 ghost use Rattle.cluster_laws.specs.Disagreement.{ViewsDisagree, ViewsAgree, ViewsShareOrder, NodesDisagree, NodesAgreeOnOwner};
 ghost use Rattle.cluster_laws.specs.Reconciliation.{NodesReconcile, ReconciledAgree};
-ghost use Rattle.cluster_laws.specs.Rounds.{RoundsConverge, StretchesConverge};
+ghost use Rattle.cluster_laws.specs.Partition.{PartitionsHeal};
+ghost use Rattle.cluster_laws.specs.Rounds.{EntriesSize, RoundsConverge, StretchesConverge};
 ghost use Rattle.cluster_laws.specs.Worlds.{WorldsConverge};
 
 use hash_ring::PointHash;
@@ -46,9 +47,15 @@ pub fn convergence<H: PointHash>()
     ensures delivered { NetworksConverge H }
     // So they do in every run of a world whose calls make no new change.
     ensures worlds { WorldsConverge H.hash_of }
-    // So they do in rounds of pings, in which every node pings every other and none is lost, if no two member lists have one digest:
-    // `enough_rounds` says in how many. Between pings nothing changes a node, so no probe begins or ends there.
+    // So does a cluster that was parted in two: in each of two turns every node takes the whole of the others of its side, and then of one of
+    // the other side.
+    ensures partitions { PartitionsHeal H }
+    // Nodes converge in rounds of pings, in which every node pings every other and none is lost, if no two member lists have one digest.
+    // `enough_rounds` says in how many, by what is news to a node, what it has pending, and how often it passes a change on. No incarnation
+    // counts, and more nodes make it no more. Between pings nothing changes a node, so no probe begins or ends there.
     ensures rounds { RoundsConverge H.hash_of }
+    // What is news is at most twice the different entries that are held, if all about one address have one weight.
+    ensures sizes { EntriesSize H }
     // So they do where pings and acks are lost, in as many stretches in each of which every node pings every other and is acknowledged.
     ensures lossy { StretchesConverge H.hash_of }
 {}

@@ -8,3 +8,4 @@ pub(crate) mod played;
 mod reconciling;
 pub(crate) mod tests;
 pub(crate) mod view_tests;
+mod witnesses;

@@ -112,6 +112,43 @@ const SWEEPS: &[Step] = &[
     ),
 ];
 
+/// What five nodes hold that were parted: the first two and the other three each hold one another as faulty.
+const PARTED: &[Step] = &[
+    Hears(0, (C, 1, Status::Faulty)),
+    Hears(1, (D, 1, Status::Faulty)),
+    Hears(1, (E, 1, Status::Faulty)),
+    Hears(2, (A, 1, Status::Faulty)),
+    Hears(3, (B, 1, Status::Faulty)),
+];
+
+/// Each takes all of the others of its side, and then of one of the other side.
+const TURN: &[Step] = &[
+    Takes(0, 1),
+    Takes(1, 0),
+    Takes(2, 3),
+    Takes(2, 4),
+    Takes(3, 2),
+    Takes(3, 4),
+    Takes(4, 2),
+    Takes(4, 3),
+    Takes(0, 2),
+    Takes(1, 3),
+    Takes(2, 0),
+    Takes(3, 1),
+    Takes(4, 0),
+];
+
+/// One such turn is not enough.
+const STILL_PARTED: &[Step] = &[Holds(
+    0,
+    "10.0.0.1:1alive2;10.0.0.2:1faulty1;10.0.0.3:1faulty1;10.0.0.4:1faulty1;10.0.0.5:1faulty1",
+)];
+
+/// Two are.
+const HEALED: &[Step] = &[AllHold(
+    "10.0.0.1:1alive2;10.0.0.2:1alive2;10.0.0.3:1alive2;10.0.0.4:1alive2;10.0.0.5:1alive2",
+)];
+
 /// One node takes all that another holds. What memory refuses is tried again.
 fn take_all(
     rt: &(impl Env + Abort),
@@ -274,6 +311,16 @@ fn three_nodes_converge_in_rounds_of_pings(rt: HostRuntime) {
 #[test]
 fn five_nodes_converge_in_two_sweeps(rt: HostRuntime) {
     play_all(&rt, rt.alloc(), 5, &[SWEEPS]);
+}
+
+#[test]
+fn five_nodes_that_were_parted_heal_in_two_turns(rt: HostRuntime) {
+    play_all(
+        &rt,
+        rt.alloc(),
+        5,
+        &[PARTED, TURN, STILL_PARTED, TURN, HEALED],
+    );
 }
 
 /// Three nodes take all of one another round a ring, twice. None if it runs out of memory. Else they agree, if they have different

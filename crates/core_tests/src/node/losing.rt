@@ -33,7 +33,7 @@ enum Fate {
 }
 
 /// What a message comes to. Where memory stopped it, it comes once more.
-fn receive(
+pub(super) fn receive(
     rt: &(impl Env + Abort),
     node: &mut NodeState<SumHash>,
     message: &Message,

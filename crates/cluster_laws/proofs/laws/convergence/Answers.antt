@@ -1,7 +1,9 @@
 use Rattle.cluster_laws.proofs.Converging.{nodes_converge, sweeps_converge, converged_agree}
 use Rattle.cluster_laws.proofs.Delivering.{delivered_converge}
 use Rattle.cluster_laws.proofs.Exchanging.{calls_take}
+use Rattle.cluster_laws.proofs.Partitions.{partitions_heal}
 use Rattle.cluster_laws.proofs.Rounds.{rounds_converge, stretches_converge}
+use Rattle.cluster_laws.proofs.Sizes.{entries_size}
 use Rattle.cluster_laws.proofs.Worlds.{worlds_converge}
 use Rattle.cluster_laws.proofs.laws.convergence.Goals as goal
 
@@ -23,8 +25,14 @@ returns-clause-calls g c = calls_take g.H.PointHash.hash_of
 pub returns-clause-worlds : goal.returns-clause-worlds
 returns-clause-worlds g c = worlds_converge g.H.PointHash.hash_of
 
+pub returns-clause-partitions : goal.returns-clause-partitions
+returns-clause-partitions g c = partitions_heal
+
 pub returns-clause-rounds : goal.returns-clause-rounds
 returns-clause-rounds g c = rounds_converge g.H.PointHash.hash_of
+
+pub returns-clause-sizes : goal.returns-clause-sizes
+returns-clause-sizes g c = entries_size
 
 pub returns-clause-lossy : goal.returns-clause-lossy
 returns-clause-lossy g c = stretches_converge g.H.PointHash.hash_of

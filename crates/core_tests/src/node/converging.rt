@@ -70,7 +70,8 @@ const RING: &[Step] = &[
 ];
 
 /// Three nodes in rounds of pings: no rumour is sent back to the node that it came from, so a node hears a rumour against itself only
-/// by an ack of all members, and there is none while other changes are passed on.
+/// by an ack of all members, and there is none while other changes are passed on. They need 13 rounds, and `enough_rounds` gives 272: 11
+/// changes are news to the second node, each has 4 pending, and passes a change on 15 times.
 const ROUNDS: &[Step] = &[
     Rounds(12),
     Holds(

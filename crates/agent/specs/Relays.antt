@@ -23,8 +23,6 @@ use Rattle.peer_core.specs.declared.errors.LinkError.TheVariants as link
 use Rattle.server.specs.Answering.{line_text}
 use Rattle.server.specs.declared.inputs.Input.{Input}
 use Rattle.server.specs.declared.inputs.Input.TheVariants as input
-use Rattle.wire_json.specs.Lines.{IsLine}
-use Rattle.wire_json.specs.Messages.{MessageForm}
 use Rattle.agent.specs.Calling.{Calling, HasMade, hash_number}
 use Rattle.agent.specs.declared.relays.Relayed.{Relayed}
 use Rattle.agent.specs.declared.relays.Relayed.TheVariants.{Reply, NoReply, NotDone}
@@ -57,11 +55,6 @@ abbrev pub IsRelayedAs : Result Message LinkError → Relayed → Type 0
 IsRelayedAs answer (Reply line) = (message : Message) × (answer ≡ Ok message) × (kind_of message.content ≡ kind.Reply) × (line.items ≡ line_text message)
 IsRelayedAs answer NoReply = ¬ (IsNotDone answer)
 IsRelayedAs answer NotDone = IsNotDone answer
-
--- an input is the line of this message
-abbrev pub IsLineOf : Input → Message → Type 0
-IsLineOf (input.Line line) message = IsLine (λ v. MessageForm v message) line.items
-IsLineOf other message = ⊥
 
 module _ {L : Type 0} (Came : MayAnswer) (went : Went L) where
   -- the sender of the request was sent a Join, and its Joined came
@@ -96,8 +89,8 @@ module _ {L : Type 0} (Came : MayAnswer) (went : Went L) where
   IsPassedOn request relayed before after old new =
       HasMade (PassesOn request relayed before after) old new ⊎ ((relayed ≡ NotDone) × Withholds before after old new)
 
-  -- the same of an input: its message was passed on, or nothing was
+  -- the same of an input: the message that it is was passed on, or nothing was
   abbrev pub IsRelayOf : Input → Relayed → L → L → Calling → Calling → Type 0
   IsRelayOf heard relayed before after old new =
-      ((request : Message) × IsLineOf heard request × HasMade (PassesOn request relayed before after) old new)
+      ((request : Message) × (heard ≡ input.Message request) × HasMade (PassesOn request relayed before after) old new)
       ⊎ ((relayed ≡ NotDone) × Withholds before after old new)

@@ -1,5 +1,5 @@
 //! The node as one thread calls it, and the passes that no thread has.
-ghost use Rattle.std.specs.Prelude.{◌≡◌, ◌↔◌, ◌∷◌, [], IfNone, IfSome, IsTrue};
+ghost use Rattle.std.specs.Prelude.{◌≡◌, ◌<◌, ◌↔◌, ◌∷◌, [], IfNone, IfSome, IsTrue, vec_capacity, vec_len};
 ghost use Rattle.std.specs.Arc.{arc_value};
 ghost use Rattle.std.specs.List.{All};
 ghost use Rattle.locked_node.specs.Passes.{Fits};
@@ -36,7 +36,8 @@ use turn_lock::LockError;
 /// The node of an agent.
 pub type Node = LockedNode<Sha256Hash>;
 
-/// Returns the line that answers an input by a node and a pass; None if it needs no answer, or none could be made.
+/// Returns the line that answers an input by a node and a pass, with room for its newline; None if it needs no answer, or none
+/// could be made.
 fn respond_by<R: Wait, L: Link, A: Handler>(
     rt: &R,
     alloc: Global,
@@ -49,6 +50,7 @@ fn respond_by<R: Wait, L: Link, A: Handler>(
 ) -> Option<Vec<u8>>
     requires { Fits node.now pass.old }
     ensures sent { IfSome result (λ line. Makes node.now (Responds hash_of L.may_answer (A.may_handle handler.now) now input.now line.items) pass.old pass.new) }
+    ensures room { IfSome result (λ line. vec_len line < vec_capacity line) }
     ensures silent { IfNone result (IsSilent hash_of L.may_answer (A.may_handle handler.now) now input.now node.now pass.old pass.new) }
     ensures fits { Fits node.now pass.new }
 {
@@ -188,7 +190,8 @@ impl Caller {
         join(rt, alloc, &*self.node, &mut self.pass, link, &[host], now)
     }
 
-    /// Returns the line that answers the input from another node; None if it needs no answer, or none could be made.
+    /// Returns the line that answers the input from another node, with room for its newline; None if it needs no answer, or
+    /// none could be made.
     pub fn respond<R: Wait, L: Link, A: Handler>(
         &mut self,
         rt: &R,
@@ -200,6 +203,7 @@ impl Caller {
     ) -> Option<Vec<u8>>
         ensures node { self.new.node ≡ self.old.node }
         ensures sent { IfSome result (λ line. Makes self.old.node (Responds hash_of L.may_answer (A.may_handle handler.now) now input.now line.items) self.old.pass self.new.pass) }
+        ensures room { IfSome result (λ line. vec_len line < vec_capacity line) }
         ensures silent { IfNone result (IsSilent hash_of L.may_answer (A.may_handle handler.now) now input.now self.old.node self.old.pass self.new.pass) }
     {
         respond_by(

@@ -38,12 +38,12 @@ fn serve_request<R: Host>(
     alloc: Global,
     caller: &mut Caller,
     link: &mut TcpLink<R>,
-    job: Job,
+    mut job: Job,
 ) {
     let (mut line, was_asked) = own_answer(agent, alloc, caller, link, &job);
     if !was_asked {
         let mut relay_link = relay_link(agent);
-        line = match relay(agent, alloc, caller, &mut relay_link, &job) {
+        line = match relay(agent, alloc, caller, &mut relay_link, &mut job) {
             Relayed::Reply(reply) => Some(reply),
             Relayed::NoReply => None,
             Relayed::NotDone => own_answer(agent, alloc, caller, link, &job).0,
@@ -51,7 +51,7 @@ fn serve_request<R: Host>(
         agent.renew(caller);
     }
     if let Some(line) = line {
-        send_back(agent, alloc, job.stream, line.as_slice());
+        send_back(agent, job.stream, line);
     }
 }
 

@@ -5,9 +5,9 @@ use crate::applications::Overloaded;
 use crate::callers::Caller;
 use crate::systems::Host;
 use change_core::Moment;
-use cluster_core::{Deadline, TcpLink, Timed, send_line};
+use cluster_core::{Deadline, TcpLink, Timed, send_owned_line};
 use crossbeam_channel::{Sender, TrySendError};
-use message_core::Content;
+use message_core::{Content, Message};
 use peer_core::Handler;
 use server::{Input, hear};
 use std::alloc::Global;
@@ -15,7 +15,6 @@ use std::net::{TcpListener, TcpStream};
 use std::sync::Arc;
 use std::thread;
 use std::time::Duration;
-use wire_json::decode;
 
 /// The milliseconds that a thread rests before it tries again.
 const REST: u64 = 10;
@@ -28,7 +27,7 @@ pub struct Job {
     pub since: Moment,
 }
 
-/// Returns the line that answers an input; None if it needs no answer, or none could be made.
+/// Returns the line that answers an input, with room for its newline; None if it needs no answer, or none could be made.
 pub fn line_for<R: Host, A: Handler>(
     agent: &Agent<R>,
     alloc: Global,
@@ -44,9 +43,9 @@ pub fn line_for<R: Host, A: Handler>(
 }
 
 /// Sends a line over a connection. If that fails, the line is lost.
-pub fn send_back<R: Host>(agent: &Agent<R>, alloc: Global, stream: TcpStream, line: &[u8]) {
+pub fn send_back<R: Host>(agent: &Agent<R>, stream: TcpStream, line: Vec<u8>) {
     if let Ok(deadline) = Deadline::after(&agent.rt, agent.timeouts.line) {
-        let _sent = send_line(alloc, Timed::new(stream, deadline), line);
+        let _sent = send_owned_line(Timed::new(stream, deadline), line);
     }
 }
 
@@ -61,19 +60,19 @@ fn answer<R: Host, A: Handler>(
 ) {
     let line = line_for(agent, alloc, caller, link, handler, &job.input);
     if let Some(line) = line {
-        send_back(agent, alloc, job.stream, line.as_slice());
+        send_back(agent, job.stream, line);
     }
 }
 
 /// Returns whether an input is a request of a key.
-fn is_request(alloc: Global, input: &Input) -> bool {
-    match input {
-        Input::Line(line) => match decode(alloc, line.as_slice()) {
-            Ok(message) => matches!(&message.content, Content::Forward(_, _)),
-            Err(_) => false,
-        },
-        Input::Refused(_) | Input::Nothing => false,
-    }
+fn is_request(input: &Input) -> bool {
+    matches!(
+        input,
+        Input::Message(Message {
+            content: Content::Forward(_, _),
+            ..
+        })
+    )
 }
 
 /// Returns the input that comes over a connection within the time limit.
@@ -100,7 +99,7 @@ fn serve_connection<R: Host>(
 ) {
     let since = agent.now();
     let input = listen_to(agent, alloc, &stream);
-    let is_request = is_request(alloc, &input);
+    let is_request = is_request(&input);
     let job = Job {
         input,
         stream,

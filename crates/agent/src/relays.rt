@@ -22,7 +22,7 @@ use server::Input;
 use std::alloc::Global;
 use std::sync::Wait;
 use std::time::Duration;
-use wire_json::{decode, encode};
+use wire_json::encode;
 
 /// The most milliseconds from the moment at which a request came until it is answered. The node that sent it waits 5,000
 /// for an answer.
@@ -178,39 +178,42 @@ fn relayed_as(alloc: Global, answer: &Result<Message, LinkError>) -> Relayed
     }
 }
 
-/// Sends a request to an owner once, as a message of the node with this entry. Returns what came of it.
+/// Sends a request to an owner once, as a message of the node with this entry, and gives the request its source back. Returns
+/// what came of it.
 fn pass_on<W: Wait, L: Link>(
     rt: &W,
     alloc: Global,
     link: &mut L,
     own: &Change,
     owner: Address,
-    request: Content,
+    request: &mut Message,
 ) -> Relayed
-    ensures { IsRelayed L.may_answer L.went owner (message_by own.now request) result link.old link.new }
+    ensures relayed { IsRelayed L.may_answer L.went owner (message_by own.now request.old.content) result link.old link.new }
+    ensures same { request.new ≡ request.old }
 {
-    let message = Message {
-        source: own.address,
-        source_incarnation: own.incarnation,
-        content: request,
-    };
-    let answer = link.call(rt, alloc, owner, &message);
+    let (source, incarnation) = (request.source, request.source_incarnation);
+    request.source = own.address;
+    request.source_incarnation = own.incarnation;
+    let answer = link.call(rt, alloc, owner, request);
+    request.source = source;
+    request.source_incarnation = incarnation;
     relayed_as(alloc, &answer)
 }
 
 /// Passes a request that came at this moment on to its owner, if it is another node and enough time is left. Returns what
-/// came of it, `NotDone` also if it was not sent.
+/// came of it, `NotDone` also if it was not sent. The request is unchanged.
 fn ask_owner<R: Host, L: Link>(
     agent: &Agent<R>,
     alloc: Global,
     caller: &mut Caller,
     link: &mut L,
-    request: Message,
+    request: &mut Message,
     since: Moment,
 ) -> Relayed
-    ensures { IsPassedOn L.may_answer L.went request result link.old link.new caller.old caller.new }
+    ensures passed { IsPassedOn L.may_answer L.went request.old result link.old link.new caller.old caller.new }
+    ensures same { request.new ≡ request.old }
 {
-    let Some(owner) = agreed_owner(agent, alloc, caller, link, &request, since) else {
+    let Some(owner) = agreed_owner(agent, alloc, caller, link, request, since) else {
         return Relayed::NotDone;
     };
     let Ok(own) = caller.own(&agent.rt) else {
@@ -220,7 +223,7 @@ fn ask_owner<R: Host, L: Link>(
         return Relayed::NotDone;
     }
     agent.counters.passed_on.add(1);
-    pass_on(&agent.rt, alloc, link, &own, owner, request.content)
+    pass_on(&agent.rt, alloc, link, &own, owner, request)
 }
 
 /// Returns how many requests are relayed at a time, at most: as many as half of the hands, so that the others answer what
@@ -237,20 +240,18 @@ fn most_relayed<R: Host>(agent: &Agent<R>) -> u64
 }
 
 /// Passes a request on to its owner, unless too many others are being relayed: then nothing is sent, not even a Join.
-/// Returns what came of it, `NotDone` also if this node is the owner now.
+/// Returns what came of it, `NotDone` also if this node is the owner now. The request is unchanged.
 pub fn relay<R: Host, L: Link>(
     agent: &Agent<R>,
     alloc: Global,
     caller: &mut Caller,
     link: &mut L,
-    job: &Job,
+    job: &mut Job,
 ) -> Relayed
-    ensures { IsRelayOf L.may_answer L.went job.now.input result link.old link.new caller.old caller.new }
+    ensures relayed { IsRelayOf L.may_answer L.went job.old.input result link.old link.new caller.old caller.new }
+    ensures same { job.new.input ≡ job.old.input }
 {
-    let Input::Line(line) = &job.input else {
-        return Relayed::NotDone;
-    };
-    let Ok(request) = decode(alloc, line.as_slice()) else {
+    let Input::Message(request) = &mut job.input else {
         return Relayed::NotDone;
     };
     if !agent.relaying.add_below(most_relayed(agent)) {

@@ -1,12 +1,10 @@
 -- What is answered to a line, and what is sent for an answer.
-use Rattle.std.proofs.Common.{◌≢◌, ℕ, inl, inr, List, Option, Some, None, Result, Ok, Err, Vec, ◌≡◌, subst, sym}
+use Rattle.std.proofs.Common.{◌≢◌, ℕ, List, Option, Some, None, Result, Ok, Err, Vec}
 use Rattle.std.specs.Prelude.{IfNone, IfSome}
-use Rattle.std.specs.Result.{result_ok}
 use Rattle.std.specs.Global.{Global}
 use Rattle.turn_lock.specs.declared.errors.LockError.{LockError}
-use Rattle.wire_json.specs.Lines.{Faults, IsLine}
+use Rattle.wire_json.specs.Lines.{Faults}
 use Rattle.wire_json.specs.MessageFaults.{MessageFault}
-use Rattle.wire_json.specs.Messages.{MessageForm}
 use Rattle.message_core.specs.declared.errors.WireError.{WireError}
 use Rattle.message_core.specs.declared.errors.WireError.TheVariants.{LineTooLong, BadJson, NotObject, UnknownKind, MissingField, BadField, TooMany, Io, Memory}
 use Rattle.message_core.specs.declared.kinds.Reason.{Reason}
@@ -21,7 +19,7 @@ use Rattle.peer_core.specs.Serving.{Refuses}
 use Rattle.peer_core.proofs.Acts.{makes_as, makes_then}
 use Rattle.peer_core.proofs.Parts.{does_give, does_next, does_part, does_stop}
 use Rattle.peer_core.specs.Handling.{MayHandle}
-use Rattle.server.specs.Answering.{AnswersInput, AnswersLine, AnswersMessage, IsNotAnswered, IsSentAs, IsSilent, IsTried, IsUnread, IsUnsent, Responds, SendsNothing, unread_as}
+use Rattle.server.specs.Answering.{AnswersInput, AnswersMessage, IsNotAnswered, IsSentAs, IsSilent, IsTried, IsUnread, IsUnsent, Responds, SendsNothing, unread_as}
 use Rattle.server.specs.declared.inputs.Input.{Input}
 use Rattle.server.specs.declared.inputs.Input.TheVariants as input
 
@@ -66,36 +64,6 @@ module _ {H : Type 0} where
   unsent_refusal locked answer why None p q unsent t = sends_nothing locked answer why t.0 p q unsent t.1
 
 module _ {H : Type 0} (hash_of : H → List ℕ → ℕ) (Came : MayAnswer) (Handles : MayHandle) (now : ℕ) (locked : LockedNode H) (p q : NodePass H) where
-  -- a message was answered, or a line refused
-  pub served_so : (line : List ℕ) (message : Message) (r : Result Message LockError) → IsLine (λ v. MessageForm v message) line
-      → Does locked (AnswersMessage hash_of Came Handles now message) (let_in r) p q → Does locked (AnswersLine hash_of Came Handles now line) (let_in r) p q
-  served_so line message r is d = does_part (AnswersLine hash_of Came Handles now line) (λ acts h. inl (message, is, h)) d
-
-  pub unread_so : (line : List ℕ) (why : Reason) (r : Result Message LockError) → IsUnread line why
-      → Does locked (Refuses why) (let_in r) p q → Does locked (AnswersLine hash_of Came Handles now line) (let_in r) p q
-  unread_so line why r is d = does_part (AnswersLine hash_of Came Handles now line) (λ acts h. inr (why, is, h)) d
-
-  -- an answer was made, or the lock refused a call of it
-  answered_so : (heard : Input) (r : Result Message LockError) (o : Option Message) → o ≡ result_ok r
-      → Does locked (AnswersInput hash_of Came Handles now heard) (let_in r) p q → IfSome o (λ m. Makes locked (AnswersInput hash_of Came Handles now heard (Ok m)) p q)
-  answered_so heard (Ok m) o e d = subst (λ (x : Option Message). IfSome x (λ m. Makes locked (AnswersInput hash_of Came Handles now heard (Ok m)) p q)) (sym e) d.makes
-  answered_so heard (Err l) o e d = subst (λ (x : Option Message). IfSome x (λ m. Makes locked (AnswersInput hash_of Came Handles now heard (Ok m)) p q)) (sym e) tt
-
-  refused_so : (heard : Input) (r : Result Message LockError) (o : Option Message) → o ≡ result_ok r
-      → Does locked (AnswersInput hash_of Came Handles now heard) (let_in r) p q → IfNone o (IsNotAnswered hash_of Came Handles now heard locked p q)
-  refused_so heard (Ok m) o e d = subst (λ (x : Option Message). IfNone x (IsNotAnswered hash_of Came Handles now heard locked p q)) (sym e) tt
-  refused_so (input.Line line) (Err l) o e d = subst (λ (x : Option Message). IfNone x (IsNotAnswered hash_of Came Handles now (input.Line line) locked p q)) (sym e) (l, d)
-  refused_so (input.Refused why) (Err l) o e d = subst (λ (x : Option Message). IfNone x (IsNotAnswered hash_of Came Handles now (input.Refused why) locked p q)) (sym e) (l, d)
-  refused_so input.Nothing (Err l) o e d = absurd d.makes.so
-
-  pub answered_line : (heard : Input) (line : Vec ℕ Global) (came : List ℕ) (r : Result Message LockError) (o : Option Message)
-      → heard ≡ input.Line line → came ≡ line.items → o ≡ result_ok r → Does locked (AnswersLine hash_of Came Handles now came) (let_in r) p q
-      → IfSome o (λ m. Makes locked (AnswersInput hash_of Came Handles now heard (Ok m)) p q) × IfNone o (IsNotAnswered hash_of Came Handles now heard locked p q)
-  answered_line heard line came r o is same value d =
-      let e : Does locked (AnswersLine hash_of Came Handles now line.items) (let_in r) p q = subst (λ (xs : List ℕ). Does locked (AnswersLine hash_of Came Handles now xs) (let_in r) p q) same d in
-      subst (λ (h : Input). IfSome o (λ m. Makes locked (AnswersInput hash_of Came Handles now h (Ok m)) p q) × IfNone o (IsNotAnswered hash_of Came Handles now h locked p q)) (sym is)
-      (answered_so (input.Line line) r o value e, refused_so (input.Line line) r o value e)
-
   -- an answer, and what was sent for it
   pub responded : (heard : Input) (answer : Message) (o : Option (Vec ℕ Global)) (s : NodePass H)
       → Makes locked (AnswersInput hash_of Came Handles now heard (Ok answer)) p q → IfSome o (λ v. Makes locked (IsSentAs answer v.items) q s)
@@ -105,7 +73,7 @@ module _ {H : Type 0} (hash_of : H → List ℕ → ℕ) (Came : MayAnswer) (Han
 
   -- no answer, and so no line
   pub silent_unanswered : (heard : Input) → IsNotAnswered hash_of Came Handles now heard locked p q → IsSilent hash_of Came Handles now heard locked p q
-  silent_unanswered (input.Line line) h = (Err h.0, does_stop (AnswersLine hash_of Came Handles now line.items) SendsNothing (error_of_lock h.0) h.1)
+  silent_unanswered (input.Message message) h = (Err h.0, does_stop (AnswersMessage hash_of Came Handles now message) SendsNothing (error_of_lock h.0) h.1)
   silent_unanswered (input.Refused why) h = (Err h.0, does_stop (Refuses why) SendsNothing (error_of_lock h.0) h.1)
   silent_unanswered input.Nothing h = h
 
@@ -114,7 +82,7 @@ module _ {H : Type 0} (hash_of : H → List ℕ → ℕ) (Came : MayAnswer) (Han
       → Makes locked (AnswersInput hash_of Came Handles now heard (Ok answer)) p q → IfNone o (IsTried (SendsNothing answer) locked q s)
       → IfNone o (IsSilent hash_of Came Handles now heard locked p s)
   silent_unsent heard answer (Some v) s a t = tt
-  silent_unsent (input.Line line) answer None s a t =
-      (t.0, does_next (AnswersLine hash_of Came Handles now line.items) SendsNothing answer (let_in t.0) (record { makes = a; barred = tt }) t.1)
+  silent_unsent (input.Message message) answer None s a t =
+      (t.0, does_next (AnswersMessage hash_of Came Handles now message) SendsNothing answer (let_in t.0) (record { makes = a; barred = tt }) t.1)
   silent_unsent (input.Refused why) answer None s a t = (t.0, does_next (Refuses why) SendsNothing answer (let_in t.0) (record { makes = a; barred = tt }) t.1)
   silent_unsent input.Nothing answer None s a t = absurd a.so

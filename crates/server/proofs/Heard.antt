@@ -7,7 +7,7 @@ use Rattle.std.specs.Io.KnownBytes.{prepend_known}
 use Rattle.std.specs.declared.io.buffered.BufReader.{BufReader}
 use Rattle.wire_json.specs.Input.{TakesLine}
 use Rattle.message_core.specs.declared.errors.WireError.{WireError}
-use Rattle.server.specs.Answering.{Hears, input_of}
+use Rattle.server.specs.Answering.{Hears, IsInputOf}
 use Rattle.server.specs.declared.inputs.Input.{Input}
 
 -- with nothing read ahead, the bytes are the stream's
@@ -16,7 +16,7 @@ nothing_ahead capacity ahead known is none = rw is (ap (λ (xs : List ℕ). prep
 
 -- what one line that was read by a new reader comes to
 pub heard_by : {S A : Type 0} (remaining : S → Option (List ℕ)) (stream : S) (reader : BufReader S A) (read : Result (Option (Vec ℕ Global)) WireError) (left : Option (List ℕ)) (heard : Input)
-    → reader_inner reader ≡ stream → reader_buffer reader ≡ [] → reader_capacity reader ≡ 8192 → TakesLine (reader_remaining remaining reader) read left → heard ≡ input_of read
+    → reader_inner reader ≡ stream → reader_buffer reader ≡ [] → reader_capacity reader ≡ 8192 → TakesLine (reader_remaining remaining reader) read left → IsInputOf read heard
     → Hears (remaining stream) heard
 heard_by remaining stream reader read left heard inner empty capacity taken is =
     let same : reader_remaining remaining reader ≡ remaining stream =

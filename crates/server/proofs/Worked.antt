@@ -169,7 +169,7 @@ module _ {H : Type 0} (hash_of : H → List ℕ → ℕ) (Handles : MayHandle) (
   IsTreatedBy heard line = IsTreated hash_of Handles now heard line
 
   silently : (heard : Input) (p q : NodePass H) → IsSilent hash_of any_answer Handles now heard locked p q → Makes locked (IsTreatedBy heard None) p q
-  silently (input.Line came) p q t = makes_as (IsTreatedBy (input.Line came) None) (λ acts h. (t.0, h)) t.1.makes
+  silently (input.Message message) p q t = makes_as (IsTreatedBy (input.Message message) None) (λ acts h. (t.0, h)) t.1.makes
   silently (input.Refused why) p q t = makes_as (IsTreatedBy (input.Refused why) None) (λ acts h. (t.0, h)) t.1.makes
   silently input.Nothing p q same =
       subst (λ (x : NodePass H). Makes locked (IsTreatedBy input.Nothing None) p x) (sym same) (makes_as (IsTreatedBy input.Nothing None) (λ acts n. n) (makes_none locked p))

@@ -24,20 +24,6 @@ use Rattle.peer_core.specs.Handling.{MayHandle}
 use Rattle.server.specs.declared.inputs.Input.{Input}
 use Rattle.server.specs.declared.inputs.Input.TheVariants as input
 
--- the input for the result of reading one line: the line; a refusal, if it is too long or out of memory; else one that needs no answer
-abbrev pub input_of : Result (Option (Vec ℕ Global)) WireError → Input
-input_of (Ok (Some line)) = input.Line line
-input_of (Ok None) = input.Nothing
-input_of (Err wire.LineTooLong) = input.Refused reason.Malformed
-input_of (Err wire.Memory) = input.Refused reason.Memory
-input_of (Err other) = input.Nothing
-
--- one line of the bytes was read, and this is the input; or out of memory to read by
-abbrev pub Hears : Option (List ℕ) → Input → Type 0
-Hears known heard =
-    ((read : Result (Option (Vec ℕ Global)) WireError) × (left : Option (List ℕ)) × TakesLine known read left × (heard ≡ input_of read))
-    ⊎ (heard ≡ input.Refused reason.Memory)
-
 -- the reason of a refusal for an error of a line
 abbrev pub unread_as : WireError → Reason
 unread_as wire.Memory = reason.Memory
@@ -48,6 +34,26 @@ abbrev pub IsUnread : List ℕ → Reason → Type 0
 IsUnread line reason.Malformed = (e : WireError) × (e ≢ wire.Memory) × Faults MessageFault line e
 IsUnread line reason.Memory = Unit {0}
 IsUnread line other = ⊥
+
+-- the input that a line is: its message, or a refusal with the reason why it has none
+abbrev pub IsReadAs : List ℕ → Input → Type 0
+IsReadAs line (input.Message message) = IsLine (λ v. MessageForm v message) line
+IsReadAs line (input.Refused why) = IsUnread line why
+IsReadAs line input.Nothing = ⊥
+
+-- the input for the result of reading one line: what the line is; a refusal, if it is too long or out of memory; else one that needs no answer
+abbrev pub IsInputOf : Result (Option (Vec ℕ Global)) WireError → Input → Type 0
+IsInputOf (Ok (Some line)) heard = IsReadAs line.items heard
+IsInputOf (Ok None) heard = heard ≡ input.Nothing
+IsInputOf (Err wire.LineTooLong) heard = heard ≡ input.Refused reason.Malformed
+IsInputOf (Err wire.Memory) heard = heard ≡ input.Refused reason.Memory
+IsInputOf (Err other) heard = heard ≡ input.Nothing
+
+-- one line of the bytes was read, and this is the input; or out of memory to read by
+abbrev pub Hears : Option (List ℕ) → Input → Type 0
+Hears known heard =
+    ((read : Result (Option (Vec ℕ Global)) WireError) × (left : Option (List ℕ)) × TakesLine known read left × IsInputOf read heard)
+    ⊎ (heard ≡ input.Refused reason.Memory)
 
 -- the line of a message
 abbrev pub line_text : Message → List ℕ
@@ -89,15 +95,9 @@ module _ {H : Type 0} (hash_of : H → List ℕ → ℕ) (Came : MayAnswer) (Han
   abbrev pub AnswersMessage : Message → Part H Message
   AnswersMessage message = Serves hash_of Came Handles message now message.content
 
-  -- the answer to a line: to its message, or a refusal with the reason why it has none
-  abbrev pub AnswersLine : List ℕ → Part H Message
-  AnswersLine line r acts =
-      ((message : Message) × IsLine (λ v. MessageForm v message) line × AnswersMessage message r acts)
-      ⊎ ((why : Reason) × IsUnread line why × Refuses why r acts)
-
-  -- the answer to an input
+  -- the answer to an input: to its message, or a refusal with the reason why it has none
   abbrev pub AnswersInput : Input → Part H Message
-  AnswersInput (input.Line line) = AnswersLine line.items
+  AnswersInput (input.Message message) = AnswersMessage message
   AnswersInput (input.Refused why) = Refuses why
   AnswersInput input.Nothing = Never
 

@@ -1,10 +1,9 @@
 //! The answers of a server to inputs.
 ghost use Rattle.std.specs.Prelude.{◌≡◌, ◌≤◌, ◌<◌, Ok, IfOk, IfErr, IfNone, IfSome, length, vec_capacity, vec_len};
-ghost use Rattle.wire_json.specs.Lines.{IsLine, max_line};
-ghost use Rattle.wire_json.specs.Messages.{MessageForm};
+ghost use Rattle.wire_json.specs.Lines.{max_line};
 ghost use Rattle.peer_core.specs.Acts.{Makes};
 ghost use Rattle.peer_core.specs.Serving.{Refuses};
-ghost use Rattle.server.specs.Answering.{AnswersInput, IsNotAnswered, IsRefusalLine, IsSame, IsSentAs, IsSilent, IsTried, IsUnread, IsUnsent, Responds, SendsNothing, line_text, unread_as};
+ghost use Rattle.server.specs.Answering.{AnswersInput, IsNotAnswered, IsRefusalLine, IsSame, IsSentAs, IsSilent, IsTried, IsUnsent, Responds, SendsNothing, line_text};
 
 use crate::inputs::Input;
 use change_core::Moment;
@@ -13,34 +12,11 @@ use message_core::{Message, Reason, WireError};
 use peer_core::{Handler, Link, Member};
 use std::alloc::Global;
 use std::sync::Wait;
-use wire_json::{decode, encode};
-
-/// Returns the reason of a refusal for an error of a line.
-fn reason_of(fault: WireError) -> Reason
-    ensures { result ≡ unread_as fault }
-{
-    match fault {
-        WireError::Memory => Reason::Memory,
-        _ => Reason::Malformed,
-    }
-}
-
-/// Reads the message of a line, or returns the reason of its refusal: `Malformed` if it is not a message, `Memory` if
-/// out of memory for reading it.
-fn read_message(alloc: Global, line: &[u8]) -> Result<Message, Reason>
-    ensures message { IfOk result (λ m. IsLine (λ v. MessageForm v m) line.now) }
-    ensures reason { IfErr result (IsUnread line.now) }
-{
-    match decode(alloc, line) {
-        Ok(message) => Ok(message),
-        Err(fault) => Err(reason_of(fault)),
-    }
-}
+use wire_json::encode;
 
 /// Returns the answer to an input; None if it needs none, or the lock refused a call of the answer.
 fn answer<R: Wait, H: PointHash, L: Link, A: Handler>(
     rt: &R,
-    alloc: Global,
     member: &mut Member<'_, H, L>,
     handler: &A,
     now: Moment,
@@ -51,10 +27,7 @@ fn answer<R: Wait, H: PointHash, L: Link, A: Handler>(
     ensures same { IsSame member.old member.new }
 {
     match input {
-        Input::Line(line) => match read_message(alloc, line.as_slice()) {
-            Ok(message) => member.serve(rt, handler, now, &message).ok(),
-            Err(reason) => member.refuse(rt, reason).ok(),
-        },
+        Input::Message(message) => member.serve(rt, handler, now, message).ok(),
         Input::Refused(reason) => member.refuse(rt, *reason).ok(),
         Input::Nothing => None,
     }
@@ -133,11 +106,10 @@ fn line_of<R: Wait, H: PointHash, L: Link>(
     }
 }
 
-/// Returns the line that goes back for an input at a moment, without its newline but with room for it. To a line that is
-/// a message it is that of the answer of `serve_one`, requests by the handler; to any other line, and to one that was
-/// too long, a refusal `malformed`; and `memory` if out of memory for reading a line. If the answer's line would have
-/// more than 1,048,576 bytes it is that of a refusal `failed`, if out of memory for it that of a refusal `memory`, by
-/// another call of the node.
+/// Returns the line that goes back for an input at a moment, without its newline but with room for it. To a message it is
+/// that of the answer of `serve_one`, requests by the handler; to any other input but none a refusal for its reason. If the
+/// answer's line would have more than 1,048,576 bytes it is that of a refusal `failed`, if out of memory for it that of a
+/// refusal `memory`, by another call of the node.
 ///
 /// None if the connection has to be closed without an answer: if the input needs none, if the lock refused a call, and
 /// if out of memory even for a refusal.
@@ -154,6 +126,6 @@ pub fn respond<R: Wait, H: PointHash, L: Link, A: Handler>(
     ensures silent { IfNone result (IsSilent H.hash_of L.may_answer (A.may_handle handler.now) now input.now member.old.node member.old.pass.now member.new.pass.now) }
     ensures same { IsSame member.old member.new }
 {
-    let answer = answer(rt, alloc, member, handler, now, input)?;
+    let answer = answer(rt, member, handler, now, input)?;
     line_of(rt, alloc, member, &answer)
 }

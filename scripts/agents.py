@@ -1,14 +1,16 @@
 """Agents with applications, each in a process of its own, and what scripts ask of them."""
+import concurrent.futures
 import contextlib
 import http.client
 import json
 import pathlib
+import re
 import subprocess
 import threading
 import time
 from urllib.parse import quote
 
-from nodes import ROOT, Wrong, address
+from nodes import NOBODY, ROOT, STEP, Wrong, address, call, message
 
 # within how many seconds an agent says that it is well
 PATIENCE = 30
@@ -19,8 +21,8 @@ class Agent:
 
     def __init__(self, program, port, hosts, app=("python3", str(ROOT / "examples" / "app.py")), log=None, more=()):
         self.program, self.port, self.hosts, self.log, self.more = program, port, hosts, log, more
-        self.own, self.http, self.app = address(port), address(port + 100), address(port + 200)
-        self.words = [*app, str(port + 200)]
+        self.own, self.http, self.app = address(port), address(port + STEP), address(port + 2 * STEP)
+        self.words = [*app, str(port + 2 * STEP)]
         self.start_application()
         self.start()
 
@@ -44,8 +46,20 @@ class Agent:
             return self.ask("GET", "/healthz")[0] == 200
         return False
 
+    def tell(self, member, incarnation, status, source="0.0.0.0:1"):
+        """Tells the node a change; returns its answer."""
+        change = {"address": member, "incarnationNumber": incarnation, "source": source, "sourceIncarnationNumber": 0, "status": status}
+        return call(self.port, message("ping", checksum=NOBODY, changes=[change]))
+
+    def told(self, what):
+        """This of each member, by its address."""
+        return {member["address"]: member[what] for member in json.loads(self.ask("GET", "/members")[1])["members"]}
+
     def members(self):
-        return {member["address"]: member["status"] for member in json.loads(self.ask("GET", "/members")[1])["members"]}
+        return self.told("status")
+
+    def incarnations(self):
+        return self.told("incarnation")
 
     def held(self):
         """How much memory in KiB, how many descriptors and how many threads it has."""
@@ -76,6 +90,38 @@ def wait_until(what, seconds, is_so):
         time.sleep(0.05)
 
 
+@contextlib.contextmanager
+def running(program, *ports, hosts=None, **more):
+    """Agents at these ports, which join one another if no hosts are given, and end with the block."""
+    agents = []
+    try:
+        for port in ports:
+            agents.append(Agent(program, port, ports if hosts is None else hosts, **more))
+        yield agents
+    finally:
+        for agent in agents:
+            agent.end()
+
+
+def said(log):
+    """What is in a file so far."""
+    log.flush()
+    with open(log.name) as text:
+        return text.read()
+
+
+def counted(agents, name):
+    """What these agents have counted under this name in all."""
+    return sum(int(re.search(rf"\n{re.escape(name)} (\d+)\n", agent.ask("GET", "/metrics")[1])[1]) for agent in agents)
+
+
+def at_once(*checks):
+    """Makes these checks side by side; the first that fails is told once all have ended."""
+    with concurrent.futures.ThreadPoolExecutor(len(checks)) as pool:
+        for it in [pool.submit(check) for check in checks]:
+            it.result()
+
+
 def agree(agents):
     """Whether all agents are well and hold the same members."""
     return all(agent.is_well() for agent in agents) and len({agent.ask("GET", "/digest")[1] for agent in agents}) == 1
@@ -88,7 +134,8 @@ class Load:
         self.agents, self.keys, self.most = agents, keys, most
         self.fields = {"connection": "close"} if single else {}
         self.lock, self.is_over = threading.Lock(), False
-        self.asked, self.answered, self.failed, self.wrong, self.lost, self.longest = 0, 0, {}, [], {}, 0.0
+        self.asked, self.answered, self.elsewhere, self.failed, self.wrong, self.lost, self.longest = 0, 0, 0, {}, [], {}, 0.0
+        self.refused = set()
         self.threads = [threading.Thread(target=self.work, args=(number,), daemon=True) for number in range(threads)]
         for thread in self.threads:
             thread.start()
@@ -110,7 +157,7 @@ class Load:
         with self.lock:
             self.longest = max(self.longest, time.monotonic() - start)
             if answer.status == 200:
-                self.answered += 1
+                self.answered, self.elsewhere = self.answered + 1, self.elsewhere + (owner != agent.own)
                 if not text.startswith(f"{key}: ") or not text.endswith(f" {body}") or not self.is_owner(key, owner):
                     self.wrong.append((agent.own, key, owner, text))
             else:
@@ -132,6 +179,8 @@ class Load:
                         link.connect()
                     break
                 except OSError:
+                    with self.lock:
+                        self.refused.add(agent.own)
                     link = None
                     time.sleep(0.05)
             if link is None:

@@ -2,6 +2,7 @@
 import argparse
 import contextlib
 import errno
+import itertools
 import json
 import os
 import pathlib
@@ -20,8 +21,12 @@ NOBODY = "e3b0c44298fc1c149afbf4c8996fb92427ae41e4649b934ca495991b7852b855"
 MOST = 1_000_000
 # within how many seconds a node prints that it serves
 PATIENCE = 30
+# the ports of a script's nodes; an agent has a port for HTTP this much above its own, and its application one twice as much
+STEP = 16
 # a busy machine can miss a node's limit for a line, half a second: what took nearly as long is tried again, this often at most
 LIMIT, TRIES = 0.4, 10
+# how many attempts a script made, and how many of them were repeats; two, and one in fifty attempts, may be
+ATTEMPTS, REPEATS = itertools.count(), itertools.count()
 
 
 class Wrong(Exception):
@@ -46,8 +51,8 @@ def address(port):
 
 
 def first_port():
-    """A port below those that the system gives to connections, and hardly another script's."""
-    return 12_000 + os.getpid() % 1_000 * 16
+    """The first of three times STEP ports, below those that the system gives to connections, and hardly another script's."""
+    return 12_000 + os.getpid() % 400 * 3 * STEP
 
 
 def first_line(stream, seconds):
@@ -143,8 +148,9 @@ def rest(stream):
 
 
 def in_time(attempt, is_right):
-    """What an attempt gives. One that is not right is made again only if it took as long as the limit of a line."""
-    for _ in range(TRIES):
+    """What an attempt gives. One that is not right is made again only if it took as long as the limit of a line, which is counted."""
+    for number in range(TRIES):
+        next(REPEATS if number else ATTEMPTS)
         begun = time.monotonic()
         came = attempt()
         if is_right(came) or time.monotonic() - begun < LIMIT:
@@ -206,10 +212,15 @@ def agree(views):
 
 
 def judged(script, *given):
-    """Runs a script, says whether it passed, and ends with its status."""
+    """Runs a script, says whether it passed, and ends with its status. It fails, too, if it made too many attempts again."""
     name = pathlib.Path(sys.argv[0]).name
     try:
         script(*given)
+        attempts, repeats = next(ATTEMPTS), next(REPEATS)
+        if attempts:
+            print(f"{name}: {repeats} of {attempts} attempts were slow, failed and were made again")
+        if repeats > 2 + attempts // 50:
+            raise Wrong("too many attempts were made again")
     except Exception as fault:
         kind = "" if isinstance(fault, Wrong) else f"{type(fault).__name__}: "
         print(f"{name}: FAILED: {kind}{fault}")

@@ -1,4 +1,4 @@
-// Members of memberlist as processes: paused, parted, killed and started at once as scripts/pause, partition and mass-start do with nodes.
+// Members of memberlist as processes: paused, parted, killed and started at once as scripts/many does with nodes.
 // Takes root, unshare and ip; on Debian golang-github-hashicorp-memberlist-dev. In this folder:
 // GO111MODULE=off GOPATH=/usr/share/gocode go build -o /tmp/members main.go && /tmp/members pause|partition|mass|kill [COUNT]
 // A probe and gossip each 200 ms, as nodes make rounds; with STANDARD=1 in the environment memberlist's own LAN settings.

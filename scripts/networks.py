@@ -1,9 +1,12 @@
-"""Two networks with a bridge between them that can be parted, in a network and a tree of processes that end with the script."""
+"""A network, mounts and processes of a script's own, which end with it; and two networks in it with a bridge that can be parted."""
 import concurrent.futures
 import ctypes
 import os
 import subprocess
 import sys
+import time
+
+from nodes import Wrong
 
 NEW_NETWORK = 0x40000000
 # the address of each half
@@ -11,7 +14,7 @@ SIDES = ("10.9.0.1", "10.9.0.2")
 
 
 def enter_own():
-    """Starts the script again with a network, mounts and processes of its own. It takes root."""
+    """Starts the script again with a network of its own, with loopback alone, and mounts and processes of its own. It takes root."""
     if os.environ.get("OWN_NETWORK") != "yes":
         os.environ["OWN_NETWORK"] = "yes"
         own = ["unshare", "--net", "--mount", "--pid", "--fork", "--kill-child", "--mount-proc"]
@@ -35,6 +38,7 @@ def make_networks():
         ip(f"link set port{number} master bridge up")
         for what in ("link set lo up", f"addr add {own}/24 dev end{number}", f"link set end{number} up"):
             ip(f"-n side{number} {what}")
+    time.sleep(1)
 
 
 def part():
@@ -68,3 +72,13 @@ class Askers:
         """What the function gives for each node, which is its side and further words, asked in the network of its side."""
         asked = [self.sides[number].submit(function, number, *more) for number, *more in nodes]
         return [answer.result() for answer in asked]
+
+
+def must(what, seconds, see, is_so):
+    """Waits until it is so of what is seen, and says after how long; fails where it is not in time."""
+    begun = time.monotonic()
+    while not is_so(see()):
+        if time.monotonic() - begun > seconds:
+            raise Wrong(f"not {what} in time")
+        time.sleep(0.1)
+    print(f"{what} after {time.monotonic() - begun:.1f} s", flush=True)

@@ -1,7 +1,4 @@
-#!/usr/bin/env python3
-"""Runs an agent among HTTP clients that do not ask as they should, and ends with status 1 if it does not answer as it has to.
-
-usage: scripts/agent-hostile [--program PROGRAM]
+"""An agent among HTTP clients that do not ask as they should, as `scripts/agent hostile` runs it.
 
 Keys, counts and bodies that are none are refused with their status; junk, bad lengths and chunks, long heads and bodies end the connection,
 with 400, 413, 414, 431 or 501 first. Clients that send a byte now and then, stop in a head or a body, announce a gigabyte, read nothing
@@ -9,8 +6,7 @@ or slowly, hang up, or open 1,000 connections and say nothing lose their connect
 a node are answered, and another agent holds this one as alive. At the end it has as many descriptors as at the start, and at most 12 MiB of
 memory more, 48 KiB for each thread that answers. A service that is too slow is asked once for each request, from its own agent and from
 another; one whose answer is not UTF-8 is counted and logged; a node that does not answer is logged once, and once more when it does. Of a
-service and of a node that answer and fail in turn the log says no more than a line each ten seconds, and at last that they answer. It takes
-three minutes.
+service and of a node that answer and fail in turn the log says no more than a line each ten seconds, and at last that they answer.
 """
 import collections
 import contextlib
@@ -21,15 +17,13 @@ import re
 import signal
 import socket
 import subprocess
-import sys
 import tempfile
 import threading
 import time
 from urllib.parse import quote
 
-sys.dont_write_bytecode = True
 from agents import Agent, agree, wait_until
-from nodes import NOBODY, ROOT, Wrong, call, find, first_port, judged, message, rest, words
+from nodes import NOBODY, ROOT, STEP, Wrong, call, message, rest
 
 # the longest key, body and body that is read, in bytes, and after how many seconds a request that does not end is cut
 MAX_KEY_BYTES, MAX_BODY_BYTES, MAX_READ_BYTES, PATIENCE = 1_024, 131_072, 1_048_576, 30
@@ -88,7 +82,7 @@ class Hostile:
         self.agent, self.other, self.pings = agent, other, pings
 
     def connect(self, seconds=10.0):
-        stream = socket.create_connection(("127.0.0.1", self.agent.port + 100), seconds)
+        stream = socket.create_connection(("127.0.0.1", self.agent.port + STEP), seconds)
         stream.settimeout(seconds)
         return stream
 
@@ -236,7 +230,7 @@ class Hostile:
             stream = socket.socket()
             stream.setsockopt(socket.SOL_SOCKET, socket.SO_RCVBUF, 2_048)
             stream.settimeout(10)
-            stream.connect(("127.0.0.1", self.agent.port + 100))
+            stream.connect(("127.0.0.1", self.agent.port + STEP))
             stream.setblocking(False)
             with contextlib.suppress(BlockingIOError):
                 stream.send(head("GET", "/") * 500)
@@ -268,7 +262,7 @@ class Hostile:
         for _ in range(1_000):
             stream = socket.socket()
             stream.setblocking(False)
-            stream.connect_ex(("127.0.0.1", self.agent.port + 100))
+            stream.connect_ex(("127.0.0.1", self.agent.port + STEP))
             idle.append(stream)
         time.sleep(PATIENCE / 2)
         if self.pings.fault or set(self.other.members().values()) != {"alive"}:
@@ -447,23 +441,12 @@ def check_address(program, port):
         raise Wrong(f"0.0.0.0 as the node's address: {ended}")
 
 
-def main():
-    given = words(__doc__).parse_args()
-    program, port = find(given.program), first_port()
-    agents, pings = [], None
+def check(program, agents, port):
+    """Tries the first two of these agents."""
+    check_address(program, port + 3)
+    check_slow_service(program, port + 4)
+    pings = Pings(port)
     try:
-        for own in (port, port + 1):
-            agents.append(Agent(program, own, [port, port + 1]))
-        wait_until("agreed", 20, lambda: agree(agents))
-        check_address(program, port + 2)
-        check_slow_service(program, port + 2)
-        pings = Pings(port)
-        Hostile(*agents, pings).play()
+        Hostile(*agents[:2], pings).play()
     finally:
-        if pings:
-            pings.end()
-        for agent in agents:
-            agent.end()
-
-
-judged(main)
+        pings.end()

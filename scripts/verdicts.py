@@ -25,8 +25,8 @@ class Said:
 
     def __init__(self, text, crate):
         self.text = text
-        self.is_proved = re.search(r"^logic=proved ", text, re.M) is not None
-        self.is_judged = self.is_proved or re.search(r"^logic=not-proved", text, re.M) is not None
+        self.is_proved = re.search(r"^logic=proved |^only=(\d+) proved=\1$", text, re.M) is not None
+        self.is_judged = re.search(r"^logic=(not-)?proved|^only=\d+ proved=", text, re.M) is not None
         self.functions = {}
         errors, goals = collections.defaultdict(list), []
         for line in text.splitlines():

@@ -36,7 +36,7 @@ fn other_hosts(alloc: Global, hosts: &[Address], own: Address) -> Result<Vec<Add
 }
 
 /// Returns the settings of the arguments.
-fn settings_of(alloc: Global, words: &AgentWords) -> Result<Settings, AllocError>
+fn settings_of(alloc: Global, words: &AgentWords) -> Result<Settings, AgentError>
     ensures address { IfOk result (λ s. s.address ≡ words.now.address) }
     ensures bind { IfOk result (λ s. s.bind ≡ unwrap_or words.now.bind words.now.address) }
     ensures http { IfOk result (λ s. s.http ≡ words.now.http) }

@@ -115,8 +115,9 @@ IsHealth (Err why) = (why ≡ refusal.NotJoined) ⊎ ((why ≡ refusal.HasLeft) 
 -- An action of the agent whose node has this address and this many replicas, its outcome, and all calls of the node that were made for it.
 abbrev pub Performs : ℕ → ℕ → Action → Outcome → OfActs Sha256Hash
 Performs own replicas (action.Handle key body) outcome acts =
-    Declines refusal.Busy outcome acts ⊎ AsksOwner key body outcome acts
-Performs own replicas (action.Owners key count) outcome acts = After Looks (ComesOf (ShowsOwners key count)) outcome acts
+    (Declines refusal.NotJoined outcome acts ⊎ Declines refusal.Busy outcome acts) ⊎ AsksOwner key body outcome acts
+Performs own replicas (action.Owners key count) outcome acts =
+    Declines refusal.NotJoined outcome acts ⊎ After Looks (ComesOf (ShowsOwners key count)) outcome acts
 Performs own replicas action.Members outcome acts = After (Tries call.Members reply.Members) (ComesOf (ShowsMembers own replicas)) outcome acts
 Performs own replicas action.Digest outcome acts =
     After (Tries call.Digest reply.Digest) (ComesOf (λ digest. Shows kind.Text (digest_line digest.bytes))) outcome acts

@@ -79,6 +79,8 @@ pub struct Agent<R> {
     pub notices: Notices,
     /// What the log said last of nodes that disown what this node's members give them.
     pub disowners: Notices,
+    /// Whether hosts are given, and not all were asked yet, nor has one answered: no request of a key is answered.
+    pub is_starting: Flag,
     pub has_joined: Flag,
     pub has_left: Flag,
     /// Held while the node leaves or comes back.
@@ -93,6 +95,8 @@ pub struct Agent<R> {
     pub is_spent: Flag,
     /// The parker that is unparked when the agent is to end.
     pub bell: Parker,
+    /// The parker that is unparked when the last rounds have spread that the node left.
+    pub spread: Parker,
 }
 
 impl<R: Host> Agent<R> {

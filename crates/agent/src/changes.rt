@@ -114,3 +114,13 @@ pub fn log_changes<R: Log>(
         }
     }
 }
+
+/// Logs how the node's own entry changed between its birth and the first look at the members, if it did.
+pub fn log_birth<R: Log>(rt: &R, born: &Change, members: &[Change], has_moved: bool) {
+    let Some(own) = entry_of(members, &born.address) else {
+        return;
+    };
+    if own.incarnation != born.incarnation {
+        log_own(rt, born, own, has_moved);
+    }
+}

@@ -93,11 +93,15 @@ pub struct Front<'f, 'a, R> {
 }
 
 impl<'f, 'a, R: Host> Front<'f, 'a, R> {
-    /// Has the owner of a key answer a request, unless too many wait already. Returns the answer and the owner.
+    /// Has the owner of a key answer a request, unless the hosts are still being asked or too many requests wait already.
+    /// Returns the answer and the owner.
     fn handle(&mut self, key: Text, body: Text) -> Result<Reply, Refusal>
         ensures performed { HasMade (Performs self.old.agent.now.own self.old.agent.now.replicas (action.Handle key body) result) self.old.caller.now self.new.caller.now }
         ensures agent { self.new.agent ≡ self.old.agent }
     {
+        if self.agent.is_starting.get() {
+            return Err(Refusal::NotJoined);
+        }
         if !self.agent.waiting.add_below(MAX_WAITING_REQUESTS) {
             return Err(Refusal::Busy);
         }
@@ -139,11 +143,14 @@ impl<'f, 'a, R: Host> Front<'f, 'a, R> {
         }
     }
 
-    /// Returns the first owners of a key.
+    /// Returns the first owners of a key, unless the hosts are still being asked.
     fn owners(&mut self, key: &Text, count: usize) -> Result<Reply, Refusal>
         ensures performed { HasMade (Performs self.old.agent.now.own self.old.agent.now.replicas (action.Owners key.now count) result) self.old.caller.now self.new.caller.now }
         ensures agent { self.new.agent ≡ self.old.agent }
     {
+        if self.agent.is_starting.get() {
+            return Err(Refusal::NotJoined);
+        }
         match self.caller.view(&self.agent.rt) {
             Ok(view) => owners_by(self.alloc, &view, key, count),
             Err(error) => Err(refusal_of(error)),
@@ -241,6 +248,7 @@ impl<'f, 'a, R: Host> Front<'f, 'a, R> {
         match self.depart() {
             Ok(_) | Err(ClusterError::AlreadyLeft) => {
                 agent.is_stopping.set(true);
+                agent.bell.unpark();
                 Ok(Reply::Line("stopping\n"))
             }
             Err(error) => Err(refusal_of(error)),

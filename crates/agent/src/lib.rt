@@ -13,6 +13,7 @@ mod errors;
 mod exchanges;
 mod fronts;
 mod hands;
+mod hosts;
 mod journals;
 mod links;
 mod notices;

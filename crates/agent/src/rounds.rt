@@ -1,7 +1,8 @@
-//! Rounds of gossip, joins, and the last rounds before the end.
+//! Rounds of gossip, and the last ones before the end.
 use crate::agents::Agent;
 use crate::callers::Caller;
-use crate::changes::{is_refuted, log_changes};
+use crate::changes::{is_refuted, log_birth, log_changes};
+use crate::hosts::{MAX_FIRST_WAIT, link_of};
 use crate::links::NotedLink;
 use crate::systems::Host;
 use agent_core::{Notice, Refutations, are_many_addresses};
@@ -14,12 +15,6 @@ use std::sync::Arc;
 use std::thread;
 use std::time::Duration;
 
-/// The number of rounds between two joins of the hosts that the node does not hold as serving.
-const BETWEEN_JOINS: u64 = 50;
-
-/// The least milliseconds between two such joins before any host has answered.
-const BETWEEN_FIRST_JOINS: u64 = 1_000;
-
 /// The number of rounds that spread that the node has left, before the agent ends.
 const LAST_ROUNDS: u64 = 10;
 
@@ -30,57 +25,16 @@ struct Rounds<'a, R> {
     alloc: Global,
     caller: Caller,
     link: NotedLink<'a, R>,
-    hosts: &'a [Address],
     healing: Healing<'a>,
-    /// The number of rounds before it joins the hosts again.
-    until_join: u64,
-    /// The members at the last logged change, or at first, and their digest.
+    /// The node's own entry before it met any other node.
+    born: Option<Change>,
+    /// The members at the last logged change, or after the hosts were first asked, and their digest.
     members: Option<ChangeList>,
     digest: Option<Digest>,
     refutations: Refutations,
     /// What the log said last of the rounds, and of healing.
     round_notice: Notice,
     healing_notice: Notice,
-}
-
-/// Joins by a host. Returns whether the host answered.
-fn join_one<R: Host>(
-    agent: &Agent<R>,
-    alloc: Global,
-    caller: &mut Caller,
-    link: &mut NotedLink<'_, R>,
-    host: Address,
-) -> bool {
-    let joined = caller.join(&agent.rt, alloc, link, host, agent.now());
-    agent.renew(caller);
-    if joined.is_ok() {
-        info!(agent.log(); "{host} let the node join");
-    }
-    joined.is_ok()
-}
-
-/// Returns whether the node holds a host as serving.
-fn is_held<R: Host>(agent: &Agent<R>, caller: &mut Caller, host: Address) -> bool {
-    match caller.member(&agent.rt, host) {
-        Ok(Some(entry)) => entry.status.serving(),
-        Ok(None) | Err(_) => false,
-    }
-}
-
-/// Joins by each host that the node does not hold as serving. Two parts of a cluster that hold each other as faulty no
-/// longer ping each other; these joins bring them together again.
-pub fn join_hosts<R: Host>(
-    agent: &Agent<R>,
-    alloc: Global,
-    caller: &mut Caller,
-    link: &mut NotedLink<'_, R>,
-    hosts: &[Address],
-) {
-    for host in hosts {
-        if is_held(agent, caller, *host) || join_one(agent, alloc, caller, link, *host) {
-            agent.has_joined.set(true);
-        }
-    }
 }
 
 /// The members after they changed, their digest, and whether this node left or came back in the meantime.
@@ -114,6 +68,9 @@ impl<'a, R: Host> Rounds<'a, R> {
     /// entry was refuted.
     fn log_members(&mut self, round: &Result<Round, ClusterError>) -> bool {
         let agent = self.agent;
+        if agent.is_starting.get() {
+            return false;
+        }
         let Some(changed) = self.changed() else {
             return false;
         };
@@ -126,6 +83,8 @@ impl<'a, R: Host> Rounds<'a, R> {
             log_changes(&agent.log(), &agent.own, before, after, round, has_moved);
             is_own = !has_moved && is_refuted(&agent.own, before, after);
             used = before.len();
+        } else if let Some(born) = &self.born {
+            log_birth(&agent.log(), born, after, has_moved);
         }
         self.warn_of_addresses(used, after);
         self.members = Some(changed.members);
@@ -201,31 +160,15 @@ impl<'a, R: Host> Rounds<'a, R> {
         self.caller
             .correcting_round(&agent.rt, self.alloc, link, now)
     }
-
-    /// Joins the hosts if their turn has come and the node has not left.
-    fn join(&mut self, period: u64) {
-        if self.until_join > 0 {
-            self.until_join -= 1;
-            return;
-        }
-        let agent = self.agent;
-        if !agent.has_left.get() {
-            let hosts = self.hosts;
-            join_hosts(agent, self.alloc, &mut self.caller, &mut self.link, hosts);
-        }
-        self.until_join = if agent.has_joined.get() {
-            BETWEEN_JOINS
-        } else {
-            BETWEEN_FIRST_JOINS.checked_div(period).unwrap_or(0)
-        };
-    }
 }
 
-/// Makes rounds until the agent is to end, and then the last ones.
+/// Makes rounds until the agent is to end, and then the last ones. A round begins `period` milliseconds after the one before,
+/// or as soon as that one has ended. `born` is the node's own entry before it met any other node.
 pub fn make_rounds<R: Host>(
     agent: Arc<Agent<R>, Global>,
     alloc: Global,
     caller: Caller,
+    born: Option<Change>,
     hosts: Vec<Address>,
     period: u64,
 ) {
@@ -234,10 +177,9 @@ pub fn make_rounds<R: Host>(
         agent,
         alloc,
         caller,
-        link: NotedLink::new(agent),
-        hosts: hosts.as_slice(),
+        link: link_of(agent, MAX_FIRST_WAIT),
         healing: Healing::new(agent.own, hosts.as_slice()),
-        until_join: BETWEEN_FIRST_JOINS.checked_div(period).unwrap_or(0),
+        born,
         members: None,
         digest: None,
         refutations: Refutations::new(),
@@ -246,15 +188,17 @@ pub fn make_rounds<R: Host>(
     };
     let mut last: u64 = 0;
     for _ in agent.rt.forever() {
-        rounds.join(period);
+        let begun = agent.now().number();
         rounds.make();
         if agent.is_stopping.get() {
             last = last.saturating_add(1);
             if last >= LAST_ROUNDS {
-                agent.bell.unpark();
+                agent.spread.unpark();
                 return;
             }
         }
-        thread::sleep(&agent.rt, Duration::from_millis(period));
+        let spent = agent.now().number().saturating_sub(begun);
+        let rest = Duration::from_millis(period.saturating_sub(spent));
+        thread::sleep(&agent.rt, rest);
     }
 }

@@ -12,14 +12,14 @@ use crate::counters::{Count, Counters};
 use crate::entrances::Entrance;
 use crate::errors::AgentError;
 use crate::hands::serve_requests;
+use crate::hosts::join_hosts;
 use crate::journals::Journal;
-use crate::links::NotedLink;
 use crate::notices::Notices;
 use crate::peers::{Job, serve_peers};
-use crate::rounds::{join_hosts, make_rounds};
+use crate::rounds::make_rounds;
 use crate::settings::Settings;
 use crate::systems::System;
-use change_core::{Address, Incarnation, MAX_NUMBER, Moment};
+use change_core::{Address, Change, Incarnation, MAX_NUMBER, Moment};
 use cluster_core::{Deadline, share, socket_address};
 use crossbeam_channel::{Receiver, Sender, bounded};
 use hash_ring::Sha256Hash;
@@ -50,6 +50,9 @@ const FRONTS: u32 = 256;
 
 /// The most HTTP connections that wait for a thread when HTTP ends.
 const MAX_ACCEPTED_CONNECTIONS: usize = 256;
+
+/// The most milliseconds that the end waits for the rounds that spread that the node left.
+const MAX_SPREADING: u64 = 5_000;
 
 /// The most milliseconds that the end waits for HTTP connections to close.
 const MAX_LAST_WAIT: u64 = 10_000;
@@ -150,6 +153,7 @@ fn agent_of<R: System>(
         fronts: Count::new(),
         notices: Notices::new(alloc),
         disowners: Notices::new(alloc),
+        is_starting: Flag::new(!settings.hosts.is_empty()),
         has_joined: Flag::new(settings.hosts.is_empty()),
         has_left: Flag::new(false),
         moving: Mutex::new(()),
@@ -158,6 +162,7 @@ fn agent_of<R: System>(
         is_ending: Flag::new(false),
         is_spent: Flag::new(false),
         bell: Parker::new(),
+        spread: Parker::new(),
     };
     Ok(Arc::new(alloc, agent)?)
 }
@@ -253,12 +258,33 @@ fn start_rounds<R: System>(
     rt: &R,
     alloc: Global,
     agent: &Arc<Agent<R>, Global>,
+    born: Option<Change>,
     hosts: Vec<Address>,
     period: u64,
 ) -> Result<(), AgentError> {
     let caller = caller_of(agent)?;
     let agent = Arc::try_clone(agent)?;
-    let started = thread::spawn(rt, move || make_rounds(agent, alloc, caller, hosts, period));
+    let started = thread::spawn(
+        rt,
+        move || make_rounds(agent, alloc, caller, born, hosts, period),
+    );
+    let _thread = started.map_err(|_| AgentError::NoThread)?;
+    Ok(())
+}
+
+/// Starts the thread that asks the hosts, if there are any.
+fn start_joins<R: System>(
+    rt: &R,
+    alloc: Global,
+    agent: &Arc<Agent<R>, Global>,
+    hosts: Vec<Address>,
+) -> Result<(), AgentError> {
+    if hosts.is_empty() {
+        return Ok(());
+    }
+    let caller = caller_of(agent)?;
+    let agent = Arc::try_clone(agent)?;
+    let started = thread::spawn(rt, move || join_hosts(agent, alloc, caller, hosts));
     let _thread = started.map_err(|_| AgentError::NoThread)?;
     Ok(())
 }
@@ -295,7 +321,8 @@ fn end_http<R: System>(rt: &R, agent: &Agent<R>, address: Address) {
     }
 }
 
-/// Waits until the agent is to end, and then until each HTTP connection that was accepted is closed, ten seconds at most.
+/// Waits until the agent is to end, then for the last rounds, five seconds at most, and then until each HTTP connection that
+/// was accepted is closed, ten seconds at most.
 fn wait_for_end<R: System>(
     rt: &R,
     agent: &Agent<R>,
@@ -305,14 +332,17 @@ fn wait_for_end<R: System>(
     if agent.is_spent.get() {
         return Err(AgentError::Spent);
     }
+    agent
+        .spread
+        .park_timeout(rt, Duration::from_millis(MAX_SPREADING));
     if let Some(address) = http {
         end_http(rt, agent, address);
     }
     Ok(())
 }
 
-/// Starts the threads of an agent: those for other nodes, then those for HTTP, and last the one that makes rounds. The
-/// hosts are joined before HTTP is answered.
+/// Starts the threads of an agent: those for other nodes, then those for HTTP, then the one that makes rounds, and last the
+/// one that asks the hosts.
 fn start<R: System>(
     rt: &R,
     alloc: Global,
@@ -324,18 +354,17 @@ fn start<R: System>(
         Some(address) => Some(listen(rt, address)?),
         None => None,
     };
+    let mut first = caller_of(agent)?;
+    let born = first.own(rt).ok();
     let (hands, jobs) = bounded(alloc, MAX_QUEUED_REQUESTS)?;
     start_peers(rt, alloc, agent, &listener, &hands)?;
     start_hands(rt, alloc, agent, &jobs, settings.hands)?;
-    let mut caller = caller_of(agent)?;
-    let mut link = NotedLink::new(agent);
-    let hosts = settings.hosts.as_slice();
-    join_hosts(agent, alloc, &mut caller, &mut link, hosts);
     if let Some(front) = front {
         start_fronts(rt, alloc, agent, front)?;
     }
     let Settings { hosts, period, .. } = settings;
-    start_rounds(rt, alloc, agent, hosts, period)
+    start_rounds(rt, alloc, agent, born, hosts.clone()?, period)?;
+    start_joins(rt, alloc, agent, hosts)
 }
 
 /// Makes an agent and starts its threads.

@@ -1,4 +1,4 @@
-use Rattle.std.proofs.Common.{Err, inl, refl}
+use Rattle.std.proofs.Common.{Err, inl, inr, refl}
 use Rattle.agent_core.specs.declared.actions.Action.TheVariants as action
 use Rattle.agent_core.specs.declared.refusals.Refusal.TheVariants.{Busy}
 use Rattle.agent.specs.Performing.{Performs}
@@ -8,4 +8,4 @@ use Rattle.agent.proofs.fronts.Front.handle.Goals as goal
 pub returns-then-not-add_below-clause-performed : goal.returns-then-not-add_below-clause-performed
 returns-then-not-add_below-clause-performed g c =
     let agent = c.args.self.now.agent.now in
-    made_none (Performs agent.own agent.replicas (action.Handle c.args.key c.args.body) (Err Busy)) c.args.self.now.caller.now c.args.self.now.caller.now refl (inl (refl, refl))
+    made_none (Performs agent.own agent.replicas (action.Handle c.args.key c.args.body) (Err Busy)) c.args.self.now.caller.now c.args.self.now.caller.now refl (inl (inr (refl, refl)))

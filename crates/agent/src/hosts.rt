@@ -1,0 +1,102 @@
+//! The joins of the hosts, by a thread of their own: a host that does not answer holds up neither a round nor HTTP.
+use crate::agents::Agent;
+use crate::callers::Caller;
+use crate::links::NotedLink;
+use crate::systems::Host;
+use change_core::Address;
+use cluster_core::Limits;
+use log::info;
+use std::alloc::Global;
+use std::sync::Arc;
+use std::thread;
+use std::time::Duration;
+
+/// The most milliseconds for which a host's answer is awaited when the hosts are asked for the first time, and when a cluster
+/// is healed. Each further time it is twice as long as the time before.
+pub const MAX_FIRST_WAIT: u64 = 500;
+
+/// The most milliseconds for which a host's answer is ever awaited.
+const MAX_WAIT: u64 = 5_000;
+
+/// The milliseconds from when all hosts were asked until they are asked again.
+const BETWEEN_JOINS: u64 = 1_000;
+
+/// Makes a link of this agent that awaits the answer to a Join for this many milliseconds at most.
+pub fn link_of<R: Host>(agent: &Agent<R>, wait: u64) -> NotedLink<'_, R> {
+    let limits = Limits {
+        other: Duration::from_millis(wait),
+        ..agent.timeouts.links
+    };
+    NotedLink::with_limits(agent, limits)
+}
+
+/// Joins by a host. Returns whether the host answered.
+fn join_one<R: Host>(
+    agent: &Agent<R>,
+    alloc: Global,
+    caller: &mut Caller,
+    link: &mut NotedLink<'_, R>,
+    host: Address,
+) -> bool {
+    let joined = caller.join(&agent.rt, alloc, link, host, agent.now());
+    agent.renew(caller);
+    if joined.is_ok() {
+        info!(agent.log(); "{host} let the node join");
+    }
+    joined.is_ok()
+}
+
+/// Returns whether the node holds a host as serving, so that one of its members has met it.
+fn is_held<R: Host>(agent: &Agent<R>, caller: &mut Caller, host: Address) -> bool {
+    match caller.member(&agent.rt, host) {
+        Ok(Some(entry)) => entry.status.serving(),
+        Ok(None) | Err(_) => false,
+    }
+}
+
+/// Joins by the hosts in turn, until one has answered or is held as serving. Returns whether one has, or is.
+fn join_by<R: Host>(
+    agent: &Agent<R>,
+    alloc: Global,
+    caller: &mut Caller,
+    link: &mut NotedLink<'_, R>,
+    hosts: &[Address],
+) -> bool {
+    for host in hosts {
+        if *host == agent.own {
+            continue;
+        }
+        if is_held(agent, caller, *host) || join_one(agent, alloc, caller, link, *host) {
+            return true;
+        }
+    }
+    false
+}
+
+/// Asks the hosts to let the node join, again and again until one has answered, or the agent is to end. Later it is healing
+/// that asks them. A node that is a host itself has joined once all others were asked.
+pub fn join_hosts<R: Host>(
+    agent: Arc<Agent<R>, Global>,
+    alloc: Global,
+    mut caller: Caller,
+    hosts: Vec<Address>,
+) {
+    let agent = &*agent;
+    let hosts = hosts.as_slice();
+    let is_host = hosts.contains(&agent.own);
+    let mut wait = MAX_FIRST_WAIT;
+    for _ in agent.rt.forever() {
+        let mut link = link_of(agent, wait);
+        let is_met =
+            !agent.has_left.get() && join_by(agent, alloc, &mut caller, &mut link, hosts);
+        if is_met || is_host {
+            agent.has_joined.set(true);
+        }
+        agent.is_starting.set(false);
+        if is_met || agent.is_stopping.get() {
+            return;
+        }
+        wait = wait.saturating_mul(2).min(MAX_WAIT);
+        thread::sleep(&agent.rt, Duration::from_millis(BETWEEN_JOINS));
+    }
+}

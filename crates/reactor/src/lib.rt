@@ -1,0 +1,11 @@
+//! A reactor: one thread accepts the connections of a listener and watches those that wait, so that a connection with nothing to read needs
+//! no thread. One that becomes ready goes to a worker, which serves it while its client asks, and then parks it again.
+#![tactic(auto)]
+
+mod descriptors;
+mod lots;
+mod reactors;
+
+pub use descriptors::max_descriptors;
+pub use lots::{Connection, Lot};
+pub use reactors::{Reactor, Timing};

@@ -1,0 +1,227 @@
+//! The lot: the connections that wait for their clients, each of which holds a place and no thread.
+use mio::unix::SourceFd;
+use mio::{Interest, Poll, Registry, Token, Waker};
+use slab::Slab;
+use std::alloc::Global;
+use std::io;
+use std::net::TcpStream;
+use std::os::fd::AsRawFd;
+use std::sync::atomic::{AtomicBool, AtomicUsize, Ordering};
+use std::sync::{Mutex, Wait};
+
+/// The token of the waker. Those of the connections are the keys of their slots, of which there are fewer.
+pub(crate) const WAKER: Token = Token(usize::MAX);
+
+/// A connection between two visits of a worker.
+#[derive(Drop)]
+pub struct Connection<K> {
+    pub stream: TcpStream,
+    /// What the worker keeps with it; None if it has just come, or nothing is to be kept.
+    pub kept: Option<K>,
+    /// Whether it waits for room to write, and not for something to read.
+    pub is_full: bool,
+    /// The millisecond at which it is closed if it still waits.
+    pub until: u64,
+}
+
+/// A connection that waits, and the millisecond since when it does.
+#[derive(Drop)]
+struct Parked<K> {
+    connection: Connection<K>,
+    since: u64,
+}
+
+/// The connections that wait, each in its slot.
+#[derive(Drop)]
+struct Slots<K> {
+    parked: Slab<Parked<K>>,
+    /// Whether none may wait any more.
+    is_closed: bool,
+}
+
+/// The lot of a reactor. Its workers park connections in it.
+#[derive(Drop)]
+pub struct Lot<K> {
+    slots: Mutex<Slots<K>>,
+    registry: Registry,
+    waker: Waker,
+    /// The most connections that are open at a time.
+    places: usize,
+    /// The number of connections that are open: those that wait, and those that are with a worker or on the way to one.
+    open: AtomicUsize,
+    /// Whether the reactor waits for a place.
+    is_full: AtomicBool,
+    is_ending: AtomicBool,
+}
+
+/// Returns the key of the connection that has waited longest; None if none waits.
+fn longest_parked<K>(parked: &Slab<Parked<K>>) -> Option<usize> {
+    let mut longest = None;
+    let mut least = u64::MAX;
+    for (key, it) in parked.iter() {
+        if it.since < least {
+            least = it.since;
+            longest = Some(key);
+        }
+    }
+    longest
+}
+
+impl<K: Drop> Lot<K> {
+    /// Makes the lot of a poll, with so many places.
+    ///
+    /// # Errors
+    ///
+    /// - The error of the system, which gave no descriptor.
+    pub(crate) fn new(alloc: Global, poll: &Poll, places: usize) -> io::Result<Self> {
+        let slots = Slots {
+            parked: Slab::new(alloc),
+            is_closed: false,
+        };
+        Ok(Lot {
+            slots: Mutex::new(slots),
+            registry: poll.registry().try_clone()?,
+            waker: Waker::new(poll.registry(), WAKER)?,
+            places,
+            open: AtomicUsize::new(0),
+            is_full: AtomicBool::new(false),
+            is_ending: AtomicBool::new(false),
+        })
+    }
+
+    /// Returns the most connections that are open at a time.
+    pub fn places(&self) -> usize {
+        self.places
+    }
+
+    /// Returns the number of connections that are open.
+    pub fn open(&self) -> usize {
+        self.open.load(Ordering::SeqCst)
+    }
+
+    /// Returns the number of connections that wait.
+    pub fn waiting<R: Wait>(&self, rt: &R) -> usize {
+        self.slots.lock(rt).parked.len()
+    }
+
+    /// Has the reactor end: it closes its listener.
+    pub fn end(&self) {
+        self.is_ending.store(true, Ordering::SeqCst);
+        let _woken = self.waker.wake();
+    }
+
+    /// Returns whether the reactor is to end.
+    pub fn is_ending(&self) -> bool {
+        self.is_ending.load(Ordering::SeqCst)
+    }
+
+    /// Counts a connection that was accepted.
+    pub(crate) fn occupy(&self) {
+        self.open.fetch_add(1, Ordering::SeqCst);
+    }
+
+    /// Frees the places of so many connections that were closed. Wakes the reactor if it waits for one.
+    fn free(&self, count: usize) {
+        self.open.fetch_sub(count, Ordering::SeqCst);
+        if self.is_full.swap(false, Ordering::SeqCst) {
+            let _woken = self.waker.wake();
+        }
+    }
+
+    /// Closes a connection.
+    pub fn close(&self, stream: TcpStream) {
+        drop(stream);
+        self.free(1);
+    }
+
+    /// Parks a connection at this millisecond, until its client sends something or, if it is full, takes something. It is closed if the
+    /// lot is, and if the system or the memory is short.
+    pub fn park<R: Wait>(&self, rt: &R, connection: Connection<K>, now: u64) {
+        if !self.hold(rt, connection, now) {
+            self.free(1);
+        }
+    }
+
+    /// Holds a connection in a slot. Returns whether it does; else the connection is dropped.
+    fn hold<R: Wait>(&self, rt: &R, connection: Connection<K>, now: u64) -> bool {
+        let descriptor = connection.stream.as_raw_fd();
+        let interest = if connection.is_full {
+            Interest::WRITABLE
+        } else {
+            Interest::READABLE
+        };
+        // (locked until it is registered: the reactor finds each connection of which it is told)
+        let mut slots = self.slots.lock(rt);
+        if slots.is_closed {
+            return false;
+        }
+        let parked = Parked {
+            connection,
+            since: now,
+        };
+        let Ok(key) = slots.parked.insert(parked) else {
+            return false;
+        };
+        let mut source = SourceFd(&descriptor);
+        let is_registered = self.registry.register(&mut source, Token(key), interest);
+        if is_registered.is_err() {
+            let _unheard = slots.parked.try_remove(key);
+        }
+        is_registered.is_ok()
+    }
+
+    /// Takes the connection of a slot out of the lot; None if none is there.
+    pub(crate) fn take<R: Wait>(&self, rt: &R, key: usize) -> Option<Connection<K>> {
+        let parked = self.slots.lock(rt).parked.try_remove(key)?;
+        let descriptor = parked.connection.stream.as_raw_fd();
+        let _gone = self.registry.deregister(&mut SourceFd(&descriptor));
+        Some(parked.connection)
+    }
+
+    /// Closes the connections whose time is up at this millisecond.
+    pub(crate) fn close_late<R: Wait>(&self, rt: &R, now: u64) {
+        let mut slots = self.slots.lock(rt);
+        let before = slots.parked.len();
+        slots
+            .parked
+            .retain(|_, parked| parked.connection.until > now);
+        let after = slots.parked.len();
+        drop(slots);
+        self.free(before.saturating_sub(after));
+    }
+
+    /// Closes the connection that has waited longest. Returns whether there was one.
+    pub(crate) fn close_longest<R: Wait>(&self, rt: &R) -> bool {
+        let mut slots = self.slots.lock(rt);
+        let Some(key) = longest_parked(&slots.parked) else {
+            return false;
+        };
+        let longest = slots.parked.try_remove(key);
+        drop(slots);
+        if longest.is_some() {
+            self.free(1);
+        }
+        longest.is_some()
+    }
+
+    /// Returns whether another connection may be accepted: a place is free, or a connection waits, which is closed for it. If not, the reactor
+    /// is woken once one may.
+    pub(crate) fn has_room<R: Wait>(&self, rt: &R) -> bool {
+        if self.open() < self.places || self.waiting(rt) > 0 {
+            return true;
+        }
+        self.is_full.store(true, Ordering::SeqCst);
+        // (once more, since a place that became free before wakes nobody)
+        self.open() < self.places
+    }
+
+    /// Closes the connections that wait, and each that is parked from now on.
+    pub(crate) fn close_all<R: Wait>(&self, rt: &R) {
+        let mut slots = self.slots.lock(rt);
+        slots.is_closed = true;
+        let count = slots.parked.len();
+        slots.parked.clear();
+        drop(slots);
+        self.free(count);
+    }
+}

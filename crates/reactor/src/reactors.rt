@@ -1,0 +1,196 @@
+//! The reactor: the part of it that its thread has.
+use crate::lots::{Connection, Lot, WAKER};
+use crossbeam_channel::{Receiver, Sender, bounded};
+use mio::unix::SourceFd;
+use mio::{Events, Interest, Poll, Token};
+use std::alloc::Global;
+use std::io;
+use std::io::ErrorKind;
+use std::net::{Net, TcpListener, TcpStream};
+use std::os::fd::AsRawFd;
+use std::sync::{Arc, Wait};
+use std::time::Duration;
+
+/// The token of the listener.
+const LISTENER: Token = Token(usize::MAX - 1);
+
+/// The most events that are heard of at a time.
+const MAX_EVENTS: usize = 256;
+
+/// The milliseconds between two looks for connections whose time is up.
+const BETWEEN_SWEEPS: u64 = 1_000;
+
+/// The milliseconds after which it accepts again where that failed.
+const BETWEEN_FAILURES: u64 = 100;
+
+/// The time limits of connections.
+#[derive(Clone, Copy, Debug)]
+pub struct Timing {
+    /// For how long a read or a write of a worker waits.
+    pub patience: Duration,
+    /// The milliseconds for which a connection may send nothing at first.
+    pub silence: u64,
+}
+
+/// A reactor, for the one thread that makes its turns.
+#[derive(Drop)]
+pub struct Reactor<K> {
+    lot: Arc<Lot<K>, Global>,
+    poll: Poll,
+    events: Events,
+    /// None once it ends.
+    listener: Option<TcpListener>,
+    ready: Sender<Connection<K>>,
+    timing: Timing,
+    /// Whether connections may wait to be accepted.
+    is_called: bool,
+    /// The millisecond of the last look for connections whose time is up.
+    swept: u64,
+}
+
+/// Returns the error of the system for an allocation that failed.
+fn no_memory() -> io::Error {
+    io::Error::from(ErrorKind::OutOfMemory)
+}
+
+impl<K: Drop> Reactor<K> {
+    /// Makes a reactor for the connections of a listener, with so many places. Returns it with the queue of the connections that are ready,
+    /// which holds them all and has no sender once the reactor is dropped.
+    ///
+    /// # Errors
+    ///
+    /// - The error of the system, which gave no descriptor, or let none be watched.
+    /// - `OutOfMemory`: an allocation failed.
+    pub fn new<R: Net>(
+        rt: &R,
+        alloc: Global,
+        listener: TcpListener,
+        places: usize,
+        timing: Timing,
+    ) -> io::Result<(Self, Receiver<Connection<K>>)> {
+        listener.set_nonblocking(true)?;
+        let poll = Poll::new(rt)?;
+        let descriptor = listener.as_raw_fd();
+        poll.registry()
+            .register(&mut SourceFd(&descriptor), LISTENER, Interest::READABLE)?;
+        let lot = Arc::new(alloc, Lot::new(alloc, &poll, places)?).map_err(|_| no_memory())?;
+        let (ready, queue) = bounded(alloc, places).map_err(|_| no_memory())?;
+        let reactor = Reactor {
+            lot,
+            poll,
+            events: Events::with_capacity(alloc, MAX_EVENTS).map_err(|_| no_memory())?,
+            listener: Some(listener),
+            ready,
+            timing,
+            is_called: true,
+            swept: 0,
+        };
+        Ok((reactor, queue))
+    }
+
+    /// Returns the lot.
+    pub fn lot(&self) -> &Arc<Lot<K>, Global> {
+        &self.lot
+    }
+
+    /// Waits until a connection comes or is ready, a place is free or the lot is to end; for this time at most.
+    pub fn wait(&mut self, most: Duration) {
+        let limit = if self.is_called {
+            most.min(Duration::from_millis(BETWEEN_FAILURES))
+        } else {
+            most
+        };
+        let _polled = self.poll.poll(&mut self.events, Some(limit));
+    }
+
+    /// Sends what is ready to the workers, closes what is late at this millisecond, and accepts what came.
+    ///
+    /// # Errors
+    ///
+    /// - The error of the system that let no connection be accepted. It is tried again at the next turn.
+    pub fn turn<R: Wait>(&mut self, rt: &R, now: u64) -> io::Result<()> {
+        if self.hand_over(rt) {
+            self.is_called = true;
+        }
+        if now >= self.swept.saturating_add(BETWEEN_SWEEPS) {
+            self.swept = now;
+            self.lot.close_late(rt, now);
+        }
+        if self.is_called {
+            self.accept_all(rt, now)?;
+            self.is_called = false;
+        }
+        Ok(())
+    }
+
+    /// Sends the connections that are ready to the workers. Returns whether others may wait to be accepted.
+    fn hand_over<R: Wait>(&self, rt: &R) -> bool {
+        let mut is_called = false;
+        for event in self.events.iter() {
+            match event.token() {
+                LISTENER | WAKER => is_called = true,
+                Token(key) => {
+                    if let Some(connection) = self.lot.take(rt, key) {
+                        let _sent = self.ready.send(rt, connection);
+                    }
+                }
+            }
+        }
+        is_called
+    }
+
+    /// Accepts the connections that came, as far as there are places.
+    fn accept_all<R: Wait>(&self, rt: &R, now: u64) -> io::Result<()> {
+        let Some(listener) = &self.listener else {
+            return Ok(());
+        };
+        for _ in rt.forever() {
+            if !self.lot.has_room(rt) {
+                return Ok(());
+            }
+            match listener.accept() {
+                Ok((stream, _)) => self.admit(rt, stream, now),
+                Err(error) => match error.kind() {
+                    ErrorKind::WouldBlock => return Ok(()),
+                    ErrorKind::Interrupted | ErrorKind::ConnectionAborted => {}
+                    // (one that is closed may give the descriptor or the memory that it lacks)
+                    _ if self.lot.close_longest(rt) => {}
+                    _ => return Err(error),
+                },
+            }
+        }
+        unreachable!()
+    }
+
+    /// Parks a connection that was accepted. If all places are taken, the connection that has waited longest is closed for it.
+    fn admit<R: Wait>(&self, rt: &R, stream: TcpStream, now: u64) {
+        if self.lot.open() >= self.lot.places() {
+            let _closed = self.lot.close_longest(rt);
+        }
+        self.lot.occupy();
+        let patience = Some(self.timing.patience);
+        let _set = stream.set_nodelay(true);
+        if stream.set_read_timeout(patience).is_err()
+            || stream.set_write_timeout(patience).is_err()
+        {
+            return self.lot.close(stream);
+        }
+        let connection = Connection {
+            stream,
+            kept: None,
+            is_full: false,
+            until: now.saturating_add(self.timing.silence),
+        };
+        self.lot.park(rt, connection, now);
+    }
+
+    /// Closes the listener: no connection is accepted any more.
+    pub fn close(&mut self) {
+        self.listener = None;
+    }
+
+    /// Closes each connection that waits, and each that is parked from now on.
+    pub fn close_all<R: Wait>(&mut self, rt: &R) {
+        self.lot.close_all(rt);
+    }
+}

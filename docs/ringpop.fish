@@ -35,6 +35,7 @@ complete -c ringpop -n '__ringpop_in agent' -l http -x -d 'where HTTP is answere
 complete -c ringpop -n '__ringpop_in agent' -l http-any -d 'let that be beyond 127.0.0.0/8'
 complete -c ringpop -n '__ringpop_in agent' -l app -x -d 'where the application takes requests'
 complete -c ringpop -n '__ringpop_in agent' -l hands -x -d 'requests of other nodes at a time, 1 to 256'
+complete -c ringpop -n '__ringpop_in agent' -l http-connections -x -d 'HTTP connections at a time, 1 to 65536'
 complete -c ringpop -n '__ringpop_in agent' -l incarnation -x -d 'first incarnation'
 complete -c ringpop -n '__ringpop_in agent' -l log -x -a 'off error warn info debug' -d 'log level on standard error'
 complete -c ringpop -n '__ringpop_in ask' -l any -d 'ask the owner of the key, through any node'

@@ -1,11 +1,11 @@
 -- What a connection sends, from what its loop says.
-use Rattle.std.proofs.Common.{◌≡◌, ◌∙◌, ℕ, List, [], ◌∷◌, ◌++◌, Option, ap, refl, subst, sym}
+use Rattle.std.proofs.Common.{◌≡◌, ◌∙◌, ℕ, List, [], ◌∷◌, ◌++◌, Option, ap, refl, subst}
 use Rattle.std.specs.Io.KnownBytes.{Appends, Consumes}
 use Rattle.http.specs.declared.request.Request.{Request}
 use Rattle.http_server.proofs.Theorems.{always_served}
 use Rattle.http_server.specs.Connection.{config_of, history}
 use Rattle.http_server.specs.Exchange.{Call, Chain}
-use Rattle.http_server.specs.History.{History, IsServed, new_history}
+use Rattle.http_server.specs.History.{History, IsServed}
 use Rattle.http_server.specs.declared.connection.Connection.{Connection}
 use Rattle.http_server.specs.declared.state.Config.{Config}
 use Rattle.http_server.specs.declared.response.Response.{Response}
@@ -25,37 +25,37 @@ module _ {S : Type 0} (answers : S → Request (List ℕ) → Response → S →
       made_then (IsAnswered own replicas call.0 call.1) (AnswersEach own replicas calls) (calling old) (calling chain.0) (calling new) first.1
       (chain_answered calls chain.0 new first.0 chain.2)
 
-limits_with : ℕ → ℕ → ℕ → ℕ → ℕ → Config
-limits_with pending read head extensions trailers = record {
+limits_with : ℕ → ℕ → ℕ → ℕ → Config
+limits_with pending head extensions trailers = record {
   limits = record { max_head_len = head; max_extensions_len = extensions; max_trailers_len = trailers };
   max_body_len = 1048576;
   max_pending = pending;
-  read_size = read;
+  read_size = 1024;
 }
 
 limits_by : (d : Config) → (d.max_body_len ≡ 1048576) × (d.max_pending ≡ 65536) × (d.read_size ≡ 8192)
     × (d.limits.max_head_len ≡ 16384) × (d.limits.max_extensions_len ≡ 16384) × (d.limits.max_trailers_len ≡ 16384)
-    → limits_with d.max_pending d.read_size d.limits.max_head_len d.limits.max_extensions_len d.limits.max_trailers_len
-    ≡ limits_with 65536 8192 16384 16384 16384
+    → limits_with d.max_pending d.limits.max_head_len d.limits.max_extensions_len d.limits.max_trailers_len
+    ≡ limits_with 65536 16384 16384 16384
 limits_by d said = cc
 
 -- the limits that the code sets over the standard ones
 pub limits_are : (d : Config) → (d.max_body_len ≡ 1048576) × (d.max_pending ≡ 65536) × (d.read_size ≡ 8192)
     × (d.limits.max_head_len ≡ 16384) × (d.limits.max_extensions_len ≡ 16384) × (d.limits.max_trailers_len ≡ 16384)
-    → record d { max_body_len = 1048576 } ≡ connection_limits
+    → record d { max_body_len = 1048576; read_size = 1024 } ≡ connection_limits
 unfolding limits_with
 limits_are d said = limits_by d said
 
-module _ (own replicas : ℕ) (first last : Connection) (unread left written after : Option (List ℕ)) (old new : Calling) (fresh : history first ≡ new_history)
+module _ (own replicas : ℕ) (first last : Connection) (unread left written wrote : Option (List ℕ)) (old new : Calling)
     (limits : config_of last ≡ connection_limits) where
-  -- a new connection that made these calls, and read and wrote so, sends answers
-  pub sends_answers : (came : List ℕ) → Consumes unread left came → (history last).received ≡ (history first).received ++ came
-      → (went : List ℕ) → Appends written after went → (history last).sent ≡ (history first).sent ++ went
+  -- a connection that made these calls, and read and wrote so, sends answers
+  pub sends_answers : ((came : List ℕ) × Consumes unread left came × ((history last).received ≡ (history first).received ++ came))
+      → ((went : List ℕ) × Appends written wrote went × ((history last).sent ≡ (history first).sent ++ went))
       → (calls : List Call) → (history last).calls ≡ (history first).calls ++ calls → HasMade (AnswersEach own replicas calls) old new
-      → SendsAnswers own replicas (history last) unread left written after old new
-  sends_answers came read received went wrote sent calls made answered = record {
-    read = subst (Consumes unread left) (sym (received ∙ ap (λ (h : History). h.received ++ came) fresh)) read;
-    wrote = subst (Appends written after) (sym (sent ∙ ap (λ (h : History). h.sent ++ went) fresh)) wrote;
+      → SendsAnswers own replicas (history first) (history last) unread left written wrote old new
+  sends_answers read sent calls made answered = record {
+    read = read;
+    sent = sent;
     served = subst (λ config. ∥ IsServed config (history last) ∥₁) limits (always_served last);
-    answered = subst (λ (calls : List Call). HasMade (AnswersEach own replicas calls) old new) (sym (made ∙ ap (λ (h : History). h.calls ++ calls) fresh)) answered;
+    answered = (calls, made, answered);
   }

@@ -110,7 +110,8 @@ Stops (Err e) outcome = outcome ≡ Err (refusal_of e)
 -- the agent handles requests, or why it does not
 abbrev pub IsHealth : Outcome → Type 0
 IsHealth (Ok shown) = IsText kind.Text (codes "ok" ++ 10 ∷ []) shown
-IsHealth (Err why) = (why ≡ refusal.NotJoined) ⊎ ((why ≡ refusal.HasLeft) ⊎ (why ≡ refusal.ApplicationDown))
+IsHealth (Err why) =
+    (why ≡ refusal.NotJoined) ⊎ ((why ≡ refusal.HasLeft) ⊎ ((why ≡ refusal.CannotAccept) ⊎ (why ≡ refusal.ApplicationDown)))
 
 -- An action of the agent whose node has this address and this many replicas, its outcome, and all calls of the node that were made for it.
 abbrev pub Performs : ℕ → ℕ → Action → Outcome → OfActs Sha256Hash

@@ -2,7 +2,6 @@
 use crate::applications::Application;
 use crate::callers::{Caller, Passes};
 use crate::counters::{Count, Counters};
-use crate::entrances::Entrance;
 use crate::journals::Journal;
 use crate::notices::Notices;
 use crate::systems::Host;
@@ -12,9 +11,6 @@ use server::{ServerClock, Stopwatch, Timeouts};
 use std::sync::Mutex;
 use std::sync::atomic::{AtomicBool, Ordering};
 use std::thread::Parker;
-
-/// The most HTTP connections that are kept open between requests. While there are more, others may be waiting for a thread.
-const MAX_KEPT_CONNECTIONS: u64 = 240;
 
 /// The phase of an agent.
 #[derive(Clone, Copy, Debug, PartialEq, Eq)]
@@ -69,12 +65,12 @@ pub struct Agent<R> {
     pub waiting: Count,
     /// The number of requests that are being relayed.
     pub relaying: Count,
-    /// The number of HTTP connections that are served.
-    pub connections: Count,
-    /// The entrance of HTTP connections.
-    pub entrance: Entrance,
-    /// The number of threads that serve HTTP connections, or wait for one.
-    pub fronts: Count,
+    /// The number of workers that answer HTTP.
+    pub workers: Count,
+    /// The number of them that serve a connection.
+    pub serving: Count,
+    /// Whether the system lets no HTTP connection be accepted.
+    pub cannot_accept: Flag,
     /// What the log said last of other nodes and, at its own address, of messages to them.
     pub notices: Notices,
     /// What the log said last of nodes that disown what this node's members give them.
@@ -89,8 +85,6 @@ pub struct Agent<R> {
     pub has_moved: Flag,
     /// Whether the node has left and the agent is to end.
     pub is_stopping: Flag,
-    /// Whether the leave was spread, so that HTTP ends: a connection is closed after a second in which it sends nothing.
-    pub is_ending: Flag,
     /// Whether a thread needed a pass and none was left.
     pub is_spent: Flag,
     /// The parker that is unparked when the agent is to end.
@@ -126,10 +120,17 @@ impl<R: Host> Agent<R> {
         }
     }
 
-    /// Returns whether each HTTP connection is closed after its next answer, and also if it sends nothing for a second, so
-    /// that others are served: more than 240 are.
+    /// Returns whether each worker that answers HTTP serves a connection, so that others may wait for one.
     pub fn is_crowded(&self) -> bool {
-        self.connections.get() > MAX_KEPT_CONNECTIONS
+        self.serving.get() >= self.workers.get()
+    }
+
+    /// Counts a worker that answers HTTP as ended. The last one wakes the thread that waits for this.
+    pub fn end_worker(&self) {
+        self.workers.subtract(1);
+        if self.workers.get() == 0 {
+            self.bell.unpark();
+        }
     }
 
     /// Returns the node with a pass that no thread has; None if no pass is left.

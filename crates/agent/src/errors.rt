@@ -26,6 +26,12 @@ pub enum AgentError {
     /// This address can't be listened at, for this reason.
     #[error("cannot listen at {0}: {1}")]
     CannotListen(Address, ErrorKind),
+    /// The system gives this process so few descriptors, and 64 are needed.
+    #[error("{0} descriptors are too few: raise ulimit -n to 64 or more")]
+    FewDescriptors(u64),
+    /// The system lets no connections be watched.
+    #[error("cannot watch connections")]
+    NoReactor,
     /// The system gave no thread.
     #[error("no thread")]
     NoThread,

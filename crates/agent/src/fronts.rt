@@ -282,6 +282,7 @@ impl<'f, 'a, R: Host> Front<'f, 'a, R> {
         match self.agent.phase() {
             Phase::Joining => Err(Refusal::NotJoined),
             Phase::Left => Err(Refusal::HasLeft),
+            Phase::Serving if self.agent.cannot_accept.get() => Err(Refusal::CannotAccept),
             Phase::Serving if !self.agent.application.is_up() => Err(Refusal::ApplicationDown),
             Phase::Serving => Ok(Reply::Line("ok\n")),
         }
@@ -332,9 +333,9 @@ impl<'f, 'a, R: Host> Front<'f, 'a, R> {
         }
     }
 
-    /// Returns whether the connection is closed after the answer: the agent is to end, or others may wait for a thread.
+    /// Returns whether the connection is closed after the answer: the agent is to end.
     fn closes(&self) -> bool {
-        self.agent.is_stopping.get() || self.agent.is_crowded()
+        self.agent.is_stopping.get()
     }
 
     /// Writes the reply to a request, or its refusal, and counts it.

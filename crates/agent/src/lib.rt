@@ -2,13 +2,13 @@
 //! application answer the requests of the keys that it owns.
 #![tactic(auto)]
 
+mod acceptors;
 mod agents;
 mod applications;
 mod callers;
 mod changes;
 mod connections;
 mod counters;
-mod entrances;
 mod errors;
 mod exchanges;
 mod fronts;
@@ -18,6 +18,7 @@ mod journals;
 mod links;
 mod notices;
 mod peers;
+mod pumps;
 mod relays;
 mod replies;
 mod requests;
@@ -26,6 +27,7 @@ mod rounds;
 mod runs;
 mod settings;
 mod systems;
+mod workers;
 
 pub use errors::AgentError;
 pub use runs::run;

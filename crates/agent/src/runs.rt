@@ -4,12 +4,12 @@ ghost use Rattle.std.specs.Io.KnownBytes.{Appends};
 ghost use Rattle.agent.specs.Texts.{agent_text, serving_line};
 ghost use Rattle.wire_json.specs.Input.{AppendsPrefix};
 
+use crate::acceptors::{end_http, places_for, start_http};
 use crate::agents::{Agent, Flag};
 use crate::applications::Application;
 use crate::callers::{Caller, Passes};
-use crate::connections::serve_http;
+use crate::connections::Kept;
 use crate::counters::{Count, Counters};
-use crate::entrances::Entrance;
 use crate::errors::AgentError;
 use crate::hands::serve_requests;
 use crate::hosts::join_hosts;
@@ -20,16 +20,16 @@ use crate::rounds::make_rounds;
 use crate::settings::Settings;
 use crate::systems::System;
 use change_core::{Address, Change, Incarnation, MAX_NUMBER, Moment};
-use cluster_core::{Deadline, share, socket_address};
+use cluster_core::{share, socket_address};
 use crossbeam_channel::{Receiver, Sender, bounded};
 use hash_ring::Sha256Hash;
 use log::warn;
 use node_core::{Config, NodeError, NodeState};
+use reactor::Lot;
 use server::{Stopwatch, Timeouts};
 use std::alloc::Global;
-use std::hash::RandomState;
 use std::io::Write;
-use std::net::{TcpListener, TcpStream};
+use std::net::TcpListener;
 use std::sync::{Arc, Mutex};
 use std::thread;
 use std::thread::Parker;
@@ -45,20 +45,8 @@ const PASSES: u32 = 1_023;
 /// The most requests of other nodes that wait for the application.
 const MAX_QUEUED_REQUESTS: usize = 256;
 
-/// The number of threads that answer HTTP, each one connection at a time.
-const FRONTS: u32 = 256;
-
-/// The most HTTP connections that wait for a thread when HTTP ends.
-const MAX_ACCEPTED_CONNECTIONS: usize = 256;
-
 /// The most milliseconds that the end waits for the rounds that spread that the node left.
 const MAX_SPREADING: u64 = 5_000;
-
-/// The most milliseconds that the end waits for HTTP connections to close.
-const MAX_LAST_WAIT: u64 = 10_000;
-
-/// The milliseconds between two tests whether they have.
-const REST: u64 = 10;
 
 /// Returns the incarnation at which the node starts. If none is given, it is the milliseconds since 1970, so that each
 /// start has a greater one.
@@ -148,9 +136,9 @@ fn agent_of<R: System>(
         counters: Counters::new(),
         waiting: Count::new(),
         relaying: Count::new(),
-        connections: Count::new(),
-        entrance: Entrance::new(),
-        fronts: Count::new(),
+        workers: Count::new(),
+        serving: Count::new(),
+        cannot_accept: Flag::new(false),
         notices: Notices::new(alloc),
         disowners: Notices::new(alloc),
         is_starting: Flag::new(!settings.hosts.is_empty()),
@@ -159,7 +147,6 @@ fn agent_of<R: System>(
         moving: Mutex::new(()),
         has_moved: Flag::new(false),
         is_stopping: Flag::new(false),
-        is_ending: Flag::new(false),
         is_spent: Flag::new(false),
         bell: Parker::new(),
         spread: Parker::new(),
@@ -220,39 +207,6 @@ fn start_hands<R: System>(
     Ok(())
 }
 
-/// Starts a thread that answers HTTP.
-fn start_front<R: System>(
-    rt: &R,
-    alloc: Global,
-    agent: &Arc<Agent<R>, Global>,
-    streams: &Receiver<TcpStream>,
-    keys: RandomState,
-) -> Result<(), AgentError> {
-    let caller = caller_of(agent)?;
-    let agent = Arc::try_clone(agent)?;
-    let streams = streams.clone()?;
-    agent.fronts.add(1);
-    let started = thread::spawn(rt, move || serve_http(agent, alloc, caller, streams, keys));
-    let _thread = started.map_err(|_| AgentError::NoThread)?;
-    Ok(())
-}
-
-/// Starts the threads that answer HTTP, and opens its entrance.
-fn start_fronts<R: System>(
-    rt: &R,
-    alloc: Global,
-    agent: &Arc<Agent<R>, Global>,
-    listener: TcpListener,
-) -> Result<(), AgentError> {
-    let keys = RandomState::new(rt).map_err(|_| AgentError::NoRandom)?;
-    let (sender, streams) = bounded(alloc, MAX_ACCEPTED_CONNECTIONS)?;
-    agent.entrance.open(rt, Arc::new(alloc, listener)?, sender);
-    for _ in 0..FRONTS {
-        start_front(rt, alloc, agent, &streams, keys)?;
-    }
-    Ok(())
-}
-
 /// Starts the thread that makes the rounds.
 fn start_rounds<R: System>(
     rt: &R,
@@ -306,27 +260,12 @@ fn say_serving<W: Write>(alloc: Global, address: Address, writer: &mut W) -> Res
     say(writer, text.as_str())
 }
 
-/// Ends HTTP, whose address this is: answers the connections that were made, and closes each, ten seconds at most.
-fn end_http<R: System>(rt: &R, agent: &Agent<R>, address: Address) {
-    let Ok(deadline) = Deadline::after(rt, Duration::from_millis(MAX_LAST_WAIT)) else {
-        return;
-    };
-    agent.is_ending.set(true);
-    agent.entrance.close(rt, address, &deadline);
-    for _ in 0..MAX_LAST_WAIT / REST {
-        if agent.fronts.get() == 0 || deadline.left().is_err() {
-            return;
-        }
-        thread::sleep(rt, Duration::from_millis(REST));
-    }
-}
-
 /// Waits until the agent is to end, then for the last rounds, five seconds at most, and then until each HTTP connection that
 /// was accepted is closed, ten seconds at most.
 fn wait_for_end<R: System>(
     rt: &R,
     agent: &Agent<R>,
-    http: Option<Address>,
+    lot: Option<Arc<Lot<Kept>, Global>>,
 ) -> Result<(), AgentError> {
     agent.bell.park(rt);
     if agent.is_spent.get() {
@@ -335,8 +274,8 @@ fn wait_for_end<R: System>(
     agent
         .spread
         .park_timeout(rt, Duration::from_millis(MAX_SPREADING));
-    if let Some(address) = http {
-        end_http(rt, agent, address);
+    if let Some(lot) = lot {
+        end_http(rt, agent, &*lot);
     }
     Ok(())
 }
@@ -348,7 +287,8 @@ fn start<R: System>(
     alloc: Global,
     agent: &Arc<Agent<R>, Global>,
     settings: Settings,
-) -> Result<(), AgentError> {
+) -> Result<Option<Arc<Lot<Kept>, Global>>, AgentError> {
+    let places = places_for(&**agent, settings.http_connections)?;
     let listener = Arc::new(alloc, listen(rt, settings.bind)?)?;
     let front = match settings.http {
         Some(address) => Some(listen(rt, address)?),
@@ -359,20 +299,22 @@ fn start<R: System>(
     let (hands, jobs) = bounded(alloc, MAX_QUEUED_REQUESTS)?;
     start_peers(rt, alloc, agent, &listener, &hands)?;
     start_hands(rt, alloc, agent, &jobs, settings.hands)?;
-    if let Some(front) = front {
-        start_fronts(rt, alloc, agent, front)?;
-    }
+    let lot = match front {
+        Some(front) => Some(start_http(rt, alloc, agent, front, places)?),
+        None => None,
+    };
     let Settings { hosts, period, .. } = settings;
     start_rounds(rt, alloc, agent, born, hosts.clone()?, period)?;
-    start_joins(rt, alloc, agent, hosts)
+    start_joins(rt, alloc, agent, hosts)?;
+    Ok(lot)
 }
 
-/// Makes an agent and starts its threads.
+/// Makes an agent and starts its threads. Returns it with the lot of its HTTP connections, if it answers HTTP.
 fn set_up<R: System>(
     rt: &R,
     alloc: Global,
     settings: Settings,
-) -> Result<Arc<Agent<R>, Global>, AgentError> {
+) -> Result<(Arc<Agent<R>, Global>, Option<Arc<Lot<Kept>, Global>>), AgentError> {
     if !settings.is_http_local() && !settings.http_any {
         return Err(AgentError::NotLocal);
     }
@@ -386,8 +328,8 @@ fn set_up<R: System>(
     if settings.app.is_none() {
         warn!(agent.log(); "no --app: requests of this node's keys are echoed");
     }
-    start(rt, alloc, &agent, settings)?;
-    Ok(agent)
+    let lot = start(rt, alloc, &agent, settings)?;
+    Ok((agent, lot))
 }
 
 /// Runs an agent until it is told to stop. It listens to other nodes, joins the hosts, answers HTTP, starts the rounds of
@@ -405,6 +347,8 @@ fn set_up<R: System>(
 /// - `BadConfig`: a field of the node's configuration is out of its range.
 /// - `CannotListen`: this address can't be listened at, that for other nodes or that for HTTP; with the system's reason.
 /// - `NoRandom`: the system gave no random numbers for the threads that answer HTTP.
+/// - `FewDescriptors`: the system gives this process fewer than 64 descriptors.
+/// - `NoReactor`: the system lets no connections be watched.
 /// - `NoThread`: the system gave no thread.
 /// - `CannotWrite`: the writer failed.
 /// - `Spent`: a thread needs a pass of the node, and none is left. There are 1,023, each for 4,294,967,295 calls.
@@ -419,9 +363,9 @@ pub fn run<R: System, W: Write>(
     ensures served { OnOk result (Appends (W.contents writer.old) (W.contents writer.new) (agent_text settings.address)) }
     ensures prefix { AppendsPrefix (W.contents writer.old) (W.contents writer.new) (agent_text settings.address) }
 {
-    let (own, http) = (settings.address, settings.http);
-    let agent = set_up(rt, alloc, settings)?;
+    let own = settings.address;
+    let (agent, lot) = set_up(rt, alloc, settings)?;
     say_serving(alloc, own, writer)?;
-    wait_for_end(rt, &agent, http)?;
+    wait_for_end(rt, &agent, lot)?;
     say(writer, "done")
 }

@@ -17,6 +17,8 @@ pub struct Settings {
     pub app: Option<Address>,
     /// The most requests of other nodes that the application is given at a time.
     pub hands: u32,
+    /// The most HTTP connections that are open at a time.
+    pub http_connections: u32,
     /// The milliseconds between two rounds.
     pub period: u64,
     /// The most changes that a message carries.

@@ -58,6 +58,8 @@ pub enum Refusal {
     NotJoined,
     /// The node has left the ring.
     HasLeft,
+    /// The system lets no HTTP connection be accepted.
+    CannotAccept,
     /// No member serves, so no key has an owner.
     Nobody,
     /// Too many requests wait for the application.
@@ -103,6 +105,7 @@ impl Refusal {
             Refusal::ApplicationDown
             | Refusal::NotJoined
             | Refusal::HasLeft
+            | Refusal::CannotAccept
             | Refusal::Nobody
             | Refusal::Busy
             | Refusal::Spent
@@ -132,6 +135,7 @@ impl Refusal {
             Refusal::ApplicationDown => "the application does not answer\n",
             Refusal::NotJoined => "no host has answered\n",
             Refusal::HasLeft => "the node has left\n",
+            Refusal::CannotAccept => "no HTTP connection can be accepted\n",
             Refusal::Nobody => "nobody serves\n",
             Refusal::Busy => "too many requests wait\n",
             Refusal::Spent => "the node takes no more calls\n",

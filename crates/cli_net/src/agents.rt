@@ -58,6 +58,7 @@ fn settings_of(alloc: Global, words: &AgentWords) -> Result<Settings, AgentError
         http_any: words.http_any,
         app: words.app,
         hands: words.hands,
+        http_connections: words.http_connections,
         period: words.period,
         per_message: words.per_message,
         replicas: words.replicas,
@@ -79,6 +80,8 @@ fn settings_of(alloc: Global, words: &AgentWords) -> Result<Settings, AgentError
 /// - `BadConfig`: a field of the node's configuration is out of its range.
 /// - `CannotListen`: an address can't be listened at, that for other nodes or that for HTTP.
 /// - `NoRandom`: the system gave no random numbers for the threads that answer HTTP.
+/// - `FewDescriptors`: the system gives this process fewer than 64 descriptors.
+/// - `NoReactor`: the system lets no connections be watched.
 /// - `NoThread`: the system gave no thread.
 /// - `CannotWrite`: the writer failed.
 /// - `Spent`: a thread needs a pass of the node, and none is left.

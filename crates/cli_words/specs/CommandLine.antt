@@ -134,6 +134,10 @@ log = record (new_rule (codes "log")) { long = Some (codes "log"); value_names =
 abbrev pub hands : Rule
 hands = option (codes "hands") (codes "32") 1 256
 
+-- `--http-connections`: how many HTTP connections are open at a time, from 1 to 65,536; 10,000 by default
+abbrev pub http_connections : Rule
+http_connections = option (codes "http-connections") (codes "10000") 1 65536
+
 -- `--period` of an agent: the milliseconds between two rounds of gossip, from 1 to 60,000; 200 by default
 abbrev pub agent_period : Rule
 agent_period = option (codes "period") (codes "200") 1 60000
@@ -154,7 +158,7 @@ incarnation_option = record (new_rule (codes "incarnation")) {
 abbrev pub agent_words : Shape
 agent_words = subcommand (codes "agent")
     (address_option (codes "bind") ∷ address_option (codes "http") ∷ flag (codes "http-any") ∷ address_option (codes "app")
-    ∷ hands ∷ agent_period ∷ agent_per_message ∷ replicas ∷ weight ∷ incarnation_option ∷ log ∷ word (codes "address") ∷ hosts ∷ [])
+    ∷ hands ∷ http_connections ∷ agent_period ∷ agent_per_message ∷ replicas ∷ weight ∷ incarnation_option ∷ log ∷ word (codes "address") ∷ hosts ∷ [])
 
 -- a command with no subcommand
 abbrev pub leaf : Shape → App

@@ -46,6 +46,7 @@ HasLevel rows = (level : LogLevel) × (first_of (codes "log") rows ≡ Some (lev
 -- each number of `agent` but its incarnation is there and in its range, and the level of its log is there
 pub record HasAgentNumbers (rows : List Row) : Type 0 where
   pub hands : HasNumber rows (codes "hands") (λ n. (1 ≤ n) × (n ≤ 256))
+  pub http_connections : HasNumber rows (codes "http-connections") (λ n. (1 ≤ n) × (n ≤ 65536))
   pub period : HasNumber rows (codes "period") (λ n. (1 ≤ n) × (n ≤ 60000))
   pub per_message : HasNumber rows (codes "per-message") (λ n. (1 ≤ n) × (n ≤ most_members))
   pub replicas : HasNumber rows (codes "replicas") IsReplicas

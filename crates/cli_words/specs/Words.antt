@@ -115,6 +115,7 @@ IsNumberIfAt rows name IsIn (Some n) = IsNumberAt rows name n
 -- the numbers and flags of an agent, and the level of its log, are those of the arguments of their names
 pub record AreAgentNumbersAt (rows : List Row) (words : AgentWords) : Type 0 where
   pub hands : IsNumberAt rows (codes "hands") words.hands
+  pub http_connections : IsNumberAt rows (codes "http-connections") words.http_connections
   pub period : IsNumberAt rows (codes "period") words.period
   pub per_message : IsNumberAt rows (codes "per-message") words.per_message
   pub replicas : IsNumberAt rows (codes "replicas") words.replicas

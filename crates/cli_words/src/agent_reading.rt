@@ -6,9 +6,11 @@ ghost use Rattle.cli_words.specs.Faults.{IsRefusalOf, fault_at};
 ghost use Rattle.cli_words.specs.Whole.{HasAgent, HasAgentNumbers, HasLevel, HasNumber, IsAgentRefusal, IsNoAddressAt};
 ghost use Rattle.cli_words.specs.Words.{AreAddressesAt, AreAgentNumbersAt, IsAddressAt, IsAgentAt, IsNumberAt, IsNumberIfAt, IsOptionAt, level_name, rows_in};
 
-use crate::agent_words::{AgentWords, LogLevel, MAX_HANDS, MAX_PERIOD};
+use crate::agent_words::{AgentWords, LogLevel, MAX_HANDS, MAX_HTTP_CONNECTIONS, MAX_PERIOD};
 use crate::cluster_words::{address_at, address_of, hosts_at, incarnation, weight};
-use crate::commands::{ADDRESS, APP, BIND, HANDS, HTTP, HTTP_ANY, LOG, PER_MESSAGE, PERIOD};
+use crate::commands::{
+    ADDRESS, APP, BIND, HANDS, HTTP, HTTP_ANY, HTTP_CONNECTIONS, LOG, PER_MESSAGE, PERIOD,
+};
 use crate::faults::WordsError;
 use crate::words::{absent, flag, number, replicas};
 use change_core::{Address, Incarnation, MAX_MEMBERS};
@@ -123,6 +125,7 @@ fn words_with(matches: &ArgMatches<'_>, addresses: Addresses) -> Option<AgentWor
     ensures taken { HasAgentNumbers (rows_in matches.now) → IsSome result }
 {
     let hands = count(matches, HANDS, MAX_HANDS)?;
+    let http_connections = count(matches, HTTP_CONNECTIONS, MAX_HTTP_CONNECTIONS)?;
     let period = count(matches, PERIOD, MAX_PERIOD)?;
     let per_message = count(matches, PER_MESSAGE, MAX_MEMBERS as u64)?;
     let replicas = replicas(matches)?;
@@ -142,6 +145,7 @@ fn words_with(matches: &ArgMatches<'_>, addresses: Addresses) -> Option<AgentWor
         http_any: flag(matches, HTTP_ANY),
         app,
         hands: hands as u32,
+        http_connections: http_connections as u32,
         period,
         per_message: per_message as usize,
         replicas,

@@ -7,6 +7,9 @@ use change_core::{Address, Incarnation, Weight};
 /// The greatest number of requests of other nodes that the application is given at a time.
 pub const MAX_HANDS: u64 = 256;
 
+/// The greatest number of HTTP connections that are open at a time.
+pub const MAX_HTTP_CONNECTIONS: u64 = 65_536;
+
 /// The greatest number of milliseconds between two rounds of an agent.
 pub const MAX_PERIOD: u64 = 60_000;
 
@@ -40,6 +43,8 @@ pub struct AgentWords {
     pub app: Option<Address>,
     /// The most requests of other nodes that the application is given at a time, 1 to 256.
     pub hands: u32,
+    /// The most HTTP connections that are open at a time, 1 to 65,536.
+    pub http_connections: u32,
     /// Milliseconds between two rounds of gossip, 1 to 60,000.
     pub period: u64,
     /// The most changes that a message carries, 1 to 4,096.
@@ -55,6 +60,7 @@ pub struct AgentWords {
     /// The nodes that are asked to admit the node.
     pub hosts: Vec<Address>,
     pub ghost hands_range: { (1 ≤ hands) × (hands ≤ 256) },
+    pub ghost http_connections_range: { (1 ≤ http_connections) × (http_connections ≤ 65536) },
     pub ghost period_range: { (1 ≤ period) × (period ≤ 60000) },
     pub ghost per_message_range: { (1 ≤ per_message) × (per_message ≤ 4096) },
     pub ghost replicas_range: { IsReplicas replicas },

@@ -5,7 +5,7 @@ ghost use Rattle.clap.specs.declared.builder.command.Command.{Command as BuiltCo
 ghost use Rattle.cli_words.specs.CommandLine as line;
 ghost use Rattle.cli_words.specs.CommandLine.{leaf, ringpop_app};
 
-use crate::agent_words::{MAX_HANDS, MAX_PERIOD};
+use crate::agent_words::{MAX_HANDS, MAX_HTTP_CONNECTIONS, MAX_PERIOD};
 use change_core::{MAX_MEMBERS, MAX_NUMBER, MAX_WEIGHT};
 use clap::builder::{ValueParser, ValueRange};
 use clap::{Arg, ArgAction, Command};
@@ -80,6 +80,9 @@ pub const APP: &str = "app";
 
 /// The argument for the most requests of other nodes that the application is given at a time.
 pub const HANDS: &str = "hands";
+
+/// The argument for the most HTTP connections that are open at a time.
+pub const HTTP_CONNECTIONS: &str = "http-connections";
 
 /// The argument for the most changes that a message carries.
 pub const PER_MESSAGE: &str = "per-message";
@@ -507,6 +510,16 @@ fn hands_option<'a>(alloc: Global) -> Arg<'a>
     )
 }
 
+/// The option for the most HTTP connections that are open at a time.
+fn http_connections_option<'a>(alloc: Global) -> Arg<'a>
+    ensures { rule_of result ≡ line.http_connections }
+{
+    let most = MAX_HTTP_CONNECTIONS;
+    option(alloc, HTTP_CONNECTIONS, "N", "10000", 1, most).help(
+        "How many HTTP connections are open at a time: 1 to 65536",
+    )
+}
+
 /// The option for the milliseconds between two rounds of an agent.
 fn agent_period_option<'a>(alloc: Global) -> Arg<'a>
     ensures { rule_of result ≡ line.agent_period }
@@ -570,6 +583,7 @@ fn agent_command<'a>(alloc: Global) -> Result<Command<'a>, AllocError>
         http_any_flag(alloc),
         app_option(alloc),
         hands_option(alloc),
+        http_connections_option(alloc),
         agent_period_option(alloc),
         agent_per_message_option(alloc),
         replicas_option(alloc),

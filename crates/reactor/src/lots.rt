@@ -35,7 +35,7 @@ struct Parked<K> {
 #[derive(Drop)]
 struct Slots<K> {
     parked: Slab<Parked<K>>,
-    /// Whether none may wait any more.
+    /// Whether none may wait for something to read any more.
     is_closed: bool,
 }
 
@@ -68,7 +68,7 @@ fn longest_parked<K>(parked: &Slab<Parked<K>>) -> Option<usize> {
 }
 
 impl<K: Drop> Lot<K> {
-    /// Makes the lot of a poll, with so many places.
+    /// Makes the lot of a poll, with this number of places.
     ///
     /// # Errors
     ///
@@ -120,10 +120,13 @@ impl<K: Drop> Lot<K> {
         self.open.fetch_add(1, Ordering::SeqCst);
     }
 
-    /// Frees the places of so many connections that were closed. Wakes the reactor if it waits for one.
+    /// Frees the places of this number of connections that were closed. Wakes the reactor if it waits for one, or ends.
     fn free(&self, count: usize) {
+        if count == 0 {
+            return;
+        }
         self.open.fetch_sub(count, Ordering::SeqCst);
-        if self.is_full.swap(false, Ordering::SeqCst) {
+        if self.is_full.swap(false, Ordering::SeqCst) || self.is_ending() {
             let _woken = self.waker.wake();
         }
     }
@@ -134,8 +137,8 @@ impl<K: Drop> Lot<K> {
         self.free(1);
     }
 
-    /// Parks a connection at this millisecond, until its client sends something or, if it is full, takes something. It is closed if the
-    /// lot is, and if the system or the memory is short.
+    /// Parks a connection at this millisecond, until its client sends something or, if it is full, takes something. It is closed instead if
+    /// idle connections are, and if the system or the memory is short.
     pub fn park<R: Wait>(&self, rt: &R, connection: Connection<K>, now: u64) {
         if !self.hold(rt, connection, now) {
             self.free(1);
@@ -152,7 +155,7 @@ impl<K: Drop> Lot<K> {
         };
         // (locked until it is registered: the reactor finds each connection of which it is told)
         let mut slots = self.slots.lock(rt);
-        if slots.is_closed {
+        if slots.is_closed && !connection.is_full {
             return false;
         }
         let parked = Parked {
@@ -211,17 +214,18 @@ impl<K: Drop> Lot<K> {
             return true;
         }
         self.is_full.store(true, Ordering::SeqCst);
-        // (once more, since a place that became free before wakes nobody)
+        // (once more, since a place that became free before did not wake it)
         self.open() < self.places
     }
 
-    /// Closes the connections that wait, and each that is parked from now on.
-    pub(crate) fn close_all<R: Wait>(&self, rt: &R) {
+    /// Closes the connections that wait for something to read, and each that is parked for that from now on.
+    pub(crate) fn close_idle<R: Wait>(&self, rt: &R) {
         let mut slots = self.slots.lock(rt);
         slots.is_closed = true;
-        let count = slots.parked.len();
-        slots.parked.clear();
+        let before = slots.parked.len();
+        slots.parked.retain(|_, parked| parked.connection.is_full);
+        let after = slots.parked.len();
         drop(slots);
-        self.free(count);
+        self.free(before.saturating_sub(after));
     }
 }

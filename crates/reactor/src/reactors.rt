@@ -14,7 +14,7 @@ use std::time::Duration;
 /// The token of the listener.
 const LISTENER: Token = Token(usize::MAX - 1);
 
-/// The most events that are heard of at a time.
+/// The most events, and the most connections accepted, of one turn.
 const MAX_EVENTS: usize = 256;
 
 /// The milliseconds between two looks for connections whose time is up.
@@ -29,7 +29,7 @@ pub struct Timing {
     /// For how long a read or a write of a worker waits.
     pub patience: Duration,
     /// The milliseconds for which a connection may send nothing at first.
-    pub silence: u64,
+    pub idle: u64,
 }
 
 /// A reactor, for the one thread that makes its turns.
@@ -44,6 +44,8 @@ pub struct Reactor<K> {
     timing: Timing,
     /// Whether connections may wait to be accepted.
     is_called: bool,
+    /// Whether the system let none be accepted when it was last asked.
+    is_failing: bool,
     /// The millisecond of the last look for connections whose time is up.
     swept: u64,
 }
@@ -54,7 +56,7 @@ fn no_memory() -> io::Error {
 }
 
 impl<K: Drop> Reactor<K> {
-    /// Makes a reactor for the connections of a listener, with so many places. Returns it with the queue of the connections that are ready,
+    /// Makes a reactor for the connections of a listener, with this number of places. Returns it with the queue of the connections that are ready,
     /// which holds them all and has no sender once the reactor is dropped.
     ///
     /// # Errors
@@ -83,6 +85,7 @@ impl<K: Drop> Reactor<K> {
             ready,
             timing,
             is_called: true,
+            is_failing: false,
             swept: 0,
         };
         Ok((reactor, queue))
@@ -93,34 +96,36 @@ impl<K: Drop> Reactor<K> {
         &self.lot
     }
 
-    /// Waits until a connection comes or is ready, a place is free or the lot is to end; for this time at most.
+    /// Waits until a connection comes or is ready, a place is free or the reactor is to end; for this time at most.
     pub fn wait(&mut self, most: Duration) {
-        let limit = if self.is_called {
+        let limit = if self.is_failing {
             most.min(Duration::from_millis(BETWEEN_FAILURES))
+        } else if self.is_called {
+            Duration::from_millis(0)
         } else {
             most
         };
         let _polled = self.poll.poll(&mut self.events, Some(limit));
     }
 
-    /// Sends what is ready to the workers, closes what is late at this millisecond, and accepts what came.
+    /// Sends what is ready to the workers, closes what is late at this millisecond, and accepts what came. Returns whether more may wait to be accepted.
     ///
     /// # Errors
     ///
     /// - The error of the system that let no connection be accepted. It is tried again at the next turn.
-    pub fn turn<R: Wait>(&mut self, rt: &R, now: u64) -> io::Result<()> {
-        if self.hand_over(rt) {
-            self.is_called = true;
-        }
+    pub fn turn<R: Wait>(&mut self, rt: &R, now: u64) -> io::Result<bool> {
+        let is_called = self.hand_over(rt);
         if now >= self.swept.saturating_add(BETWEEN_SWEEPS) {
             self.swept = now;
             self.lot.close_late(rt, now);
         }
-        if self.is_called {
-            self.accept_all(rt, now)?;
-            self.is_called = false;
+        if !is_called && !self.is_called && !self.lot.is_ending() {
+            return Ok(false);
         }
-        Ok(())
+        let accepted = self.accept_some(rt, now);
+        self.is_failing = accepted.is_err();
+        self.is_called = !matches!(&accepted, Ok(false));
+        accepted
     }
 
     /// Sends the connections that are ready to the workers. Returns whether others may wait to be accepted.
@@ -139,19 +144,19 @@ impl<K: Drop> Reactor<K> {
         is_called
     }
 
-    /// Accepts the connections that came, as far as there are places.
-    fn accept_all<R: Wait>(&self, rt: &R, now: u64) -> io::Result<()> {
+    /// Accepts connections that came, as far as there are places. Returns whether more may wait.
+    fn accept_some<R: Wait>(&self, rt: &R, now: u64) -> io::Result<bool> {
         let Some(listener) = &self.listener else {
-            return Ok(());
+            return Ok(false);
         };
-        for _ in rt.forever() {
+        for _ in 0..MAX_EVENTS {
             if !self.lot.has_room(rt) {
-                return Ok(());
+                return Ok(false);
             }
             match listener.accept() {
                 Ok((stream, _)) => self.admit(rt, stream, now),
                 Err(error) => match error.kind() {
-                    ErrorKind::WouldBlock => return Ok(()),
+                    ErrorKind::WouldBlock => return Ok(false),
                     ErrorKind::Interrupted | ErrorKind::ConnectionAborted => {}
                     // (one that is closed may give the descriptor or the memory that it lacks)
                     _ if self.lot.close_longest(rt) => {}
@@ -159,7 +164,7 @@ impl<K: Drop> Reactor<K> {
                 },
             }
         }
-        unreachable!()
+        Ok(true)
     }
 
     /// Parks a connection that was accepted. If all places are taken, the connection that has waited longest is closed for it.
@@ -179,7 +184,7 @@ impl<K: Drop> Reactor<K> {
             stream,
             kept: None,
             is_full: false,
-            until: now.saturating_add(self.timing.silence),
+            until: now.saturating_add(self.timing.idle),
         };
         self.lot.park(rt, connection, now);
     }
@@ -189,8 +194,8 @@ impl<K: Drop> Reactor<K> {
         self.listener = None;
     }
 
-    /// Closes each connection that waits, and each that is parked from now on.
-    pub fn close_all<R: Wait>(&mut self, rt: &R) {
-        self.lot.close_all(rt);
+    /// Closes each connection that waits for something to read, and each that is parked for that from now on.
+    pub fn close_idle<R: Wait>(&self, rt: &R) {
+        self.lot.close_idle(rt);
     }
 }

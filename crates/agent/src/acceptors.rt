@@ -1,0 +1,191 @@
+//! HTTP from its start to its end: the thread that accepts connections and watches those that wait, and the workers.
+ghost use Rattle.std.specs.Prelude.{◌≡◌, ◌-◌, ◌/◌, min};
+
+use crate::agents::Agent;
+use crate::connections::{Kept, MAX_IDLE};
+use crate::errors::AgentError;
+use crate::systems::{Host, System};
+use crate::workers::serve_http;
+use agent_core::Notice;
+use cluster_core::Deadline;
+use crossbeam_channel::Receiver;
+use log::{info, warn};
+use reactor::{Connection, Lot, Reactor, Timing, max_descriptors};
+use std::alloc::Global;
+use std::hash::RandomState;
+use std::net::TcpListener;
+use std::sync::Arc;
+use std::time::Duration;
+use std::{io, thread};
+
+/// The number of workers that answer HTTP, each one connection at a time.
+const WORKERS: u32 = 256;
+
+/// The least number of descriptors with which an agent answers HTTP.
+const MIN_DESCRIPTORS: u64 = 64;
+
+/// The most descriptors that are left for what is no HTTP connection of a client: those to the application and to other nodes, and the like.
+const MAX_OTHERS: u64 = 1_024;
+
+/// The milliseconds for which a worker waits for the next bytes of a connection before it parks it.
+const PATIENCE: u64 = 50;
+
+/// The most milliseconds between two looks at the connections that wait.
+const MAX_REST: u64 = 1_000;
+
+/// The milliseconds for which connections that wait may still send a request when HTTP ends.
+const LAST_IDLE: u64 = 1_000;
+
+/// The most milliseconds that the end waits for connections to close.
+const MAX_LAST_WAIT: u64 = 10_000;
+
+/// Returns how many HTTP connections may be open at a time where this number is wanted and there are these descriptors: they take half of them,
+/// or all but 1,024 if that is more.
+fn places_with(descriptors: u64, wanted: u32) -> u64
+    ensures { result ≡ min (descriptors - min (descriptors / 2) MAX_OTHERS) wanted }
+{
+    let others = (descriptors / 2).min(MAX_OTHERS);
+    (descriptors - others).min(wanted as u64)
+}
+
+/// Returns how many HTTP connections may be open at a time, and logs it if that is fewer than are wanted.
+///
+/// # Errors
+///
+/// - `FewDescriptors`: the system gives this process fewer than 64 descriptors.
+pub fn places_for<R: Host>(agent: &Agent<R>, wanted: u32) -> Result<usize, AgentError> {
+    let descriptors = max_descriptors().unwrap_or(u64::MAX);
+    if descriptors < MIN_DESCRIPTORS {
+        return Err(AgentError::FewDescriptors(descriptors));
+    }
+    let places = places_with(descriptors, wanted);
+    if places < wanted as u64 {
+        warn!(agent.log(); "{places} HTTP connections at a time, not {wanted}: there are {descriptors} descriptors (ulimit -n)");
+    }
+    Ok(places as usize)
+}
+
+/// Starts a worker that answers HTTP.
+fn start_worker<R: System>(
+    rt: &R,
+    alloc: Global,
+    agent: &Arc<Agent<R>, Global>,
+    lot: &Arc<Lot<Kept>, Global>,
+    ready: &Receiver<Connection<Kept>>,
+    keys: RandomState,
+) -> Result<(), AgentError> {
+    let caller = agent.next_caller().ok_or(AgentError::Spent)?;
+    let agent = Arc::try_clone(agent)?;
+    let lot = Arc::try_clone(lot)?;
+    let ready = ready.clone()?;
+    agent.workers.add(1);
+    let started = thread::spawn(
+        rt,
+        move || serve_http(agent, alloc, caller, lot, ready, keys),
+    );
+    let _thread = started.map_err(|_| AgentError::NoThread)?;
+    Ok(())
+}
+
+/// Notes whether the system lets connections be accepted, and logs that it does not, or does again, unless the log said so last.
+fn note<R: Host>(agent: &Agent<R>, notice: &mut Notice, accepted: &io::Result<bool>) {
+    agent.cannot_accept.set(accepted.is_err());
+    if !notice.note(accepted.is_err(), agent.now()) {
+        return;
+    }
+    match accepted {
+        Err(error) => warn!(agent.log(); "no HTTP connection can be accepted: {error}"),
+        Ok(_) => info!(agent.log(); "HTTP connections are accepted again"),
+    }
+}
+
+/// Accepts connections, and has those that are ready answered, until HTTP is to end. What waits to be accepted then is accepted first.
+fn accept_until_end<R: Host>(agent: &Agent<R>, reactor: &mut Reactor<Kept>) {
+    let mut notice = Notice::new();
+    for _ in agent.rt.forever() {
+        let is_ending = reactor.lot().is_ending();
+        let accepted = reactor.turn(&agent.rt, agent.now().number());
+        note(agent, &mut notice, &accepted);
+        if is_ending && !matches!(accepted, Ok(true)) {
+            return;
+        }
+        reactor.wait(Duration::from_millis(MAX_REST));
+    }
+}
+
+/// Has the connections answered on which a request comes within a second, and then closes those that are idle, until none is open.
+fn answer_last<R: Host>(agent: &Agent<R>, reactor: &mut Reactor<Kept>) {
+    let end = agent.now().number().saturating_add(LAST_IDLE);
+    for _ in agent.rt.forever() {
+        let now = agent.now().number();
+        let _none = reactor.turn(&agent.rt, now);
+        let left = end.saturating_sub(now);
+        if left == 0 {
+            reactor.close_idle(&agent.rt);
+        }
+        if reactor.lot().open() == 0 {
+            return;
+        }
+        let rest = if left == 0 { MAX_REST } else { left };
+        reactor.wait(Duration::from_millis(rest));
+    }
+}
+
+/// Accepts connections and watches them until HTTP ends, and then those that are open until they are closed.
+fn watch<R: Host>(agent: Arc<Agent<R>, Global>, mut reactor: Reactor<Kept>) {
+    let agent = &*agent;
+    accept_until_end(agent, &mut reactor);
+    reactor.close();
+    answer_last(agent, &mut reactor);
+}
+
+/// Starts the workers, and the thread that accepts connections, for which there is this number of places. Returns the lot of those that wait.
+///
+/// # Errors
+///
+/// - `NoRandom`: the system gave no random numbers for the names of fields.
+/// - `NoReactor`: the system lets no connections be watched.
+/// - `Spent`: a worker needs a pass of the node, and none is left.
+/// - `NoThread`: the system gave no thread.
+/// - `Memory`: an allocation failed.
+pub fn start_http<R: System>(
+    rt: &R,
+    alloc: Global,
+    agent: &Arc<Agent<R>, Global>,
+    listener: TcpListener,
+    places: usize,
+) -> Result<Arc<Lot<Kept>, Global>, AgentError> {
+    let keys = RandomState::new(rt).map_err(|_| AgentError::NoRandom)?;
+    let timing = Timing {
+        patience: Duration::from_millis(PATIENCE),
+        idle: MAX_IDLE,
+    };
+    let (reactor, ready) = Reactor::new(rt, alloc, listener, places, timing).map_err(
+        |_| AgentError::NoReactor,
+    )?;
+    let lot = Arc::try_clone(reactor.lot())?;
+    for _ in 0..WORKERS {
+        start_worker(rt, alloc, agent, &lot, &ready, keys)?;
+    }
+    let agent = Arc::try_clone(agent)?;
+    let started = thread::spawn(rt, move || watch(agent, reactor));
+    let _thread = started.map_err(|_| AgentError::NoThread)?;
+    Ok(lot)
+}
+
+/// Ends HTTP: each connection that was made is answered and closed, or ten seconds have passed.
+pub fn end_http<R: System>(rt: &R, agent: &Agent<R>, lot: &Lot<Kept>) {
+    let Ok(deadline) = Deadline::after(rt, Duration::from_millis(MAX_LAST_WAIT)) else {
+        return;
+    };
+    lot.end();
+    for _ in rt.forever() {
+        let Ok(left) = deadline.left() else {
+            return;
+        };
+        if agent.workers.get() == 0 {
+            return;
+        }
+        agent.bell.park_timeout(rt, left);
+    }
+}

@@ -127,9 +127,6 @@ module _ {H : Type 0} (hash_of : H → List ℕ → ℕ) where
     abbrev half : List Exchange
     half = first ∷ second ∷ []
 
-    half-run : ExchangeRun before half answering
-    half-run = (making, first-step, (answering, second-step, refl))
-
   module _ (before : Nodes H) (p : Ping) (after : Nodes H) (step : PingStep hash_of before p after) (are : AreNodes before) where
     abbrev acking : Nodes H
     acking = answering before p step.sent are

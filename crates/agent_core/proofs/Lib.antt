@@ -1,4 +1,5 @@
 pub mod Requesting
 pub mod Packing
+pub mod Parting
 pub mod Joining
 pub mod Growing

@@ -1,5 +1,6 @@
 -- The action that a request asks for, by its method, path, query and body.
 use Rattle.std.specs.Prelude.{◌≡◌, ◌⊎◌, ℕ, ◌&&◌, nat_lt, nat_le, ◌==◌, Bool, cond, List, [], ◌∷◌, length, Option, Some, None, Result, Ok, Err, IsSome, ok_or, bytes_eq, codes}
+use Rattle.std.specs.List.{before_first}
 use Rattle.std.specs.Str.{all_ascii_digits, is_utf8}
 use Rattle.std.specs.Str.Parse.{digits_value}
 use Rattle.percent_encoding.specs.Percent.{percent_decode}
@@ -33,6 +34,20 @@ key_in path = key_of (percent_decode path)
 -- the text that a body is: at most 131,072 bytes of UTF-8
 abbrev pub body_in : List ℕ → Result (List ℕ) Refusal
 body_in body = cond (nat_lt 131072 (length body)) (Err LongBody) (cond (is_utf8 body) (Ok body) (Err (Malformed Body)))
+
+-- the first segment of a path: what comes before its first slash, or all of it
+abbrev pub segment : List ℕ → List ℕ
+segment path = before_first (λ b. b == 47) path
+
+-- the first segment of the rest of a path, if there is a rest
+abbrev pub segment_of : Option (List ℕ) → Option (List ℕ)
+segment_of None = None
+segment_of (Some rest) = Some (segment rest)
+
+-- the text that encodes the key of a request that is passed on whole: the field that names it; without one, the segment after `/keys/`
+abbrev pub key_text : List ℕ → Option (List ℕ) → Option (List ℕ)
+key_text path (Some field) = Some field
+key_text path None = segment_of (after (codes "/keys/") path)
 
 -- whether a number is 1 to 4,096
 abbrev pub is_count : ℕ → Bool

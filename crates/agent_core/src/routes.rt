@@ -1,6 +1,6 @@
 //! The action that a request asks for, by its method, path, query and body.
 ghost use Rattle.std.specs.Prelude.{◌≡◌, ◌≢◌, IfOk, IfErr, OnOk, option_copied};
-ghost use Rattle.agent_core.specs.Requests.{AsksForKey, asked, body_in, count_in, count_of, handled, key_in, named, place_of, plain, verb_name};
+ghost use Rattle.agent_core.specs.Requests.{AsksForKey, asked, body_in, count_in, count_of, handled, key_in, key_text, named, place_of, plain, segment, verb_name};
 
 use crate::actions::Action;
 use crate::packs::MAX_BODY_BYTES;
@@ -24,8 +24,13 @@ fn text_of(alloc: Global, text: &str) -> Result<Text, Refusal>
     Text::new(alloc, text).map_err(|_| Refusal::Memory)
 }
 
-/// Returns the key that the rest of a path encodes: percent-decoded, it is 1 to 1,024 bytes of UTF-8.
-fn key_of(alloc: Global, path: &str) -> Result<Text, Refusal>
+/// Returns the key that a text encodes: percent-decoded, it is 1 to 1,024 bytes of UTF-8.
+///
+/// # Errors
+///
+/// - `Malformed(Part::Key)`: the text encodes no key.
+/// - `Memory`: out of memory.
+pub fn key_of(alloc: Global, path: &str) -> Result<Text, Refusal>
     ensures key { IfOk result (λ key. key_in path.now ≡ Ok key) }
     ensures refused { IfErr result (λ e. e ≢ Refusal.Memory → key_in path.now ≡ Err e) }
 {
@@ -133,6 +138,27 @@ fn owners(alloc: Global, path: &str, query: Option<&str>) -> Result<Action, Refu
     let key = key_of(alloc, path)?;
     let count = count_in(query)?;
     Ok(Action::Owners { key, count })
+}
+
+/// Returns the first segment of a path: what comes before its first slash, or all of it.
+fn segment(path: &str) -> &str
+    ensures { result.now ≡ segment path.now }
+{
+    match path.split_once('/') {
+        Some((first, _)) => first,
+        None => path,
+    }
+}
+
+/// Returns the text that encodes the key of a request, if it is passed on whole: the field that names the key, on any path;
+/// without one, the segment after `/keys/`. The rest of the path is the application's.
+pub fn key_text<'a>(path: &'a str, field: Option<&'a str>) -> Option<&'a str>
+    ensures { option_copied result ≡ key_text path.now (option_copied field.entry) }
+{
+    if field.is_some() {
+        return field;
+    }
+    path.strip_prefix("/keys/").map(segment)
 }
 
 /// Returns the action that a request asks for. The paths with a key are `POST /keys/KEY`, which reads the body and no

@@ -21,6 +21,8 @@ mod pack_tests;
 #[cfg(test)]
 mod page_tests;
 #[cfg(test)]
+mod parts_tests;
+#[cfg(test)]
 mod refusal_tests;
 #[cfg(test)]
 mod refused;

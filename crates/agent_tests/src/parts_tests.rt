@@ -1,0 +1,80 @@
+//! Parts as texts, against texts that another program made.
+use agent_core::laws::parts;
+use agent_core::*;
+use message_core::{Text, WireError};
+use std::alloc::{AllocError, Global};
+
+/// The text of the parts `GET`, `/keys/a` and none.
+const REQUEST: &str = "\u{3}AAAAAAAAAANHRVQAAAAAAAAABy9rZXlzL2EAAAAAAAAAAA==";
+
+/// Texts that represent no bytes.
+const OTHERS: [&str; 5] = ["", "GET", "AAAA", "\u{3}A", "\u{3}AAAB="];
+
+fn packed(alloc: Global) -> Result<Text, WireError> {
+    let mut bytes = Vec::new(alloc);
+    push_part(&mut bytes, b"GET")?;
+    push_part(&mut bytes, b"/keys/a")?;
+    push_part(&mut bytes, b"")?;
+    pack_bytes(alloc, bytes.as_slice())
+}
+
+#[test]
+fn packs_parts_and_reads_them_again(rt: HostRuntime) {
+    parts();
+    let text = again!(&rt, WireError::Memory, packed(rt.alloc()))
+        .ok()
+        .expect(&rt, "a text");
+    assert!(rt; text.as_str() == REQUEST);
+    let bytes = again!(&rt, AllocError, unpack_bytes(rt.alloc(), REQUEST))
+        .ok()
+        .expect(&rt, "memory")
+        .expect(&rt, "bytes");
+    let found = again!(&rt, AllocError, parts_in(rt.alloc(), bytes.as_slice()))
+        .ok()
+        .expect(&rt, "memory")
+        .expect(&rt, "parts");
+    assert!(rt; found.len() == 3);
+    assert!(rt; found[0] == b"GET".as_slice());
+    assert!(rt; found[1] == b"/keys/a".as_slice());
+    assert!(rt; found[2].is_empty());
+    for cut in 1..8 {
+        let short = &bytes.as_slice()[..bytes.len() - cut];
+        let none = again!(&rt, AllocError, parts_in(rt.alloc(), short)).ok();
+        assert!(rt; none.expect(&rt, "memory").is_none());
+    }
+}
+
+#[test]
+fn reads_no_bytes_of_other_texts(rt: HostRuntime) {
+    for text in &OTHERS {
+        let none = again!(&rt, AllocError, unpack_bytes(rt.alloc(), *text)).ok();
+        assert!(rt; none.expect(&rt, "memory").is_none(), "{text}");
+    }
+}
+
+fn packed_body(alloc: Global, body: &str) -> Result<Text, WireError> {
+    pack_body(alloc, Text::new(alloc, body)?)
+}
+
+#[test]
+fn packs_only_a_body_that_could_be_parts(rt: HostRuntime) {
+    for (body, text) in &[
+        ("", ""),
+        ("hello", "hello"),
+        ("\u{1}\u{3}", "\u{1}\u{3}"),
+        ("\u{3}x", "\u{3}AAAAAAAAAAIDeA=="),
+    ] {
+        let packed = again!(&rt, WireError::Memory, packed_body(rt.alloc(), *body)).ok();
+        assert!(rt; packed.expect(&rt, "a text").as_str() == *text);
+    }
+}
+
+#[test]
+fn finds_the_text_of_a_key(rt: HostRuntime) {
+    assert!(rt; key_text("/keys/a%2Fb/c/d", None) == Some("a%2Fb"));
+    assert!(rt; key_text("/keys/", None) == Some(""));
+    assert!(rt; key_text("/keys/a", Some("b")) == Some("b"));
+    assert!(rt; key_text("/shop", Some("b")) == Some("b"));
+    assert!(rt; key_text("/shop", None).is_none());
+    assert!(rt; key_text("/keysa", None).is_none());
+}

@@ -1,5 +1,6 @@
-//! The page that shows the ring. It requests `/members` each second, and draws the servers' points at their places on
-//! the ring: each point owns the keys between the point before it and itself.
+//! The page that shows the ring. It requests `/members` each second and `/healthz` every fifth, and draws the servers' points
+//! at their places on the ring: each point owns the keys between the point before it and itself. It links each member to the
+//! page of its agent, whose port it takes to be as far from the node's as this agent's is.
 
 /// The page that shows the ring, as HTML. It loads nothing from another site.
 pub const PAGE: &str = r#"<!doctype html>
@@ -10,6 +11,10 @@ pub const PAGE: &str = r#"<!doctype html>
 @media(prefers-color-scheme:dark){:root{--page:rgb(22 22 26);--text:rgb(232 232 236);--faint:rgb(155 155 165);--line:rgb(58 58 66);--warn:rgb(240 175 70);--bad:rgb(255 120 110)}}
 body{font:15px/1.5 system-ui,sans-serif;margin:2rem auto;max-width:66rem;padding:0 1rem;background:var(--page);color:var(--text)}
 h1{font-size:1.4rem;margin:0}
+a{color:inherit}
+form{margin:0 0 1.2rem}
+input{font:inherit;color:inherit;background:var(--page);border:1px solid var(--faint);border-radius:3px;padding:.15rem .4rem;width:16rem;max-width:55%}
+output{margin-left:.5rem;font-weight:600}
 p{margin:.3rem 0 1rem;color:var(--faint)}
 main{display:flex;flex-wrap:wrap;gap:2rem;align-items:flex-start}
 svg.ring{width:320px;max-width:100%;height:auto;flex:none}
@@ -26,7 +31,8 @@ th{color:var(--faint);font-weight:normal}
 code{font-size:.85em;word-break:break-all}
 </style></head><body>
 <h1>ringpop <span id="own"></span></h1>
-<p id="sum" role="status">asking for the members</p>
+<p><span id="sum" role="status">asking for the members</span><br><span id="well"></span><span id="changed"></span></p>
+<form id="ask"><label for="key">owner of key</label> <input id="key" autocomplete="off" spellcheck="false"><output id="owner" for="key"></output></form>
 <main>
 <svg class="ring" id="ring" viewBox="-160 -160 320 320" role="img" aria-label="the ring, with the keys that each member owns"></svg>
 <div class="list"><table><thead><tr><th></th><th>member</th><th>status</th><th class="number">incarnation</th><th class="number">weight</th><th class="number">share of keys</th></tr></thead><tbody id="rows"></tbody></table></div>
@@ -103,7 +109,7 @@ function drawRows(members,own,known){
     mark.className='mark';
     if(m.color)mark.style.background=m.color;
     row.insertCell().append(mark);
-    row.insertCell().textContent=m.address;
+    row.insertCell().append(m.address===own?own:link(m.address,own));
     row.insertCell().textContent=m.status;
     for(const text of [m.incarnation,m.weight,!serves(m)?'':known?(100*m.share).toFixed(1)+' %':'?']){
       const cell=row.insertCell();
@@ -121,26 +127,62 @@ function draw(view){
   drawRing(members,count<=most?pointsOf(serving,view.replicas):[]);
   drawRows(members,view.address,count<=most);
 }
+// The page of another agent, by the rule that each has its port for HTTP as far from its node's as this one.
+function link(address,own){
+  const made=document.createElement('a'),[ip,port]=address.split(':');
+  made.href=`http://${ip}:${port-own.split(':')[1]+ +location.port}/`;
+  made.textContent=address;
+  return made;
+}
+const say=(id,text,isFault)=>{by(id).textContent=text;by(id).className=isFault?'fault':''};
+function ago(since){
+  const seconds=Math.round((Date.now()-since)/1000);
+  return seconds<120?seconds+' s':seconds<7200?Math.round(seconds/60)+' min':Math.round(seconds/3600)+' h';
+}
+let ring='',since=Date.now(),hasChanged=false;
+// When the ring changed: suspicions and refutations do not change it.
+function note(members){
+  const now=members.filter(serves).map(m=>m.address+'*'+m.weight).join(';');
+  if(ring&&now!==ring){since=Date.now();hasChanged=true}
+  ring=now;
+  say('changed',hasChanged?`; the ring changed ${ago(since)} ago`:`; no change of the ring in the ${ago(since)} that this page is open`);
+}
+let asked=0;
+async function askOwner(){
+  const key=by('key').value,mine=++asked;
+  if(!key)return say('owner','');
+  try{
+    const answer=await fetch('owner/'+encodeURIComponent(key),{cache:'no-store'});
+    const text=answer.ok?(await answer.json()).owners[0]:await answer.text();
+    if(mine===asked)say('owner',text,!answer.ok);
+  }catch(error){say('owner',error.message,true)}
+}
+by('key').addEventListener('input',askOwner);
+by('ask').addEventListener('submit',event=>event.preventDefault());
+async function lookAtHealth(){
+  try{
+    const answer=await fetch('healthz',{cache:'no-store'}),text=(await answer.text()).trim();
+    say('well',answer.ok?'the node serves, and its service is up':text,!answer.ok);
+  }catch{say('well','')}
+  setTimeout(lookAtHealth,5000);
+}
 let drawn='';
 async function look(){
-  const sum=by('sum');
   try{
     const answer=await fetch('members',{cache:'no-store'});
     if(!answer.ok)throw new Error(await answer.text());
     const view=await answer.json(),counts={};
     for(const m of view.members)counts[m.status]=(counts[m.status]||0)+1;
-    if(drawn!==view.digest){draw(view);drawn=view.digest}
+    if(drawn!==view.digest){draw(view);drawn=view.digest;askOwner()}
+    note(view.members);
     by('own').textContent=view.address;
     by('digest').textContent=view.digest;
     document.title='ringpop '+view.address;
-    sum.textContent=Object.entries(counts).map(([status,n])=>n+' '+status).join(', ')+'; '+view.replicas+' points for a unit of weight';
-    sum.className='';
-  }catch(error){
-    sum.textContent='no answer from the agent: '+error.message;
-    sum.className='fault';
-  }
+    say('sum',Object.entries(counts).map(([status,n])=>n+' '+status).join(', ')+'; '+view.replicas+' points for a unit of weight');
+  }catch(error){say('sum','no answer from the agent: '+error.message,true)}
   setTimeout(look,1000);
 }
 look();
+lookAtHealth();
 </script></body></html>
 "#;

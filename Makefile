@@ -43,6 +43,7 @@ check:
 install:
 	@test -x build/ringpop || { echo "make install: no build/ringpop: run make, or make try" >&2; exit 1; }
 	install -D -m 755 build/ringpop $(INSTALLED)/bin/ringpop
+	install -D -m 755 packaging/ringpop-run $(INSTALLED)/bin/ringpop-run
 	install -D -m 644 docs/ringpop.1 $(INSTALLED)/share/man/man1/ringpop.1
 	install -D -m 644 docs/ringpop.bash $(INSTALLED)/share/bash-completion/completions/ringpop
 	install -D -m 644 docs/ringpop.zsh $(INSTALLED)/share/zsh/site-functions/_ringpop

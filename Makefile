@@ -22,6 +22,11 @@ try:
 	$(NEEDS)
 	@scripts/unproved
 
+# The C library, unproved: build/libringpop_c.a.
+try-library:
+	$(NEEDS)
+	@scripts/unproved --library
+
 # The C library, proved: crates/ringpop_c/out/libringpop_c.a.
 library:
 	$(NEEDS)
@@ -52,4 +57,4 @@ install:
 clean:
 	rm -rf build dist
 
-.PHONY: all demo try library package test check install clean
+.PHONY: all demo try try-library library package test check install clean

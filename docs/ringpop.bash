@@ -14,7 +14,7 @@ _ringpop() {
         serve) words='--workers --period --replicas --sum --weight --per-message --piggyback --heal --help' ;;
         agent) words='--bind --http --http-any --app --hands --http-connections --period --per-message --replicas --weight --incarnation --log --help' ;;
         ask) words='--any --replicas --sum --help' ;;
-        members) words='--lines --help' ;;
+        members) words='--lines --table --help' ;;
         fold | hash | tell) words='--help' ;;
         help) words='fold hash owner sim serve agent ask members tell' ;;
     esac

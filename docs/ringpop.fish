@@ -40,3 +40,4 @@ complete -c ringpop -n '__ringpop_in agent' -l incarnation -x -d 'first incarnat
 complete -c ringpop -n '__ringpop_in agent' -l log -x -a 'off error warn info debug' -d 'log level on standard error'
 complete -c ringpop -n '__ringpop_in ask' -l any -d 'ask the owner of the key, through any node'
 complete -c ringpop -n '__ringpop_in members' -l lines -d 'a change line for each member'
+complete -c ringpop -n '__ringpop_in members' -l table -d 'a table of the members'

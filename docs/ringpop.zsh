@@ -42,7 +42,7 @@ _ringpop() {
                 '--log[what standard error is told]:level:(off error warn info debug)' '--help[what to write]' ':address:' '*:host:'
             ;;
         ask) _arguments $ring '--any[ask the owner of the key, through any node]' '--help[what to write]' ':address:' ':key:' ':body:' ;;
-        members) _arguments '--lines[a change line for each member]' '--help[what to write]' ':host:' ;;
+        members) _arguments '--lines[a change line for each member]' '--table[a table of the members]' '--help[what to write]' ':host:' ;;
         fold | hash | tell) _arguments '--help[what to write]' ':argument:' ;;
         help) _values command fold hash owner sim serve agent ask members tell ;;
     esac

@@ -11,4 +11,5 @@ pub mod ScriptAnswers
 pub mod Simulated
 pub mod ScriptRuns
 pub mod Subcommands
+pub mod Table
 pub mod Words

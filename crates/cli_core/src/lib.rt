@@ -11,6 +11,7 @@ mod outputs;
 mod owners;
 mod scripts;
 mod subcommands;
+mod tables;
 mod words;
 
 pub use faults::{LineError, RunError};
@@ -19,7 +20,8 @@ pub use hashes::{hash_run, hash_text};
 pub use owners::{owner_run, ring_of};
 pub use scripts::{ScriptError, SimError, sim_run};
 pub use subcommands::{Subcommand, SubcommandError, subcommand_run};
+pub use tables::table_text;
 pub use words::{
-    AskAnyWords, AskWords, ClusterCommand, MAX_REQUESTS, MembersWords, OwnerWords, ServeWords,
-    SimWords,
+    AskAnyWords, AskWords, ClusterCommand, MAX_REQUESTS, MembersForm, MembersWords, OwnerWords,
+    ServeWords, SimWords,
 };

@@ -99,13 +99,24 @@ pub struct AskAnyWords<'a> {
     pub ghost replicas_range: { IsReplicas replicas },
 }
 
+/// The form in which members are written.
+#[derive(Clone, Copy, Debug, PartialEq, Eq)]
+pub enum MembersForm {
+    /// The digest text and the digest, as `fold` does.
+    Digest,
+    /// A change line for each member.
+    Lines,
+    /// A table for eyes.
+    Table,
+}
+
 /// The arguments of `members`.
 #[derive(Clone, Copy, Debug, PartialEq, Eq)]
 pub struct MembersWords {
     /// The node that is asked.
     pub host: Address,
-    /// True if a change line is written for each member instead of the digest text and the digest.
-    pub lines: bool,
+    /// How the members are written.
+    pub form: MembersForm,
 }
 
 /// A command that speaks to nodes, with its arguments.

@@ -19,7 +19,7 @@ CommandFinishes May Time (Serve words) known old new = Served Time words old new
 CommandFinishes May Time (Ask words) known old new = WritesReply (IsReply May words.address (request words.key.now words.body.now)) old new
 CommandFinishes May Time (AskAny words) known old new =
     WritesReply (IsAnswered May words.host (hash_by words.sum) words.replicas words.key.now words.body.now) old new
-CommandFinishes May Time (Members words) known old new = WritesSeen May words.host [] (membership_text words.lines) old new
+CommandFinishes May Time (Members words) known old new = WritesSeen May words.host [] (membership_text words.form) old new
 CommandFinishes May Time (Tell host) known old new = Tells May host known old new
 
 -- the error of one that fails, and the output then; `serve` and `tell` have separate errors
@@ -31,7 +31,7 @@ CommandFails May (Ask words) (fault.Ask e) known old new =
 CommandFails May (AskAny words) (fault.Ask e) known old new =
     LeavesReply (IsAnswered May words.host (hash_by words.sum) words.replicas words.key.now words.body.now)
     (IsUnanswered May words.host (hash_by words.sum) words.replicas words.key.now words.body.now) e old new
-CommandFails May (Members words) (fault.Ask e) known old new = IsUnwritten May words.host [] (membership_text words.lines) e old new
+CommandFails May (Members words) (fault.Ask e) known old new = IsUnwritten May words.host [] (membership_text words.form) e old new
 CommandFails May (Tell host) (fault.Tell e) known old new = IsUntold May host known e old new
 CommandFails May other e known old new = ⊥
 

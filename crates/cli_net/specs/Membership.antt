@@ -1,5 +1,5 @@
 -- The membership that a running node answers to a join, and its text.
-use Rattle.std.specs.Prelude.{◌≡◌, ◌⊎◌, ℕ, Bool, true, false, List, [], ◌∷◌, ◌++◌, map, replicate, Option, Ok, Err}
+use Rattle.std.specs.Prelude.{◌≡◌, ◌⊎◌, ℕ, List, [], ◌∷◌, ◌++◌, map, replicate, Option, Ok, Err}
 use Rattle.std.specs.List.{flat_map}
 use Rattle.std.specs.Io.KnownBytes.{Appends, Keeps}
 use Rattle.serde_json.specs.Written.{compact_text}
@@ -15,6 +15,9 @@ use Rattle.message_core.specs.declared.messages.Content.TheVariants as content
 use Rattle.message_core.specs.declared.messages.News.{News}
 use Rattle.cli_core.specs.Changes.{change_of}
 use Rattle.cli_core.specs.Fold.{fold_text}
+use Rattle.cli_core.specs.Table.{table_text}
+use Rattle.cli_core.specs.declared.words.MembersForm.{MembersForm}
+use Rattle.cli_core.specs.declared.words.MembersForm.TheVariants.{Digest, Lines, Table}
 use Rattle.peer_core.specs.Links.{MayAnswer}
 use Rattle.cli_net.specs.Asking.{Asked}
 use Rattle.cli_net.specs.declared.faults.AskError.{AskError}
@@ -72,10 +75,11 @@ IsNotSeen May to changes other = IsNotTold May to changes other
 abbrev pub change_line : Sourced → List ℕ
 change_line change = compact_text (change_data change) ++ 10 ∷ []
 
--- the output for a membership: a line for each change as it came, or the text of `fold`
-abbrev pub membership_text : Bool → News → List ℕ
-membership_text true news = flat_map change_line news.changes
-membership_text false news = fold_text (told_members news)
+-- the output for a membership: a line for each change as it came, or a table of the members, or the text of `fold`
+abbrev pub membership_text : MembersForm → News → List ℕ
+membership_text Lines news = flat_map change_line news.changes
+membership_text Table news = table_text (told_members news)
+membership_text Digest news = fold_text (told_members news)
 
 -- the part of a text that is written at an error: none if out of memory, a prefix of it if the writer failed
 abbrev pub LeavesText : List ℕ → AskError → Option (List ℕ) → Option (List ℕ) → Type 0

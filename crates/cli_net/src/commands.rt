@@ -90,11 +90,7 @@ pub fn cluster_command_run<
         }
         ClusterCommand::AskAny(words) => ask_any_run(network, alloc, words, writer)?,
         ClusterCommand::Members(words) => members_run(
-            network,
-            alloc,
-            words.host,
-            words.lines,
-            writer,
+            network, alloc, words.host, words.form, writer,
         )?,
         ClusterCommand::Tell(host) => tell_run(network, alloc, *host, reader, writer)?,
     }

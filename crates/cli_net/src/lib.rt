@@ -8,6 +8,7 @@ mod commands;
 mod dialled;
 mod echoes;
 mod faults;
+mod hints;
 mod looks;
 mod nodes;
 mod owners;
@@ -19,10 +20,13 @@ mod telling;
 
 pub use agents::agent_run;
 pub use asking::{ask_over, ask_run};
-pub use cli_core::{AskAnyWords, AskWords, ClusterCommand, MAX_REQUESTS, MembersWords, ServeWords};
+pub use cli_core::{
+    AskAnyWords, AskWords, ClusterCommand, MAX_REQUESTS, MembersForm, MembersWords, ServeWords,
+};
 pub use commands::{ClusterCommandError, cluster_command_run};
 pub use echoes::Echo;
 pub use faults::{AskError, ServeError, TellError};
+pub use hints::explain;
 pub use looks::{members_over, members_run};
 pub use owners::{ask_any_over, ask_any_run};
 pub use program_errors::Fault;

@@ -8,6 +8,7 @@ ghost use Rattle.serde_json.specs.Written.{compact_text};
 ghost use Rattle.wire_json.specs.Forms.{change_data};
 ghost use Rattle.cli_core.specs.Changes.{change_of};
 ghost use Rattle.cli_core.specs.Fold.{fold_text};
+ghost use Rattle.cli_core.specs.Table.{table_text};
 ghost use Rattle.cli_net.specs.Dialled.{dialled};
 ghost use Rattle.cli_net.specs.Membership.{IsNotSeen, IsSeen, IsUnwritten, LeavesText, WritesSeen, change_line, membership_text, told_members};
 
@@ -15,7 +16,7 @@ use crate::dialled::DialledLink;
 use crate::faults::AskError;
 use crate::questions::{join_with, write_text};
 use change_core::{Address, MAX_MEMBERS, Sourced};
-use cli_core::fold_text;
+use cli_core::{MembersForm, fold_text, table_text};
 use cluster_core::{Dial, Link};
 use member_core::{MemberError, MemberTable};
 use message_core::{Changes, News};
@@ -144,8 +145,19 @@ fn write_members<W: Write>(
     write_text(writer, text.as_str().as_bytes())
 }
 
-/// Asks the node for its membership, and writes its digest text and digest, a line each, as `fold` does; or with
-/// `lines` its change lines. The node's members don't change by it. After any error but `CannotWrite` there was no
+/// Writes members as a table.
+fn write_table<W: Write>(alloc: Global, table: &MemberTable, writer: &mut W) -> Result<(), AskError>
+    ensures ok { OnOk result (Appends (W.contents writer.old) (W.contents writer.new) (table_text table.now.members)) }
+    ensures left { IfErr result (λ e. LeavesText (table_text table.now.members) e
+        (W.contents writer.old) (W.contents writer.new)) }
+{
+    let members = table.list().map_err(|_| AskError::OutOfMemory)?;
+    let text = table_text(alloc, members.as_slice()).map_err(|_| AskError::OutOfMemory)?;
+    write_text(writer, text.as_str().as_bytes())
+}
+
+/// Asks the node for its membership, and writes its digest text and digest, a line each, as `fold` does; or its
+/// change lines, or a table for eyes. The node's members don't change by it. After any error but `CannotWrite` there was no
 /// output.
 ///
 /// # Errors
@@ -160,19 +172,19 @@ pub fn members_over<R: Wait, L: Link, W: Write>(
     alloc: Global,
     link: &mut L,
     host: Address,
-    lines: bool,
+    form: MembersForm,
     writer: &mut W,
 ) -> Result<(), AskError>
-    ensures written { OnOk result (WritesSeen L.may_answer host [] (membership_text lines)
+    ensures written { OnOk result (WritesSeen L.may_answer host [] (membership_text form)
         (W.contents writer.old) (W.contents writer.new)) }
-    ensures fault { IfErr result (λ e. IsUnwritten L.may_answer host [] (membership_text lines) e
+    ensures fault { IfErr result (λ e. IsUnwritten L.may_answer host [] (membership_text form) e
         (W.contents writer.old) (W.contents writer.new)) }
 {
-    let (news, table) = look_only(rt, alloc, link, host)?;
-    if lines {
-        write_changes(alloc, news.changes.as_slice(), writer)
-    } else {
-        write_members(alloc, &table, writer)
+    let (news, members) = look_only(rt, alloc, link, host)?;
+    match form {
+        MembersForm::Lines => write_changes(alloc, news.changes.as_slice(), writer),
+        MembersForm::Table => write_table(alloc, &members, writer),
+        MembersForm::Digest => write_members(alloc, &members, writer),
     }
 }
 
@@ -185,14 +197,14 @@ pub fn members_run<R: Dial + Clock + Wait + Copy, W: Write>(
     rt: &R,
     alloc: Global,
     host: Address,
-    lines: bool,
+    form: MembersForm,
     writer: &mut W,
 ) -> Result<(), AskError>
-    ensures written { OnOk result (WritesSeen (dialled R.leads R.Stream.contents R.Stream.remaining) host [] (membership_text lines)
+    ensures written { OnOk result (WritesSeen (dialled R.leads R.Stream.contents R.Stream.remaining) host [] (membership_text form)
         (W.contents writer.old) (W.contents writer.new)) }
-    ensures fault { IfErr result (λ e. IsUnwritten (dialled R.leads R.Stream.contents R.Stream.remaining) host [] (membership_text lines) e
+    ensures fault { IfErr result (λ e. IsUnwritten (dialled R.leads R.Stream.contents R.Stream.remaining) host [] (membership_text form) e
         (W.contents writer.old) (W.contents writer.new)) }
 {
     let mut link = DialledLink::new(*rt);
-    members_over(rt, alloc, &mut link, host, lines, writer)
+    members_over(rt, alloc, &mut link, host, form, writer)
 }

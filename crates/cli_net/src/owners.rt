@@ -57,8 +57,13 @@ fn owner_in(alloc: Global, words: &AskAnyWords<'_>, members: &[Change]) -> Resul
     }
 }
 
-/// The owner of the key, by the membership that the host holds.
-fn find_owner<R: Wait, L: Link>(
+/// Returns the owner of the key, by the membership that the host holds.
+///
+/// # Errors
+///
+/// - The errors of `members_over` but `CannotWrite`, for the membership.
+/// - `Refused` with `nobody`: no member serves.
+pub fn find_owner<R: Wait, L: Link>(
     rt: &R,
     alloc: Global,
     link: &mut L,

@@ -114,9 +114,9 @@ ask_words = subcommand (codes "ask")
     (flag (codes "any") ∷ with_another replicas ∷ with_another sum
     ∷ word (codes "address") ∷ word (codes "key") ∷ word (codes "body") ∷ [])
 
--- `members`: the host that is asked; `--lines` prints one change a line
+-- `members`: the host that is asked; `--lines` prints one change a line, `--table` a table
 abbrev pub members_words : Shape
-members_words = subcommand (codes "members") (flag (codes "lines") ∷ word (codes "host") ∷ [])
+members_words = subcommand (codes "members") (flag (codes "lines") ∷ flag (codes "table") ∷ word (codes "host") ∷ [])
 
 -- `tell`: the host that gets the changes
 abbrev pub tell_words : Shape

@@ -13,6 +13,8 @@ use Rattle.cli_core.specs.declared.subcommands.Subcommand.TheVariants.{Fold, Has
 use Rattle.cli_core.specs.declared.words.ClusterCommand.{ClusterCommand}
 use Rattle.cli_core.specs.declared.words.ClusterCommand.TheVariants.{Serve, Ask, AskAny, Members, Tell}
 use Rattle.cli_core.specs.declared.words.AskAnyWords.{AskAnyWords}
+use Rattle.cli_core.specs.declared.words.MembersForm.{MembersForm}
+use Rattle.cli_core.specs.declared.words.MembersForm.TheVariants.{Digest, Lines as LinesForm, Table}
 use Rattle.cli_core.specs.declared.words.MembersWords.{MembersWords}
 use Rattle.cli_core.specs.declared.words.ServeWords.{ServeWords}
 use Rattle.cli_words.specs.declared.words.Words.{Words}
@@ -89,10 +91,16 @@ pub record IsAnyAskedAt (rows : List Row) (words : AskAnyWords) : Type 0 where
   pub replicas : IsNumberAt rows (codes "replicas") words.replicas
   pub sum : IsFlagAt rows (codes "sum") words.sum
 
--- the node whose members are written, and whether as lines, are the arguments of their names
+-- how members are written: as lines if the flag for them is set, else as a table if its flag is
+abbrev pub IsFormAt : List Row → MembersForm → Type 0
+IsFormAt rows LinesForm = IsFlagAt rows (codes "lines") true
+IsFormAt rows Table = IsFlagAt rows (codes "lines") false × IsFlagAt rows (codes "table") true
+IsFormAt rows Digest = IsFlagAt rows (codes "lines") false × IsFlagAt rows (codes "table") false
+
+-- the node whose members are written is the argument of its name, and the flags say how
 pub record AreMembersAt (rows : List Row) (words : MembersWords) : Type 0 where
   pub host : IsAddressAt rows (codes "host") words.host
-  pub lines : IsFlagAt rows (codes "lines") words.lines
+  pub form : IsFormAt rows words.form
 
 -- the option of this name is the text of this address, or is absent if there is none
 abbrev pub IsOptionAt : List Row → Text → Option ℕ → Type 0

@@ -2,7 +2,7 @@
 ghost use Rattle.std.specs.Prelude.{◌≡◌, ◌≤◌, Ok, Some, codes, IfErr, IfOk, IfSome, IsErrAnd, IsSome};
 ghost use Rattle.clap.specs.Words.{first_of};
 ghost use Rattle.change_core.specs.Numbers.{greatest_number};
-ghost use Rattle.cli_words.specs.Faults.{IsRefusalOf, fault_at};
+ghost use Rattle.cli_words.specs.Faults.{IsRefusalOf, IsUsageFault, fault_at};
 ghost use Rattle.cli_words.specs.Whole.{HasAgent, HasAgentNumbers, HasLevel, HasNumber, IsAgentRefusal, IsNoAddressAt};
 ghost use Rattle.cli_words.specs.Words.{AreAddressesAt, AreAgentNumbersAt, IsAddressAt, IsAgentAt, IsNumberAt, IsNumberIfAt, IsOptionAt, level_name, rows_in};
 
@@ -12,7 +12,7 @@ use crate::commands::{
     ADDRESS, APP, BIND, HANDS, HTTP, HTTP_ANY, HTTP_CONNECTIONS, LOG, PER_MESSAGE, PERIOD,
 };
 use crate::faults::WordsError;
-use crate::words::{absent, flag, number, replicas};
+use crate::words::{absent, flag, number, refusal, replicas};
 use change_core::{Address, Incarnation, MAX_MEMBERS};
 use clap::ArgMatches;
 use std::alloc::Global;
@@ -156,6 +156,29 @@ fn words_with(matches: &ArgMatches<'_>, addresses: Addresses) -> Option<AgentWor
     })
 }
 
+/// Makes the refusal of a name that is no level of the log, in the form of `clap`'s errors.
+fn no_level(alloc: Global, name: &str) -> WordsError
+    ensures { IsUsageFault result }
+{
+    let text = format!(in alloc;
+        "invalid value '{name}' for '--log <LEVEL>': give off, error, warn, info or debug"
+    );
+    match text {
+        Ok(text) => refusal(alloc, text.as_str()),
+        Err(_) => WordsError::OutOfMemory,
+    }
+}
+
+/// Makes the refusal of arguments of which one is absent or not in its range: of the level of the log, if that is none.
+fn refusal_of(alloc: Global, matches: &ArgMatches<'_>) -> WordsError
+    ensures { IsUsageFault result }
+{
+    match matches.get_str(LOG) {
+        Some(name) if level_of(name).is_none() => no_level(alloc, name),
+        _ => absent(alloc),
+    }
+}
+
 /// Returns the arguments of `agent`. The addresses are read before the numbers.
 ///
 /// # Errors
@@ -171,6 +194,6 @@ pub fn agent_words(alloc: Global, matches: &ArgMatches<'_>) -> Result<AgentWords
     let addresses = addresses_in(alloc, matches)?;
     match words_with(matches, addresses) {
         Some(words) => Ok(words),
-        None => Err(absent(alloc)),
+        None => Err(refusal_of(alloc, matches)),
     }
 }

@@ -9,18 +9,20 @@ ghost use Rattle.cli_core.specs.Words.{IsPerMessage, IsPiggyback};
 ghost use Rattle.cli_words.specs.Faults.{IsRefusalOf};
 ghost use Rattle.cli_words.specs.Whole.{HasAnyAsked, HasAsked, HasBadAddress, HasNumber, HasNumbers, HasServed, IsNoAddress, IsNoAddressAmong};
 ghost use Rattle.cli_words.specs.Whole.{IsNoAddressAt, IsOfNodes, IsWhole};
-ghost use Rattle.cli_words.specs.Words.{AreAddressesAt, AreMembersAt, AreNumbersAt, IsAddressAt, IsAnyAskedAt, IsAskedAt, IsCommandOf, IsNumberAt};
+ghost use Rattle.cli_words.specs.Words.{AreAddressesAt, AreMembersAt, AreNumbersAt, IsAddressAt, IsAnyAskedAt, IsAskedAt, IsCommandOf, IsFormAt, IsNumberAt};
 ghost use Rattle.cli_words.specs.Words.{IsServedAt, rows_in};
 
 use crate::commands::{
     ADDRESS, ANY, BODY, HEAL, HOST, INCARNATION, KEY, LINES, PER_MESSAGE, PERIOD, PIGGYBACK,
-    REQUESTS, SUM, WEIGHT, WORKERS,
+    REQUESTS, SUM, TABLE, WEIGHT, WORKERS,
 };
 use crate::faults::WordsError;
 use crate::words::{absent, flag, number, replicas};
 use change_core::{Address, Incarnation, MAX_MEMBERS, MAX_NUMBER, MAX_WEIGHT, Weight};
 use clap::ArgMatches;
-use cli_core::{AskAnyWords, AskWords, ClusterCommand, MAX_REQUESTS, MembersWords, ServeWords};
+use cli_core::{
+    AskAnyWords, AskWords, ClusterCommand, MAX_REQUESTS, MembersForm, MembersWords, ServeWords,
+};
 use gossip_core::MAX_FACTOR;
 use node_core::MAX_WORKERS;
 use std::alloc::Global;
@@ -229,6 +231,19 @@ fn ask_any_words<'a>(alloc: Global, matches: &ArgMatches<'a>) -> Result<AskAnyWo
     })
 }
 
+/// Returns how members are written: as lines if the flag for them is set, else as a table if its flag is.
+fn form(matches: &ArgMatches<'_>) -> MembersForm
+    ensures { IsFormAt (rows_in matches.now) result }
+{
+    if flag(matches, LINES) {
+        MembersForm::Lines
+    } else if flag(matches, TABLE) {
+        MembersForm::Table
+    } else {
+        MembersForm::Digest
+    }
+}
+
 /// Returns the arguments of `members`.
 fn members_words(alloc: Global, matches: &ArgMatches<'_>) -> Result<MembersWords, WordsError>
     ensures members { IfOk result (AreMembersAt (rows_in matches.now)) }
@@ -237,7 +252,7 @@ fn members_words(alloc: Global, matches: &ArgMatches<'_>) -> Result<MembersWords
     let host = address_at(alloc, matches, HOST)?;
     Ok(MembersWords {
         host,
-        lines: flag(matches, LINES),
+        form: form(matches),
     })
 }
 

@@ -63,6 +63,9 @@ pub const ANY: &str = "any";
 /// The argument for printing members as change lines.
 pub const LINES: &str = "lines";
 
+/// The argument for printing members as a table.
+pub const TABLE: &str = "table";
+
 /// The text that is hashed.
 pub const TEXT: &str = "text";
 
@@ -100,6 +103,7 @@ Examples:
   ringpop < changes.jsonl                        the members, and the digest that equal members share
   ringpop owner --n 2 trip-42 < changes.jsonl    the two members that own the key trip-42, the first first
   ringpop members 10.0.0.2:7946                  the members that a running node holds, and their digest
+  ringpop members --table 10.0.0.2:7946          the same members as a table
   ringpop ask --any 10.0.0.2:7946 trip-42 hello  what the owner of the key trip-42 answers to the request
   ringpop serve 10.0.0.1:7946 1 1000             the first node of a cluster, which ends after 1,000 connections
   ringpop serve --period 200 10.0.0.2:7946 1 1000 10.0.0.1:7946
@@ -109,8 +113,7 @@ Examples:
 
 Exit status: 0 if all went well; 1 if a line is at fault, if no node answers as it was asked, if a node is let in by no host,
 cannot listen or has no thread, if an agent's node takes no calls more or its HTTP would be answered beyond the machine, or if
-reading, writing or memory failed; 2 if the arguments are invalid, an address among them,
-or ask for help or the version, which go to standard error."#;
+reading, writing or memory failed; 2 if the arguments are invalid, an address among them."#;
 
 /// The text below the help of `sim`.
 const BELOW_SIM: &str =
@@ -422,14 +425,32 @@ fn host_word<'a>(alloc: Global) -> Arg<'a>
     )
 }
 
+/// The flag for printing members as change lines.
+fn lines_flag<'a>(alloc: Global) -> Arg<'a>
+    ensures { rule_of result ≡ line.flag (codes "lines") }
+{
+    Arg::new(alloc, LINES)
+        .long(LINES)
+        .action(ArgAction::SetTrue)
+        .help("Print a change line for each member, as owner and fold read them")
+}
+
+/// The flag for printing members as a table.
+fn table_flag<'a>(alloc: Global) -> Arg<'a>
+    ensures { rule_of result ≡ line.flag (codes "table") }
+{
+    Arg::new(alloc, TABLE)
+        .long(TABLE)
+        .action(ArgAction::SetTrue)
+        .help(
+            "Print a table, for eyes: address, status, incarnation, weight, and the share of the keys that the weight gives",
+        )
+}
+
 fn members_command<'a>(alloc: Global) -> Result<Command<'a>, AllocError>
     ensures { IfOk result (λ c. app_of c ≡ leaf line.members_words) }
 {
-    let lines = Arg::new(alloc, LINES)
-        .long(LINES)
-        .action(ArgAction::SetTrue)
-        .help("Print a change line for each member, as owner and fold read them");
-    let words = vec![in alloc; lines, host_word(alloc)]?;
+    let words = vec![in alloc; lines_flag(alloc), table_flag(alloc), host_word(alloc)]?;
     leaf_command(
         alloc,
         "members",
@@ -623,7 +644,7 @@ pub fn ringpop_command<'a>(alloc: Global) -> Result<Command<'a>, AllocError>
         .bin_name("ringpop")?
         .version("1.0.0-dev")
         .about(
-            "The members of a cluster and the owners of its keys, from change lines on standard input or from its running nodes; and a node that serves. With no command it is fold.",
+            "The members of a cluster and the owners of its keys, from change lines on standard input or from its running nodes; and a node that serves. With no command it is fold, which waits for lines: ringpop < changes.jsonl.",
         )
         .after_help(BELOW)
         .subcommand(fold_command(alloc));

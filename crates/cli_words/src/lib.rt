@@ -3,11 +3,13 @@
 
 mod agent_reading;
 mod agent_words;
+mod bad_arguments;
 mod cluster_words;
 mod commands;
 mod faults;
 mod words;
 
 pub use agent_words::{AgentWords, LogLevel};
+pub use bad_arguments::{BadArgument, bad_argument};
 pub use faults::WordsError;
 pub use words::{Words, read_words, words_not_text};

@@ -184,7 +184,7 @@ pub fn absent(alloc: Global) -> WordsError
 }
 
 /// Makes a refusal of the arguments in the form of `clap`'s, or out of memory.
-fn refusal(alloc: Global, text: &str) -> WordsError
+pub fn refusal(alloc: Global, text: &str) -> WordsError
     ensures { IsUsageFault result }
 {
     match invalid(alloc, text) {

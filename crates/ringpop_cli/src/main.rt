@@ -1,8 +1,10 @@
 //! The members of a cluster and the owners of its keys, from a command line.
 #![tactic(auto)]
 
-use cli_net::{Fault, words_run};
-use cli_words::{WordsError, read_words, words_not_text};
+use clap::error::ErrorKind as Refused;
+use cli_core::ClusterCommand;
+use cli_net::{Fault, explain, words_run};
+use cli_words::{Words, WordsError, bad_argument, read_words, words_not_text};
 use std::alloc::{Alloc, Global};
 use std::env::Env;
 use std::io::{BufReader, BufWriter, ErrorKind};
@@ -28,37 +30,96 @@ fn given_words(rt: &(impl Env + Alloc<A = Global>)) -> Result<Vec<String>, Words
     Ok(words)
 }
 
-/// Reads the arguments, and runs the command over standard input, standard output and sockets.
+/// Returns the command of the arguments. The own address of a server is not 0.0.0.0, by which no other node can call it.
+fn command_of<'a>(alloc: Global, given: &'a [String]) -> Result<Words<'a>, WordsError> {
+    let words = read_words(alloc, given)?;
+    match &words {
+        Words::Cluster(ClusterCommand::Serve(server)) if server.address.ip() == 0 => {
+            Err(WordsError::BadAddress)
+        }
+        _ => Ok(words),
+    }
+}
+
+/// Prints help or the version on standard output, if the arguments ask for it, and else the error on standard error; and
+/// returns the exit status.
+fn tell<R: Print + Eprint>(rt: &R, fault: &Fault) -> ExitCode {
+    match fault {
+        Fault::Words(WordsError::Usage(text)) if !text.use_stderr() => match text.print(rt) {
+            Ok(()) => ExitCode::SUCCESS,
+            Err(_) => {
+                let _ = eprintln!(rt; "ringpop: cannot write");
+                ExitCode::FAILURE
+            }
+        },
+        _ => {
+            let _ = eprint!(rt; "{fault}");
+            ExitCode::from(fault.status())
+        }
+    }
+}
+
+/// Prints behind the refusal of arguments what to give.
+fn advise(rt: &(impl Eprint + Alloc<A = Global>), given: &[String], fault: &Fault) {
+    let _ = match fault {
+        Fault::Words(WordsError::BadAddress | WordsError::BadAddressAt(_)) => {
+            match bad_argument(rt.alloc(), given) {
+                Err(_) => Ok(()),
+                Ok(Some(bad)) => eprintln!(rt; "ringpop: {bad}"),
+                Ok(None) => eprintln!(rt;
+                    "ringpop: 0.0.0.0 for ADDRESS: give the address by which other nodes call this one"
+                ),
+            }
+        }
+        Fault::Words(WordsError::Usage(text)) if text.kind() == Refused::InvalidSubcommand => {
+            eprintln!(rt; "A file of change lines is read by: ringpop < FILE")
+        }
+        _ => Ok(()),
+    };
+}
+
+/// Runs the command over standard input, standard output and sockets.
 fn run<
     R: Input
         + Print
-        + Eprint
-        + Env
         + Net<Listener = TcpListener, Stream = TcpStream>
         + Threads
         + Wait
         + Clock
         + RandomSource
+        + Eprint
         + Copy
         + Send
         + Sync
         + 'static
         + Alloc<A = Global>,
->(rt: &R) -> Result<(), Fault> {
+>(rt: &R, words: &Words<'_>) -> Result<(), Fault> {
     let alloc = rt.alloc();
-    let given = given_words(rt)?;
-    let words = read_words(alloc, given.as_slice())?;
     let mut reader = BufReader::new(alloc, rt.reader()).map_err(|_| WordsError::OutOfMemory)?;
     let mut writer = BufWriter::new(alloc, io::writer(rt)).map_err(|_| WordsError::OutOfMemory)?;
-    words_run(rt, rt, alloc, &words, &mut reader, &mut writer)
+    words_run(rt, rt, alloc, words, &mut reader, &mut writer)
 }
 
 fn main(rt: HostRuntime) -> ExitCode {
-    match run(&rt) {
+    let given = match given_words(&rt) {
+        Ok(given) => given,
+        Err(error) => return tell(&rt, &Fault::Words(error)),
+    };
+    let words = match command_of(rt.alloc(), given.as_slice()) {
+        Ok(words) => words,
+        Err(error) => {
+            let fault = Fault::Words(error);
+            let status = tell(&rt, &fault);
+            advise(&rt, given.as_slice(), &fault);
+            return status;
+        }
+    };
+    match run(&rt, &words) {
         Ok(()) => ExitCode::SUCCESS,
         Err(fault) => {
-            let _ = eprint!(rt; "{fault}");
-            ExitCode::from(fault.status())
+            let status = tell(&rt, &fault);
+            explain(&rt, rt.alloc(), &words, &fault);
+            status
         }
     }
 }

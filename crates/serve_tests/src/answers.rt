@@ -4,7 +4,8 @@ use crate::shared::check_refused;
 use change_core::{Address, MAX_MEMBERS};
 use cli_core::LineError;
 use cli_net::{
-    AskAnyWords, AskError, AskWords, TellError, ask_any_over, ask_over, members_over, tell_over,
+    AskAnyWords, AskError, AskWords, MembersForm, TellError, ask_any_over, ask_over, members_over,
+    tell_over,
 };
 use std::alloc::Global;
 use std::env::Env;
@@ -19,8 +20,7 @@ enum Question {
     Ask,
     /// By this key.
     AskAny(&'static str),
-    /// Whether as change lines.
-    Members(bool),
+    Members(MembersForm),
     /// This many change lines of 10.0.0.1:1, and then this, by a reader that fails after this many bytes.
     Tell(usize, &'static str, usize),
 }
@@ -72,7 +72,7 @@ fn ask_peers<R: Wait, W: Write>(
             };
             ask_over(rt, alloc, peers, &words, page)?
         }
-        Question::Members(lines) => members_over(rt, alloc, peers, host, lines, page)?,
+        Question::Members(form) => members_over(rt, alloc, peers, host, form, page)?,
         Question::Tell(times, last, left) => {
             let mut lines = Lines::new(FIRST, times, last, left);
             tell_over(rt, alloc, peers, host, &mut lines, page)?
@@ -161,6 +161,13 @@ const ALONE_TEXT: &str =
 const TWO_TEXT: &str =
     "10.0.0.1:1alive7;10.0.0.2:1suspect3*2\n96236e70e85ed04fd1686bcf8c49d8c26e86a4cb4a04b7988c05563b2fa13c5b\n";
 
+/// The table of no members.
+const NOBODY_TABLE: &str = "ADDRESS               STATUS    INCARNATION      WEIGHT SHARE\n";
+
+/// Of both.
+const TWO_TABLE: &str =
+    "ADDRESS               STATUS    INCARNATION      WEIGHT SHARE\n10.0.0.1:1            alive     7                1      33.3 %\n10.0.0.2:1            suspect   3                2      66.6 %\n";
+
 /// The change line of 10.0.0.1:1.
 const FIRST: &str =
     "{\"address\":\"10.0.0.1:1\",\"incarnationNumber\":7,\"source\":\"10.0.0.1:1\",\"sourceIncarnationNumber\":7,\"status\":\"alive\"}\n";
@@ -200,34 +207,81 @@ fn ask_writes_the_reply_alone(rt: HostRuntime) {
     check_all(&rt, rt.alloc(), &ASKS);
 }
 
-const MEMBERS: [Row; 11] = [
+const MEMBERS: [Row; 13] = [
     (
-        Question::Members(false),
+        Question::Members(MembersForm::Digest),
         &[Answer::Nobody],
         Ok(()),
         NOBODY_TEXT,
     ),
-    (Question::Members(true), &[Answer::Nobody], Ok(()), ""),
     (
-        Question::Members(false),
+        Question::Members(MembersForm::Lines),
+        &[Answer::Nobody],
+        Ok(()),
+        "",
+    ),
+    (
+        Question::Members(MembersForm::Digest),
         &[Answer::Alone],
         Ok(()),
         ALONE_TEXT,
     ),
-    (Question::Members(true), &[Answer::Alone], Ok(()), FIRST),
-    (Question::Members(false), &[Answer::Two], Ok(()), TWO_TEXT),
-    (Question::Members(true), &[Answer::Two], Ok(()), BOTH),
-    (Question::Members(true), &[Answer::TwoAmiss], UNEXPECTED, ""),
-    (Question::Members(true), &[Answer::NotOwner], UNEXPECTED, ""),
     (
-        Question::Members(true),
+        Question::Members(MembersForm::Lines),
+        &[Answer::Alone],
+        Ok(()),
+        FIRST,
+    ),
+    (
+        Question::Members(MembersForm::Digest),
+        &[Answer::Two],
+        Ok(()),
+        TWO_TEXT,
+    ),
+    (
+        Question::Members(MembersForm::Table),
+        &[Answer::Nobody],
+        Ok(()),
+        NOBODY_TABLE,
+    ),
+    (
+        Question::Members(MembersForm::Table),
+        &[Answer::Two],
+        Ok(()),
+        TWO_TABLE,
+    ),
+    (
+        Question::Members(MembersForm::Lines),
+        &[Answer::Two],
+        Ok(()),
+        BOTH,
+    ),
+    (
+        Question::Members(MembersForm::Lines),
+        &[Answer::TwoAmiss],
+        UNEXPECTED,
+        "",
+    ),
+    (
+        Question::Members(MembersForm::Lines),
+        &[Answer::NotOwner],
+        UNEXPECTED,
+        "",
+    ),
+    (
+        Question::Members(MembersForm::Lines),
         &[Answer::RefusesFull],
         REFUSED_FULL,
         "",
     ),
-    (Question::Members(true), &[Answer::Broken], NO_ANSWER, ""),
     (
-        Question::Members(true),
+        Question::Members(MembersForm::Lines),
+        &[Answer::Broken],
+        NO_ANSWER,
+        "",
+    ),
+    (
+        Question::Members(MembersForm::Lines),
         &[Answer::Starved],
         OUT_OF_MEMORY,
         "",
@@ -235,7 +289,7 @@ const MEMBERS: [Row; 11] = [
 ];
 
 /// `members` of a peer that tells of no member, of itself, or of (A,7,alive) and (B,3,suspect) with weight 2: what `fold` writes; their
-/// change lines with `lines`; nothing of no member with `lines`. With another digest, or a `not-owner`: unexpected answer; that refuses:
+/// change lines; nothing of no member, as lines; a table with a third and two thirds of the keys. With another digest, or a `not-owner`: unexpected answer; that refuses:
 /// that reason; that can't be reached, or without memory: that; and nothing is written.
 #[test]
 fn members_are_written_where_their_digest_fits(rt: HostRuntime) {

@@ -5,8 +5,8 @@ ghost use Rattle.hash_ring.specs.Points.{IsReplicas};
 use crate::shared::check_refused;
 use change_core::{Address, Incarnation, MAX_NUMBER, Weight};
 use cli_core::{
-    AskAnyWords, AskWords, ClusterCommand, MembersWords, OwnerWords, ServeWords, SimWords,
-    Subcommand,
+    AskAnyWords, AskWords, ClusterCommand, MembersForm, MembersWords, OwnerWords, ServeWords,
+    SimWords, Subcommand,
 };
 use cli_words::{Words, WordsError, read_words};
 use std::alloc::Global;
@@ -171,12 +171,24 @@ fn reads_the_words_of_questions(rt: HostRuntime) {
     asks(&rt, alloc, line, ask_any(&rt, 100, false));
     let line = "ringpop ask --any --replicas 2 --sum 127.0.0.1:1 k b";
     asks(&rt, alloc, line, ask_any(&rt, 2, true));
-    let members = ClusterCommand::Members(MembersWords { host, lines: false });
+    let members = ClusterCommand::Members(MembersWords {
+        host,
+        form: MembersForm::Digest,
+    });
     let line = "ringpop members 127.0.0.1:1";
     asks(&rt, alloc, line, Words::Cluster(members));
-    let lines = ClusterCommand::Members(MembersWords { host, lines: true });
+    let lines = ClusterCommand::Members(MembersWords {
+        host,
+        form: MembersForm::Lines,
+    });
     let line = "ringpop members --lines 127.0.0.1:1";
     asks(&rt, alloc, line, Words::Cluster(lines));
+    let table = ClusterCommand::Members(MembersWords {
+        host,
+        form: MembersForm::Table,
+    });
+    let line = "ringpop members --table 127.0.0.1:1";
+    asks(&rt, alloc, line, Words::Cluster(table));
     let tell = ClusterCommand::Tell(host);
     asks(&rt, alloc, "ringpop tell 127.0.0.1:1", Words::Cluster(tell));
 }

@@ -2,7 +2,7 @@
 
 use crate::cli::reads::{NO_WORDS, read, words_in};
 use crate::shared::check_refused;
-use cli_words::{WordsError, words_not_text};
+use cli_words::{WordsError, bad_argument, words_not_text};
 use std::alloc::Global;
 use std::env::Env;
 use std::process::Abort;
@@ -179,7 +179,7 @@ fn names_an_agents_bad_address(rt: HostRuntime) {
 }
 
 /// Arguments, and the start of their error text.
-const REFUSED_WORDS: [(&str, &str); 28] = [
+const REFUSED_WORDS: [(&str, &str); 29] = [
     ("ringpop ", "error: unrecognized subcommand ''\n"),
     (
         "ringpop server",
@@ -256,6 +256,10 @@ const REFUSED_WORDS: [(&str, &str); 28] = [
         "ringpop tell",
         "error: the following required arguments were not provided:\n",
     ),
+    (
+        "ringpop agent --log verbose 127.0.0.1:1",
+        "error: invalid value 'verbose' for '--log <LEVEL>': give off, error, warn, info or debug\n",
+    ),
     ("ringpop ask 10.0.0.01:1 k b", "ringpop: bad address\n"),
     ("ringpop ask --any x k b", "ringpop: bad address\n"),
     ("ringpop members 10.0.0.1:0", "ringpop: bad address\n"),
@@ -276,8 +280,58 @@ fn refuses_words(rt: HostRuntime) {
     }
 }
 
-/// Other words are refused by `clap`, in its own text, with status 2; `--sum` or `--replicas` of `ask` without `--any` among them. Behind
-/// that an address that is none: `ringpop: bad address`, status 2.
+/// Lines with an argument that has to be an address and is not, or without one, and the text that names it.
+const BAD_ARGUMENTS: [(&str, &str); 7] = [
+    (
+        "ringpop members localhost:7946",
+        "'localhost:7946' for HOST: give an IPv4 address and a port, as 127.0.0.1:7946",
+    ),
+    (
+        "ringpop serve --sum 127.0.0.1:1 1 1 127.0.0.1:2 127.0.0.1 x",
+        "'127.0.0.1' for HOST: give an IPv4 address and a port, as 127.0.0.1:7946",
+    ),
+    (
+        "ringpop ask --any [::1]:1 x y",
+        "'[::1]:1' for ADDRESS: give an IPv4 address and a port, as 127.0.0.1:7946",
+    ),
+    (
+        "ringpop agent --app x --http y 127.0.0.1:1 z",
+        "'y' for --http: give an IPv4 address and a port, as 127.0.0.1:7946",
+    ),
+    (
+        "ringpop agent --bind x --http y 0 z",
+        "'0' for ADDRESS: give an IPv4 address and a port, as 127.0.0.1:7946",
+    ),
+    ("ringpop members 127.0.0.1:1", ""),
+    ("ringpop hash x", ""),
+];
+
+/// Whether this text names the argument of a line that is not an address; the empty text where there is none.
+fn is_named(rt: &(impl Env + Abort), alloc: Global, line: &str, text: &str) -> bool {
+    let mut words = NO_WORDS;
+    let words = words_in(rt, line, &mut words);
+    match bad_argument(alloc, words) {
+        Ok(Some(bad)) => match format!(in alloc; "{bad}") {
+            Ok(said) => said.as_str() == text,
+            Err(_) => false,
+        },
+        Ok(None) => text.is_empty(),
+        Err(_) => false,
+    }
+}
+
+/// The first argument that has to be an address and is none is named, with what was given; where there is none, nothing.
+#[test]
+fn names_bad_arguments(rt: HostRuntime) {
+    for (line, text) in &BAD_ARGUMENTS {
+        if !is_named(&rt, rt.alloc(), *line, *text) {
+            check_refused(&rt);
+            assert!(rt; is_named(&rt, rt.alloc(), *line, *text), "{text}");
+        }
+    }
+}
+
+/// Words that are not UTF-8 are refused in the form of `clap`'s texts, with status 2.
 #[test]
 fn refuses_words_that_are_not_text(rt: HostRuntime) {
     let fault = match words_not_text(rt.alloc()) {

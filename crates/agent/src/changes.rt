@@ -115,12 +115,12 @@ pub fn log_changes<R: Log>(
     }
 }
 
-/// Logs how the node's own entry changed between its birth and the first look at the members, if it did.
-pub fn log_birth<R: Log>(rt: &R, born: &Change, members: &[Change], has_moved: bool) {
-    let Some(own) = entry_of(members, &born.address) else {
+/// Logs how the node's own entry changed from the initial one to the one among these members, if it did.
+pub fn log_since_start<R: Log>(rt: &R, initial: &Change, members: &[Change], has_moved: bool) {
+    let Some(own) = entry_of(members, &initial.address) else {
         return;
     };
-    if own.incarnation != born.incarnation {
-        log_own(rt, born, own, has_moved);
+    if own.incarnation != initial.incarnation {
+        log_own(rt, initial, own, has_moved);
     }
 }

@@ -1,7 +1,7 @@
 //! Rounds of gossip, and the last ones before the end.
 use crate::agents::Agent;
 use crate::callers::Caller;
-use crate::changes::{is_refuted, log_birth, log_changes};
+use crate::changes::{is_refuted, log_changes, log_since_start};
 use crate::hosts::{MAX_FIRST_WAIT, link_of};
 use crate::links::NotedLink;
 use crate::systems::Host;
@@ -27,7 +27,7 @@ struct Rounds<'a, R> {
     link: NotedLink<'a, R>,
     healing: Healing<'a>,
     /// The node's own entry before it met any other node.
-    born: Option<Change>,
+    initial: Option<Change>,
     /// The members at the last logged change, or after the hosts were first asked, and their digest.
     members: Option<ChangeList>,
     digest: Option<Digest>,
@@ -83,8 +83,8 @@ impl<'a, R: Host> Rounds<'a, R> {
             log_changes(&agent.log(), &agent.own, before, after, round, has_moved);
             is_own = !has_moved && is_refuted(&agent.own, before, after);
             used = before.len();
-        } else if let Some(born) = &self.born {
-            log_birth(&agent.log(), born, after, has_moved);
+        } else if let Some(initial) = &self.initial {
+            log_since_start(&agent.log(), initial, after, has_moved);
         }
         self.warn_of_addresses(used, after);
         self.members = Some(changed.members);
@@ -163,12 +163,12 @@ impl<'a, R: Host> Rounds<'a, R> {
 }
 
 /// Makes rounds until the agent is to end, and then the last ones. A round begins `period` milliseconds after the one before,
-/// or as soon as that one has ended. `born` is the node's own entry before it met any other node.
+/// or as soon as that one has ended. `initial` is the node's own entry before it met any other node.
 pub fn make_rounds<R: Host>(
     agent: Arc<Agent<R>, Global>,
     alloc: Global,
     caller: Caller,
-    born: Option<Change>,
+    initial: Option<Change>,
     hosts: Vec<Address>,
     period: u64,
 ) {
@@ -179,7 +179,7 @@ pub fn make_rounds<R: Host>(
         caller,
         link: link_of(agent, MAX_FIRST_WAIT),
         healing: Healing::new(agent.own, hosts.as_slice()),
-        born,
+        initial,
         members: None,
         digest: None,
         refutations: Refutations::new(),

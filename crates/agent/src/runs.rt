@@ -212,7 +212,7 @@ fn start_rounds<R: System>(
     rt: &R,
     alloc: Global,
     agent: &Arc<Agent<R>, Global>,
-    born: Option<Change>,
+    initial: Option<Change>,
     hosts: Vec<Address>,
     period: u64,
 ) -> Result<(), AgentError> {
@@ -220,7 +220,7 @@ fn start_rounds<R: System>(
     let agent = Arc::try_clone(agent)?;
     let started = thread::spawn(
         rt,
-        move || make_rounds(agent, alloc, caller, born, hosts, period),
+        move || make_rounds(agent, alloc, caller, initial, hosts, period),
     );
     let _thread = started.map_err(|_| AgentError::NoThread)?;
     Ok(())
@@ -295,7 +295,7 @@ fn start<R: System>(
         None => None,
     };
     let mut first = caller_of(agent)?;
-    let born = first.own(rt).ok();
+    let initial = first.own(rt).ok();
     let (hands, jobs) = bounded(alloc, MAX_QUEUED_REQUESTS)?;
     start_peers(rt, alloc, agent, &listener, &hands)?;
     start_hands(rt, alloc, agent, &jobs, settings.hands)?;
@@ -304,7 +304,7 @@ fn start<R: System>(
         None => None,
     };
     let Settings { hosts, period, .. } = settings;
-    start_rounds(rt, alloc, agent, born, hosts.clone()?, period)?;
+    start_rounds(rt, alloc, agent, initial, hosts.clone()?, period)?;
     start_joins(rt, alloc, agent, hosts)?;
     Ok(lot)
 }

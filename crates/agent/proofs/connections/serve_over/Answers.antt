@@ -21,11 +21,11 @@ returns-clause-answers g c =
     sends_answers own replicas c.args.connection.now c.pump.new.connection
     (g.I.Read.remaining c.args.reader.now) (g.I.Read.remaining c.pump.new.reader) (g.O.Write.contents c.args.writer.now) (g.O.Write.contents c.pump.new.writer)
     c.args.front.now.caller.now c.pump.new.service.caller.now
-    (said.config ∙ c.args.requires)
+    (said.config ∙ c.requires)
     said.read said.written said.calls.0 said.calls.1 answered
 
 pub returns-clause-settled : goal.returns-clause-settled
 returns-clause-settled g c = λ is. (
   c.pump.ensures.flushed is,
-  subst (λ config. Rests config (history c.pump.new.connection)) (c.pump.ensures.config ∙ c.args.requires) (c.pump.ensures.input is),
+  subst (λ config. Rests config (history c.pump.new.connection)) (c.pump.ensures.config ∙ c.requires) (c.pump.ensures.input is),
 )

@@ -73,8 +73,8 @@ fn join_by<R: Host>(
     false
 }
 
-/// Sends a Join to one host after the other, again and again until one has answered, or the agent is to end. Later it is
-/// healing that asks them. A node that is a host itself has joined once all others were asked.
+/// Sends a Join to one host after the other, again and again until one has answered, or the agent is to end.
+/// Later it is healing that asks them.
 pub fn join_hosts<R: Host>(
     agent: Arc<Agent<R>, Global>,
     alloc: Global,
@@ -83,12 +83,11 @@ pub fn join_hosts<R: Host>(
 ) {
     let agent = &*agent;
     let hosts = hosts.as_slice();
-    let is_host = hosts.contains(&agent.own);
     let mut wait = MAX_FIRST_WAIT;
     for _ in agent.rt.forever() {
         let mut link = link_of(agent, wait);
         let is_met = !agent.has_left.get() && join_by(agent, alloc, &mut caller, &mut link, hosts);
-        if is_met || is_host {
+        if is_met {
             agent.has_joined.set(true);
         }
         agent.is_starting.set(false);

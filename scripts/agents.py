@@ -17,12 +17,14 @@ PATIENCE = 30
 
 
 class Agent:
-    """An agent with an application."""
+    """An agent with an application, whose port is this much above the node's."""
+
+    above = 2 * STEP
 
     def __init__(self, program, port, hosts, app=("python3", str(ROOT / "examples" / "app.py")), log=None, more=()):
         self.program, self.port, self.hosts, self.log, self.more = program, port, hosts, log, more
-        self.own, self.http, self.app = address(port), address(port + STEP), address(port + 2 * STEP)
-        self.words = [*app, str(port + 2 * STEP)]
+        self.own, self.http, self.app = address(port), address(port + STEP), address(port + self.above)
+        self.words = [*app, str(port + self.above)]
         self.start_application()
         self.start()
 

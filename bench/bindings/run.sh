@@ -1,5 +1,5 @@
 #!/usr/bin/env bash
-# The owner of a key by the packages of python/ and go/, over the C library of dist/, and by their peers in one run each: uhashring in Python,
+# The owner of a key by the packages of python/, over the C library of dist/, and go/, and by their peers in one run each: uhashring in Python,
 # groupcache's consistenthash in Go, with 10, 100 and 1,000 servers of 100 points. Nanoseconds a call, and in brackets the ratio to ours. A
 # peer that is not here is named (on Debian python3-uhashring and golang-github-golang-groupcache-dev have them).
 # usage: bench/bindings/run.sh     behind make package, which leaves dist/

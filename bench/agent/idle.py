@@ -66,10 +66,11 @@ def drip(streams, is_over):
 
 def measure(pid, given):
     print("at first:", held(pid))
-    idle = [connect() for _ in range(given.idle)]
-    if given.asked:
-        for stream in idle:
-            ask(stream, "/digest")
+    idle = []
+    for _ in range(given.idle):
+        idle.append(connect())
+        if given.asked:
+            ask(idle[-1], "/digest")
     dripping, is_over, times = [connect() for _ in range(given.dripping)], threading.Event(), []
     thread = threading.Thread(target=drip, args=(dripping, is_over))
     thread.start()

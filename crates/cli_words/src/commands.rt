@@ -6,6 +6,10 @@ ghost use Rattle.cli_words.specs.CommandLine as line;
 ghost use Rattle.cli_words.specs.CommandLine.{leaf, ringpop_app};
 
 use crate::agent_words::{MAX_HANDS, MAX_HTTP_CONNECTIONS, MAX_PERIOD};
+use crate::help::{
+    BELOW, BELOW_AGENT, BELOW_ASK, BELOW_FOLD, BELOW_MEMBERS, BELOW_OWNER, BELOW_SERVE, BELOW_SIM,
+    BELOW_TELL,
+};
 use change_core::{MAX_MEMBERS, MAX_NUMBER, MAX_WEIGHT};
 use clap::builder::{ValueParser, ValueRange};
 use clap::{Arg, ArgAction, Command};
@@ -93,42 +97,6 @@ pub const PER_MESSAGE: &str = "per-message";
 /// The argument for the level of the log.
 pub const LOG: &str = "log";
 
-/// The text below the help of the program.
-const BELOW: &str =
-    r#"A change line is one JSON object, in which a node (the source) says what it holds of a member:
-  {"address":"10.0.0.2:7946","incarnationNumber":5,"source":"10.0.0.1:7946","sourceIncarnationNumber":3,"status":"alive"}
-The status is alive, suspect, faulty, leave or tombstone. A member of more weight has "weight" too: 1 (if absent) to 8.
-
-Examples:
-  ringpop < changes.jsonl                        the members, and the digest that equal members share
-  ringpop owner --n 2 trip-42 < changes.jsonl    the two members that own the key trip-42, the first first
-  ringpop members 10.0.0.2:7946                  the members that a running node holds, and their digest
-  ringpop members --table 10.0.0.2:7946          the same members as a table
-  ringpop ask --any 10.0.0.2:7946 trip-42 hello  what the owner of the key trip-42 answers to the request
-  ringpop serve 10.0.0.1:7946 1 1000             the first node of a cluster, which ends after 1,000 connections
-  ringpop serve --period 200 10.0.0.2:7946 1 1000 10.0.0.1:7946
-                                                 a second one, which joins the first and gossips each 200 milliseconds
-  ringpop agent --http 127.0.0.1:7980 --app 127.0.0.1:8080 10.0.0.1:7946 10.0.0.2:7946
-                                                 a node next to a service, which joins the second and has the service answer
-
-Exit status: 0 if all went well; 1 if a line is at fault, if no node answers as it was asked, if a node is let in by no host,
-cannot listen or has no thread, if an agent's node takes no calls more or its HTTP would be answered beyond the machine, or if
-reading, writing or memory failed; 2 if the arguments are invalid, an address among them."#;
-
-/// The text below the help of `sim`.
-const BELOW_SIM: &str =
-    r#"Commands of a script, with one space between words (X and Y are addresses, I is an incarnation, W a weight):
-  node X I [W]                     make a node
-  restart X I [W]                  make it anew, at a greater incarnation
-  at MS                            set the time, in milliseconds
-  take X Y I STATUS [W]            tell X that Y is alive, suspect, faulty, leave or tombstone
-  leave X, rejoin X                let X leave, or come back
-  expire X                         let a timer of X that is due run out, of those the least address's
-  members X, digest X              ask X for its members, or for their digest
-  owners X N KEY                   ask X for the first N owners of a key
-  send X Y                         keep the ping of X to Y, as the message with the next number
-  deliver NUMBER                   deliver a message"#;
-
 /// An option with a whole number in a range.
 fn option<'a>(
     alloc: Global,
@@ -157,33 +125,37 @@ fn word<'a>(alloc: Global, name: &'a str, value: &'a str, help: &'a str) -> Arg<
         .help(help)
 }
 
-/// A new subcommand with these options and arguments, in their order.
+/// A new subcommand with these options and arguments, in their order, and this text below its help.
 fn leaf_command<'a>(
     alloc: Global,
     name: &'a str,
     about: &'a str,
+    below: &'a str,
     words: Vec<Arg<'a>>,
 ) -> Result<Command<'a>, AllocError>
     ensures { IfOk result (λ c. (bare : BuiltCommand) × (app_of bare ≡ new_app name.entry.now) × AddsInTurn AddsArg bare words.entry.items c) }
 {
-    Command::new(alloc, name).about(about).args(words)
+    Command::new(alloc, name)
+        .about(about)
+        .after_help(below)
+        .args(words)
 }
 
 fn fold_command<'a>(alloc: Global) -> Command<'a>
     ensures { app_of result ≡ leaf line.fold_words }
 {
-    Command::new(alloc, "fold").about(
-        "Reads change lines; prints the members that they come to, and their digest",
-    )
+    Command::new(alloc, "fold")
+        .about("Reads change lines; prints the members that result, and their digest")
+        .after_help(BELOW_FOLD)
 }
 
 fn hash_command<'a>(alloc: Global) -> Result<Command<'a>, AllocError>
     ensures { IfOk result (λ c. app_of c ≡ leaf line.hash_words) }
 {
-    let text = word(alloc, TEXT, "TEXT", "The text, which may be empty");
+    let text = word(alloc, TEXT, "TEXT", "Any text; it may be empty");
     Command::new(alloc, "hash")
         .about(
-            "Prints where a text stands on the ring: the first 16 hexadecimal digits of its SHA-256",
+            "Prints the position of a text on the ring: the first 16 hexadecimal digits of its SHA-256",
         )
         .arg(text)
 }
@@ -193,7 +165,8 @@ fn replicas_option<'a>(alloc: Global) -> Arg<'a>
     ensures { rule_of result ≡ line.replicas }
 {
     option(alloc, REPLICAS, "R", "100", 1, u64::from(MAX_REPLICAS)).help(
-        "Points on the ring of a member, for each unit of its weight: 1 to 1000",
+        "Points on the ring for each unit of a member's weight, from 1 to\n\
+         1000; all nodes of a cluster need the same number",
     )
 }
 
@@ -204,21 +177,26 @@ fn sum_flag<'a>(alloc: Global) -> Arg<'a>
     Arg::new(alloc, SUM)
         .long(SUM)
         .action(ArgAction::SetTrue)
-        .help("Hash by the sum of the bytes in place of SHA-256 (to follow an example by hand)")
+        .help(
+            "Hash by the sum of the bytes instead of SHA-256, to follow an\n\
+             example with pen and paper",
+        )
 }
 
 fn owner_command<'a>(alloc: Global) -> Result<Command<'a>, AllocError>
     ensures { IfOk result (λ c. app_of c ≡ leaf line.owner_words) }
 {
     let count = option(alloc, COUNT, "N", "1", 0, MAX_MEMBERS as u64).help(
-        "How many owners to print, the first first: 0 to 4096",
+        "How many members to print, the owner first and then those that come\n\
+         next, from 0 to 4096",
     );
-    let key = word(alloc, KEY, "KEY", "The key: any text, which may be empty");
+    let key = word(alloc, KEY, "KEY", "The key: any text; it may be empty");
     let words = vec![in alloc; count, replicas_option(alloc), sum_flag(alloc), key]?;
     leaf_command(
         alloc,
         "owner",
-        "Reads change lines; prints the members that own a key, one a line",
+        "Reads change lines; prints the member that owns a key",
+        BELOW_OWNER,
         words,
     )
 }
@@ -227,10 +205,13 @@ fn sim_command<'a>(alloc: Global) -> Result<Command<'a>, AllocError>
     ensures { IfOk result (λ c. app_of c ≡ leaf line.sim_words) }
 {
     let words = vec![in alloc; replicas_option(alloc), sum_flag(alloc)]?;
-    Command::new(alloc, "sim")
-        .about("Reads a script of nodes in one process, a command a line; answers each with a line")
-        .after_help(BELOW_SIM)
-        .args(words)
+    leaf_command(
+        alloc,
+        "sim",
+        "Reads a script of commands for simulated nodes; answers each command with a line",
+        BELOW_SIM,
+        words,
+    )
 }
 
 /// The number of connections that are served at a time.
@@ -238,7 +219,7 @@ fn workers_option<'a>(alloc: Global) -> Arg<'a>
     ensures { rule_of result ≡ line.workers }
 {
     option(alloc, WORKERS, "W", "2", 1, u64::from(MAX_WORKERS)).help(
-        "How many connections are served at a time: 1 to 16",
+        "How many connections are served at a time, from 1 to 16",
     )
 }
 
@@ -247,7 +228,9 @@ fn period_option<'a>(alloc: Global) -> Arg<'a>
     ensures { rule_of result ≡ line.period }
 {
     option(alloc, PERIOD, "MS", "0", 0, MAX_NUMBER).help(
-        "Milliseconds between two rounds of gossip: 0, which makes none, to 9007199254740991",
+        "Milliseconds between two rounds of gossip, up to 9007199254740991;\n\
+         with 0 the node makes no rounds: it answers other nodes, and detects\n\
+         no failure",
     )
 }
 
@@ -256,7 +239,8 @@ fn weight_option<'a>(alloc: Global) -> Arg<'a>
     ensures { rule_of result ≡ line.weight }
 {
     option(alloc, WEIGHT, "W", "1", 1, u64::from(MAX_WEIGHT)).help(
-        "The node's weight, its share of the keys: 1 to 8",
+        "The node's weight, from 1 to 8: a node of weight 2 owns twice as\n\
+         many keys as one of weight 1, on average",
     )
 }
 
@@ -265,7 +249,8 @@ fn per_message_option<'a>(alloc: Global) -> Arg<'a>
     ensures { rule_of result ≡ line.per_message }
 {
     option(alloc, PER_MESSAGE, "N", "64", 1, MAX_MEMBERS as u64).help(
-        "How many changes a message carries at most: 1 to 4096; more let many nodes that start together agree sooner",
+        "How many changes a message carries at most, from 1 to 4096; with 256\n\
+         or more, many nodes that start together agree sooner",
     )
 }
 
@@ -274,7 +259,8 @@ fn piggyback_option<'a>(alloc: Global) -> Arg<'a>
     ensures { rule_of result ≡ line.piggyback }
 {
     option(alloc, PIGGYBACK, "N", "15", 1, u64::from(MAX_FACTOR)).help(
-        "How often a change is passed on, for each decimal digit of the number of serving members: 1 to 1000",
+        "How often the node passes a change on, for each decimal digit of the\n\
+         number of members that are alive or suspect, from 1 to 1000",
     )
 }
 
@@ -286,7 +272,9 @@ fn heal_flag<'a>(alloc: Global) -> Arg<'a>
         .long(HEAL)
         .action(ArgAction::SetTrue)
         .help(
-            "Find members again that parted: after each tenth round ping one at random, also a faulty one, and send a join to a host that does not serve",
+            "Find members again that were lost, as in a partition: after each\n\
+             tenth round ping a random member, which may be faulty, and send a\n\
+             join to a host that is neither alive nor suspect",
         )
 }
 
@@ -308,8 +296,8 @@ fn number_word<'a>(
 fn incarnation_word<'a>(alloc: Global) -> Arg<'a>
     ensures { rule_of result ≡ line.incarnation }
 {
-    let help =
-        "The node's first incarnation, and its seed: 0 to 9007199254740991; greater than any that it had before";
+    let help = "The node's first incarnation, from 0 to 9007199254740991: a greater\n\
+         one at each start. It is also the seed of the node's random choices";
     number_word(alloc, INCARNATION, "INCARNATION", help, 0, MAX_NUMBER)
 }
 
@@ -317,19 +305,20 @@ fn incarnation_word<'a>(alloc: Global) -> Arg<'a>
 fn requests_word<'a>(alloc: Global) -> Arg<'a>
     ensures { rule_of result ≡ line.requests }
 {
-    let help = "How many connections are served, those of gossip too: 1 to 1000000";
+    let help = "After how many connections the node ends, those of gossip included,\n\
+         from 1 to 1000000";
     number_word(alloc, REQUESTS, "REQUESTS", help, 1, MAX_REQUESTS)
 }
 
 /// The nodes that are asked to admit the node.
-fn hosts_word<'a>(alloc: Global) -> Arg<'a>
+fn hosts_word<'a>(alloc: Global, help: &'a str) -> Arg<'a>
     ensures { rule_of result ≡ line.hosts }
 {
     Arg::new(alloc, HOST)
         .num_args(ValueRange::from(0..))
         .action(ArgAction::Append)
         .value_name("HOST")
-        .help("Running nodes that are asked to let this one join; none for the first of a cluster")
+        .help(help)
 }
 
 fn serve_command<'a>(alloc: Global) -> Result<Command<'a>, AllocError>
@@ -339,8 +328,11 @@ fn serve_command<'a>(alloc: Global) -> Result<Command<'a>, AllocError>
         alloc,
         ADDRESS,
         "ADDRESS",
-        "Where the node listens, and how the others name it: an IPv4 address and a port",
+        "The IPv4 address and port where the node listens and others reach\n\
+         it, so not 0.0.0.0",
     );
+    let hosts = "Running nodes that are asked to admit this one; none for the first\n\
+         node of a cluster";
     let words = vec![in alloc;
         workers_option(alloc),
         period_option(alloc),
@@ -353,12 +345,13 @@ fn serve_command<'a>(alloc: Global) -> Result<Command<'a>, AllocError>
         address,
         incarnation_word(alloc),
         requests_word(alloc),
-        hosts_word(alloc),
+        hosts_word(alloc, hosts),
     ]?;
     leaf_command(
         alloc,
         "serve",
-        "Runs a node: joins the hosts, if any, serves so many connections, and ends; a request is answered by the node's address and the request",
+        "Runs a node that echoes requests, and ends after REQUESTS connections",
+        BELOW_SERVE,
         words,
     )
 }
@@ -370,7 +363,11 @@ fn any_flag<'a>(alloc: Global) -> Arg<'a>
     Arg::new(alloc, ANY)
         .long(ANY)
         .action(ArgAction::SetTrue)
-        .help("Take ADDRESS for any node of the cluster, and ask the owner of the key")
+        .help(
+            "Ask the owner of the key: ADDRESS is any node of the cluster, and is\n\
+             asked for the members first; --replicas and --sum have to be the\n\
+             cluster's",
+        )
 }
 
 /// The subcommand `ask` with these options for asking the owner.
@@ -387,20 +384,21 @@ fn ask_command_with<'a>(
         alloc,
         ADDRESS,
         "ADDRESS",
-        "The node: an IPv4 address and a port",
+        "The IPv4 address and port of the node",
     );
-    let key = word(alloc, KEY, "KEY", "The key: any text, which may be empty");
+    let key = word(alloc, KEY, "KEY", "The key: any text; it may be empty");
     let body = word(
         alloc,
         BODY,
         "BODY",
-        "The request: any text, which may be empty",
+        "The text of the request; it may be empty",
     );
     let words = vec![in alloc; any_flag(alloc), replicas, sum, address, key, body]?;
     leaf_command(
         alloc,
         "ask",
-        "Sends a request to a running node; prints its reply",
+        "Sends a request to a running node; prints the text of the reply",
+        BELOW_ASK,
         words,
     )
 }
@@ -421,7 +419,7 @@ fn host_word<'a>(alloc: Global) -> Arg<'a>
         alloc,
         HOST,
         "HOST",
-        "A running node: an IPv4 address and a port",
+        "The IPv4 address and port of a running node",
     )
 }
 
@@ -443,7 +441,9 @@ fn table_flag<'a>(alloc: Global) -> Arg<'a>
         .long(TABLE)
         .action(ArgAction::SetTrue)
         .help(
-            "Print a table, for eyes: address, status, incarnation, weight, and the share of the keys that the weight gives",
+            "Print a table: address, status, incarnation, weight, and the share\n\
+             of the keys that the weight gives on average. With --lines it has no\n\
+             effect",
         )
 }
 
@@ -455,6 +455,7 @@ fn members_command<'a>(alloc: Global) -> Result<Command<'a>, AllocError>
         alloc,
         "members",
         "Prints the members that a running node holds, and their digest",
+        BELOW_MEMBERS,
         words,
     )
 }
@@ -464,8 +465,9 @@ fn tell_command<'a>(alloc: Global) -> Result<Command<'a>, AllocError>
 {
     Command::new(alloc, "tell")
         .about(
-            "Reads at most 4096 change lines; tells them to a running node, and prints how many members it then holds",
+            "Reads change lines; sends them to a running node, and prints how many members it then holds",
         )
+        .after_help(BELOW_TELL)
         .arg(host_word(alloc))
 }
 
@@ -486,7 +488,8 @@ fn bind_option<'a>(alloc: Global) -> Arg<'a>
     address_option(
         alloc,
         BIND,
-        "Where the node listens, if not at ADDRESS, as in a container",
+        "Where the node listens, if not at ADDRESS: in a container, or behind\n\
+         address translation",
     )
 }
 
@@ -497,7 +500,8 @@ fn http_option<'a>(alloc: Global) -> Arg<'a>
     address_option(
         alloc,
         HTTP,
-        "Where HTTP is answered, in 127.0.0.0/8; nowhere if not given",
+        "Where HTTP is answered, an address in 127.0.0.0/8 unless --http-any\n\
+         is given; without this option there is no HTTP",
     )
 }
 
@@ -508,7 +512,8 @@ fn app_option<'a>(alloc: Global) -> Arg<'a>
     address_option(
         alloc,
         APP,
-        "Where the application takes POST /keys/KEY; if not given, requests are echoed",
+        "Where the application listens; it gets POST /keys/KEY for the keys\n\
+         that this node owns. Without this option the agent echoes requests",
     )
 }
 
@@ -519,7 +524,10 @@ fn http_any_flag<'a>(alloc: Global) -> Arg<'a>
     Arg::new(alloc, HTTP_ANY)
         .long(HTTP_ANY)
         .action(ArgAction::SetTrue)
-        .help("Let --http be an address beyond 127.0.0.0/8: whoever reaches it may stop the node")
+        .help(
+            "Allow an address outside 127.0.0.0/8 for --http; nothing is\n\
+             authenticated, so whoever reaches it may stop the node",
+        )
 }
 
 /// The option for the most requests of other nodes that the application is given at a time.
@@ -527,7 +535,9 @@ fn hands_option<'a>(alloc: Global) -> Arg<'a>
     ensures { rule_of result ≡ line.hands }
 {
     option(alloc, HANDS, "N", "32", 1, MAX_HANDS).help(
-        "How many requests of other nodes the application is given at a time: 1 to 256",
+        "How many threads answer requests that other nodes send, from 1 to\n\
+         256. Up to half of them pass on a request whose owner is yet another\n\
+         node, so with 1 none is passed on",
     )
 }
 
@@ -537,7 +547,9 @@ fn http_connections_option<'a>(alloc: Global) -> Arg<'a>
 {
     let most = MAX_HTTP_CONNECTIONS;
     option(alloc, HTTP_CONNECTIONS, "N", "10000", 1, most).help(
-        "How many HTTP connections are open at a time: 1 to 65536",
+        "How many HTTP connections are open at a time, from 1 to 65536; one\n\
+         more closes the one that was idle longest. There are fewer if the\n\
+         system gives fewer descriptors, as the log says",
     )
 }
 
@@ -546,7 +558,7 @@ fn agent_period_option<'a>(alloc: Global) -> Arg<'a>
     ensures { rule_of result ≡ line.agent_period }
 {
     option(alloc, PERIOD, "MS", "200", 1, MAX_PERIOD).help(
-        "Milliseconds between two rounds of gossip: 1 to 60000",
+        "Milliseconds between two rounds of gossip, from 1 to 60000",
     )
 }
 
@@ -555,7 +567,7 @@ fn agent_per_message_option<'a>(alloc: Global) -> Arg<'a>
     ensures { rule_of result ≡ line.agent_per_message }
 {
     option(alloc, PER_MESSAGE, "N", "256", 1, MAX_MEMBERS as u64).help(
-        "How many changes a message carries at most: 1 to 4096",
+        "How many changes a message carries at most, from 1 to 4096",
     )
 }
 
@@ -568,7 +580,9 @@ fn incarnation_option<'a>(alloc: Global) -> Arg<'a>
         .value_name("I")
         .value_parser(ValueParser::unsigned(0, MAX_NUMBER))
         .help(
-            "The node's first incarnation: 0 to 9007199254740991; the milliseconds since 1970 if not given",
+            "The node's first incarnation, from 0 to 9007199254740991: a greater\n\
+             one at each start. Without this option it is the number of\n\
+             milliseconds since 1970",
         )
 }
 
@@ -580,7 +594,7 @@ fn log_option<'a>(alloc: Global) -> Arg<'a>
         .long(LOG)
         .value_name("LEVEL")
         .default_value("info")
-        .help("What standard error is told: off, error, warn, info or debug")
+        .help("What the log on standard error has: off, error, warn, info or debug")
 }
 
 /// The address by which other nodes name an agent's node.
@@ -591,13 +605,16 @@ fn agent_address<'a>(alloc: Global) -> Arg<'a>
         alloc,
         ADDRESS,
         "ADDRESS",
-        "What the others call the node: an IPv4 address and a port",
+        "The IPv4 address and port where other nodes reach this one, so not\n\
+         0.0.0.0",
     )
 }
 
 fn agent_command<'a>(alloc: Global) -> Result<Command<'a>, AllocError>
     ensures { IfOk result (λ c. app_of c ≡ leaf line.agent_words) }
 {
+    let hosts = "Nodes that are asked to admit this one: the same list for all\n\
+         agents, in which an agent skips itself; none for a single node";
     let words = vec![in alloc;
         bind_option(alloc),
         http_option(alloc),
@@ -612,12 +629,13 @@ fn agent_command<'a>(alloc: Global) -> Result<Command<'a>, AllocError>
         incarnation_option(alloc),
         log_option(alloc),
         agent_address(alloc),
-        hosts_word(alloc),
+        hosts_word(alloc, hosts),
     ]?;
     leaf_command(
         alloc,
         "agent",
-        "Runs a node next to an application until POST /stop: it gossips, answers HTTP, and has the application answer the requests of the keys that the node owns",
+        "Runs a node next to an application, which answers the requests for the keys of the node",
+        BELOW_AGENT,
         words,
     )
 }
@@ -644,7 +662,7 @@ pub fn ringpop_command<'a>(alloc: Global) -> Result<Command<'a>, AllocError>
         .bin_name("ringpop")?
         .version("1.0.0-dev")
         .about(
-            "The members of a cluster and the owners of its keys, from change lines on standard input or from its running nodes; and a node that serves. With no command it is fold, which waits for lines: ringpop < changes.jsonl.",
+            "Names the members of a cluster and the owners of its keys, and runs nodes of a cluster",
         )
         .after_help(BELOW)
         .subcommand(fold_command(alloc));

@@ -7,6 +7,7 @@ mod bad_arguments;
 mod cluster_words;
 mod commands;
 mod faults;
+mod help;
 mod words;
 
 pub use agent_words::{AgentWords, LogLevel};

@@ -187,12 +187,12 @@ const REFUSED_WORDS: [(&str, &str); 29] = [
     ),
     (
         "ringpop --help",
-        "The members of a cluster and the owners of its keys",
+        "Names the members of a cluster and the owners of its keys",
     ),
     ("ringpop --version", "ringpop 1.0.0-dev\n"),
     (
         "elsewhere/ringpop sim --help",
-        "Reads a script of nodes in one process, a command a line; answers each with a line\n\nUsage: ringpop sim [OPTIONS]\n",
+        "Reads a script of commands for simulated nodes; answers each command with a line\n\nUsage: ringpop sim [OPTIONS]\n",
     ),
     ("ringpop fold x", "error: unexpected argument 'x' found\n"),
     (
@@ -267,7 +267,7 @@ const REFUSED_WORDS: [(&str, &str); 29] = [
     ("ringpop tell x", "ringpop: bad address\n"),
     (
         "ringpop tell --help",
-        "Reads at most 4096 change lines; tells them to a running node, and prints how many members it then holds\n\nUsage: ringpop tell <HOST>\n",
+        "Reads change lines; sends them to a running node, and prints how many members it then holds\n\nUsage: ringpop tell <HOST>\n",
     ),
 ];
 

@@ -10,6 +10,7 @@ use crate::agent_words::{AgentWords, LogLevel, MAX_HANDS, MAX_HTTP_CONNECTIONS, 
 use crate::cluster_words::{address_at, address_of, hosts_at, incarnation, weight};
 use crate::commands::{
     ADDRESS, APP, BIND, HANDS, HTTP, HTTP_ANY, HTTP_CONNECTIONS, LOG, PER_MESSAGE, PERIOD,
+    agent_alone,
 };
 use crate::faults::WordsError;
 use crate::words::{absent, flag, number, refusal, replicas};
@@ -164,7 +165,7 @@ fn no_level(alloc: Global, name: &str) -> WordsError
         "invalid value '{name}' for '--log <LEVEL>': give off, error, warn, info or debug"
     );
     match text {
-        Ok(text) => refusal(alloc, text.as_str()),
+        Ok(text) => refusal(agent_alone(alloc), text.as_str()),
         Err(_) => WordsError::OutOfMemory,
     }
 }

@@ -24,7 +24,7 @@ impl fmt::Display for BadArgument<'_> {
         let BadArgument { argument, given } = self;
         write!(
             f,
-            "'{given}' for {argument}: give an IPv4 address and a port, as 127.0.0.1:7946"
+            "'{given}' for {argument}: give an IPv4 address and a port of 1 to 65535, as 127.0.0.1:7946"
         )
     }
 }

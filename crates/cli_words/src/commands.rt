@@ -640,6 +640,15 @@ fn agent_command<'a>(alloc: Global) -> Result<Command<'a>, AllocError>
     )
 }
 
+/// Returns `agent` as it stands in the usage line of its refusals.
+///
+/// # Errors
+///
+/// - `AllocError`: out of memory.
+pub fn agent_alone<'a>(alloc: Global) -> Result<Command<'a>, AllocError> {
+    agent_command(alloc)?.bin_name("ringpop agent")
+}
+
 /// The command with another subcommand. Out of memory for either is the error.
 fn with_subcommand<'a>(
     command: Result<Command<'a>, AllocError>,

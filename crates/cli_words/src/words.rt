@@ -15,8 +15,8 @@ use crate::cluster_words::cluster_command_of;
 use crate::commands::{COUNT, KEY, REPLICAS, SUM, TEXT, ringpop_command};
 use crate::faults::WordsError;
 use change_core::MAX_MEMBERS;
-use clap::ArgMatches;
 use clap::error::ErrorKind;
+use clap::{ArgMatches, Command};
 use cli_core::{ClusterCommand, OwnerWords, SimWords, Subcommand};
 use hash_ring::MAX_REPLICAS;
 use std::alloc::{AllocError, Global};
@@ -180,29 +180,31 @@ pub fn read_words<'a, S: AsStr>(alloc: Global, words: &'a [S]) -> Result<Words<'
 pub fn absent(alloc: Global) -> WordsError
     ensures { IsUsageFault result }
 {
-    refusal(alloc, "a word is absent or not in its range")
+    refusal(
+        ringpop_command(alloc),
+        "a word is absent or not in its range",
+    )
 }
 
-/// Makes a refusal of the arguments in the form of `clap`'s, or out of memory.
-pub fn refusal(alloc: Global, text: &str) -> WordsError
+/// Makes a refusal of the arguments in the form of `clap`'s, with the usage of this command, or out of memory.
+pub fn refusal(command: Result<Command<'_>, AllocError>, text: &str) -> WordsError
     ensures { IsUsageFault result }
 {
-    match invalid(alloc, text) {
+    match invalid(command, text) {
         Ok(error) => WordsError::from(error),
         Err(refused) => WordsError::from(refused),
     }
 }
 
-fn invalid(alloc: Global, text: &str) -> Result<clap::Error, AllocError>
+fn invalid(command: Result<Command<'_>, AllocError>, text: &str) -> Result<clap::Error, AllocError>
     ensures { IfOk result (λ e. kind_of e ≡ ErrorKind.InvalidValue) }
 {
-    let mut command = ringpop_command(alloc)?;
-    command.error(ErrorKind::InvalidValue, text)
+    command?.error(ErrorKind::InvalidValue, text)
 }
 
 /// Makes the refusal of arguments that are not UTF-8, in the form of `clap`'s.
 pub fn words_not_text(alloc: Global) -> WordsError
     ensures { IsUsageFault result }
 {
-    refusal(alloc, "the words are not UTF-8")
+    refusal(ringpop_command(alloc), "the words are not UTF-8")
 }

@@ -284,23 +284,23 @@ fn refuses_words(rt: HostRuntime) {
 const BAD_ARGUMENTS: [(&str, &str); 7] = [
     (
         "ringpop members localhost:7946",
-        "'localhost:7946' for HOST: give an IPv4 address and a port, as 127.0.0.1:7946",
+        "'localhost:7946' for HOST: give an IPv4 address and a port of 1 to 65535, as 127.0.0.1:7946",
     ),
     (
         "ringpop serve --sum 127.0.0.1:1 1 1 127.0.0.1:2 127.0.0.1 x",
-        "'127.0.0.1' for HOST: give an IPv4 address and a port, as 127.0.0.1:7946",
+        "'127.0.0.1' for HOST: give an IPv4 address and a port of 1 to 65535, as 127.0.0.1:7946",
     ),
     (
         "ringpop ask --any [::1]:1 x y",
-        "'[::1]:1' for ADDRESS: give an IPv4 address and a port, as 127.0.0.1:7946",
+        "'[::1]:1' for ADDRESS: give an IPv4 address and a port of 1 to 65535, as 127.0.0.1:7946",
     ),
     (
         "ringpop agent --app x --http y 127.0.0.1:1 z",
-        "'y' for --http: give an IPv4 address and a port, as 127.0.0.1:7946",
+        "'y' for --http: give an IPv4 address and a port of 1 to 65535, as 127.0.0.1:7946",
     ),
     (
         "ringpop agent --bind x --http y 0 z",
-        "'0' for ADDRESS: give an IPv4 address and a port, as 127.0.0.1:7946",
+        "'0' for ADDRESS: give an IPv4 address and a port of 1 to 65535, as 127.0.0.1:7946",
     ),
     ("ringpop members 127.0.0.1:1", ""),
     ("ringpop hash x", ""),

@@ -7,6 +7,7 @@ use cli_net::{Fault, explain, words_run};
 use cli_words::{Words, WordsError, bad_argument, read_words, words_not_text};
 use std::alloc::{Alloc, Global};
 use std::env::Env;
+use std::fs::Files;
 use std::io::{BufReader, BufWriter, ErrorKind};
 use std::net::{Net, TcpListener, TcpStream};
 use std::process::ExitCode;
@@ -14,7 +15,7 @@ use std::random::RandomSource;
 use std::sync::Wait;
 use std::thread::Threads;
 use std::time::Clock;
-use std::{env, io};
+use std::{env, fs, io};
 
 /// Returns the arguments of the program, its name first.
 fn given_words(rt: &(impl Env + Alloc<A = Global>)) -> Result<Vec<String>, WordsError> {
@@ -30,14 +31,18 @@ fn given_words(rt: &(impl Env + Alloc<A = Global>)) -> Result<Vec<String>, Words
     Ok(words)
 }
 
-/// Returns the command of the arguments. The own address of a server is not 0.0.0.0, by which no other node can call it.
-fn command_of<'a>(alloc: Global, given: &'a [String]) -> Result<Words<'a>, WordsError> {
-    let words = read_words(alloc, given)?;
-    match &words {
+/// Refuses a server's own address 0.0.0.0, by which no other node can call it, with the exit status.
+fn refuse_nowhere<R: Eprint>(rt: &R, words: &Words<'_>) -> Option<ExitCode> {
+    match words {
         Words::Cluster(ClusterCommand::Serve(server)) if server.address.ip() == 0 => {
-            Err(WordsError::BadAddress)
+            let address = server.address;
+            let error = WordsError::BadAddress;
+            let _ = eprintln!(rt;
+                "{error}ringpop: '{address}' for ADDRESS: give the address by which other nodes call this one"
+            );
+            Some(ExitCode::from(error.status()))
         }
-        _ => Ok(words),
+        _ => None,
     }
 }
 
@@ -59,20 +64,38 @@ fn tell<R: Print + Eprint>(rt: &R, fault: &Fault) -> ExitCode {
     }
 }
 
+/// Returns the first argument that is the path of a file.
+fn file_among<'a>(rt: &impl Files, given: &'a [String]) -> Option<&'a String> {
+    for word in given.iter().skip(1) {
+        if let Ok(found) = fs::metadata(rt, word.as_str()) {
+            if found.is_file() {
+                return Some(word);
+            }
+        }
+    }
+    None
+}
+
 /// Prints behind the refusal of arguments what to give.
-fn advise(rt: &(impl Eprint + Alloc<A = Global>), given: &[String], fault: &Fault) {
+fn advise(rt: &(impl Eprint + Files + Alloc<A = Global>), given: &[String], fault: &Fault) {
     let _ = match fault {
         Fault::Words(WordsError::BadAddress | WordsError::BadAddressAt(_)) => {
             match bad_argument(rt.alloc(), given) {
-                Err(_) => Ok(()),
                 Ok(Some(bad)) => eprintln!(rt; "ringpop: {bad}"),
-                Ok(None) => eprintln!(rt;
-                    "ringpop: 0.0.0.0 for ADDRESS: give the address by which other nodes call this one"
-                ),
+                Ok(None) | Err(_) => Ok(()),
             }
         }
-        Fault::Words(WordsError::Usage(text)) if text.kind() == Refused::InvalidSubcommand => {
-            eprintln!(rt; "A file of change lines is read by: ringpop < FILE")
+        Fault::Words(WordsError::Usage(text))
+            if matches!(
+                text.kind(),
+                Refused::InvalidSubcommand | Refused::UnknownArgument
+            ) => {
+            match file_among(rt, given) {
+                Some(file) => eprintln!(rt;
+                    "ringpop: '{file}' is a file, and lines are read from standard input: write < {file}"
+                ),
+                None => Ok(()),
+            }
         }
         _ => Ok(()),
     };
@@ -105,7 +128,7 @@ fn main(rt: HostRuntime) -> ExitCode {
         Ok(given) => given,
         Err(error) => return tell(&rt, &Fault::Words(error)),
     };
-    let words = match command_of(rt.alloc(), given.as_slice()) {
+    let words = match read_words(rt.alloc(), given.as_slice()) {
         Ok(words) => words,
         Err(error) => {
             let fault = Fault::Words(error);
@@ -114,6 +137,9 @@ fn main(rt: HostRuntime) -> ExitCode {
             return status;
         }
     };
+    if let Some(status) = refuse_nowhere(&rt, &words) {
+        return status;
+    }
     match run(&rt, &words) {
         Ok(()) => ExitCode::SUCCESS,
         Err(fault) => {

@@ -21,6 +21,9 @@ use std::{io, thread};
 /// The number of workers that answer HTTP, each one connection at a time.
 const WORKERS: u32 = 256;
 
+/// The number of threads of an agent for HTTP: the workers, and the one that accepts connections and watches those that wait.
+pub const HTTP_THREADS: u32 = WORKERS + 1;
+
 /// The least number of descriptors with which an agent answers HTTP.
 const MIN_DESCRIPTORS: u64 = 64;
 

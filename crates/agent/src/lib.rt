@@ -29,7 +29,8 @@ mod settings;
 mod systems;
 mod workers;
 
+pub use acceptors::HTTP_THREADS;
 pub use errors::AgentError;
-pub use runs::run;
+pub use runs::{NODE_THREADS, run};
 pub use settings::Settings;
 pub use systems::System;

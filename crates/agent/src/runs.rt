@@ -39,6 +39,10 @@ use wire_json::write_line;
 /// The number of threads that read the lines of other nodes.
 const PEERS: u32 = 4;
 
+/// The greatest number of threads of an agent for other nodes: those that read lines, the one that makes rounds, and the one that
+/// asks the hosts.
+pub const NODE_THREADS: u32 = PEERS + 2;
+
 /// The number of passes for threads, each for 4,294,967,295 calls.
 const PASSES: u32 = 1_023;
 

@@ -6,12 +6,12 @@ use crate::dialled::DialledLink;
 use crate::faults::{AskError, ServeError, TellError};
 use crate::owners::find_owner;
 use crate::program_errors::Fault;
-use agent::AgentError;
+use agent::{AgentError, HTTP_THREADS, NODE_THREADS};
 use change_core::Address;
 use cli_core::{
     AskAnyWords, AskWords, ClusterCommand, ScriptError, ServeWords, SimError, SubcommandError,
 };
-use cli_words::Words;
+use cli_words::{AgentWords, Words};
 use cluster_core::socket_address;
 use std::alloc::Global;
 use std::io::ErrorKind;
@@ -83,6 +83,28 @@ fn say_threads<R: Eprint>(rt: &R, words: &ServeWords) {
     );
 }
 
+/// Prints what it means that HTTP is answered at an address beyond the machine.
+fn say_open<R: Eprint>(rt: &R, words: &AgentWords) {
+    if let Some(address) = words.http {
+        let _ = eprintln!(rt;
+            "ringpop: '{address}' for --http: whoever reaches that address may stop the node, since nobody is asked who they are; give one of 127.0.0.0/8, or --http-any where only trusted machines reach it"
+        );
+    }
+}
+
+/// Prints how many threads an agent with these arguments wanted.
+fn say_agent_threads<R: Eprint>(rt: &R, words: &AgentWords) {
+    let hands = words.hands;
+    let http = if words.http.is_some() {
+        HTTP_THREADS
+    } else {
+        0
+    };
+    let _ = eprintln!(rt;
+        "ringpop: wanted were {hands} threads for --hands {hands}, {http} for --http, and up to {NODE_THREADS} for other nodes: see ulimit -u and -v"
+    );
+}
+
 /// Prints what lies behind an error of a command that speaks to nodes.
 fn explain_command<R: Net + Clock + Wait + Eprint + Copy>(
     rt: &R,
@@ -150,6 +172,8 @@ pub fn explain<R: Net + Clock + Wait + Eprint + Copy>(
                 "ringpop: the system's reason has no name here: has it too few descriptors (ulimit -n)?"
             );
         }
+        (Words::Agent(words), Fault::Agent(AgentError::NotLocal)) => say_open(rt, words),
+        (Words::Agent(words), Fault::Agent(AgentError::NoThread)) => say_agent_threads(rt, words),
         _ => {}
     }
 }

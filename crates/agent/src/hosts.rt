@@ -5,7 +5,7 @@ use crate::links::NotedLink;
 use crate::systems::Host;
 use change_core::Address;
 use cluster_core::Limits;
-use log::info;
+use log::{info, warn};
 use std::alloc::Global;
 use std::sync::Arc;
 use std::thread;
@@ -73,6 +73,13 @@ fn join_by<R: Host>(
     false
 }
 
+/// Logs that the node serves alone, if it has asked the hosts for the first time.
+fn note_alone<R: Host>(agent: &Agent<R>) {
+    if agent.is_starting.get() && !agent.has_left.get() {
+        warn!(agent.log(); "no host let this node join: it serves alone, and asks them again");
+    }
+}
+
 /// Sends a Join to one host after the other, again and again until one has answered, or the agent is to end.
 /// Later it is healing that asks them.
 pub fn join_hosts<R: Host>(
@@ -89,6 +96,8 @@ pub fn join_hosts<R: Host>(
         let is_met = !agent.has_left.get() && join_by(agent, alloc, &mut caller, &mut link, hosts);
         if is_met {
             agent.has_joined.set(true);
+        } else {
+            note_alone(agent);
         }
         agent.is_starting.set(false);
         if is_met || agent.is_stopping.get() {

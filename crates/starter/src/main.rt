@@ -1,12 +1,14 @@
-//! A service to begin with: each key is answered by the node that owns it. Edit `Greeter`, and what `serve` asks.
+//! A service to begin with: each key is answered by the node that owns it. Edit `Greeter`, and what `ask` asks.
 //!
 //!     ADDRESS INCARNATION [HOST ..]     runs a node, which joins the hosts; a line of input is a key, whose owner is asked
 #![tactic(auto)]
 
+ghost use Rattle.ringpop.specs.Passes.{Fits};
+
 use anyhow::{Context, Result};
 use ringpop::{
-    Address, Handler, HandlerFault as Fault, Incarnation, Keys, Member, Runtime, ServerClock,
-    Settings, Sha256Hash, TcpLink, Text, start,
+    Address, Handler, HandlerFault as Fault, Incarnation, Keys, Member, NodePass, Running, Runtime,
+    ServerClock, Settings, Sha256Hash, TcpLink, Text, start,
 };
 use std::alloc::Global;
 use std::net::{Net, TcpListener, TcpStream};
@@ -29,13 +31,15 @@ impl Handler for Greeter {
     }
 }
 
-/// Runs a node, and asks the owner of each key that comes, until the input ends.
-fn serve<
-    R: Net<Listener = TcpListener, Stream = TcpStream> + Runtime + AllocGlobal + Input + Print,
->(rt: &R, settings: &Settings<'_>) -> Result<()> {
-    let (alloc, address) = (rt.alloc(), settings.address);
-    let (running, mut handles) = start(rt, alloc, Sha256Hash, Greeter { address }, settings)?;
-    let (mut handle, server) = (handles.pop().context("no handle")?, running.server());
+/// Asks the owner of each key that comes, until the input ends.
+fn ask<R: Net<Listener = TcpListener, Stream = TcpStream> + Runtime + AllocGlobal + Input + Print>(
+    rt: &R,
+    running: &Running<Sha256Hash, Greeter, R>,
+    mut handle: NodePass<Sha256Hash>,
+) -> Result<()>
+    requires { Fits running.now.server.node handle }
+{
+    let (alloc, server) = (rt.alloc(), running.server());
     let clock = ServerClock::new(*rt, server.stopwatch);
     let mut link = TcpLink::new(*rt);
     let mut member = Member::new(&server.node, &mut handle, &mut link, alloc);
@@ -46,8 +50,6 @@ fn serve<
             Err(error) => println!(rt; "{error}")?,
         }
     }
-    member.into_pass();
-    running.stop(rt);
     Ok(())
 }
 
@@ -66,5 +68,9 @@ fn main(rt: HostRuntime) -> Result<()> {
             Incarnation::new(number).context("bad INCARNATION")?,
         )
     };
-    serve(&rt, &settings)
+    let greeter = Greeter { address };
+    let (running, mut handles) = start(&rt, rt.alloc(), Sha256Hash, greeter, &settings)?;
+    ask(&rt, &running, handles.pop().context("no handle")?)?;
+    running.stop(&rt);
+    Ok(())
 }

@@ -239,28 +239,13 @@ fn hear(
 }
 
 /// Reports of three helpers, and the outcome.
-const DECIDED: [([Said; 3], Outcome); 5] = [
-    (
-        [Said::Failed, Said::Failed, Said::Failed],
-        Outcome::Inconclusive,
-    ),
-    (
-        [Said::NotReached, Said::Failed, Said::Failed],
-        Outcome::Suspect,
-    ),
-    (
-        [Said::Failed, Said::Failed, Said::NotReached],
-        Outcome::Suspect,
-    ),
-    (
-        [Said::Reached, Said::Failed, Said::Failed],
-        Outcome::Reached,
-    ),
-    (
-        [Said::NotReached, Said::Failed, Said::Reached],
-        Outcome::Reached,
-    ),
-];
+const DECIDED: [([Said; 3], Outcome); 5] = rows! {
+    [Said::Failed, Said::Failed, Said::Failed], Outcome::Inconclusive;
+    [Said::NotReached, Said::Failed, Said::Failed], Outcome::Suspect;
+    [Said::Failed, Said::Failed, Said::NotReached], Outcome::Suspect;
+    [Said::Reached, Said::Failed, Said::Failed], Outcome::Reached;
+    [Said::NotReached, Said::Failed, Said::Reached], Outcome::Reached;
+};
 
 /// All of four are asked but the target.
 /// A lost probe among four asks the other three. All failed: inconclusive. One that did not reach it, two failed: suspect. The first

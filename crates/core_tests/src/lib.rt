@@ -2,6 +2,14 @@
 //! crate, since a check of it reads the libraries below once.
 #![tactic(auto)]
 
+/// The rows of a table, each on a line and ended by a semicolon.
+#[cfg(test)]
+macro_rules! rows {
+    ($($($cell:expr),+;)+) => {
+        [$(($($cell),+)),+]
+    };
+}
+
 #[cfg(test)]
 mod calls;
 #[cfg(test)]

@@ -74,19 +74,13 @@ pub(crate) const EXHAUSTED: Case = (
     A_AT_7,
     (
         "exhausted",
-        &[
-            (
-                Call::TakeAll(&[
-                    (B, 1, Status::Alive),
-                    (A, LIMIT, Status::Faulty),
-                    (C, 1, Status::Alive),
-                ]),
-                Told::Stopped(1, StopCause::Exhausted),
-            ),
-            (Call::Member(B), Told::Held(1, Status::Alive)),
-            (Call::Member(C), Told::Nothing),
-            (Call::Take((C, 2, Status::Suspect), 0), Told::Taken(1, 0)),
-        ],
+        &rows! {
+            Call::TakeAll(&[(B, 1, Status::Alive), (A, LIMIT, Status::Faulty), (C, 1, Status::Alive)]),
+                Told::Stopped(1, StopCause::Exhausted);
+            Call::Member(B), Told::Held(1, Status::Alive);
+            Call::Member(C), Told::Nothing;
+            Call::Take((C, 2, Status::Suspect), 0), Told::Taken(1, 0);
+        },
     ),
 );
 
@@ -100,23 +94,16 @@ pub(crate) const FULL: Case = (
     },
     (
         "full",
-        &[
-            (
-                Call::TakeAll(&[
-                    (B, 1, Status::Alive),
-                    (D, 1, Status::Alive),
-                    (C, 1, Status::Alive),
-                ]),
-                Told::Stopped(1, StopCause::Full),
-            ),
-            (Call::Member(B), Told::Held(1, Status::Alive)),
-            (Call::Member(C), Told::Nothing),
-            (Call::Take((B, 2, Status::Suspect), 0), Told::Taken(1, 0)),
-            (Call::Expire(5_000), Told::Change((B, 2, Status::Faulty))),
-            (Call::Len, Told::Len(2)),
-            (Call::Leave, Told::Change((A, 7, Status::Leave))),
-            (Call::Rejoin, Told::Change((A, 8, Status::Alive))),
-        ],
+        &rows! {
+            Call::TakeAll(&[(B, 1, Status::Alive), (D, 1, Status::Alive), (C, 1, Status::Alive)]), Told::Stopped(1, StopCause::Full);
+            Call::Member(B), Told::Held(1, Status::Alive);
+            Call::Member(C), Told::Nothing;
+            Call::Take((B, 2, Status::Suspect), 0), Told::Taken(1, 0);
+            Call::Expire(5_000), Told::Change((B, 2, Status::Faulty));
+            Call::Len, Told::Len(2);
+            Call::Leave, Told::Change((A, 7, Status::Leave));
+            Call::Rejoin, Told::Change((A, 8, Status::Alive));
+        },
     ),
 );
 
@@ -125,15 +112,12 @@ pub(crate) const GREATEST: Case = (
     A_AT_7,
     (
         "greatest",
-        &[
-            (Call::Take((A, LIMIT, Status::Alive), 0), Told::Taken(1, 0)),
-            (
-                Call::Take((A, LIMIT, Status::Suspect), 0),
-                Told::Stopped(0, StopCause::Exhausted),
-            ),
-            (Call::Leave, Told::Change((A, LIMIT, Status::Leave))),
-            (Call::Rejoin, Told::Refused(NodeError::Exhausted)),
-        ],
+        &rows! {
+            Call::Take((A, LIMIT, Status::Alive), 0), Told::Taken(1, 0);
+            Call::Take((A, LIMIT, Status::Suspect), 0), Told::Stopped(0, StopCause::Exhausted);
+            Call::Leave, Told::Change((A, LIMIT, Status::Leave));
+            Call::Rejoin, Told::Refused(NodeError::Exhausted);
+        },
     ),
 );
 
@@ -164,18 +148,15 @@ pub(crate) const RUNS_OUT: Case = (
     A_AT_7,
     (
         "runs out",
-        &[
-            (Call::Take((B, 1, Status::Suspect), 0), Told::Taken(1, 0)),
-            (Call::Expire(4_999), Told::Nothing),
-            (Call::Expire(5_000), Told::Change((B, 1, Status::Faulty))),
-            (Call::Expire(4_999), Told::Nothing),
-            (Call::Expire(86_404_999), Told::Nothing),
-            (
-                Call::Expire(86_405_000),
-                Told::Change((B, 1, Status::Tombstone)),
-            ),
-            (Call::Expire(LIMIT), Told::Nothing),
-        ],
+        &rows! {
+            Call::Take((B, 1, Status::Suspect), 0), Told::Taken(1, 0);
+            Call::Expire(4_999), Told::Nothing;
+            Call::Expire(5_000), Told::Change((B, 1, Status::Faulty));
+            Call::Expire(4_999), Told::Nothing;
+            Call::Expire(86_404_999), Told::Nothing;
+            Call::Expire(86_405_000), Told::Change((B, 1, Status::Tombstone));
+            Call::Expire(LIMIT), Told::Nothing;
+        },
     ),
 );
 
@@ -184,18 +165,12 @@ pub(crate) const WAITS: Case = (
     A_AT_7,
     (
         "waits",
-        &[
-            (
-                Call::Take((B, 1, Status::Suspect), 1_000),
-                Told::Taken(1, 0),
-            ),
-            (
-                Call::Take((B, 1, Status::Suspect), 3_000),
-                Told::Taken(0, 0),
-            ),
-            (Call::Expire(5_999), Told::Nothing),
-            (Call::Expire(6_000), Told::Change((B, 1, Status::Faulty))),
-        ],
+        &rows! {
+            Call::Take((B, 1, Status::Suspect), 1_000), Told::Taken(1, 0);
+            Call::Take((B, 1, Status::Suspect), 3_000), Told::Taken(0, 0);
+            Call::Expire(5_999), Told::Nothing;
+            Call::Expire(6_000), Told::Change((B, 1, Status::Faulty));
+        },
     ),
 );
 
@@ -227,16 +202,13 @@ pub(crate) const DOES_NOT_RUN_OUT: Case = (
     A_AT_7,
     (
         "does not run out",
-        &[
-            (Call::Take((B, 1, Status::Suspect), 0), Told::Taken(1, 0)),
-            (Call::Take((B, 2, Status::Alive), 100), Told::Taken(1, 0)),
-            (Call::Expire(5_000), Told::Nothing),
-            (
-                Call::Take((C, 1, Status::Suspect), LIMIT),
-                Told::Taken(1, 0),
-            ),
-            (Call::Expire(LIMIT), Told::Nothing),
-        ],
+        &rows! {
+            Call::Take((B, 1, Status::Suspect), 0), Told::Taken(1, 0);
+            Call::Take((B, 2, Status::Alive), 100), Told::Taken(1, 0);
+            Call::Expire(5_000), Told::Nothing;
+            Call::Take((C, 1, Status::Suspect), LIMIT), Told::Taken(1, 0);
+            Call::Expire(LIMIT), Told::Nothing;
+        },
     ),
 );
 
@@ -270,47 +242,38 @@ pub(crate) const ASKS_ONE: Case = (
     A_AT_7,
     (
         "asks one",
-        &[
-            (Call::Take((B, 1, Status::Alive), 0), Told::Taken(1, 0)),
-            (Call::Take((C, 1, Status::Alive), 0), Told::Taken(1, 0)),
-            (Call::Probe, Told::Probe(1, C)),
-            (Call::Probe, Told::Refused(NodeError::Busy)),
-            (Call::Running, Told::Running(1, C, None)),
-            (Call::Acked(2), Told::Refused(NodeError::StaleProbe)),
-            (Call::Lost(1), Told::Named(1, [Some(B), None, None])),
-            (Call::Lost(1), Told::Refused(NodeError::StaleProbe)),
-            (
-                Call::HelperSaid(1, C, Said::Reached),
-                Told::Refused(NodeError::NotAsked),
-            ),
-            (Call::Running, Told::Running(1, C, Some(B))),
-            (Call::HelperSaid(1, B, Said::Failed), Told::Inconclusive),
-            (Call::Running, Told::Nothing),
-            (Call::Probe, Told::Probe(2, B)),
-            (Call::Probe, Told::Refused(NodeError::Busy)),
-            (Call::Lost(2), Told::Named(1, [Some(C), None, None])),
-            (Call::Running, Told::Running(2, B, Some(C))),
-            (Call::HelperSaid(2, C, Said::Reached), Told::Reached),
-            (Call::Running, Told::Nothing),
-            (Call::Probe, Told::Probe(3, B)),
-            (Call::Probe, Told::Refused(NodeError::Busy)),
-            (Call::Lost(3), Told::Named(1, [Some(C), None, None])),
-            (
-                Call::HelperSaid(3, B, Said::Reached),
-                Told::Refused(NodeError::NotAsked),
-            ),
-            (Call::Running, Told::Running(3, B, Some(C))),
-            (
-                Call::HelperSaid(3, C, Said::NotReached),
-                Told::Change((B, 1, Status::Suspect)),
-            ),
-            (Call::Running, Told::Nothing),
-            (Call::Probe, Told::Probe(4, C)),
-            (Call::Probe, Told::Refused(NodeError::Busy)),
-            (Call::Acked(5), Told::Refused(NodeError::StaleProbe)),
-            (Call::Acked(4), Told::Done),
-            (Call::Running, Told::Nothing),
-        ],
+        &rows! {
+            Call::Take((B, 1, Status::Alive), 0), Told::Taken(1, 0);
+            Call::Take((C, 1, Status::Alive), 0), Told::Taken(1, 0);
+            Call::Probe, Told::Probe(1, C);
+            Call::Probe, Told::Refused(NodeError::Busy);
+            Call::Running, Told::Running(1, C, None);
+            Call::Acked(2), Told::Refused(NodeError::StaleProbe);
+            Call::Lost(1), Told::Named(1, [Some(B), None, None]);
+            Call::Lost(1), Told::Refused(NodeError::StaleProbe);
+            Call::HelperSaid(1, C, Said::Reached), Told::Refused(NodeError::NotAsked);
+            Call::Running, Told::Running(1, C, Some(B));
+            Call::HelperSaid(1, B, Said::Failed), Told::Inconclusive;
+            Call::Running, Told::Nothing;
+            Call::Probe, Told::Probe(2, B);
+            Call::Probe, Told::Refused(NodeError::Busy);
+            Call::Lost(2), Told::Named(1, [Some(C), None, None]);
+            Call::Running, Told::Running(2, B, Some(C));
+            Call::HelperSaid(2, C, Said::Reached), Told::Reached;
+            Call::Running, Told::Nothing;
+            Call::Probe, Told::Probe(3, B);
+            Call::Probe, Told::Refused(NodeError::Busy);
+            Call::Lost(3), Told::Named(1, [Some(C), None, None]);
+            Call::HelperSaid(3, B, Said::Reached), Told::Refused(NodeError::NotAsked);
+            Call::Running, Told::Running(3, B, Some(C));
+            Call::HelperSaid(3, C, Said::NotReached), Told::Change((B, 1, Status::Suspect));
+            Call::Running, Told::Nothing;
+            Call::Probe, Told::Probe(4, C);
+            Call::Probe, Told::Refused(NodeError::Busy);
+            Call::Acked(5), Told::Refused(NodeError::StaleProbe);
+            Call::Acked(4), Told::Done;
+            Call::Running, Told::Nothing;
+        },
     ),
 );
 
@@ -320,54 +283,42 @@ pub(crate) const ASKS_THREE: Case = (
     A_AT_7,
     (
         "asks three",
-        &[
-            (Call::Take((B, 1, Status::Alive), 0), Told::Taken(1, 0)),
-            (Call::Take((C, 1, Status::Alive), 0), Told::Taken(1, 0)),
-            (Call::Take((D, 1, Status::Alive), 0), Told::Taken(1, 0)),
-            (Call::Take((E, 1, Status::Alive), 0), Told::Taken(1, 0)),
-            (Call::Probe, Told::Probe(1, E)),
-            (Call::Probe, Told::Refused(NodeError::Busy)),
-            (Call::Lost(1), Told::Named(3, [Some(B), Some(D), Some(C)])),
-            (Call::Lost(1), Told::Refused(NodeError::StaleProbe)),
-            (
-                Call::HelperSaid(1, E, Said::Reached),
-                Told::Refused(NodeError::NotAsked),
-            ),
-            (Call::HelperSaid(1, B, Said::Failed), Told::Waiting),
-            (Call::HelperSaid(1, D, Said::Failed), Told::Waiting),
-            (Call::Running, Told::Running(1, E, Some(C))),
-            (Call::HelperSaid(1, C, Said::Failed), Told::Inconclusive),
-            (Call::Running, Told::Nothing),
-            (Call::Member(E), Told::Held(1, Status::Alive)),
-            (Call::Probe, Told::Probe(2, B)),
-            (Call::Probe, Told::Refused(NodeError::Busy)),
-            (Call::Lost(2), Told::Named(3, [Some(C), Some(D), Some(E)])),
-            (Call::Lost(2), Told::Refused(NodeError::StaleProbe)),
-            (
-                Call::HelperSaid(2, B, Said::Reached),
-                Told::Refused(NodeError::NotAsked),
-            ),
-            (Call::HelperSaid(2, C, Said::NotReached), Told::Waiting),
-            (Call::HelperSaid(2, D, Said::Failed), Told::Waiting),
-            (
-                Call::HelperSaid(2, E, Said::Failed),
-                Told::Change((B, 1, Status::Suspect)),
-            ),
-            (Call::Running, Told::Nothing),
-            (Call::Member(B), Told::Held(1, Status::Suspect)),
-            (Call::Probe, Told::Probe(3, C)),
-            (Call::Probe, Told::Refused(NodeError::Busy)),
-            (Call::Lost(3), Told::Named(3, [Some(B), Some(E), Some(D)])),
-            (Call::Lost(3), Told::Refused(NodeError::StaleProbe)),
-            (
-                Call::HelperSaid(3, C, Said::Reached),
-                Told::Refused(NodeError::NotAsked),
-            ),
-            (Call::Running, Told::Running(3, C, Some(B))),
-            (Call::HelperSaid(3, B, Said::Reached), Told::Reached),
-            (Call::Running, Told::Nothing),
-            (Call::Member(C), Told::Held(1, Status::Alive)),
-        ],
+        &rows! {
+            Call::Take((B, 1, Status::Alive), 0), Told::Taken(1, 0);
+            Call::Take((C, 1, Status::Alive), 0), Told::Taken(1, 0);
+            Call::Take((D, 1, Status::Alive), 0), Told::Taken(1, 0);
+            Call::Take((E, 1, Status::Alive), 0), Told::Taken(1, 0);
+            Call::Probe, Told::Probe(1, E);
+            Call::Probe, Told::Refused(NodeError::Busy);
+            Call::Lost(1), Told::Named(3, [Some(B), Some(D), Some(C)]);
+            Call::Lost(1), Told::Refused(NodeError::StaleProbe);
+            Call::HelperSaid(1, E, Said::Reached), Told::Refused(NodeError::NotAsked);
+            Call::HelperSaid(1, B, Said::Failed), Told::Waiting;
+            Call::HelperSaid(1, D, Said::Failed), Told::Waiting;
+            Call::Running, Told::Running(1, E, Some(C));
+            Call::HelperSaid(1, C, Said::Failed), Told::Inconclusive;
+            Call::Running, Told::Nothing;
+            Call::Member(E), Told::Held(1, Status::Alive);
+            Call::Probe, Told::Probe(2, B);
+            Call::Probe, Told::Refused(NodeError::Busy);
+            Call::Lost(2), Told::Named(3, [Some(C), Some(D), Some(E)]);
+            Call::Lost(2), Told::Refused(NodeError::StaleProbe);
+            Call::HelperSaid(2, B, Said::Reached), Told::Refused(NodeError::NotAsked);
+            Call::HelperSaid(2, C, Said::NotReached), Told::Waiting;
+            Call::HelperSaid(2, D, Said::Failed), Told::Waiting;
+            Call::HelperSaid(2, E, Said::Failed), Told::Change((B, 1, Status::Suspect));
+            Call::Running, Told::Nothing;
+            Call::Member(B), Told::Held(1, Status::Suspect);
+            Call::Probe, Told::Probe(3, C);
+            Call::Probe, Told::Refused(NodeError::Busy);
+            Call::Lost(3), Told::Named(3, [Some(B), Some(E), Some(D)]);
+            Call::Lost(3), Told::Refused(NodeError::StaleProbe);
+            Call::HelperSaid(3, C, Said::Reached), Told::Refused(NodeError::NotAsked);
+            Call::Running, Told::Running(3, C, Some(B));
+            Call::HelperSaid(3, B, Said::Reached), Told::Reached;
+            Call::Running, Told::Nothing;
+            Call::Member(C), Told::Held(1, Status::Alive);
+        },
     ),
 );
 
@@ -509,17 +460,11 @@ pub(crate) const LETS_JOIN: Case = (
     B_AT_1,
     (
         "lets join",
-        &[
-            (
-                Call::Join((A, 7, Status::Alive), 0),
-                Told::Message(1, B, Kind::Joined, 2, [JOINED, BORN, None]),
-            ),
-            (
-                Call::Join((A, 7, Status::Alive), 1),
-                Told::Message(0, B, Kind::Joined, 2, [JOINED, BORN, None]),
-            ),
-            (Call::Member(A), Told::Held(7, Status::Alive)),
-        ],
+        &rows! {
+            Call::Join((A, 7, Status::Alive), 0), Told::Message(1, B, Kind::Joined, 2, [JOINED, BORN, None]);
+            Call::Join((A, 7, Status::Alive), 1), Told::Message(0, B, Kind::Joined, 2, [JOINED, BORN, None]);
+            Call::Member(A), Told::Held(7, Status::Alive);
+        },
     ),
 );
 
@@ -534,26 +479,17 @@ pub(crate) const LOOKS_UP: Case = (
     A_AT_7,
     (
         "looks up",
-        &[
-            (Call::Members, Told::Members(1, Some((A, 7, Status::Alive)))),
-            (Call::Text, Told::Text("10.0.0.1:1alive7")),
-            (Call::Digest, Told::Digest(ALONE)),
-            (
-                Call::Owners("key", 9),
-                Told::Named(1, [Some(A), None, None]),
-            ),
-            (Call::Take((B, 1, Status::Alive), 0), Told::Taken(1, 0)),
-            (Call::Take((C, 1, Status::Alive), 0), Told::Taken(1, 0)),
-            (
-                Call::Owners("zzzz2", 2),
-                Told::Named(2, [Some(C), Some(A), None]),
-            ),
-            (Call::Members, Told::Members(3, Some((A, 7, Status::Alive)))),
-            (
-                Call::Text,
-                Told::Text("10.0.0.1:1alive7;10.0.0.2:1alive1;10.0.0.3:1alive1"),
-            ),
-        ],
+        &rows! {
+            Call::Members, Told::Members(1, Some((A, 7, Status::Alive)));
+            Call::Text, Told::Text("10.0.0.1:1alive7");
+            Call::Digest, Told::Digest(ALONE);
+            Call::Owners("key", 9), Told::Named(1, [Some(A), None, None]);
+            Call::Take((B, 1, Status::Alive), 0), Told::Taken(1, 0);
+            Call::Take((C, 1, Status::Alive), 0), Told::Taken(1, 0);
+            Call::Owners("zzzz2", 2), Told::Named(2, [Some(C), Some(A), None]);
+            Call::Members, Told::Members(3, Some((A, 7, Status::Alive)));
+            Call::Text, Told::Text("10.0.0.1:1alive7;10.0.0.2:1alive1;10.0.0.3:1alive1");
+        },
     ),
 );
 
@@ -612,20 +548,10 @@ pub(crate) const LOSES_ONE: Calls = (
 /// The members of a node that was given the twenty changes and that A and 10.0.0.6:1 are alive at 7.
 pub(crate) const HEARD_TWENTY: Calls = (
     "heard twenty",
-    &[
-        (
-            Call::Text,
-            Told::Text(
-                "10.0.0.1:1alive7;10.0.0.2:1suspect3;10.0.0.3:1faulty3;10.0.0.4:1leave3;10.0.0.5:1tombstone3;10.0.0.6:1alive7",
-            ),
-        ),
-        (
-            Call::Owners("zzzz1", 3),
-            Told::Named(3, [Some(B), Some(F), Some(A)]),
-        ),
-        (
-            Call::Owners("zzzz3", 3),
-            Told::Named(3, [Some(F), Some(A), Some(B)]),
-        ),
-    ],
+    &rows! {
+        Call::Text,
+            Told::Text("10.0.0.1:1alive7;10.0.0.2:1suspect3;10.0.0.3:1faulty3;10.0.0.4:1leave3;10.0.0.5:1tombstone3;10.0.0.6:1alive7");
+        Call::Owners("zzzz1", 3), Told::Named(3, [Some(B), Some(F), Some(A)]);
+        Call::Owners("zzzz3", 3), Told::Named(3, [Some(F), Some(A), Some(B)]);
+    },
 );

@@ -19,114 +19,57 @@ const HEAVIER_FOLDED: &str =
 const NOTHING_FOLDED: &str = "\ne3b0c44298fc1c149afbf4c8996fb92427ae41e4649b934ca495991b7852b855\n";
 
 /// A second line, and the error text.
-const AT_FAULT: [(&str, &str); 20] = [
-    (r#"[]"#, "line 2: not an object"),
-    (r#"7"#, "line 2: not an object"),
-    (r#""#, "line 2: not JSON"),
-    (
-        r#"{"address":"10.0.0.2:1","incarnationNumb"#,
-        "line 2: not JSON",
-    ),
-    (
-        r#"{"incarnationNumber":5,"source":"10.0.0.2:1","sourceIncarnationNumber":5,"status":"alive"}"#,
-        "line 2: missing field address",
-    ),
-    (
-        r#"{"address":"10.0.0.2:1","source":"10.0.0.2:1","sourceIncarnationNumber":5,"status":"alive"}"#,
-        "line 2: missing field incarnationNumber",
-    ),
-    (
-        r#"{"address":"10.0.0.2:1","incarnationNumber":5,"sourceIncarnationNumber":5,"status":"alive"}"#,
-        "line 2: missing field source",
-    ),
-    (
-        r#"{"address":"10.0.0.2:1","incarnationNumber":5,"source":"10.0.0.2:1","status":"alive"}"#,
-        "line 2: missing field sourceIncarnationNumber",
-    ),
-    (
-        r#"{"address":"10.0.0.2:1","incarnationNumber":5,"source":"10.0.0.2:1","sourceIncarnationNumber":5}"#,
-        "line 2: missing field status",
-    ),
-    (
-        r#"{"address":"10.0.0.01:1","incarnationNumber":5,"source":"10.0.0.2:1","sourceIncarnationNumber":5,"status":"alive"}"#,
-        "line 2: bad field address",
-    ),
-    (
-        r#"{"address":"10.0.0.2:1","incarnationNumber":1.0,"source":"10.0.0.2:1","sourceIncarnationNumber":5,"status":"alive"}"#,
-        "line 2: bad field incarnationNumber",
-    ),
-    (
-        r#"{"address":"10.0.0.2:1","incarnationNumber":9007199254740992,"source":"10.0.0.2:1","sourceIncarnationNumber":5,"status":"alive"}"#,
-        "line 2: bad field incarnationNumber",
-    ),
-    (
-        r#"{"address":"10.0.0.2:1","incarnationNumber":5,"source":7,"sourceIncarnationNumber":5,"status":"alive"}"#,
-        "line 2: bad field source",
-    ),
-    (
-        r#"{"address":"10.0.0.2:1","incarnationNumber":5,"source":"10.0.0.2:1","sourceIncarnationNumber":-1,"status":"alive"}"#,
-        "line 2: bad field sourceIncarnationNumber",
-    ),
-    (
-        r#"{"address":"10.0.0.2:1","incarnationNumber":5,"source":"10.0.0.2:1","sourceIncarnationNumber":5,"status":"Alive"}"#,
-        "line 2: bad field status",
-    ),
-    (
-        r#"{"address":"10.0.0.2:1","incarnationNumber":5,"source":"10.0.0.2:1","sourceIncarnationNumber":5,"status":"faulty","tombstone":1}"#,
-        "line 2: bad field tombstone",
-    ),
-    (
-        r#"{"address":"10.0.0.2:1","incarnationNumber":5,"source":"10.0.0.2:1","sourceIncarnationNumber":5,"status":"alive","weight":0}"#,
-        "line 2: bad field weight",
-    ),
-    (
-        r#"{"address":"10.0.0.2:1","incarnationNumber":5,"source":"10.0.0.2:1","sourceIncarnationNumber":5,"status":"alive","weight":9}"#,
-        "line 2: bad field weight",
-    ),
-    (
-        r#"{"address":"10.0.0.2:1","incarnationNumber":5,"source":"10.0.0.2:1","sourceIncarnationNumber":5,"status":"alive","weight":1.0}"#,
-        "line 2: bad field weight",
-    ),
-    (
-        r#"{"address":"10.0.0.2:1","incarnationNumber":5,"source":"10.0.0.2:1","sourceIncarnationNumber":5,"status":"alive","weight":"2"}"#,
-        "line 2: bad field weight",
-    ),
-];
+const AT_FAULT: [(&str, &str); 20] = rows! {
+    r#"[]"#, "line 2: not an object";
+    r#"7"#, "line 2: not an object";
+    r#""#, "line 2: not JSON";
+    r#"{"address":"10.0.0.2:1","incarnationNumb"#, "line 2: not JSON";
+    r#"{"incarnationNumber":5,"source":"10.0.0.2:1","sourceIncarnationNumber":5,"status":"alive"}"#, "line 2: missing field address";
+    r#"{"address":"10.0.0.2:1","source":"10.0.0.2:1","sourceIncarnationNumber":5,"status":"alive"}"#,
+        "line 2: missing field incarnationNumber";
+    r#"{"address":"10.0.0.2:1","incarnationNumber":5,"sourceIncarnationNumber":5,"status":"alive"}"#, "line 2: missing field source";
+    r#"{"address":"10.0.0.2:1","incarnationNumber":5,"source":"10.0.0.2:1","status":"alive"}"#,
+        "line 2: missing field sourceIncarnationNumber";
+    r#"{"address":"10.0.0.2:1","incarnationNumber":5,"source":"10.0.0.2:1","sourceIncarnationNumber":5}"#, "line 2: missing field status";
+    r#"{"address":"10.0.0.01:1","incarnationNumber":5,"source":"10.0.0.2:1","sourceIncarnationNumber":5,"status":"alive"}"#,
+        "line 2: bad field address";
+    r#"{"address":"10.0.0.2:1","incarnationNumber":1.0,"source":"10.0.0.2:1","sourceIncarnationNumber":5,"status":"alive"}"#,
+        "line 2: bad field incarnationNumber";
+    r#"{"address":"10.0.0.2:1","incarnationNumber":9007199254740992,"source":"10.0.0.2:1","sourceIncarnationNumber":5,"status":"alive"}"#,
+        "line 2: bad field incarnationNumber";
+    r#"{"address":"10.0.0.2:1","incarnationNumber":5,"source":7,"sourceIncarnationNumber":5,"status":"alive"}"#, "line 2: bad field source";
+    r#"{"address":"10.0.0.2:1","incarnationNumber":5,"source":"10.0.0.2:1","sourceIncarnationNumber":-1,"status":"alive"}"#,
+        "line 2: bad field sourceIncarnationNumber";
+    r#"{"address":"10.0.0.2:1","incarnationNumber":5,"source":"10.0.0.2:1","sourceIncarnationNumber":5,"status":"Alive"}"#,
+        "line 2: bad field status";
+    r#"{"address":"10.0.0.2:1","incarnationNumber":5,"source":"10.0.0.2:1","sourceIncarnationNumber":5,"status":"faulty","tombstone":1}"#,
+        "line 2: bad field tombstone";
+    r#"{"address":"10.0.0.2:1","incarnationNumber":5,"source":"10.0.0.2:1","sourceIncarnationNumber":5,"status":"alive","weight":0}"#,
+        "line 2: bad field weight";
+    r#"{"address":"10.0.0.2:1","incarnationNumber":5,"source":"10.0.0.2:1","sourceIncarnationNumber":5,"status":"alive","weight":9}"#,
+        "line 2: bad field weight";
+    r#"{"address":"10.0.0.2:1","incarnationNumber":5,"source":"10.0.0.2:1","sourceIncarnationNumber":5,"status":"alive","weight":1.0}"#,
+        "line 2: bad field weight";
+    r#"{"address":"10.0.0.2:1","incarnationNumber":5,"source":"10.0.0.2:1","sourceIncarnationNumber":5,"status":"alive","weight":"2"}"#,
+        "line 2: bad field weight";
+};
 
 /// Lines, and what they fold to.
-const FOLDED: [(&[&str], &str); 13] = [
-    (
-        &[ALIVE, ALIVE, SUSPECT, SUSPECT, LATER, LATER],
-        LATER_FOLDED,
-    ),
-    (
-        &[ALIVE, ALIVE, LATER, LATER, SUSPECT, SUSPECT],
-        LATER_FOLDED,
-    ),
-    (
-        &[SUSPECT, SUSPECT, ALIVE, ALIVE, LATER, LATER],
-        LATER_FOLDED,
-    ),
-    (
-        &[SUSPECT, SUSPECT, LATER, LATER, ALIVE, ALIVE],
-        LATER_FOLDED,
-    ),
-    (
-        &[LATER, LATER, ALIVE, ALIVE, SUSPECT, SUSPECT],
-        LATER_FOLDED,
-    ),
-    (
-        &[LATER, LATER, SUSPECT, SUSPECT, ALIVE, ALIVE],
-        LATER_FOLDED,
-    ),
-    (&[], NOTHING_FOLDED),
-    (&[TOMBSTONE, LEAVE, LATER], LATER_FOLDED),
-    (&[TOMBSTONE, LEAVE], TOMBSTONE_FOLDED),
-    (&[HEAVIER, ALIVE], HEAVIER_FOLDED),
-    (&[ALIVE, HEAVIER], HEAVIER_FOLDED),
-    (&[HEAVIER, ALIVE, LATER], LATER_FOLDED),
-    (&[LATER, HEAVIER], LATER_FOLDED),
-];
+const FOLDED: [(&[&str], &str); 13] = rows! {
+    &[ALIVE, ALIVE, SUSPECT, SUSPECT, LATER, LATER], LATER_FOLDED;
+    &[ALIVE, ALIVE, LATER, LATER, SUSPECT, SUSPECT], LATER_FOLDED;
+    &[SUSPECT, SUSPECT, ALIVE, ALIVE, LATER, LATER], LATER_FOLDED;
+    &[SUSPECT, SUSPECT, LATER, LATER, ALIVE, ALIVE], LATER_FOLDED;
+    &[LATER, LATER, ALIVE, ALIVE, SUSPECT, SUSPECT], LATER_FOLDED;
+    &[LATER, LATER, SUSPECT, SUSPECT, ALIVE, ALIVE], LATER_FOLDED;
+    &[], NOTHING_FOLDED;
+    &[TOMBSTONE, LEAVE, LATER], LATER_FOLDED;
+    &[TOMBSTONE, LEAVE], TOMBSTONE_FOLDED;
+    &[HEAVIER, ALIVE], HEAVIER_FOLDED;
+    &[ALIVE, HEAVIER], HEAVIER_FOLDED;
+    &[HEAVIER, ALIVE, LATER], LATER_FOLDED;
+    &[LATER, HEAVIER], LATER_FOLDED;
+};
 
 /// `fold` of (B,5,alive), (B,5,suspect), (B,6,alive) in all six orders, each line twice: `10.0.0.2:1alive6` and the digest of that.
 /// `fold` of nothing: an empty line, and the digest of the empty text. `fold` of (B,5,tombstone), (B,5,leave), with and without
@@ -157,28 +100,12 @@ fn refuses_a_line_at_fault(rt: HostRuntime) {
 }
 
 /// Subcommands, what they read, and the error text.
-const TOO_MUCH: [(Subcommand<'static>, Source<'static>, &str); 4] = [
-    (
-        Subcommand::Fold,
-        Source::Many(Form::Change, 4097),
-        "line 4097: too many members",
-    ),
-    (
-        Subcommand::Fold,
-        Source::Long(1_048_577),
-        "line 1: line too long",
-    ),
-    (
-        Subcommand::Fold,
-        Source::Long(1_048_576),
-        "line 1: not JSON",
-    ),
-    (
-        OWNER,
-        Source::Many(Form::Change, 4097),
-        "line 4097: too many members",
-    ),
-];
+const TOO_MUCH: [(Subcommand<'static>, Source<'static>, &str); 4] = rows! {
+    Subcommand::Fold, Source::Many(Form::Change, 4097), "line 4097: too many members";
+    Subcommand::Fold, Source::Long(1_048_577), "line 1: line too long";
+    Subcommand::Fold, Source::Long(1_048_576), "line 1: not JSON";
+    OWNER, Source::Many(Form::Change, 4097), "line 4097: too many members";
+};
 
 /// 4,097 lines with distinct addresses: `ringpop: line 4097: too many members`; of `owner` too. The text of each fault, with its status.
 #[test]
@@ -248,26 +175,21 @@ const HEAVY: &[&str] = &[THIRD, FIRST, HEAVIEST];
 const LIGHTER: &[&str] = &[HEAVIEST, LATER, FIRST, THIRD];
 
 /// Lines, how many owners are asked for, the key, and the owners.
-const OWNERS: [(&[&str], u8, &str, &str); 13] = [
-    (EACH, 3, "zzzz1", "10.0.0.2:1\n10.0.0.3:1\n10.0.0.1:1\n"),
-    (EACH, 3, "zzzz2", "10.0.0.3:1\n10.0.0.1:1\n10.0.0.2:1\n"),
-    (EACH, 3, "zzzz3", "10.0.0.1:1\n10.0.0.2:1\n10.0.0.3:1\n"),
-    (EACH, 0, "zzzz1", ""),
-    (EACH, 1, "", "10.0.0.1:1\n"),
-    (EACH, 9, "", "10.0.0.1:1\n10.0.0.2:1\n10.0.0.3:1\n"),
-    (&[], 1, "zzzz1", ""),
-    (HEAVY, 3, "zzzz1", "10.0.0.2:1\n10.0.0.3:1\n10.0.0.1:1\n"),
-    (HEAVY, 3, "zzzz2", "10.0.0.2:1\n10.0.0.3:1\n10.0.0.1:1\n"),
-    (HEAVY, 3, "zzzz3", "10.0.0.2:1\n10.0.0.1:1\n10.0.0.3:1\n"),
-    (LIGHTER, 3, "zzzz2", "10.0.0.3:1\n10.0.0.1:1\n10.0.0.2:1\n"),
-    (LIGHTER, 3, "zzzz3", "10.0.0.1:1\n10.0.0.2:1\n10.0.0.3:1\n"),
-    (
-        &[FAULTY, FIRST, THIRD],
-        9,
-        "zzzz0",
-        "10.0.0.1:1\n10.0.0.3:1\n",
-    ),
-];
+const OWNERS: [(&[&str], u8, &str, &str); 13] = rows! {
+    EACH, 3, "zzzz1", "10.0.0.2:1\n10.0.0.3:1\n10.0.0.1:1\n";
+    EACH, 3, "zzzz2", "10.0.0.3:1\n10.0.0.1:1\n10.0.0.2:1\n";
+    EACH, 3, "zzzz3", "10.0.0.1:1\n10.0.0.2:1\n10.0.0.3:1\n";
+    EACH, 0, "zzzz1", "";
+    EACH, 1, "", "10.0.0.1:1\n";
+    EACH, 9, "", "10.0.0.1:1\n10.0.0.2:1\n10.0.0.3:1\n";
+    &[], 1, "zzzz1", "";
+    HEAVY, 3, "zzzz1", "10.0.0.2:1\n10.0.0.3:1\n10.0.0.1:1\n";
+    HEAVY, 3, "zzzz2", "10.0.0.2:1\n10.0.0.3:1\n10.0.0.1:1\n";
+    HEAVY, 3, "zzzz3", "10.0.0.2:1\n10.0.0.1:1\n10.0.0.3:1\n";
+    LIGHTER, 3, "zzzz2", "10.0.0.3:1\n10.0.0.1:1\n10.0.0.2:1\n";
+    LIGHTER, 3, "zzzz3", "10.0.0.1:1\n10.0.0.2:1\n10.0.0.3:1\n";
+    &[FAULTY, FIRST, THIRD], 9, "zzzz0", "10.0.0.1:1\n10.0.0.3:1\n";
+};
 
 /// This many owners of a key, by sum.
 fn owners(count: u8, key: &str) -> Subcommand<'_> {

@@ -54,63 +54,19 @@ pub fn read<'a>(
 }
 
 /// Words, and the subcommand that they ask for.
-const READ: [(&str, Subcommand<'static>); 11] = [
-    (
-        "ringpop sim",
-        Subcommand::Sim(SimWords {
-            replicas: 100,
-            sum: false,
-        }),
-    ),
-    (
-        "ringpop sim --sum --replicas 2",
-        Subcommand::Sim(SimWords {
-            replicas: 2,
-            sum: true,
-        }),
-    ),
-    ("", Subcommand::Fold),
-    ("ringpop", Subcommand::Fold),
-    ("ringpop fold", Subcommand::Fold),
-    ("ringpop hash ", Subcommand::Hash("")),
-    ("ringpop hash abc", Subcommand::Hash("abc")),
-    (
-        "ringpop owner k",
-        Subcommand::Owner(OwnerWords {
-            count: 1,
-            replicas: 100,
-            sum: false,
-            key: "k",
-        }),
-    ),
-    (
-        "ringpop owner --n 0 k",
-        Subcommand::Owner(OwnerWords {
-            count: 0,
-            replicas: 100,
-            sum: false,
-            key: "k",
-        }),
-    ),
-    (
-        "ringpop owner --n=4096 --replicas 1 k",
-        Subcommand::Owner(OwnerWords {
-            count: 4096,
-            replicas: 1,
-            sum: false,
-            key: "k",
-        }),
-    ),
-    (
-        "ringpop owner --n 3 --replicas=1000 --sum -- -k",
-        Subcommand::Owner(OwnerWords {
-            count: 3,
-            replicas: 1000,
-            sum: true,
-            key: "-k",
-        }),
-    ),
-];
+const READ: [(&str, Subcommand<'static>); 11] = rows! {
+    "ringpop sim", Subcommand::Sim(SimWords { replicas: 100, sum: false, });
+    "ringpop sim --sum --replicas 2", Subcommand::Sim(SimWords { replicas: 2, sum: true, });
+    "", Subcommand::Fold;
+    "ringpop", Subcommand::Fold;
+    "ringpop fold", Subcommand::Fold;
+    "ringpop hash ", Subcommand::Hash("");
+    "ringpop hash abc", Subcommand::Hash("abc");
+    "ringpop owner k", Subcommand::Owner(OwnerWords { count: 1, replicas: 100, sum: false, key: "k", });
+    "ringpop owner --n 0 k", Subcommand::Owner(OwnerWords { count: 0, replicas: 100, sum: false, key: "k", });
+    "ringpop owner --n=4096 --replicas 1 k", Subcommand::Owner(OwnerWords { count: 4096, replicas: 1, sum: false, key: "k", });
+    "ringpop owner --n 3 --replicas=1000 --sum -- -k", Subcommand::Owner(OwnerWords { count: 3, replicas: 1000, sum: true, key: "-k", });
+};
 
 /// That the arguments of a line have this command.
 fn asks(rt: &(impl Env + Abort), alloc: Global, line: &str, wanted: Words<'_>) {

@@ -107,57 +107,21 @@ fn answers_scripts(rt: HostRuntime) {
 }
 
 /// Lines whose last is wrong, and the error text.
-const AT_FAULT: [(&[&str], &str, &str); 11] = [
-    (&["node 10.0.0.1:1 07"], "", "line 1: bad command"),
-    (
-        &["at 5", "leave 10.0.0.1:1"],
-        "ok\n",
-        "line 2: unknown node",
-    ),
-    (
-        &["node 10.0.0.1:1 7", "node 10.0.0.1:1 8"],
-        "ok\n",
-        "line 2: node exists",
-    ),
-    (&["deliver 9"], "", "line 1: unknown message"),
-    (&["deliver 0"], "", "line 1: unknown message"),
-    (&["restart 10.0.0.1:1 7"], "", "line 1: unknown node"),
-    (
-        &["node 10.0.0.1:1 7", "restart 10.0.0.1:1 7"],
-        "ok\n",
-        "line 2: incarnation not greater",
-    ),
-    (
-        &[
-            "node 10.0.0.1:1 7",
-            "take 10.0.0.1:1 10.0.0.1:1 7 suspect",
-            "restart 10.0.0.1:1 8",
-        ],
-        "ok\ntaken 1 1\n",
-        "line 3: incarnation not greater",
-    ),
-    (
-        &["node 10.0.0.1:1 7", "restart 10.0.0.1:1 6"],
-        "ok\n",
-        "line 2: incarnation not greater",
-    ),
-    (
-        &[
-            "node 10.0.0.1:1 7",
-            "node 10.0.0.2:1 1",
-            "take 10.0.0.1:1 10.0.0.2:1 1 alive",
-            "take 10.0.0.1:1 10.0.0.1:1 7 suspect",
-            "restart 10.0.0.2:1 1",
-        ],
-        "ok\nok\ntaken 1 0\ntaken 1 1\n",
-        "line 5: incarnation not greater",
-    ),
-    (
-        &["node 10.0.0.1:1 7", "send 10.0.0.2:1 10.0.0.1:1"],
-        "ok\n",
-        "line 2: unknown node",
-    ),
-];
+const AT_FAULT: [(&[&str], &str, &str); 11] = rows! {
+    &["node 10.0.0.1:1 07"], "", "line 1: bad command";
+    &["at 5", "leave 10.0.0.1:1"], "ok\n", "line 2: unknown node";
+    &["node 10.0.0.1:1 7", "node 10.0.0.1:1 8"], "ok\n", "line 2: node exists";
+    &["deliver 9"], "", "line 1: unknown message";
+    &["deliver 0"], "", "line 1: unknown message";
+    &["restart 10.0.0.1:1 7"], "", "line 1: unknown node";
+    &["node 10.0.0.1:1 7", "restart 10.0.0.1:1 7"], "ok\n", "line 2: incarnation not greater";
+    &["node 10.0.0.1:1 7", "take 10.0.0.1:1 10.0.0.1:1 7 suspect", "restart 10.0.0.1:1 8"], "ok\ntaken 1 1\n",
+        "line 3: incarnation not greater";
+    &["node 10.0.0.1:1 7", "restart 10.0.0.1:1 6"], "ok\n", "line 2: incarnation not greater";
+    &["node 10.0.0.1:1 7", "node 10.0.0.2:1 1", "take 10.0.0.1:1 10.0.0.2:1 1 alive", "take 10.0.0.1:1 10.0.0.1:1 7 suspect", "restart 10.0.0.2:1 1"],
+        "ok\nok\ntaken 1 0\ntaken 1 1\n", "line 5: incarnation not greater";
+    &["node 10.0.0.1:1 7", "send 10.0.0.2:1 10.0.0.1:1"], "ok\n", "line 2: unknown node";
+};
 
 /// Lines that are no commands.
 const NO_COMMANDS: [&str; 33] = [

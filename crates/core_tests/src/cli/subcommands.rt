@@ -18,35 +18,20 @@ const SHA_SIM: Subcommand<'static> = Subcommand::Sim(SimWords {
 });
 
 /// A subcommand and its input, what is written, and the error text.
-const RUNS: [(Subcommand<'static>, &[&str], &str, &str); 12] = [
-    (Subcommand::Fold, &[ALIVE, LATER], LATER_FOLDED, ""),
-    (Subcommand::Hash("abc"), &["[]"], "ba7816bf8f01cfea\n", ""),
-    (Subcommand::Hash(""), &[], "e3b0c44298fc1c14\n", ""),
-    (OWNER, &[ALIVE], "10.0.0.2:1\n", ""),
-    (
-        SIM,
-        &["node 10.0.0.1:1 7", "members 10.0.0.1:1"],
-        "ok\n10.0.0.1:1alive7\n",
-        "",
-    ),
-    (
-        Subcommand::Fold,
-        &[ALIVE, "[]"],
-        "",
-        "line 2: not an object",
-    ),
-    (OWNER, &[""], "", "line 1: not JSON"),
-    (SIM, &["at 5", "at"], "ok\n", "line 2: bad command"),
-    (SIM, &["leave 10.0.0.1:1"], "", "line 1: unknown node"),
-    (TWO_OWNERS, &[ALIVE], "10.0.0.2:1\n", ""),
-    (OWNER, &[LATER], "10.0.0.2:1\n", ""),
-    (
-        SHA_SIM,
-        &["node 10.0.0.1:1 7", "owners 10.0.0.1:1 1 k"],
-        "ok\n10.0.0.1:1\n",
-        "",
-    ),
-];
+const RUNS: [(Subcommand<'static>, &[&str], &str, &str); 12] = rows! {
+    Subcommand::Fold, &[ALIVE, LATER], LATER_FOLDED, "";
+    Subcommand::Hash("abc"), &["[]"], "ba7816bf8f01cfea\n", "";
+    Subcommand::Hash(""), &[], "e3b0c44298fc1c14\n", "";
+    OWNER, &[ALIVE], "10.0.0.2:1\n", "";
+    SIM, &["node 10.0.0.1:1 7", "members 10.0.0.1:1"], "ok\n10.0.0.1:1alive7\n", "";
+    Subcommand::Fold, &[ALIVE, "[]"], "", "line 2: not an object";
+    OWNER, &[""], "", "line 1: not JSON";
+    SIM, &["at 5", "at"], "ok\n", "line 2: bad command";
+    SIM, &["leave 10.0.0.1:1"], "", "line 1: unknown node";
+    TWO_OWNERS, &[ALIVE], "10.0.0.2:1\n", "";
+    OWNER, &[LATER], "10.0.0.2:1\n", "";
+    SHA_SIM, &["node 10.0.0.1:1 7", "owners 10.0.0.1:1 1 k"], "ok\n10.0.0.1:1\n", "";
+};
 
 /// `hash abc`: `ba7816bf8f01cfea`. `hash` of the empty word: `e3b0c44298fc1c14`. Each subcommand by its words writes what is its own, and
 /// `line N: ` and the text of its own fault, or `cannot write`, comes back.
@@ -127,21 +112,11 @@ const FOLDED: Written = (
 );
 
 /// Besides the one that folds.
-const WRITTEN: [Written; 3] = [
-    (
-        Subcommand::Hash(""),
-        &[],
-        "e3b0c44298fc1c14\n",
-        "e3b0c44298fc1c14\n",
-    ),
-    (
-        TWO_OWNERS,
-        &[ELEVENTH, FIRST],
-        "10.0.0.1:1\n10.0.0.1:11\n",
-        "10.0.0.1:1\n10.0.0.1:11\n",
-    ),
-    (SIM, &SHORT, SHORT_ANSWERED, "ok\n"),
-];
+const WRITTEN: [Written; 3] = rows! {
+    Subcommand::Hash(""), &[], "e3b0c44298fc1c14\n", "e3b0c44298fc1c14\n";
+    TWO_OWNERS, &[ELEVENTH, FIRST], "10.0.0.1:1\n10.0.0.1:11\n", "10.0.0.1:1\n10.0.0.1:11\n";
+    SIM, &SHORT, SHORT_ANSWERED, "ok\n";
+};
 
 /// The first bytes of a text.
 fn front(text: &str, len: usize) -> &str {

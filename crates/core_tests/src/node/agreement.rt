@@ -78,13 +78,10 @@ fn runs(rt: &(impl Env + Abort), alloc: Global) -> Option<(Run<SumHash>, Run<Sum
 /// What both nodes hold in the end.
 const HELD: Calls = (
     "held",
-    &[
-        (
-            Call::Text,
-            Told::Text("10.0.0.1:1alive7;10.0.0.2:1alive1;10.0.0.3:1suspect2"),
-        ),
-        (Call::Owner("zzzz1"), Told::Owner(B)),
-    ],
+    &rows! {
+        Call::Text, Told::Text("10.0.0.1:1alive7;10.0.0.2:1alive1;10.0.0.3:1suspect2");
+        Call::Owner("zzzz1"), Told::Owner(B);
+    },
 );
 
 /// Checks a node after a run by which all was processed; whether it was.

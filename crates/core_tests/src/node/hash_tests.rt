@@ -28,19 +28,15 @@ fn count_calls<'a>(
     }
 }
 
-const ALTERATIONS: [Costly; 7] = [
-    (Call::Take((B, 1, Status::Alive), 0), Told::Taken(1, 0), 2),
-    (Call::Take((B, 1, Status::Suspect), 0), Told::Taken(1, 0), 0),
-    (Call::Take((B, 2, Status::Alive), 0), Told::Taken(1, 0), 0),
-    (Call::Take((B, 2, Status::Faulty), 0), Told::Taken(1, 0), 0),
-    (Call::Take((B, 3, Status::Alive), 0), Told::Taken(1, 0), 2),
-    (
-        Call::Take((C, 1, Status::Tombstone), 0),
-        Told::Taken(1, 0),
-        0,
-    ),
-    (Call::Owner("key"), Told::Owner(A), 1),
-];
+const ALTERATIONS: [Costly; 7] = rows! {
+    Call::Take((B, 1, Status::Alive), 0), Told::Taken(1, 0), 2;
+    Call::Take((B, 1, Status::Suspect), 0), Told::Taken(1, 0), 0;
+    Call::Take((B, 2, Status::Alive), 0), Told::Taken(1, 0), 0;
+    Call::Take((B, 2, Status::Faulty), 0), Told::Taken(1, 0), 0;
+    Call::Take((B, 3, Status::Alive), 0), Told::Taken(1, 0), 2;
+    Call::Take((C, 1, Status::Tombstone), 0), Told::Taken(1, 0), 0;
+    Call::Owner("key"), Told::Owner(A), 1;
+};
 
 /// Counts the hashes of a view.
 fn count_view<'a>(
@@ -69,34 +65,14 @@ fn an_alteration_hashes_no_more_than_its_points(rt: HostRuntime) {
 }
 
 /// Alterations of members with a weight, and a timer that runs out.
-const WEIGHTY: [Costly; 6] = [
-    (Call::Take((A, 7, Status::Suspect), 0), Told::Taken(1, 1), 0),
-    (
-        Call::TakeWeighty((B, 1, Status::Alive), 3),
-        Told::Taken(1, 0),
-        6,
-    ),
-    (
-        Call::TakeWeighty((B, 1, Status::Suspect), 3),
-        Told::Taken(1, 0),
-        0,
-    ),
-    (
-        Call::TakeWeighty((B, 2, Status::Alive), 3),
-        Told::Taken(1, 0),
-        0,
-    ),
-    (
-        Call::TakeWeighty((B, 2, Status::Suspect), 3),
-        Told::Taken(1, 0),
-        0,
-    ),
-    (
-        Call::Expire(5_000),
-        Told::Weighty((B, 2, Status::Faulty), 3),
-        0,
-    ),
-];
+const WEIGHTY: [Costly; 6] = rows! {
+    Call::Take((A, 7, Status::Suspect), 0), Told::Taken(1, 1), 0;
+    Call::TakeWeighty((B, 1, Status::Alive), 3), Told::Taken(1, 0), 6;
+    Call::TakeWeighty((B, 1, Status::Suspect), 3), Told::Taken(1, 0), 0;
+    Call::TakeWeighty((B, 2, Status::Alive), 3), Told::Taken(1, 0), 0;
+    Call::TakeWeighty((B, 2, Status::Suspect), 3), Told::Taken(1, 0), 0;
+    Call::Expire(5_000), Told::Weighty((B, 2, Status::Faulty), 3), 0;
+};
 
 /// A node that was out of memory hashed its points again.
 /// The same with weights: A of weight 2 costs four hashes, B of weight 3 six, and suspect, alive again, suspect and faulty by its timer

@@ -32,21 +32,18 @@ fn no_node_of_a_bad_configuration(rt: HostRuntime) {
 }
 
 /// Why a call of a node is refused, and the error text.
-const TEXTS: [(NodeError, &str); 10] = [
-    (
-        NodeError::BadConfig(ConfigField::Replicas),
-        "bad configuration: replicas",
-    ),
-    (NodeError::Exhausted, "no incarnation is left"),
-    (NodeError::Full, "too many members"),
-    (NodeError::AlreadyLeft, "the node has left already"),
-    (NodeError::NotLeft, "the node has not left"),
-    (NodeError::Busy, "a probe is running"),
-    (NodeError::Spent, "no probe number is left"),
-    (NodeError::StaleProbe, "the probe does not run"),
-    (NodeError::NotAsked, "the helper was not asked"),
-    (NodeError::Memory, "out of memory"),
-];
+const TEXTS: [(NodeError, &str); 10] = rows! {
+    NodeError::BadConfig(ConfigField::Replicas), "bad configuration: replicas";
+    NodeError::Exhausted, "no incarnation is left";
+    NodeError::Full, "too many members";
+    NodeError::AlreadyLeft, "the node has left already";
+    NodeError::NotLeft, "the node has not left";
+    NodeError::Busy, "a probe is running";
+    NodeError::Spent, "no probe number is left";
+    NodeError::StaleProbe, "the probe does not run";
+    NodeError::NotAsked, "the helper was not asked";
+    NodeError::Memory, "out of memory";
+};
 
 /// Each of the ten refusals of a node has its text, as `bad configuration: replicas`.
 #[test]

@@ -10,6 +10,22 @@ macro_rules! rows {
     };
 }
 
+/// Calls of a node: their name, and rows of a call and what it tells.
+#[cfg(test)]
+macro_rules! calls {
+    ($name:literal: $($call:expr, $told:expr;)+) => {
+        ($name, &[$(($call, $told)),+])
+    };
+}
+
+/// How a node starts, and its calls.
+#[cfg(test)]
+macro_rules! case {
+    ($start:expr, $name:literal: $($call:expr, $told:expr;)+) => {
+        ($start, ($name, &[$(($call, $told)),+]))
+    };
+}
+
 #[cfg(test)]
 mod calls;
 #[cfg(test)]

@@ -47,21 +47,14 @@ fn both_runs<H: PointHash>(
 }
 
 /// A is given the others in one batch, and B one after another in another order.
-const AT_ONCE: Calls = (
-    "at once",
-    &[(
-        Call::TakeAll(&[(B, 1, Status::Alive), (C, 2, Status::Suspect)]),
-        Told::Taken(2, 0),
-    )],
-);
+const AT_ONCE: Calls = calls! { "at once":
+    Call::TakeAll(&[(B, 1, Status::Alive), (C, 2, Status::Suspect)]), Told::Taken(2, 0);
+};
 
-const IN_TURN: Calls = (
-    "in turn",
-    &[
-        (Call::Take((C, 2, Status::Suspect), 3), Told::Taken(1, 0)),
-        (Call::Take((A, 7, Status::Alive), 3), Told::Taken(1, 0)),
-    ],
-);
+const IN_TURN: Calls = calls! { "in turn":
+    Call::Take((C, 2, Status::Suspect), 3), Told::Taken(1, 0);
+    Call::Take((A, 7, Status::Alive), 3), Told::Taken(1, 0);
+};
 
 /// Both runs. None if an allocation failed.
 fn runs(rt: &(impl Env + Abort), alloc: Global) -> Option<(Run<SumHash>, Run<SumHash>)> {
@@ -76,13 +69,10 @@ fn runs(rt: &(impl Env + Abort), alloc: Global) -> Option<(Run<SumHash>, Run<Sum
 }
 
 /// What both nodes hold in the end.
-const HELD: Calls = (
-    "held",
-    &rows! {
-        Call::Text, Told::Text("10.0.0.1:1alive7;10.0.0.2:1alive1;10.0.0.3:1suspect2");
-        Call::Owner("zzzz1"), Told::Owner(B);
-    },
-);
+const HELD: Calls = calls! { "held":
+    Call::Text, Told::Text("10.0.0.1:1alive7;10.0.0.2:1alive1;10.0.0.3:1suspect2");
+    Call::Owner("zzzz1"), Told::Owner(B);
+};
 
 /// Checks a node after a run by which all was processed; whether it was.
 fn check_run(rt: &(impl Env + Abort), alloc: Global, run: Run<SumHash>, calls: Calls) -> bool {

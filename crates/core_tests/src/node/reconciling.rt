@@ -134,13 +134,10 @@ fn reconcile_after_rumours(
 }
 
 /// What both nodes hold in the end.
-const HELD: Calls = (
-    "held",
-    &rows! {
-        Call::Text, Told::Text("10.0.0.1:1alive8;10.0.0.2:1alive2;10.0.0.3:1alive3;10.0.0.4:1alive4;10.0.0.5:1leave1");
-        Call::Owner("zzzz3"), Told::Owner(D);
-    },
-);
+const HELD: Calls = calls! { "held":
+    Call::Text, Told::Text("10.0.0.1:1alive8;10.0.0.2:1alive2;10.0.0.3:1alive3;10.0.0.4:1alive4;10.0.0.5:1leave1");
+    Call::Owner("zzzz3"), Told::Owner(D);
+};
 
 /// A at 7 holds (B,1,suspect), (C,2,suspect) and (D,4,alive), and B at 1 holds (A,7,faulty), (C,3,alive) and (E,1,leave). A takes all
 /// that B holds: 3 applied, 1 refuted; B all that A holds: the same; A once more: 1 applied. Both hold (A,8,alive), (B,2,alive),

@@ -275,33 +275,12 @@ fn a_failure_is_noted_when_it_is_known(rt: HostRuntime) {
 }
 
 /// How many sendings go wrong, and the result of the request.
-static REPLIES: [(usize, Came); 4] = [
-    (0, REPLIED),
-    (
-        1,
-        Came {
-            sent: 2,
-            moments: [0, 3_000, 0, 0],
-            ..REPLIED
-        },
-    ),
-    (
-        2,
-        Came {
-            sent: 3,
-            moments: [0, 3_000, 9_000, 0],
-            ..REPLIED
-        },
-    ),
-    (
-        3,
-        Came {
-            sent: 4,
-            moments: [0, 3_000, 9_000, 21_000],
-            ..REPLIED
-        },
-    ),
-];
+static REPLIES: [(usize, Came); 4] = rows! {
+    0, REPLIED;
+    1, Came { sent: 2, moments: [0, 3_000, 0, 0], ..REPLIED };
+    2, Came { sent: 3, moments: [0, 3_000, 9_000, 0], ..REPLIED };
+    3, Came { sent: 4, moments: [0, 3_000, 9_000, 21_000], ..REPLIED };
+};
 
 /// After none to three failures B replies `x`: `x`, after one to four sends. The handler is never asked.
 #[test]

@@ -1,6 +1,14 @@
 //! The tests of peer_core and cluster_core.
 #![tactic(auto)]
 
+/// The rows of a table, each on a line and ended by a semicolon.
+#[cfg(test)]
+macro_rules! rows {
+    ($($($cell:expr),+;)+) => {
+        [$(($($cell),+)),+]
+    };
+}
+
 #[cfg(test)]
 mod clusters;
 #[cfg(test)]

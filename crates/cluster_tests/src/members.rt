@@ -133,44 +133,13 @@ type Refused = (
 /// How a node starts, in which mood its peers and its handler are, and what its calls are refused by after a first one.
 type Row = (Start, Mood, Refused);
 
-static REFUSALS: [Row; 3] = [
-    (
-        Start { turns: 1, ..ALONE },
-        Mood::Willing,
-        (
-            Some(JoinError::PassSpent),
-            Some(RoundError::PassSpent),
-            Some(RequestError::PassSpent),
-            (Some(CallError::PassSpent), Some(CallError::PassSpent)),
-            (Some(LeaveError::PassSpent), Some(RejoinError::PassSpent)),
-        ),
-    ),
-    (
-        Start {
-            has_left: true,
-            ..ALONE
-        },
-        Mood::Broken,
-        (
-            Some(JoinError::NoneJoined),
-            None,
-            Some(RequestError::Nobody),
-            (None, None),
-            (Some(LeaveError::AlreadyLeft), None),
-        ),
-    ),
-    (
-        ALONE,
-        Mood::Failing,
-        (
-            Some(JoinError::NoneJoined),
-            None,
-            Some(RequestError::HandlerFault),
-            (None, None),
-            (None, None),
-        ),
-    ),
-];
+static REFUSALS: [Row; 3] = rows! {
+    Start { turns: 1, ..ALONE }, Mood::Willing,
+        (Some(JoinError::PassSpent), Some(RoundError::PassSpent), Some(RequestError::PassSpent), (Some(CallError::PassSpent), Some(CallError::PassSpent)), (Some(LeaveError::PassSpent), Some(RejoinError::PassSpent)));
+    Start { has_left: true, ..ALONE }, Mood::Broken,
+        (Some(JoinError::NoneJoined), None, Some(RequestError::Nobody), (None, None), (Some(LeaveError::AlreadyLeft), None));
+    ALONE, Mood::Failing, (Some(JoinError::NoneJoined), None, Some(RequestError::HandlerFault), (None, None), (None, None));
+};
 
 /// What the calls of a member are refused by, once it made one.
 fn refused_by<R: Wait + Env + Abort, L: Link>(

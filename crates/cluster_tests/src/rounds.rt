@@ -113,39 +113,23 @@ const FULL_WITH_THREE: Start = Start {
     ..AMONG_THREE
 };
 
-static ROUNDS: [Row; 14] = [
-    (ALONE, WILLING, (Ok(End::Idle), 0, 0)),
-    (AMONG_ONE, WILLING, (Ok(End::Reached), 1, 0)),
-    (AMONG_ONE, FAILING, (Ok(End::Suspected), 1, 0)),
-    (AMONG_ONE, BROKEN, (Ok(End::Suspected), 1, 1)),
-    (AMONG_ONE, STRANGE, (Ok(End::Suspected), 1, 0)),
-    (FULL_WITH_ONE, TELLING, (Ok(End::Reached), 1, 0)),
-    (AMONG_THREE, WILLING, (Ok(End::Reached), 1, 0)),
-    (AMONG_THREE, BROKEN, (Ok(End::Inconclusive), 3, 3)),
-    (AMONG_THREE, FAILING, (Ok(End::Inconclusive), 3, 0)),
-    (AMONG_THREE, STARVED, (OUT_OF_MEMORY, 1, 0)),
+static ROUNDS: [Row; 14] = rows! {
+    ALONE, WILLING, (Ok(End::Idle), 0, 0);
+    AMONG_ONE, WILLING, (Ok(End::Reached), 1, 0);
+    AMONG_ONE, FAILING, (Ok(End::Suspected), 1, 0);
+    AMONG_ONE, BROKEN, (Ok(End::Suspected), 1, 1);
+    AMONG_ONE, STRANGE, (Ok(End::Suspected), 1, 0);
+    FULL_WITH_ONE, TELLING, (Ok(End::Reached), 1, 0);
+    AMONG_THREE, WILLING, (Ok(End::Reached), 1, 0);
+    AMONG_THREE, BROKEN, (Ok(End::Inconclusive), 3, 3);
+    AMONG_THREE, FAILING, (Ok(End::Inconclusive), 3, 0);
+    AMONG_THREE, STARVED, (OUT_OF_MEMORY, 1, 0);
     // lost, and then by a helper
-    (
-        AMONG_THREE,
-        (Mood::Broken, Mood::Willing),
-        (Ok(End::Reached), 2, 1),
-    ),
-    (
-        AMONG_THREE,
-        (Mood::Broken, Mood::Missing),
-        (Ok(End::Suspected), 3, 1),
-    ),
-    (
-        AMONG_THREE,
-        (Mood::Strange, Mood::Willing),
-        (Ok(End::Reached), 2, 0),
-    ),
-    (
-        FULL_WITH_THREE,
-        (Mood::Broken, Mood::Telling),
-        (Ok(End::Reached), 2, 1),
-    ),
-];
+    AMONG_THREE, (Mood::Broken, Mood::Willing), (Ok(End::Reached), 2, 1);
+    AMONG_THREE, (Mood::Broken, Mood::Missing), (Ok(End::Suspected), 3, 1);
+    AMONG_THREE, (Mood::Strange, Mood::Willing), (Ok(End::Reached), 2, 0);
+    FULL_WITH_THREE, (Mood::Broken, Mood::Telling), (Ok(End::Reached), 2, 1);
+};
 
 /// A round of A alone: idle. With B, which acks: reached; which answers otherwise, fails, or has another ack: suspected, with one failure
 /// where it fails. With B, C and D, all failing: inconclusive, with three failures; all answering otherwise: inconclusive, with none. A

@@ -247,20 +247,14 @@ const IS_FULL: Answer = (Said::Refused(Reason::Full), 0, 0);
 
 const IS_EXHAUSTED: Answer = (Said::Refused(Reason::Exhausted), 0, 0);
 
-static STOPS: [Row; 6] = [
-    (FULL, Given::Join(ONE_MORE), WILLING, IS_FULL, NO_SECOND),
-    (FULL, Given::Ping(ONE_MORE), WILLING, IS_FULL, NO_SECOND),
-    (
-        FULL,
-        Given::PingReq(ONE_MORE, 3),
-        WILLING,
-        IS_FULL,
-        NO_SECOND,
-    ),
-    (FULL, Given::Join(LAST), WILLING, IS_EXHAUSTED, ITSELF),
-    (FULL, Given::Ping(LAST), WILLING, IS_EXHAUSTED, ITSELF),
-    (FULL, Given::PingReq(LAST, 3), WILLING, IS_EXHAUSTED, ITSELF),
-];
+static STOPS: [Row; 6] = rows! {
+    FULL, Given::Join(ONE_MORE), WILLING, IS_FULL, NO_SECOND;
+    FULL, Given::Ping(ONE_MORE), WILLING, IS_FULL, NO_SECOND;
+    FULL, Given::PingReq(ONE_MORE, 3), WILLING, IS_FULL, NO_SECOND;
+    FULL, Given::Join(LAST), WILLING, IS_EXHAUSTED, ITSELF;
+    FULL, Given::Ping(LAST), WILLING, IS_EXHAUSTED, ITSELF;
+    FULL, Given::PingReq(LAST, 3), WILLING, IS_EXHAUSTED, ITSELF;
+};
 
 /// A node with one member at most, and a join, a ping and a ping-req with (B,1,alive): refused full. With (A,LIM,faulty): refused
 /// exhausted.
@@ -290,40 +284,16 @@ const REACHED: Answer = (Said::Word(3, true), 1, 0);
 
 const MISSED: Answer = (Said::Word(3, false), 1, 0);
 
-static TARGETS: [Row; 8] = [
-    (ALONE, ABOUT, WILLING, REACHED, THIRD),
-    (
-        ALONE,
-        Given::PingReq((2, 5, Status::Alive), 3),
-        WILLING,
-        REACHED,
-        SECOND,
-    ),
-    (ALONE, ABOUT, STRANGE_LINK, MISSED, THIRD),
-    (
-        FULL,
-        Given::PingReq((1, 7, Status::Alive), 3),
-        TELLING_LINK,
-        REACHED,
-        NO_SECOND,
-    ),
-    (ALONE, ABOUT, FAILING_LINK, MISSED, THIRD),
-    (ALONE, ABOUT, BROKEN_LINK, MISSED, THIRD),
-    (
-        ALONE,
-        ABOUT,
-        STARVED_LINK,
-        (Said::Refused(Reason::Memory), 1, 0),
-        THIRD,
-    ),
-    (
-        ALONE,
-        ABOUT_ITSELF,
-        BROKEN_LINK,
-        (Said::Word(1, true), 0, 0),
-        THIRD,
-    ),
-];
+static TARGETS: [Row; 8] = rows! {
+    ALONE, ABOUT, WILLING, REACHED, THIRD;
+    ALONE, Given::PingReq((2, 5, Status::Alive), 3), WILLING, REACHED, SECOND;
+    ALONE, ABOUT, STRANGE_LINK, MISSED, THIRD;
+    FULL, Given::PingReq((1, 7, Status::Alive), 3), TELLING_LINK, REACHED, NO_SECOND;
+    ALONE, ABOUT, FAILING_LINK, MISSED, THIRD;
+    ALONE, ABOUT, BROKEN_LINK, MISSED, THIRD;
+    ALONE, ABOUT, STARVED_LINK, (Said::Refused(Reason::Memory), 1, 0), THIRD;
+    ALONE, ABOUT_ITSELF, BROKEN_LINK, (Said::Word(1, true), 0, 0), THIRD;
+};
 
 /// A ping-req about C: reached true where C acks, also if its ack tells a full node of one more; false where it answers otherwise, another
 /// acks or the link fails; refused memory where the link finds none. About A itself: reached, and no node is asked; else the link once, and the handler never. It tells of C, which is held as alive
@@ -335,23 +305,11 @@ fn a_ping_req_tells_whether_its_target_was_reached(rt: HostRuntime) {
 
 const REPLY: Answer = (Said::Body, 0, 1);
 
-static HANDLED: [Row; 3] = [
-    (ALONE, ONE_KEY, WILLING, REPLY, NO_SECOND),
-    (
-        ALONE,
-        ONE_KEY,
-        (Mood::Willing, Mood::Failing),
-        (Said::Refused(Reason::Failed), 0, 1),
-        NO_SECOND,
-    ),
-    (
-        ALONE,
-        ONE_KEY,
-        (Mood::Willing, Mood::Starved),
-        (Said::Refused(Reason::Memory), 0, 1),
-        NO_SECOND,
-    ),
-];
+static HANDLED: [Row; 3] = rows! {
+    ALONE, ONE_KEY, WILLING, REPLY, NO_SECOND;
+    ALONE, ONE_KEY, (Mood::Willing, Mood::Failing), (Said::Refused(Reason::Failed), 0, 1), NO_SECOND;
+    ALONE, ONE_KEY, (Mood::Willing, Mood::Starved), (Said::Refused(Reason::Memory), 0, 1), NO_SECOND;
+};
 
 /// A request that A owns: the handler's reply; refused failed and refused memory where the handler says so. It is asked once each time,
 /// and the link never.
@@ -360,16 +318,10 @@ fn a_request_is_handled_by_the_owner_of_its_keys(rt: HostRuntime) {
     check(&rt, rt.alloc(), &HANDLED);
 }
 
-static ELSEWHERE: [Row; 2] = [
-    (AMONG_ONE, ONE_KEY, WILLING, (Said::NotOwner, 0, 0), SECOND),
-    (
-        AMONG_ONE,
-        Given::Request("zzzz0", "zzzz1"),
-        WILLING,
-        (Said::Refused(Reason::Diverged), 0, 0),
-        SECOND,
-    ),
-];
+static ELSEWHERE: [Row; 2] = rows! {
+    AMONG_ONE, ONE_KEY, WILLING, (Said::NotOwner, 0, 0), SECOND;
+    AMONG_ONE, Given::Request("zzzz0", "zzzz1"), WILLING, (Said::Refused(Reason::Diverged), 0, 0), SECOND;
+};
 
 /// A request for `zzzz1` at A with B: not owner. For `zzzz0` and `zzzz1`: refused diverged.
 #[test]

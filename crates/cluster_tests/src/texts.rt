@@ -11,31 +11,28 @@ use std::fmt;
 use std::process::Abort;
 
 /// Errors of a cluster, and the error text.
-const CLUSTER_ERRORS: [(ClusterError, &str); 20] = [
-    (ClusterError::NoNode, "no node has the address"),
-    (ClusterError::NoneJoined, "no host joined"),
-    (ClusterError::Diverged, "the keys have different owners"),
-    (ClusterError::Nobody, "nobody serves"),
-    (ClusterError::RetriesSpent, "no retry is left"),
-    (ClusterError::InFlight, "a send is in flight"),
-    (ClusterError::NotInFlight, "no send is in flight"),
-    (ClusterError::HandlerFault, "the handler failed"),
-    (ClusterError::ForeignPass, "foreign pass"),
-    (ClusterError::PassSpent, "pass spent"),
-    (
-        ClusterError::BadConfig(ConfigField::Replicas),
-        "bad configuration: replicas",
-    ),
-    (ClusterError::Exhausted, "no incarnation is left"),
-    (ClusterError::Full, "too many members"),
-    (ClusterError::AlreadyLeft, "the node has left already"),
-    (ClusterError::NotLeft, "the node has not left"),
-    (ClusterError::Busy, "a probe is running"),
-    (ClusterError::Spent, "no probe number is left"),
-    (ClusterError::StaleProbe, "the probe does not run"),
-    (ClusterError::NotAsked, "the helper was not asked"),
-    (ClusterError::Memory, "out of memory"),
-];
+const CLUSTER_ERRORS: [(ClusterError, &str); 20] = rows! {
+    ClusterError::NoNode, "no node has the address";
+    ClusterError::NoneJoined, "no host joined";
+    ClusterError::Diverged, "the keys have different owners";
+    ClusterError::Nobody, "nobody serves";
+    ClusterError::RetriesSpent, "no retry is left";
+    ClusterError::InFlight, "a send is in flight";
+    ClusterError::NotInFlight, "no send is in flight";
+    ClusterError::HandlerFault, "the handler failed";
+    ClusterError::ForeignPass, "foreign pass";
+    ClusterError::PassSpent, "pass spent";
+    ClusterError::BadConfig(ConfigField::Replicas), "bad configuration: replicas";
+    ClusterError::Exhausted, "no incarnation is left";
+    ClusterError::Full, "too many members";
+    ClusterError::AlreadyLeft, "the node has left already";
+    ClusterError::NotLeft, "the node has not left";
+    ClusterError::Busy, "a probe is running";
+    ClusterError::Spent, "no probe number is left";
+    ClusterError::StaleProbe, "the probe does not run";
+    ClusterError::NotAsked, "the helper was not asked";
+    ClusterError::Memory, "out of memory";
+};
 
 /// Errors of a link, and the error text.
 const LINK_ERRORS: [(LinkError, &str); 5] = [

@@ -184,21 +184,16 @@ const BOTH: &str =
 const AGAIN: &str =
     "{\"address\":\"10.0.0.1:1\",\"incarnationNumber\":7,\"source\":\"10.0.0.2:1\",\"sourceIncarnationNumber\":3,\"status\":\"suspect\"}\n";
 
-const ASKS: [Row; 8] = [
-    (Question::Ask, &[Answer::Hi], Ok(()), "hi\n"),
-    (Question::Ask, &[Answer::Empty], Ok(()), "\n"),
-    (Question::Ask, &[Answer::NotOwner], NOT_OWNED, ""),
-    (Question::Ask, &[Answer::RefusesNobody], REFUSED_NOBODY, ""),
-    (
-        Question::Ask,
-        &[Answer::RefusesMalformed],
-        REFUSED_MALFORMED,
-        "",
-    ),
-    (Question::Ask, &[Answer::Nobody], UNEXPECTED, ""),
-    (Question::Ask, &[Answer::Broken], NO_ANSWER, ""),
-    (Question::Ask, &[Answer::Starved], OUT_OF_MEMORY, ""),
-];
+const ASKS: [Row; 8] = rows! {
+    Question::Ask, &[Answer::Hi], Ok(()), "hi\n";
+    Question::Ask, &[Answer::Empty], Ok(()), "\n";
+    Question::Ask, &[Answer::NotOwner], NOT_OWNED, "";
+    Question::Ask, &[Answer::RefusesNobody], REFUSED_NOBODY, "";
+    Question::Ask, &[Answer::RefusesMalformed], REFUSED_MALFORMED, "";
+    Question::Ask, &[Answer::Nobody], UNEXPECTED, "";
+    Question::Ask, &[Answer::Broken], NO_ANSWER, "";
+    Question::Ask, &[Answer::Starved], OUT_OF_MEMORY, "";
+};
 
 /// `ask` of a peer that replies `hi`, or an empty text: that and a newline. That is not the owner, refuses, says another thing, or can't
 /// be reached; a link without memory: that fault, and nothing is written; it is asked once at most.
@@ -207,86 +202,21 @@ fn ask_writes_the_reply_alone(rt: HostRuntime) {
     check_all(&rt, rt.alloc(), &ASKS);
 }
 
-const MEMBERS: [Row; 13] = [
-    (
-        Question::Members(MembersForm::Digest),
-        &[Answer::Nobody],
-        Ok(()),
-        NOBODY_TEXT,
-    ),
-    (
-        Question::Members(MembersForm::Lines),
-        &[Answer::Nobody],
-        Ok(()),
-        "",
-    ),
-    (
-        Question::Members(MembersForm::Digest),
-        &[Answer::Alone],
-        Ok(()),
-        ALONE_TEXT,
-    ),
-    (
-        Question::Members(MembersForm::Lines),
-        &[Answer::Alone],
-        Ok(()),
-        FIRST,
-    ),
-    (
-        Question::Members(MembersForm::Digest),
-        &[Answer::Two],
-        Ok(()),
-        TWO_TEXT,
-    ),
-    (
-        Question::Members(MembersForm::Table),
-        &[Answer::Nobody],
-        Ok(()),
-        NOBODY_TABLE,
-    ),
-    (
-        Question::Members(MembersForm::Table),
-        &[Answer::Two],
-        Ok(()),
-        TWO_TABLE,
-    ),
-    (
-        Question::Members(MembersForm::Lines),
-        &[Answer::Two],
-        Ok(()),
-        BOTH,
-    ),
-    (
-        Question::Members(MembersForm::Lines),
-        &[Answer::TwoAmiss],
-        UNEXPECTED,
-        "",
-    ),
-    (
-        Question::Members(MembersForm::Lines),
-        &[Answer::NotOwner],
-        UNEXPECTED,
-        "",
-    ),
-    (
-        Question::Members(MembersForm::Lines),
-        &[Answer::RefusesFull],
-        REFUSED_FULL,
-        "",
-    ),
-    (
-        Question::Members(MembersForm::Lines),
-        &[Answer::Broken],
-        NO_ANSWER,
-        "",
-    ),
-    (
-        Question::Members(MembersForm::Lines),
-        &[Answer::Starved],
-        OUT_OF_MEMORY,
-        "",
-    ),
-];
+const MEMBERS: [Row; 13] = rows! {
+    Question::Members(MembersForm::Digest), &[Answer::Nobody], Ok(()), NOBODY_TEXT;
+    Question::Members(MembersForm::Lines), &[Answer::Nobody], Ok(()), "";
+    Question::Members(MembersForm::Digest), &[Answer::Alone], Ok(()), ALONE_TEXT;
+    Question::Members(MembersForm::Lines), &[Answer::Alone], Ok(()), FIRST;
+    Question::Members(MembersForm::Digest), &[Answer::Two], Ok(()), TWO_TEXT;
+    Question::Members(MembersForm::Table), &[Answer::Nobody], Ok(()), NOBODY_TABLE;
+    Question::Members(MembersForm::Table), &[Answer::Two], Ok(()), TWO_TABLE;
+    Question::Members(MembersForm::Lines), &[Answer::Two], Ok(()), BOTH;
+    Question::Members(MembersForm::Lines), &[Answer::TwoAmiss], UNEXPECTED, "";
+    Question::Members(MembersForm::Lines), &[Answer::NotOwner], UNEXPECTED, "";
+    Question::Members(MembersForm::Lines), &[Answer::RefusesFull], REFUSED_FULL, "";
+    Question::Members(MembersForm::Lines), &[Answer::Broken], NO_ANSWER, "";
+    Question::Members(MembersForm::Lines), &[Answer::Starved], OUT_OF_MEMORY, "";
+};
 
 /// `members` of a peer that tells of no member, of itself, or of (A,7,alive) and (B,3,suspect) with weight 2: what `fold` writes; their
 /// change lines; nothing of no member, as lines; a table with a third and two thirds of the keys. With another digest, or a `not-owner`: unexpected answer; that refuses:
@@ -298,59 +228,19 @@ fn members_are_written_where_their_digest_fits(rt: HostRuntime) {
 
 const BY_K: Question = Question::AskAny("k");
 
-const OWNERS: [Row; 10] = [
-    (
-        BY_K,
-        &[Answer::Alone, Answer::Mine],
-        Ok(()),
-        "mine 10.0.0.1:1\n",
-    ),
-    (
-        BY_K,
-        &[Answer::Alone, Answer::NotOwner, Answer::Alone, Answer::Mine],
-        Ok(()),
-        "mine 10.0.0.1:1\n",
-    ),
-    (
-        BY_K,
-        &[
-            Answer::Alone,
-            Answer::NotOwner,
-            Answer::Alone,
-            Answer::NotOwner,
-        ],
-        NOT_OWNED,
-        "",
-    ),
-    (
-        BY_K,
-        &[Answer::Two, Answer::Theirs],
-        Ok(()),
-        "mine 10.0.0.2:1\n",
-    ),
-    (
-        Question::AskAny("b"),
-        &[Answer::Two, Answer::Mine],
-        Ok(()),
-        "mine 10.0.0.1:1\n",
-    ),
+const OWNERS: [Row; 10] = rows! {
+    BY_K, &[Answer::Alone, Answer::Mine], Ok(()), "mine 10.0.0.1:1\n";
+    BY_K, &[Answer::Alone, Answer::NotOwner, Answer::Alone, Answer::Mine], Ok(()), "mine 10.0.0.1:1\n";
+    BY_K, &[Answer::Alone, Answer::NotOwner, Answer::Alone, Answer::NotOwner], NOT_OWNED, "";
+    BY_K, &[Answer::Two, Answer::Theirs], Ok(()), "mine 10.0.0.2:1\n";
+    Question::AskAny("b"), &[Answer::Two, Answer::Mine], Ok(()), "mine 10.0.0.1:1\n";
     // alone at first, and then one of two
-    (
-        BY_K,
-        &[Answer::Alone, Answer::NotOwner, Answer::Two, Answer::Theirs],
-        Ok(()),
-        "mine 10.0.0.2:1\n",
-    ),
-    (BY_K, &[Answer::Nobody], REFUSED_NOBODY, ""),
-    (BY_K, &[Answer::AloneAmiss], UNEXPECTED, ""),
-    (BY_K, &[Answer::Alone, Answer::Broken], NO_ANSWER, ""),
-    (
-        BY_K,
-        &[Answer::Alone, Answer::RefusesFailed],
-        REFUSED_FAILED,
-        "",
-    ),
-];
+    BY_K, &[Answer::Alone, Answer::NotOwner, Answer::Two, Answer::Theirs], Ok(()), "mine 10.0.0.2:1\n";
+    BY_K, &[Answer::Nobody], REFUSED_NOBODY, "";
+    BY_K, &[Answer::AloneAmiss], UNEXPECTED, "";
+    BY_K, &[Answer::Alone, Answer::Broken], NO_ANSWER, "";
+    BY_K, &[Answer::Alone, Answer::RefusesFailed], REFUSED_FAILED, "";
+};
 
 /// `ask --any` over these two: the key `k` is asked of B, `b` of A. Of a peer that is not the owner once: asked once more; twice: not
 /// owner, after four questions. Of one that is alone at first, and then one of two: the request is declined, and goes to B, whom the
@@ -361,28 +251,13 @@ fn the_owner_is_asked_twice_at_most(rt: HostRuntime) {
     check_all(&rt, rt.alloc(), &OWNERS);
 }
 
-const TELLS: [Row; 5] = [
-    (Question::Tell(0, "", ALL), &[Answer::Alone], Ok(()), "1\n"),
-    (Question::Tell(0, "", ALL), &[Answer::Nobody], Ok(()), "0\n"),
-    (
-        Question::Tell(1, SECOND, ALL),
-        &[Answer::ToldTwo],
-        Ok(()),
-        "2\n",
-    ),
-    (
-        Question::Tell(2, AGAIN, ALL),
-        &[Answer::ToldSuspect],
-        Ok(()),
-        "1\n",
-    ),
-    (
-        Question::Tell(MAX_MEMBERS, "", ALL),
-        &[Answer::ToldAlone],
-        Ok(()),
-        "1\n",
-    ),
-];
+const TELLS: [Row; 5] = rows! {
+    Question::Tell(0, "", ALL), &[Answer::Alone], Ok(()), "1\n";
+    Question::Tell(0, "", ALL), &[Answer::Nobody], Ok(()), "0\n";
+    Question::Tell(1, SECOND, ALL), &[Answer::ToldTwo], Ok(()), "2\n";
+    Question::Tell(2, AGAIN, ALL), &[Answer::ToldSuspect], Ok(()), "1\n";
+    Question::Tell(MAX_MEMBERS, "", ALL), &[Answer::ToldAlone], Ok(()), "1\n";
+};
 
 /// `tell` without a line: 1 of a peer that tells of itself, 0 of no member. The lines of A and B, the last without its newline: 2. A at 7
 /// three times, the last suspect, and A 4,096 times: 1. Asked once each.
@@ -454,44 +329,14 @@ fn nobody_is_asked_where_a_line_is_at_fault(rt: HostRuntime) {
     check_all(&rt, rt.alloc(), &FAULTS);
 }
 
-const TOLD: [Row; 6] = [
-    (
-        Question::Tell(1, SECOND, ALL),
-        &[Answer::TwoAmiss],
-        UNEXPECTED,
-        "",
-    ),
-    (
-        Question::Tell(1, SECOND, ALL),
-        &[Answer::Hi],
-        UNEXPECTED,
-        "",
-    ),
-    (
-        Question::Tell(1, SECOND, ALL),
-        &[Answer::NotOwner],
-        UNEXPECTED,
-        "",
-    ),
-    (
-        Question::Tell(1, SECOND, ALL),
-        &[Answer::RefusesFull],
-        REFUSED_FULL,
-        "",
-    ),
-    (
-        Question::Tell(1, SECOND, ALL),
-        &[Answer::Broken],
-        NO_ANSWER,
-        "",
-    ),
-    (
-        Question::Tell(1, SECOND, ALL),
-        &[Answer::Starved],
-        OUT_OF_MEMORY,
-        "",
-    ),
-];
+const TOLD: [Row; 6] = rows! {
+    Question::Tell(1, SECOND, ALL), &[Answer::TwoAmiss], UNEXPECTED, "";
+    Question::Tell(1, SECOND, ALL), &[Answer::Hi], UNEXPECTED, "";
+    Question::Tell(1, SECOND, ALL), &[Answer::NotOwner], UNEXPECTED, "";
+    Question::Tell(1, SECOND, ALL), &[Answer::RefusesFull], REFUSED_FULL, "";
+    Question::Tell(1, SECOND, ALL), &[Answer::Broken], NO_ANSWER, "";
+    Question::Tell(1, SECOND, ALL), &[Answer::Starved], OUT_OF_MEMORY, "";
+};
 
 /// `tell` of a peer that tells of others than its digest, replies, refuses, can't be reached, or without memory: as of `members`.
 #[test]

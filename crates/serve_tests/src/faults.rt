@@ -40,116 +40,38 @@ fn tells(rt: &(impl Env + Abort), alloc: Global, fault: Fault, text: &str) {
 }
 
 /// Errors of subcommands, and the error text.
-const FAULTS: [(SubcommandError, &str); 8] = [
-    (
-        SubcommandError::Run(RunError::OutOfMemory),
-        "ringpop: out of memory\n",
-    ),
-    (
-        SubcommandError::Run(RunError::AtLine(7, LineError::OutOfMemory)),
-        "ringpop: line 7: out of memory\n",
-    ),
-    (
-        SubcommandError::Run(RunError::AtLine(7, LineError::ReadFailed)),
-        "ringpop: line 7: read failed\n",
-    ),
-    (
-        SubcommandError::Run(RunError::AtLine(4097, LineError::TooManyMembers)),
-        "ringpop: line 4097: too many members\n",
-    ),
-    (
-        SubcommandError::Run(RunError::CannotWrite),
-        "ringpop: cannot write\n",
-    ),
-    (
-        SubcommandError::Sim(SimError::AtLine(7, ScriptError::OutOfMemory)),
-        "ringpop: line 7: out of memory\n",
-    ),
-    (
-        SubcommandError::Sim(SimError::AtLine(7, ScriptError::ReadFailed)),
-        "ringpop: line 7: read failed\n",
-    ),
-    (
-        SubcommandError::Sim(SimError::CannotWrite),
-        "ringpop: cannot write\n",
-    ),
-];
+const FAULTS: [(SubcommandError, &str); 8] = rows! {
+    SubcommandError::Run(RunError::OutOfMemory), "ringpop: out of memory\n";
+    SubcommandError::Run(RunError::AtLine(7, LineError::OutOfMemory)), "ringpop: line 7: out of memory\n";
+    SubcommandError::Run(RunError::AtLine(7, LineError::ReadFailed)), "ringpop: line 7: read failed\n";
+    SubcommandError::Run(RunError::AtLine(4097, LineError::TooManyMembers)), "ringpop: line 4097: too many members\n";
+    SubcommandError::Run(RunError::CannotWrite), "ringpop: cannot write\n";
+    SubcommandError::Sim(SimError::AtLine(7, ScriptError::OutOfMemory)), "ringpop: line 7: out of memory\n";
+    SubcommandError::Sim(SimError::AtLine(7, ScriptError::ReadFailed)), "ringpop: line 7: read failed\n";
+    SubcommandError::Sim(SimError::CannotWrite), "ringpop: cannot write\n";
+};
 
 /// Errors of commands that speak to nodes, and the error text.
-const CLUSTER_FAULTS: [(ClusterCommandError, &str); 18] = [
-    (
-        ClusterCommandError::Serve(ServeError::NoneJoined),
-        "ringpop: no host joined\n",
-    ),
-    (
-        ClusterCommandError::Serve(ServeError::CannotListen),
-        "ringpop: cannot listen\n",
-    ),
-    (
-        ClusterCommandError::Serve(ServeError::NoThread),
-        "ringpop: no thread\n",
-    ),
-    (
-        ClusterCommandError::Serve(ServeError::StillHeld),
-        "ringpop: a node is still held\n",
-    ),
-    (
-        ClusterCommandError::Serve(ServeError::Miscounted),
-        "ringpop: connections miscounted\n",
-    ),
-    (
-        ClusterCommandError::Serve(ServeError::CannotWrite),
-        "ringpop: cannot write\n",
-    ),
-    (
-        ClusterCommandError::Serve(ServeError::OutOfMemory),
-        "ringpop: out of memory\n",
-    ),
-    (
-        ClusterCommandError::Ask(AskError::NoAnswer),
-        "ringpop: no answer\n",
-    ),
-    (
-        ClusterCommandError::Ask(AskError::NotOwner),
-        "ringpop: not owner\n",
-    ),
-    (
-        ClusterCommandError::Ask(AskError::Refused(Reason::Nobody)),
-        "ringpop: refused nobody\n",
-    ),
-    (
-        ClusterCommandError::Ask(AskError::Refused(Reason::Malformed)),
-        "ringpop: refused malformed\n",
-    ),
-    (
-        ClusterCommandError::Ask(AskError::Unexpected),
-        "ringpop: unexpected answer\n",
-    ),
-    (
-        ClusterCommandError::Ask(AskError::CannotWrite),
-        "ringpop: cannot write\n",
-    ),
-    (
-        ClusterCommandError::Ask(AskError::OutOfMemory),
-        "ringpop: out of memory\n",
-    ),
-    (
-        ClusterCommandError::Tell(TellError::AtLine(3, LineError::Wire(WireError::BadJson))),
-        "ringpop: line 3: not JSON\n",
-    ),
-    (
-        ClusterCommandError::Tell(TellError::AtLine(3, LineError::ReadFailed)),
-        "ringpop: line 3: read failed\n",
-    ),
-    (
-        ClusterCommandError::Tell(TellError::TooManyChanges),
-        "ringpop: line 4097: too many changes\n",
-    ),
-    (
-        ClusterCommandError::Tell(TellError::Asked(AskError::NoAnswer)),
-        "ringpop: no answer\n",
-    ),
-];
+const CLUSTER_FAULTS: [(ClusterCommandError, &str); 18] = rows! {
+    ClusterCommandError::Serve(ServeError::NoneJoined), "ringpop: no host joined\n";
+    ClusterCommandError::Serve(ServeError::CannotListen), "ringpop: cannot listen\n";
+    ClusterCommandError::Serve(ServeError::NoThread), "ringpop: no thread\n";
+    ClusterCommandError::Serve(ServeError::StillHeld), "ringpop: a node is still held\n";
+    ClusterCommandError::Serve(ServeError::Miscounted), "ringpop: connections miscounted\n";
+    ClusterCommandError::Serve(ServeError::CannotWrite), "ringpop: cannot write\n";
+    ClusterCommandError::Serve(ServeError::OutOfMemory), "ringpop: out of memory\n";
+    ClusterCommandError::Ask(AskError::NoAnswer), "ringpop: no answer\n";
+    ClusterCommandError::Ask(AskError::NotOwner), "ringpop: not owner\n";
+    ClusterCommandError::Ask(AskError::Refused(Reason::Nobody)), "ringpop: refused nobody\n";
+    ClusterCommandError::Ask(AskError::Refused(Reason::Malformed)), "ringpop: refused malformed\n";
+    ClusterCommandError::Ask(AskError::Unexpected), "ringpop: unexpected answer\n";
+    ClusterCommandError::Ask(AskError::CannotWrite), "ringpop: cannot write\n";
+    ClusterCommandError::Ask(AskError::OutOfMemory), "ringpop: out of memory\n";
+    ClusterCommandError::Tell(TellError::AtLine(3, LineError::Wire(WireError::BadJson))), "ringpop: line 3: not JSON\n";
+    ClusterCommandError::Tell(TellError::AtLine(3, LineError::ReadFailed)), "ringpop: line 3: read failed\n";
+    ClusterCommandError::Tell(TellError::TooManyChanges), "ringpop: line 4097: too many changes\n";
+    ClusterCommandError::Tell(TellError::Asked(AskError::NoAnswer)), "ringpop: no answer\n";
+};
 
 /// The text of each fault, with its status.
 #[test]

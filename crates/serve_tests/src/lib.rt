@@ -1,6 +1,14 @@
 //! The tests of `server` and `cli_net`.
 #![tactic(auto)]
 
+/// The rows of a table, each on a line and ended by a semicolon.
+#[cfg(test)]
+macro_rules! rows {
+    ($($($cell:expr),+;)+) => {
+        [$(($($cell),+)),+]
+    };
+}
+
 #[cfg(test)]
 mod answers;
 #[cfg(test)]

@@ -19,57 +19,21 @@ const ALIVE: &str =
     r#"{"address":"10.0.0.2:1","incarnationNumber":5,"source":"10.0.0.2:1","sourceIncarnationNumber":5,"status":"alive"}"#;
 
 /// Words, an input, and what is written for them, or said of the error that they end with.
-const RUNS: [(&[&str], &str, Result<&str, &str>); 13] = [
-    (
-        &["ringpop"],
-        ALIVE,
-        Ok("10.0.0.2:1alive5\n0e3718e4725f4a4f076cd57ccfadcc6cb62363f6f9380e4283d2b9be9c1e6ab2\n"),
-    ),
-    (&["ringpop", "hash", "abc"], "[]", Ok("ba7816bf8f01cfea\n")),
-    (&["ringpop", "owner", "k"], ALIVE, Ok("10.0.0.2:1\n")),
-    (&["ringpop", "owner", "--n", "0", "k"], ALIVE, Ok("")),
-    (
-        &["ringpop", "sim"],
-        "node 10.0.0.1:1 7\nmembers 10.0.0.1:1\n",
-        Ok("ok\n10.0.0.1:1alive7\n"),
-    ),
-    (&["ringpop"], "[]", Err("ringpop: line 1: not an object\n")),
-    (
-        &["ringpop", "owner", "k"],
-        "\n",
-        Err("ringpop: line 1: not JSON\n"),
-    ),
-    (
-        &["ringpop", "sim"],
-        "at",
-        Err("ringpop: line 1: bad command\n"),
-    ),
-    (
-        &["ringpop", "serve", "127.0.0.1:2", "1", "1", "127.0.0.1:1"],
-        "",
-        Err("ringpop: no host joined\n"),
-    ),
-    (
-        &["ringpop", "ask", "127.0.0.1:1", "k", "b"],
-        "",
-        Err("ringpop: no answer\n"),
-    ),
-    (
-        &["ringpop", "ask", "--any", "127.0.0.1:1", "k", "b"],
-        "",
-        Err("ringpop: no answer\n"),
-    ),
-    (
-        &["ringpop", "members", "127.0.0.1:1"],
-        "",
-        Err("ringpop: no answer\n"),
-    ),
-    (
-        &["ringpop", "tell", "127.0.0.1:1"],
-        "",
-        Err("ringpop: no answer\n"),
-    ),
-];
+const RUNS: [(&[&str], &str, Result<&str, &str>); 13] = rows! {
+    &["ringpop"], ALIVE, Ok("10.0.0.2:1alive5\n0e3718e4725f4a4f076cd57ccfadcc6cb62363f6f9380e4283d2b9be9c1e6ab2\n");
+    &["ringpop", "hash", "abc"], "[]", Ok("ba7816bf8f01cfea\n");
+    &["ringpop", "owner", "k"], ALIVE, Ok("10.0.0.2:1\n");
+    &["ringpop", "owner", "--n", "0", "k"], ALIVE, Ok("");
+    &["ringpop", "sim"], "node 10.0.0.1:1 7\nmembers 10.0.0.1:1\n", Ok("ok\n10.0.0.1:1alive7\n");
+    &["ringpop"], "[]", Err("ringpop: line 1: not an object\n");
+    &["ringpop", "owner", "k"], "\n", Err("ringpop: line 1: not JSON\n");
+    &["ringpop", "sim"], "at", Err("ringpop: line 1: bad command\n");
+    &["ringpop", "serve", "127.0.0.1:2", "1", "1", "127.0.0.1:1"], "", Err("ringpop: no host joined\n");
+    &["ringpop", "ask", "127.0.0.1:1", "k", "b"], "", Err("ringpop: no answer\n");
+    &["ringpop", "ask", "--any", "127.0.0.1:1", "k", "b"], "", Err("ringpop: no answer\n");
+    &["ringpop", "members", "127.0.0.1:1"], "", Err("ringpop: no answer\n");
+    &["ringpop", "tell", "127.0.0.1:1"], "", Err("ringpop: no answer\n");
+};
 
 /// Whether this is the output for the arguments and the input, or the text of their error, which ends the program with
 /// status 1; None if another error ends it.

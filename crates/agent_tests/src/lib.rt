@@ -16,6 +16,14 @@ macro_rules! again {
     };
 }
 
+/// The rows of a table, each on a line and ended by a semicolon.
+#[cfg(test)]
+macro_rules! rows {
+    ($($($cell:expr),+;)+) => {
+        [$(($($cell),+)),+]
+    };
+}
+
 #[cfg(test)]
 mod pack_tests;
 #[cfg(test)]

@@ -56,119 +56,65 @@ const POST_ONLY: Wanted = Wanted::Refused(Refusal::BadMethod(Verb::Post));
 
 const NOWHERE: Wanted = Wanted::Refused(Refusal::NotFound);
 
-static ROWS: [Row; 57] = [
-    (
-        "POST",
-        "/keys/a",
-        None,
-        b"hello",
-        Wanted::Handle("a", "hello"),
-    ),
-    ("POST", "/keys/a", None, b"", Wanted::Handle("a", "")),
-    (
-        "POST",
-        "/keys/a%20b%2Fc%C3%BC",
-        None,
-        b"x",
-        Wanted::Handle("a b/c\u{fc}", "x"),
-    ),
-    ("POST", "/keys/a/b", None, b"x", Wanted::Handle("a/b", "x")),
-    ("POST", "/keys/a+b", None, b"x", Wanted::Handle("a+b", "x")),
-    ("POST", "/keys/%", None, b"x", Wanted::Handle("%", "x")),
-    (
-        "POST",
-        "/keys/%zz%4",
-        None,
-        b"x",
-        Wanted::Handle("%zz%4", "x"),
-    ),
-    ("POST", "/keys/%00", None, b"x", Wanted::Handle("\0", "x")),
-    (
-        "POST",
-        "/keys/a",
-        Some("n=0"),
-        b"x",
-        Wanted::Handle("a", "x"),
-    ),
-    (
-        "POST",
-        "/keys/a",
-        None,
-        b"\xc3",
-        Wanted::Refused(Refusal::Malformed(Part::Body)),
-    ),
-    ("POST", "/keys/", None, b"x", KEY),
-    ("POST", "/keys/%ff", None, b"x", KEY),
-    ("POST", "/keys/%ff", None, b"\xc3", KEY),
-    ("GET", "/keys/a", None, b"", POST_ONLY),
-    ("PUT", "/keys/%ff", None, b"\xc3", POST_ONLY),
-    ("post", "/keys/a", None, b"", POST_ONLY),
-    ("POST", "/keys", None, b"x", NOWHERE),
-    ("POST", "/Keys/a", None, b"x", NOWHERE),
-    ("POST", "//keys/a", None, b"x", NOWHERE),
-    ("GET", "/owner/a", None, b"", Wanted::Owners("a", 1)),
-    ("GET", "/owner/a", Some("n=1"), b"", Wanted::Owners("a", 1)),
-    (
-        "GET",
-        "/owner/a",
-        Some("n=3"),
-        b"\xc3",
-        Wanted::Owners("a", 3),
-    ),
-    (
-        "GET",
-        "/owner/a",
-        Some("n=0003"),
-        b"",
-        Wanted::Owners("a", 3),
-    ),
-    (
-        "GET",
-        "/owner/a",
-        Some("n=4096"),
-        b"",
-        Wanted::Owners("a", 4096),
-    ),
-    ("GET", "/owner/a", Some("n=4097"), b"", COUNT),
-    ("GET", "/owner/a", Some("n=0"), b"", COUNT),
-    ("GET", "/owner/a", Some("n="), b"", COUNT),
-    ("GET", "/owner/a", Some("n=+3"), b"", COUNT),
-    ("GET", "/owner/a", Some("n=-3"), b"", COUNT),
-    ("GET", "/owner/a", Some("n=3 "), b"", COUNT),
-    ("GET", "/owner/a", Some("n=3&n=4"), b"", COUNT),
-    ("GET", "/owner/a", Some("N=3"), b"", COUNT),
-    ("GET", "/owner/a", Some(""), b"", COUNT),
-    (
-        "GET",
-        "/owner/a",
-        Some("n=18446744073709551617"),
-        b"",
-        COUNT,
-    ),
-    ("GET", "/owner/", Some("n=0"), b"", KEY),
-    ("POST", "/owner/a", None, b"", GET_ONLY),
-    ("GET", "/owner", None, b"", NOWHERE),
-    ("GET", "/members", None, b"", Wanted::Members),
-    ("GET", "/members", Some("x"), b"\xff", Wanted::Members),
-    ("GET", "/digest", None, b"", Wanted::Digest),
-    ("GET", "/healthz", None, b"", Wanted::Health),
-    ("GET", "/metrics", None, b"", Wanted::Metrics),
-    ("GET", "/", None, b"", Wanted::Page),
-    ("POST", "/leave", None, b"", Wanted::Leave),
-    ("POST", "/rejoin", None, b"", Wanted::Rejoin),
-    ("POST", "/stop", None, b"", Wanted::Stop),
-    ("POST", "/members", None, b"", GET_ONLY),
-    ("HEAD", "/digest", None, b"", GET_ONLY),
-    ("DELETE", "/healthz", None, b"", GET_ONLY),
-    ("POST", "/metrics", None, b"", GET_ONLY),
-    ("POST", "/", None, b"", GET_ONLY),
-    ("GET", "/leave", None, b"", POST_ONLY),
-    ("GET", "/rejoin", None, b"", POST_ONLY),
-    ("GET", "/stop", None, b"", POST_ONLY),
-    ("GET", "", None, b"", NOWHERE),
-    ("GET", "/members/", None, b"", NOWHERE),
-    ("BREW", "/favicon.ico", None, b"", NOWHERE),
-];
+static ROWS: [Row; 57] = rows! {
+    "POST", "/keys/a", None, b"hello", Wanted::Handle("a", "hello");
+    "POST", "/keys/a", None, b"", Wanted::Handle("a", "");
+    "POST", "/keys/a%20b%2Fc%C3%BC", None, b"x", Wanted::Handle("a b/c\u{fc}", "x");
+    "POST", "/keys/a/b", None, b"x", Wanted::Handle("a/b", "x");
+    "POST", "/keys/a+b", None, b"x", Wanted::Handle("a+b", "x");
+    "POST", "/keys/%", None, b"x", Wanted::Handle("%", "x");
+    "POST", "/keys/%zz%4", None, b"x", Wanted::Handle("%zz%4", "x");
+    "POST", "/keys/%00", None, b"x", Wanted::Handle("\0", "x");
+    "POST", "/keys/a", Some("n=0"), b"x", Wanted::Handle("a", "x");
+    "POST", "/keys/a", None, b"\xc3", Wanted::Refused(Refusal::Malformed(Part::Body));
+    "POST", "/keys/", None, b"x", KEY;
+    "POST", "/keys/%ff", None, b"x", KEY;
+    "POST", "/keys/%ff", None, b"\xc3", KEY;
+    "GET", "/keys/a", None, b"", POST_ONLY;
+    "PUT", "/keys/%ff", None, b"\xc3", POST_ONLY;
+    "post", "/keys/a", None, b"", POST_ONLY;
+    "POST", "/keys", None, b"x", NOWHERE;
+    "POST", "/Keys/a", None, b"x", NOWHERE;
+    "POST", "//keys/a", None, b"x", NOWHERE;
+    "GET", "/owner/a", None, b"", Wanted::Owners("a", 1);
+    "GET", "/owner/a", Some("n=1"), b"", Wanted::Owners("a", 1);
+    "GET", "/owner/a", Some("n=3"), b"\xc3", Wanted::Owners("a", 3);
+    "GET", "/owner/a", Some("n=0003"), b"", Wanted::Owners("a", 3);
+    "GET", "/owner/a", Some("n=4096"), b"", Wanted::Owners("a", 4096);
+    "GET", "/owner/a", Some("n=4097"), b"", COUNT;
+    "GET", "/owner/a", Some("n=0"), b"", COUNT;
+    "GET", "/owner/a", Some("n="), b"", COUNT;
+    "GET", "/owner/a", Some("n=+3"), b"", COUNT;
+    "GET", "/owner/a", Some("n=-3"), b"", COUNT;
+    "GET", "/owner/a", Some("n=3 "), b"", COUNT;
+    "GET", "/owner/a", Some("n=3&n=4"), b"", COUNT;
+    "GET", "/owner/a", Some("N=3"), b"", COUNT;
+    "GET", "/owner/a", Some(""), b"", COUNT;
+    "GET", "/owner/a", Some("n=18446744073709551617"), b"", COUNT;
+    "GET", "/owner/", Some("n=0"), b"", KEY;
+    "POST", "/owner/a", None, b"", GET_ONLY;
+    "GET", "/owner", None, b"", NOWHERE;
+    "GET", "/members", None, b"", Wanted::Members;
+    "GET", "/members", Some("x"), b"\xff", Wanted::Members;
+    "GET", "/digest", None, b"", Wanted::Digest;
+    "GET", "/healthz", None, b"", Wanted::Health;
+    "GET", "/metrics", None, b"", Wanted::Metrics;
+    "GET", "/", None, b"", Wanted::Page;
+    "POST", "/leave", None, b"", Wanted::Leave;
+    "POST", "/rejoin", None, b"", Wanted::Rejoin;
+    "POST", "/stop", None, b"", Wanted::Stop;
+    "POST", "/members", None, b"", GET_ONLY;
+    "HEAD", "/digest", None, b"", GET_ONLY;
+    "DELETE", "/healthz", None, b"", GET_ONLY;
+    "POST", "/metrics", None, b"", GET_ONLY;
+    "POST", "/", None, b"", GET_ONLY;
+    "GET", "/leave", None, b"", POST_ONLY;
+    "GET", "/rejoin", None, b"", POST_ONLY;
+    "GET", "/stop", None, b"", POST_ONLY;
+    "GET", "", None, b"", NOWHERE;
+    "GET", "/members/", None, b"", NOWHERE;
+    "BREW", "/favicon.ico", None, b"", NOWHERE;
+};
 
 #[test]
 fn asks_what_each_row_says(rt: HostRuntime) {

@@ -9,7 +9,7 @@ import sys
 
 from svg import AMBER, BLUE, FAINT, GREEN, GRID, INK, PURPLE, RED, Picture
 
-ROOT = pathlib.Path(__file__).resolve().parent.parent
+ROOT = pathlib.Path(__file__).resolve().parents[2]
 LIMITS = "crates/cluster_core/src/tcp_links.rt"
 COLUMN, STEP, TOP = 236, 34, 74
 

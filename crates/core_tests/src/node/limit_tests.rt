@@ -1,14 +1,14 @@
 //! Where a node refuses: a bad configuration, too many members, and allocations that fail.
-use crate::calls::{Call, Told, event, read, wanted_again};
+use crate::calls::Told;
 use crate::cli::fakes::{ALL, Page};
-use crate::node::played::answers;
+use crate::node::played::{answers, check_alike};
 use crate::shared::{
     A, B, C, Row, address, batch, check_refused, config, configured, hear, incarnation, moment,
     news, node, put, vec_of,
 };
 use change_core::Status;
 use hash_ring::SumHash;
-use node_core::{ConfigField, Event, NodeError, NodeState, Reply, StopCause};
+use node_core::{ConfigField, Event, NodeError, NodeState, StopCause};
 use std::alloc::Global;
 use std::env::Env;
 use std::io::Write;
@@ -106,74 +106,13 @@ fn take_three(rt: &(impl Env + Abort), alloc: Global, node: &mut NodeState<SumHa
     }
 }
 
-/// A ping to a node that has received nothing yet.
-const PING: Call = Call::MakePing(0x0a00_0009);
-
-/// What tells two nodes apart: the digest of their members, the owners of keys, sixteen pings, and what runs out when.
-const ASKED: [Call; 25] = [
-    Call::Digest,
-    Call::Owners("zzzz0", 9),
-    Call::Owners("zzzz1", 9),
-    Call::Owners("zzzz2", 9),
-    Call::Owners("zzzz3", 9),
-    PING,
-    PING,
-    PING,
-    PING,
-    PING,
-    PING,
-    PING,
-    PING,
-    PING,
-    PING,
-    PING,
-    PING,
-    PING,
-    PING,
-    PING,
-    PING,
-    Call::Expire(4_999),
-    Call::Expire(5_000),
-    Call::Expire(86_404_999),
-    Call::Expire(86_405_000),
-];
-
-/// What a node answers to an event; if out of memory it is made again.
-fn ask(rt: &(impl Env + Abort), node: &mut NodeState<SumHash>, event: &Event) -> Reply {
-    let reply = node.apply(event);
-    if wanted_again(read(&reply), Told::Done).is_none() {
-        return reply;
-    }
-    check_refused(rt);
-    drop(reply);
-    node.apply(event)
-}
-
-/// Whether two nodes answer a call alike.
-fn answer_alike(
-    rt: &(impl Env + Abort),
-    alloc: Global,
-    first: &mut NodeState<SumHash>,
-    second: &mut NodeState<SumHash>,
-    call: Call,
-) -> bool {
-    let event = event(rt, alloc, call);
-    let reply = ask(rt, first, &event);
-    let is_alike = answers(rt, second, &event, read(&reply));
-    drop(reply);
-    drop(event);
-    is_alike
-}
-
 /// Compares a node with a new one that receives these.
 fn compare(rt: &(impl Env + Abort), alloc: Global, first: &mut NodeState<SumHash>, heard: &[Row]) {
     let mut second = node(rt, alloc, A, 7);
     for row in heard {
         hear(rt, &mut second, *row, 0);
     }
-    for call in &ASKED {
-        assert!(rt; answer_alike(rt, alloc, first, &mut second, *call));
-    }
+    check_alike(rt, alloc, first, &mut second);
     drop(second);
 }
 

@@ -129,40 +129,121 @@ fn finish(rt: &(impl Env + Abort), alloc: Global, start: &Start, events: &[Event
     }
 }
 
-/// Whether a new node has these replies to a run of these events; None if one ran out of memory.
+/// A ping to a node that has received nothing yet.
+const PING: Call = Call::MakePing(0x0a00_0009);
+
+/// What tells two nodes apart: the digest of their members, the owners of keys, sixteen pings, and what runs out when.
+const ASKED: [Call; 25] = [
+    Call::Digest,
+    Call::Owners("zzzz0", 9),
+    Call::Owners("zzzz1", 9),
+    Call::Owners("zzzz2", 9),
+    Call::Owners("zzzz3", 9),
+    PING,
+    PING,
+    PING,
+    PING,
+    PING,
+    PING,
+    PING,
+    PING,
+    PING,
+    PING,
+    PING,
+    PING,
+    PING,
+    PING,
+    PING,
+    PING,
+    Call::Expire(4_999),
+    Call::Expire(5_000),
+    Call::Expire(86_404_999),
+    Call::Expire(86_405_000),
+];
+
+/// What a node answers to an event; if out of memory it is made again.
+fn ask(rt: &(impl Env + Abort), node: &mut NodeState<SumHash>, event: &Event) -> Reply {
+    let reply = node.apply(event);
+    if wanted_again(read(&reply), Told::Done).is_none() {
+        return reply;
+    }
+    check_refused(rt);
+    drop(reply);
+    node.apply(event)
+}
+
+/// Whether two nodes answer a call alike.
+fn answer_alike(
+    rt: &(impl Env + Abort),
+    alloc: Global,
+    first: &mut NodeState<SumHash>,
+    second: &mut NodeState<SumHash>,
+    call: Call,
+) -> bool {
+    let event = event(rt, alloc, call);
+    let reply = ask(rt, first, &event);
+    let is_alike = answers(rt, second, &event, read(&reply));
+    drop(reply);
+    drop(event);
+    is_alike
+}
+
+/// Checks that nothing tells two nodes apart: neither members nor pending changes and deadlines.
+pub(crate) fn check_alike(
+    rt: &(impl Env + Abort),
+    alloc: Global,
+    first: &mut NodeState<SumHash>,
+    second: &mut NodeState<SumHash>,
+) {
+    for call in &ASKED {
+        assert!(rt; answer_alike(rt, alloc, first, second, *call));
+    }
+}
+
+/// A new node that has these replies to a run of these events; None if one ran out of memory.
 fn runs(
     rt: &(impl Env + Abort),
     alloc: Global,
     start: &Start,
     events: &[Event],
     calls: Calls,
-) -> Option<bool> {
-    let finished = finish(rt, alloc, start, events);
-    let answer = tell(finished.replies.as_slice(), calls);
-    drop(finished);
-    answer
+) -> Option<NodeState<SumHash>> {
+    let Run { node, replies } = finish(rt, alloc, start, events);
+    let is_so = tell(replies.as_slice(), calls);
+    drop(replies);
+    let (name, _) = calls;
+    assert!(rt; is_so != Some(false), "{name}: in a run");
+    is_so?;
+    Some(node)
 }
 
-/// Checks a node's replies to a run of calls; if one was out of memory, a new node makes them all.
-fn check_run(rt: &(impl Env + Abort), alloc: Global, start: &Start, calls: Calls) {
+/// The node of a run of calls with these replies; if one was out of memory, another new node makes them all.
+fn after_run(
+    rt: &(impl Env + Abort),
+    alloc: Global,
+    start: &Start,
+    calls: Calls,
+) -> NodeState<SumHash> {
     let events = events(rt, alloc, calls);
-    let answer = match runs(rt, alloc, start, &events, calls) {
+    let found = match runs(rt, alloc, start, &events, calls) {
         None => {
             check_refused(rt);
             runs(rt, alloc, start, &events, calls)
         }
-        answer => answer,
+        found => found,
     };
     drop(events);
-    let (name, _) = calls;
-    assert!(rt; answer == Some(true), "{name}: in a run");
+    found.expect(rt, "a run")
 }
 
-/// Checks an example by calls one after another, and by a run of them.
+/// Checks an example by calls one after another, and by a run of them. Then nothing tells the two nodes apart, one of which was refused no
+/// allocation: so what a refused call left unchanged are pending changes and deadlines too.
 pub(crate) fn check(rt: &(impl Env + Abort), alloc: Global, case: &Case) {
     let (start, calls) = case;
     let mut node = begun(rt, alloc, start, SumHash);
     check_calls(rt, alloc, &mut node, *calls);
+    let mut other = after_run(rt, alloc, start, *calls);
+    check_alike(rt, alloc, &mut node, &mut other);
     drop(node);
-    check_run(rt, alloc, start, *calls);
+    drop(other);
 }

@@ -324,6 +324,40 @@ fn what_is_no_answer_is_a_fault(rt: HostRuntime) {
     }
 }
 
+/// What a link answers to a ping where the peer hangs up at once and reads nothing; None if an allocation failed.
+fn try_unread<
+    R: Net<Listener = TcpListener, Stream = TcpStream> + Threads + Wait + Clock + Env + Abort,
+>(rt: &R, alloc: Global, message: &Message) -> Option<Answered> {
+    let (listener, to) = listen(rt)?;
+    let peer = thread::spawn(rt, move || listener.accept().is_ok()).ok()?;
+    let mut link = TcpLink::with_limits(rt, patient());
+    let answered = answer_of(rt, alloc, &mut link, to, message);
+    drop(link);
+    if answered.0 == OUT_OF_MEMORY {
+        let _knocked = knock(rt, to, b"");
+    }
+    assert!(rt; peer.join(rt));
+    if answered.0 == OUT_OF_MEMORY {
+        return None;
+    }
+    Some(answered)
+}
+
+/// A peer that hangs up without reading the ping: the link failed, or was closed if the peer was sooner; one failure.
+#[test]
+fn a_peer_that_reads_nothing_is_a_fault(rt: HostRuntime) {
+    let alloc: Global = rt.alloc();
+    let ping = ping(&rt, alloc);
+    let mut answered = try_unread(&rt, alloc, &ping);
+    if answered.is_none() {
+        check_refused(&rt);
+        answered = try_unread(&rt, alloc, &ping);
+    }
+    drop(ping);
+    let closed = (Said::Fault(LinkError::Closed), 1);
+    assert!(rt; answered == Some(LEFT) || answered == Some(closed));
+}
+
 /// An answer that is cut behind any of its bytes: not JSON, no failure; without its newline alone it is heard.
 #[test]
 fn an_answer_may_be_cut_anywhere(rt: HostRuntime) {

@@ -125,6 +125,11 @@ impl<R: Host> Agent<R> {
         self.serving.get() >= self.workers.get()
     }
 
+    /// Returns whether at least a quarter of the workers that answer HTTP serves no connection, so that each may wait for its client.
+    pub fn has_spare_workers(&self) -> bool {
+        self.serving.get() <= self.workers.get() / 4 * 3
+    }
+
     /// Counts a worker that answers HTTP as ended. The last one wakes the thread that waits for this.
     pub fn end_worker(&self) {
         self.workers.subtract(1);

@@ -25,6 +25,9 @@ const MAX_READ_BYTES: usize = 1_048_576;
 /// The most milliseconds for which a connection may be idle between requests, and from the first byte of a request to its last.
 pub const MAX_IDLE: u64 = 30_000;
 
+/// The most times in a row that a worker waits for the next bytes of a connection, before it parks it, while enough others are free.
+const MAX_WAITS: u32 = 20;
+
 /// The least number of bytes for which a read has room, which a connection that waits holds.
 const MIN_ROOM: usize = 1_024;
 
@@ -54,6 +57,16 @@ pub struct Requests<'a, R> {
 }
 
 impl<'a, R: Host> Requests<'a, R> {
+    /// Returns whether another connection waits for this worker, since none is free.
+    fn is_needed(&self) -> bool {
+        self.agent.is_crowded() && !self.ready.is_empty()
+    }
+
+    /// Returns whether the worker may wait on after nothing came: enough others are free, and HTTP is not to end.
+    fn may_wait(&self) -> bool {
+        self.agent.has_spare_workers() && !self.agent.is_stopping.get()
+    }
+
     /// Reads once. An interrupted read is as one in which nothing came.
     fn read_once(&mut self, buf: &mut [u8]) -> io::Result<usize>
         ensures { ReadsAtMost result buf.new }
@@ -68,8 +81,8 @@ impl<'a, R: Host> Requests<'a, R> {
     }
 }
 
-/// The first read after an answer starts the time of the next request. After the first of a visit nothing is read while other connections wait
-/// for a worker.
+/// The first read after an answer starts the time of the next request. A read in which nothing comes is made again while enough workers are free.
+/// After the first of a visit nothing is read while other connections wait for a worker.
 impl<'a, R: Host> Read for Requests<'a, R> {
     fn read(&mut self, buf: &mut [u8]) -> io::Result<usize> {
         let now = self.agent.now().number();
@@ -80,11 +93,17 @@ impl<'a, R: Host> Read for Requests<'a, R> {
         if now >= self.until {
             return Err(ErrorKind::TimedOut.into());
         }
-        if self.has_read && self.agent.is_crowded() && !self.ready.is_empty() {
-            return Err(ErrorKind::WouldBlock.into());
+        for _ in 0..MAX_WAITS {
+            if self.has_read && self.is_needed() {
+                break;
+            }
+            self.has_read = true;
+            match self.read_once(buf) {
+                Err(error) if error.kind() == ErrorKind::WouldBlock && self.may_wait() => {}
+                outcome => return outcome,
+            }
         }
-        self.has_read = true;
-        self.read_once(buf)
+        Err(ErrorKind::WouldBlock.into())
     }
 }
 

@@ -30,7 +30,7 @@ limits_with pending head extensions trailers = record {
   limits = record { max_head_len = head; max_extensions_len = extensions; max_trailers_len = trailers };
   max_body_len = 1048576;
   max_pending = pending;
-  read_size = 1024;
+  read_size = 512;
 }
 
 limits_by : (d : Config) → (d.max_body_len ≡ 1048576) × (d.max_pending ≡ 65536) × (d.read_size ≡ 8192)
@@ -42,7 +42,7 @@ limits_by d said = cc
 -- the limits that the code sets over the standard ones
 pub limits_are : (d : Config) → (d.max_body_len ≡ 1048576) × (d.max_pending ≡ 65536) × (d.read_size ≡ 8192)
     × (d.limits.max_head_len ≡ 16384) × (d.limits.max_extensions_len ≡ 16384) × (d.limits.max_trailers_len ≡ 16384)
-    → record d { max_body_len = 1048576; read_size = 1024 } ≡ connection_limits
+    → record d { max_body_len = 1048576; read_size = 512 } ≡ connection_limits
 unfolding limits_with
 limits_are d said = limits_by d said
 

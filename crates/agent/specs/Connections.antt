@@ -14,9 +14,9 @@ use Rattle.agent.specs.Calling.{Calling, HasMade}
 abbrev pub head_limits : Limits
 head_limits = record { max_head_len = 16384; max_extensions_len = 16384; max_trailers_len = 16384 }
 
--- 1 MiB for its body; while more than 64 KiB wait to be sent, no request is read; a read has room for 1 KiB at least
+-- 1 MiB for its body; while more than 64 KiB wait to be sent, no request is read; a read has room for 512 bytes at least
 abbrev pub connection_limits : Config
-connection_limits = record { limits = head_limits; max_body_len = 1048576; max_pending = 65536; read_size = 1024 }
+connection_limits = record { limits = head_limits; max_body_len = 1048576; max_pending = 65536; read_size = 512 }
 
 -- the requests are answered one after the other, each by its response, and these are all calls of the node that were made meanwhile
 abbrev pub AnswersEach : ℕ → ℕ → List Call → OfActs Sha256Hash

@@ -29,7 +29,7 @@ pub const MAX_IDLE: u64 = 30_000;
 const MAX_WAITS: u32 = 20;
 
 /// The least number of bytes for which a read has room, which a connection that waits holds.
-const MIN_ROOM: usize = 1_024;
+const MIN_ROOM: usize = 512;
 
 /// A connection between two visits. Each whole request that came is answered, and each answer is written, unless it waits for room.
 #[derive(Drop)]

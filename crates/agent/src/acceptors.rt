@@ -51,12 +51,12 @@ fn places_with(descriptors: u64, wanted: u32) -> u64
     (descriptors - others).min(wanted as u64)
 }
 
-/// Returns how many HTTP connections may be open at a time, and logs it if that is fewer than are wanted.
+/// Sets how many HTTP connections may be open at a time, and logs it if that is fewer than are wanted.
 ///
 /// # Errors
 ///
 /// - `FewDescriptors`: the system gives this process fewer than 64 descriptors.
-pub fn places_for<R: Host>(agent: &Agent<R>, wanted: u32) -> Result<usize, AgentError> {
+pub fn set_places<R: Host>(agent: &Agent<R>, wanted: u32) -> Result<(), AgentError> {
     let descriptors = max_descriptors().unwrap_or(u64::MAX);
     if descriptors < MIN_DESCRIPTORS {
         return Err(AgentError::FewDescriptors(descriptors));
@@ -65,7 +65,8 @@ pub fn places_for<R: Host>(agent: &Agent<R>, wanted: u32) -> Result<usize, Agent
     if places < wanted as u64 {
         warn!(agent.log(); "{places} HTTP connections at a time, not {wanted}: there are {descriptors} descriptors (ulimit -n)");
     }
-    Ok(places as usize)
+    agent.http.set_limit(places as usize);
+    Ok(())
 }
 
 /// Starts a worker that answers HTTP.
@@ -90,9 +91,8 @@ fn start_worker<R: System>(
     Ok(())
 }
 
-/// Notes whether the system lets connections be accepted, and logs that it does not, or does again, unless the log said so last.
+/// Logs that the system lets no connection be accepted, or does again, unless the log said so last.
 fn note<R: Host>(agent: &Agent<R>, notice: &mut Notice, accepted: &io::Result<bool>) {
-    agent.cannot_accept.set(accepted.is_err());
     if !notice.note(accepted.is_err(), agent.now()) {
         return;
     }
@@ -126,7 +126,7 @@ fn answer_last<R: Host>(agent: &Agent<R>, reactor: &mut Reactor<Kept>) {
         if left == 0 {
             reactor.close_idle(&agent.rt);
         }
-        if reactor.lot().open() == 0 {
+        if reactor.lot().places().open() == 0 {
             return;
         }
         let rest = if left == 0 { MAX_REST } else { left };
@@ -142,7 +142,7 @@ fn watch<R: Host>(agent: Arc<Agent<R>, Global>, mut reactor: Reactor<Kept>) {
     answer_last(agent, &mut reactor);
 }
 
-/// Starts the workers, and the thread that accepts connections, for which there is this number of places. Returns the lot of those that wait.
+/// Starts the workers, and the thread that accepts connections, as many as there are places. Returns the lot of those that wait.
 ///
 /// # Errors
 ///
@@ -156,13 +156,13 @@ pub fn start_http<R: System>(
     alloc: Global,
     agent: &Arc<Agent<R>, Global>,
     listener: TcpListener,
-    places: usize,
 ) -> Result<Arc<Lot<Kept>, Global>, AgentError> {
     let keys = RandomState::new(rt).map_err(|_| AgentError::NoRandom)?;
     let timing = Timing {
         patience: Duration::from_millis(PATIENCE),
         idle: MAX_IDLE,
     };
+    let places = Arc::try_clone(&agent.http)?;
     let (reactor, ready) = Reactor::new(rt, alloc, listener, places, timing).map_err(
         |_| AgentError::NoReactor,
     )?;

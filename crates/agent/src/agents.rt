@@ -5,11 +5,14 @@ use crate::counters::{Count, Counters};
 use crate::journals::Journal;
 use crate::notices::Notices;
 use crate::systems::Host;
+use agent_core::{Counts, PortCounts};
 use change_core::{Address, Moment};
 use log::{LevelFilter, Logged};
+use reactor::Places;
 use server::{ServerClock, Stopwatch, Timeouts};
-use std::sync::Mutex;
+use std::alloc::Global;
 use std::sync::atomic::{AtomicBool, Ordering};
+use std::sync::{Arc, Mutex};
 use std::thread::Parker;
 
 /// The phase of an agent.
@@ -69,8 +72,8 @@ pub struct Agent<R> {
     pub workers: Count,
     /// The number of them that serve a connection.
     pub serving: Count,
-    /// Whether the system lets no HTTP connection be accepted.
-    pub cannot_accept: Flag,
+    /// The places of HTTP connections.
+    pub http: Arc<Places, Global>,
     /// What the log said last of other nodes and, at its own address, of messages to them.
     pub notices: Notices,
     /// What the log said last of nodes that disown what this node's members give them.
@@ -117,6 +120,25 @@ impl<R: Host> Agent<R> {
             Phase::Serving
         } else {
             Phase::Joining
+        }
+    }
+
+    /// Returns the counts.
+    pub fn counts(&self) -> Counts {
+        let http = &*self.http;
+        let port = PortCounts {
+            used: http.open() as u64,
+            max: http.limit() as u64,
+            evicted: http.evicted(),
+            failures: http.failures(),
+        };
+        Counts {
+            handled: self.application.handled.get(),
+            application_failures: self.application.failures.get(),
+            http: port,
+            workers_used: self.serving.get(),
+            workers_max: self.workers.get(),
+            ..self.counters.counts()
         }
     }
 

@@ -1,5 +1,5 @@
 //! The counters of an agent.
-use agent_core::{BUCKETS, Counts, bucket_of};
+use agent_core::{BUCKETS, Counts, PortCounts, bucket_of};
 use peer_core::{ClusterError, Round};
 use std::sync::atomic::{AtomicU64, Ordering};
 
@@ -127,9 +127,8 @@ impl Counters {
         }
     }
 
-    /// Returns the counts, with these numbers of requests that were to be handled here, and that the application did not
-    /// answer.
-    pub fn counts(&self, handled: u64, application_failures: u64) -> Counts {
+    /// Returns these counts, and 0 for each that is counted elsewhere.
+    pub fn counts(&self) -> Counts {
         let mut buckets = [0; BUCKETS];
         for (place, count) in buckets.iter_mut().zip(self.buckets.iter()) {
             *place = count.get();
@@ -138,7 +137,7 @@ impl Counters {
             answered: self.answered.get(),
             refused: self.refused.get(),
             failed: self.failed.get(),
-            handled,
+            handled: 0,
             forwards: self.forwards.get(),
             passed_on: self.passed_on.get(),
             reached: self.reached.get(),
@@ -146,11 +145,14 @@ impl Counters {
             inconclusive: self.inconclusive.get(),
             idle: self.idle.get(),
             broken: self.broken.get(),
-            application_failures,
+            application_failures: 0,
             link_failures: self.link_failures.get(),
             allocation_failures: self.allocation_failures.get(),
             micros: self.micros.get(),
             buckets,
+            http: PortCounts::default(),
+            workers_used: 0,
+            workers_max: 0,
         }
     }
 }

@@ -181,11 +181,7 @@ impl<'f, 'a, R: Host> Front<'f, 'a, R> {
     fn show_counts(&self, members: &[Change]) -> Result<Reply, Refusal>
         ensures { ShowsCounts members.now result }
     {
-        let application = &self.agent.application;
-        let counts = self
-            .agent
-            .counters
-            .counts(application.handled.get(), application.failures.get());
+        let counts = self.agent.counts();
         Reply::metrics(self.alloc, &counts, members)
     }
 
@@ -282,7 +278,7 @@ impl<'f, 'a, R: Host> Front<'f, 'a, R> {
         match self.agent.phase() {
             Phase::Joining => Err(Refusal::NotJoined),
             Phase::Left => Err(Refusal::HasLeft),
-            Phase::Serving if self.agent.cannot_accept.get() => Err(Refusal::CannotAccept),
+            Phase::Serving if self.agent.http.is_failing() => Err(Refusal::CannotAccept),
             Phase::Serving if !self.agent.application.is_up() => Err(Refusal::ApplicationDown),
             Phase::Serving => Ok(Reply::Line("ok\n")),
         }

@@ -4,7 +4,7 @@ ghost use Rattle.std.specs.Io.KnownBytes.{Appends};
 ghost use Rattle.agent.specs.Texts.{agent_text, serving_line};
 ghost use Rattle.wire_json.specs.Input.{AppendsPrefix};
 
-use crate::acceptors::{end_http, places_for, start_http};
+use crate::acceptors::{end_http, set_places, start_http};
 use crate::agents::{Agent, Flag};
 use crate::applications::Application;
 use crate::callers::{Caller, Passes};
@@ -25,7 +25,7 @@ use crossbeam_channel::{Receiver, Sender, bounded};
 use hash_ring::Sha256Hash;
 use log::warn;
 use node_core::{Config, NodeError, NodeState};
-use reactor::Lot;
+use reactor::{Lot, Places};
 use server::{Stopwatch, Timeouts};
 use std::alloc::Global;
 use std::io::Write;
@@ -142,7 +142,7 @@ fn agent_of<R: System>(
         relaying: Count::new(),
         workers: Count::new(),
         serving: Count::new(),
-        cannot_accept: Flag::new(false),
+        http: Arc::new(alloc, Places::new())?,
         notices: Notices::new(alloc),
         disowners: Notices::new(alloc),
         is_starting: Flag::new(!settings.hosts.is_empty()),
@@ -292,7 +292,7 @@ fn start<R: System>(
     agent: &Arc<Agent<R>, Global>,
     settings: Settings,
 ) -> Result<Option<Arc<Lot<Kept>, Global>>, AgentError> {
-    let places = places_for(&**agent, settings.http_connections)?;
+    set_places(&**agent, settings.http_connections)?;
     let listener = Arc::new(alloc, listen(rt, settings.bind)?)?;
     let front = match settings.http {
         Some(address) => Some(listen(rt, address)?),
@@ -304,7 +304,7 @@ fn start<R: System>(
     start_peers(rt, alloc, agent, &listener, &hands)?;
     start_hands(rt, alloc, agent, &jobs, settings.hands)?;
     let lot = match front {
-        Some(front) => Some(start_http(rt, alloc, agent, front, places)?),
+        Some(front) => Some(start_http(rt, alloc, agent, front)?),
         None => None,
     };
     let Settings { hosts, period, .. } = settings;

@@ -6,6 +6,7 @@ use Rattle.change_core.specs.declared.statuses.Status.TheVariants.{Alive, Suspec
 use Rattle.change_core.specs.Status.{rank, status_word}
 use Rattle.change_core.specs.Numbers.{most_members}
 use Rattle.agent_core.specs.declared.metrics.Counts.{Counts}
+use Rattle.agent_core.specs.declared.metrics.PortCounts.{PortCounts}
 
 -- the bucket of a time in microseconds
 abbrev pub bucket_of : ℕ → ℕ
@@ -111,7 +112,28 @@ other_samples counts =
     ++ line (codes "# TYPE ringpop_allocation_failures_total counter")
     ++ sample (codes "ringpop_allocation_failures_total") counts.allocation_failures
 
+-- the connections of clients over HTTP: how many are open, how many may be, how many were closed for others, and how often none was accepted
+abbrev pub connection_samples : PortCounts → List ℕ
+connection_samples http =
+    line (codes "# TYPE ringpop_connections_used gauge")
+    ++ sample (codes "ringpop_connections_used{port=\"http\"}") http.used
+    ++ line (codes "# TYPE ringpop_connections_max gauge")
+    ++ sample (codes "ringpop_connections_max{port=\"http\"}") http.max
+    ++ line (codes "# TYPE ringpop_connections_evicted_total counter")
+    ++ sample (codes "ringpop_connections_evicted_total{port=\"http\"}") http.evicted
+    ++ line (codes "# TYPE ringpop_accept_failures_total counter")
+    ++ sample (codes "ringpop_accept_failures_total{port=\"http\"}") http.failures
+
+-- the workers that serve a connection, and all workers
+abbrev pub worker_samples : Counts → List ℕ
+worker_samples counts =
+    line (codes "# TYPE ringpop_workers_used gauge")
+    ++ sample (codes "ringpop_workers_used") counts.workers_used
+    ++ line (codes "# TYPE ringpop_workers_max gauge")
+    ++ sample (codes "ringpop_workers_max") counts.workers_max
+
 -- the whole text
 abbrev pub metrics_text : Counts → List Change → List ℕ
 metrics_text counts members =
     status_samples members ++ address_samples (length members) ++ request_samples counts ++ time_samples counts ++ round_samples counts ++ other_samples counts
+    ++ connection_samples counts.http ++ worker_samples counts

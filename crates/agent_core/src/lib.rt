@@ -18,7 +18,7 @@ mod warnings;
 
 pub use actions::Action;
 pub use answers::{Answer, Kind};
-pub use metrics::{BUCKETS, Counts, bucket_of, metrics_text};
+pub use metrics::{BUCKETS, Counts, PortCounts, bucket_of, metrics_text};
 pub use packs::{MAX_BODY_BYTES, MAX_STATUS, MIN_STATUS, Packed, pack, unpack};
 pub use pages::PAGE;
 pub use parts::{MAX_REQUEST_BYTES, pack_body, pack_bytes, parts_in, push_part, unpack_bytes};

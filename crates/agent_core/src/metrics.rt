@@ -1,7 +1,7 @@
 //! The counts of an agent, in the text format of Prometheus (version 0.0.4).
 ghost use Rattle.std.specs.Prelude.{◌≡◌, ◌<◌, ◌++◌, IfOk, OnOk, count_by, length, string_bytes};
 ghost use Rattle.change_core.specs.Status.{rank};
-ghost use Rattle.agent_core.specs.Metrics.{address_samples, bucket_of, bucket_sample, bucket_samples, holds, metrics_text, other_samples, request_samples, round_samples, sample, status_sample, status_samples, time_samples, within};
+ghost use Rattle.agent_core.specs.Metrics.{address_samples, bucket_of, bucket_sample, bucket_samples, connection_samples, holds, metrics_text, other_samples, request_samples, round_samples, sample, status_sample, status_samples, time_samples, within, worker_samples};
 
 use change_core::{Change, MAX_MEMBERS, Status};
 use std::alloc::{AllocError, Global};
@@ -10,6 +10,19 @@ use std::fmt::Write;
 /// The number of buckets in which the times of requests are counted. A time is in the first bucket whose bound is not
 /// below it. The bounds are 1, 5, 10, 50, 100 and 500 milliseconds, and 1, 5 and 10 seconds; the last bucket has none.
 pub const BUCKETS: usize = 10;
+
+/// The connections at a port of an agent.
+#[derive(Clone, Copy, Debug, Default, PartialEq, Eq)]
+pub struct PortCounts {
+    /// Those that are open.
+    pub used: u64,
+    /// The most that are open at a time.
+    pub max: u64,
+    /// Those that were closed for others, since no place was free.
+    pub evicted: u64,
+    /// How often the system let none be accepted.
+    pub failures: u64,
+}
 
 /// The counts of an agent since it started.
 #[derive(Clone, Copy, Debug, PartialEq, Eq)]
@@ -46,6 +59,12 @@ pub struct Counts {
     pub link_failures: u64,
     /// Allocations that failed.
     pub allocation_failures: u64,
+    /// The connections of clients over HTTP.
+    pub http: PortCounts,
+    /// The workers that serve one of them.
+    pub workers_used: u64,
+    /// The workers that there are.
+    pub workers_max: u64,
 }
 
 /// Returns the bucket of a time in microseconds, from 0 to 9.
@@ -257,6 +276,40 @@ fn push_others(text: &mut String, counts: &Counts) -> Result<(), AllocError>
     Ok(())
 }
 
+/// Appends the numbers of connections, the most that there may be, and those that found no place.
+fn push_connections(text: &mut String, http: &PortCounts) -> Result<(), AllocError>
+    ensures { OnOk result (string_bytes text.new ≡ string_bytes text.old ++ connection_samples http.now) }
+{
+    text.push_str("# TYPE ringpop_connections_used gauge\n")?;
+    push_sample(text, "ringpop_connections_used{port=\"http\"}", http.used)?;
+    text.push_str("# TYPE ringpop_connections_max gauge\n")?;
+    push_sample(text, "ringpop_connections_max{port=\"http\"}", http.max)?;
+    text.push_str("# TYPE ringpop_connections_evicted_total counter\n")?;
+    push_sample(
+        text,
+        "ringpop_connections_evicted_total{port=\"http\"}",
+        http.evicted,
+    )?;
+    text.push_str("# TYPE ringpop_accept_failures_total counter\n")?;
+    push_sample(
+        text,
+        "ringpop_accept_failures_total{port=\"http\"}",
+        http.failures,
+    )?;
+    Ok(())
+}
+
+/// Appends the number of workers that serve a connection, and of all workers.
+fn push_workers(text: &mut String, counts: &Counts) -> Result<(), AllocError>
+    ensures { OnOk result (string_bytes text.new ≡ string_bytes text.old ++ worker_samples counts.now) }
+{
+    text.push_str("# TYPE ringpop_workers_used gauge\n")?;
+    push_sample(text, "ringpop_workers_used", counts.workers_used)?;
+    text.push_str("# TYPE ringpop_workers_max gauge\n")?;
+    push_sample(text, "ringpop_workers_max", counts.workers_max)?;
+    Ok(())
+}
+
 /// Returns the counts, and the number of members with each status, in the text format of Prometheus.
 ///
 /// # Errors
@@ -276,5 +329,7 @@ pub fn metrics_text(
     push_times(&mut text, counts)?;
     push_rounds(&mut text, counts)?;
     push_others(&mut text, counts)?;
+    push_connections(&mut text, &counts.http)?;
+    push_workers(&mut text, counts)?;
     Ok(text)
 }

@@ -117,6 +117,18 @@ ringpop_application_failures_total 6
 ringpop_link_failures_total 8
 # TYPE ringpop_allocation_failures_total counter
 ringpop_allocation_failures_total 18446744073709551615
+# TYPE ringpop_connections_used gauge
+ringpop_connections_used{port=\"http\"} 12
+# TYPE ringpop_connections_max gauge
+ringpop_connections_max{port=\"http\"} 10000
+# TYPE ringpop_connections_evicted_total counter
+ringpop_connections_evicted_total{port=\"http\"} 13
+# TYPE ringpop_accept_failures_total counter
+ringpop_accept_failures_total{port=\"http\"} 14
+# TYPE ringpop_workers_used gauge
+ringpop_workers_used 15
+# TYPE ringpop_workers_max gauge
+ringpop_workers_max 256
 ";
 
 #[test]
@@ -146,6 +158,14 @@ fn writes_metrics(rt: HostRuntime) {
         application_failures: 6,
         link_failures: 8,
         allocation_failures: u64::MAX,
+        http: PortCounts {
+            used: 12,
+            max: 10_000,
+            evicted: 13,
+            failures: 14,
+        },
+        workers_used: 15,
+        workers_max: 256,
     };
     let text = again!(&rt, AllocError, metrics_text(rt.alloc(), &counts, &members));
     assert!(rt; text.ok().expect(&rt, "a text").as_str() == METRICS);

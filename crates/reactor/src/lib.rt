@@ -4,8 +4,10 @@
 
 mod descriptors;
 mod lots;
+mod places;
 mod reactors;
 
 pub use descriptors::max_descriptors;
 pub use lots::{Connection, Lot};
+pub use places::Places;
 pub use reactors::{Reactor, Timing};

@@ -1,4 +1,5 @@
 //! The lot: the connections that wait for their clients, each of which holds a place and no thread.
+use crate::places::Places;
 use mio::unix::SourceFd;
 use mio::{Interest, Poll, Registry, Token, Waker};
 use slab::Slab;
@@ -6,8 +7,8 @@ use std::alloc::Global;
 use std::io;
 use std::net::TcpStream;
 use std::os::fd::AsRawFd;
-use std::sync::atomic::{AtomicBool, AtomicUsize, Ordering};
-use std::sync::{Mutex, Wait};
+use std::sync::atomic::{AtomicBool, Ordering};
+use std::sync::{Arc, Mutex, Wait};
 
 /// The token of the waker. Those of the connections are the keys of their slots, of which there are fewer.
 pub(crate) const WAKER: Token = Token(usize::MAX);
@@ -45,10 +46,7 @@ pub struct Lot<K> {
     slots: Mutex<Slots<K>>,
     registry: Registry,
     waker: Waker,
-    /// The most connections that are open at a time.
-    places: usize,
-    /// The number of connections that are open: those that wait, and those that are with a worker or on the way to one.
-    open: AtomicUsize,
+    places: Arc<Places, Global>,
     /// Whether the reactor waits for a place.
     is_full: AtomicBool,
     is_ending: AtomicBool,
@@ -68,12 +66,12 @@ fn longest_parked<K>(parked: &Slab<Parked<K>>) -> Option<usize> {
 }
 
 impl<K: Drop> Lot<K> {
-    /// Makes the lot of a poll, with this number of places.
+    /// Makes the lot of a poll, with these places.
     ///
     /// # Errors
     ///
     /// - The error of the system, which gave no descriptor.
-    pub(crate) fn new(alloc: Global, poll: &Poll, places: usize) -> io::Result<Self> {
+    pub(crate) fn new(alloc: Global, poll: &Poll, places: Arc<Places, Global>) -> io::Result<Self> {
         let slots = Slots {
             parked: Slab::new(alloc),
             is_closed: false,
@@ -83,20 +81,14 @@ impl<K: Drop> Lot<K> {
             registry: poll.registry().try_clone()?,
             waker: Waker::new(poll.registry(), WAKER)?,
             places,
-            open: AtomicUsize::new(0),
             is_full: AtomicBool::new(false),
             is_ending: AtomicBool::new(false),
         })
     }
 
-    /// Returns the most connections that are open at a time.
-    pub fn places(&self) -> usize {
-        self.places
-    }
-
-    /// Returns the number of connections that are open.
-    pub fn open(&self) -> usize {
-        self.open.load(Ordering::SeqCst)
+    /// Returns its places.
+    pub fn places(&self) -> &Places {
+        &*self.places
     }
 
     /// Returns the number of connections that wait.
@@ -115,17 +107,12 @@ impl<K: Drop> Lot<K> {
         self.is_ending.load(Ordering::SeqCst)
     }
 
-    /// Counts a connection that was accepted.
-    pub(crate) fn occupy(&self) {
-        self.open.fetch_add(1, Ordering::SeqCst);
-    }
-
     /// Frees the places of this number of connections that were closed. Wakes the reactor if it waits for one, or ends.
     fn free(&self, count: usize) {
         if count == 0 {
             return;
         }
-        self.open.fetch_sub(count, Ordering::SeqCst);
+        self.places.free(count);
         if self.is_full.swap(false, Ordering::SeqCst) || self.is_ending() {
             let _woken = self.waker.wake();
         }
@@ -202,6 +189,7 @@ impl<K: Drop> Lot<K> {
         let longest = slots.parked.try_remove(key);
         drop(slots);
         if longest.is_some() {
+            self.places.evict();
             self.free(1);
         }
         longest.is_some()
@@ -210,12 +198,12 @@ impl<K: Drop> Lot<K> {
     /// Returns whether another connection may be accepted: a place is free, or a connection waits, which is closed for it. If not, the reactor
     /// is woken once one may.
     pub(crate) fn has_room<R: Wait>(&self, rt: &R) -> bool {
-        if self.open() < self.places || self.waiting(rt) > 0 {
+        if self.places.has_free() || self.waiting(rt) > 0 {
             return true;
         }
         self.is_full.store(true, Ordering::SeqCst);
         // (once more, since a place that became free before did not wake it)
-        self.open() < self.places
+        self.places.has_free()
     }
 
     /// Closes the connections that wait for something to read, and each that is parked for that from now on.

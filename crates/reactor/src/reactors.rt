@@ -1,5 +1,6 @@
 //! The reactor: the part of it that its thread has.
 use crate::lots::{Connection, Lot, WAKER};
+use crate::places::Places;
 use crossbeam_channel::{Receiver, Sender, bounded};
 use mio::unix::SourceFd;
 use mio::{Events, Interest, Poll, Token};
@@ -56,8 +57,8 @@ fn no_memory() -> io::Error {
 }
 
 impl<K: Drop> Reactor<K> {
-    /// Makes a reactor for the connections of a listener, with this number of places. Returns it with the queue of the connections that are ready,
-    /// which holds them all and has no sender once the reactor is dropped.
+    /// Makes a reactor for the connections of a listener, with these places, whose limit is set. Returns it with the queue of the connections
+    /// that are ready, which holds them all and has no sender once the reactor is dropped.
     ///
     /// # Errors
     ///
@@ -67,7 +68,7 @@ impl<K: Drop> Reactor<K> {
         rt: &R,
         alloc: Global,
         listener: TcpListener,
-        places: usize,
+        places: Arc<Places, Global>,
         timing: Timing,
     ) -> io::Result<(Self, Receiver<Connection<K>>)> {
         listener.set_nonblocking(true)?;
@@ -75,8 +76,8 @@ impl<K: Drop> Reactor<K> {
         let descriptor = listener.as_raw_fd();
         poll.registry()
             .register(&mut SourceFd(&descriptor), LISTENER, Interest::READABLE)?;
+        let (ready, queue) = bounded(alloc, places.limit()).map_err(|_| no_memory())?;
         let lot = Arc::new(alloc, Lot::new(alloc, &poll, places)?).map_err(|_| no_memory())?;
-        let (ready, queue) = bounded(alloc, places).map_err(|_| no_memory())?;
         let reactor = Reactor {
             lot,
             poll,
@@ -124,6 +125,7 @@ impl<K: Drop> Reactor<K> {
         }
         let accepted = self.accept_some(rt, now);
         self.is_failing = accepted.is_err();
+        self.lot.places().note(self.is_failing);
         self.is_called = !matches!(&accepted, Ok(false));
         accepted
     }
@@ -169,10 +171,10 @@ impl<K: Drop> Reactor<K> {
 
     /// Parks a connection that was accepted. If all places are taken, the connection that has waited longest is closed for it.
     fn admit<R: Wait>(&self, rt: &R, stream: TcpStream, now: u64) {
-        if self.lot.open() >= self.lot.places() {
+        if !self.lot.places().has_free() {
             let _closed = self.lot.close_longest(rt);
         }
-        self.lot.occupy();
+        self.lot.places().occupy();
         let patience = Some(self.timing.patience);
         let _set = stream.set_nodelay(true);
         if stream.set_read_timeout(patience).is_err()

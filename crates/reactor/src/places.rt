@@ -1,0 +1,85 @@
+//! The places of a reactor: how many connections are open, and how often there was none for another.
+use std::sync::atomic::{AtomicBool, AtomicU64, AtomicUsize, Ordering};
+
+/// The places of a reactor's connections, and what befell those that found none. Its thread and its workers count here; any thread may read.
+#[derive(Drop)]
+pub struct Places {
+    /// The most connections that are open at a time.
+    limit: AtomicUsize,
+    /// The number of connections that are open: those that wait, and those that are with a worker or on the way to one.
+    open: AtomicUsize,
+    evicted: AtomicU64,
+    failures: AtomicU64,
+    is_failing: AtomicBool,
+}
+
+impl Places {
+    /// Makes places that are free, none as long as no limit is set.
+    pub fn new() -> Places {
+        Places {
+            limit: AtomicUsize::new(0),
+            open: AtomicUsize::new(0),
+            evicted: AtomicU64::new(0),
+            failures: AtomicU64::new(0),
+            is_failing: AtomicBool::new(false),
+        }
+    }
+
+    /// Sets the most connections that are open at a time.
+    pub fn set_limit(&self, limit: usize) {
+        self.limit.store(limit, Ordering::SeqCst);
+    }
+
+    /// Returns the most connections that are open at a time.
+    pub fn limit(&self) -> usize {
+        self.limit.load(Ordering::SeqCst)
+    }
+
+    /// Returns the number of connections that are open.
+    pub fn open(&self) -> usize {
+        self.open.load(Ordering::SeqCst)
+    }
+
+    /// Returns the number of connections that were closed for others.
+    pub fn evicted(&self) -> u64 {
+        self.evicted.load(Ordering::SeqCst)
+    }
+
+    /// Returns how often the system let none be accepted.
+    pub fn failures(&self) -> u64 {
+        self.failures.load(Ordering::SeqCst)
+    }
+
+    /// Returns whether the system let none be accepted when it was last asked.
+    pub fn is_failing(&self) -> bool {
+        self.is_failing.load(Ordering::SeqCst)
+    }
+
+    /// Returns whether one is free.
+    pub(crate) fn has_free(&self) -> bool {
+        self.open() < self.limit()
+    }
+
+    /// Counts a connection that was accepted.
+    pub(crate) fn occupy(&self) {
+        self.open.fetch_add(1, Ordering::SeqCst);
+    }
+
+    /// Counts connections that were closed.
+    pub(crate) fn free(&self, count: usize) {
+        self.open.fetch_sub(count, Ordering::SeqCst);
+    }
+
+    /// Counts a connection that is closed for another.
+    pub(crate) fn evict(&self) {
+        self.evicted.fetch_add(1, Ordering::SeqCst);
+    }
+
+    /// Notes whether the system lets connections be accepted.
+    pub(crate) fn note(&self, is_failing: bool) {
+        self.is_failing.store(is_failing, Ordering::SeqCst);
+        if is_failing {
+            self.failures.fetch_add(1, Ordering::SeqCst);
+        }
+    }
+}

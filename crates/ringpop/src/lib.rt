@@ -1,34 +1,28 @@
 //! One import for a service that shards its work over the nodes of a cluster.
 //!
-//! A service writes a [`Handler`], starts a node and its server by [`start`], joins hosts and sends requests by a
-//! [`Member`]: the node that owns a request's keys answers it.
+//! A service writes a [`Handler`], starts a node and its server by [`start`], and takes a [`Seat`] at it: by that it joins hosts and sends
+//! requests, and the node that owns a request's keys answers.
 //!
-//! Each type that stands in a call of these types is here, too. Three have other names than in their crates: [`ClusterStartError`],
-//! [`RunningProbe`] and [`RingServer`].
+//! What stands in a call of these is here, too, or in one of four modules: [`cluster`] has nodes in one process, links and a member of
+//! one's own; [`node`] the node that never waits; [`ring`] the ring by itself; [`wire`] messages.
 #![tactic(auto)]
 
-pub use change_core::{
-    Address, Change, ChangeError, Digest, Entry, Incarnation, Moment, Sourced, Status, Weight,
-};
-pub use cluster_core::{
-    ChannelLink, Cluster, Dial, Limits, StartError as ClusterStartError, StopError, TcpLink,
-};
-pub use detector_core::{Addresses, Probe, Running as RunningProbe, Said};
-pub use hash_ring::{PointHash, Ring, RingError, Server as RingServer, Sha256Hash};
-pub use locked_node::{CloseRefused, LockedNode, NodePass};
-pub use message_core::{
-    Changes, Content, Field, Keys, Kind, Message, News, Reason, Text, WireError,
-};
-pub use node_core::{
-    ChangeList, Config, ConfigField, Event, KeyBytes, NodeError, NodeLost, NodeOutcome, NodeState,
-    Received, Reply, StopCause, Stopped, Taken, View,
-};
+pub mod cluster;
+pub mod node;
+pub mod ring;
+pub mod wire;
+
+pub use change_core::{Address, Change, Incarnation, Status, Weight};
+pub use cluster_core::Limits;
+pub use hash_ring::{PointHash, Sha256Hash};
+pub use locked_node::NodePass;
+pub use message_core::{Keys, Text, WireError};
+pub use node_core::{ChangeList, Config, ConfigField, View};
 pub use peer_core::{
-    CallError, Clock, ClusterError, Handler, HandlerFault, Healing, JoinError, LeaveError, Link,
-    LinkError, Member, RejoinError, RequestError, Round, RoundError,
+    CallError, Handler, HandlerFault, JoinError, LeaveError, RejoinError, RequestError,
 };
 pub use server::{
-    EndError, Ended, HealingPlan, MAX_HANDLES, RoundClock, Running, Runtime, Server, ServerClock,
-    ServerError, Settings, StartError, Stopwatch, Timeouts, start,
+    EndError, Ended, HealingPlan, MAX_HANDLES, RoundClock, Running, Runtime, Seat, Server,
+    ServerError, Settings, StartError, Timeouts, start,
 };
-pub use turn_lock::{CloseError, LockError, NewError};
+pub use turn_lock::LockError;

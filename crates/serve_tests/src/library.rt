@@ -1,17 +1,24 @@
 //! What a service imports, by `ringpop` alone: the calls, and each type that stands in one of them. A name that it does
 //! not hand on fails the build.
 
+use ringpop::cluster::{
+    ChannelLink, Clock, CloseError, CloseRefused, Cluster, ClusterError, Dial, Healing, Link,
+    LinkError, LockedNode, Member, NewError, Round, RoundError, ServerClock,
+    StartError as ClusterStartError, StopError, Stopwatch, TcpLink,
+};
+use ringpop::node::{
+    Addresses, ChangeError, Digest, Entry, Event, KeyBytes, Moment, NodeError, NodeLost,
+    NodeOutcome, NodeState, Probe, Received, Reply, RunningProbe, Said, Sourced, StopCause,
+    Stopped, Taken,
+};
+use ringpop::ring::{Ring, RingError, Server as RingServer};
+use ringpop::wire::{Changes, Content, Field, Kind, Message, News, Reason};
 use ringpop::{
-    Address, Addresses, CallError, Change, ChangeError, ChangeList, Changes, ChannelLink, Clock,
-    CloseError, CloseRefused, Cluster, ClusterError, ClusterStartError, Config, ConfigField,
-    Content, Dial, Digest, EndError, Ended, Entry, Event, Field, Handler, HandlerFault, Healing,
-    HealingPlan, Incarnation, JoinError, KeyBytes, Keys, Kind, LeaveError, Limits, Link, LinkError,
-    LockError, LockedNode, MAX_HANDLES, Member, Message, Moment, NewError, News, NodeError,
-    NodeLost, NodeOutcome, NodePass, NodeState, PointHash, Probe, Reason, Received, RejoinError,
-    Reply, RequestError, Ring, RingError, RingServer, Round, RoundClock, RoundError, Running,
-    RunningProbe, Runtime, Said, Server, ServerClock, ServerError, Settings, Sha256Hash, Sourced,
-    StartError, Status, StopCause, StopError, Stopped, Stopwatch, Taken, TcpLink, Text, Timeouts,
-    View, Weight, WireError, start,
+    Address, CallError, Change, ChangeList, Config, ConfigField, EndError, Ended, Handler,
+    HandlerFault, HealingPlan, Incarnation, JoinError, Keys, LeaveError, Limits, LockError,
+    MAX_HANDLES, NodePass, PointHash, RejoinError, RequestError, RoundClock, Running, Runtime,
+    Seat, Server, ServerError, Settings, Sha256Hash, StartError, Status, Text, Timeouts, View,
+    Weight, WireError, start,
 };
 
 /// Takes what has another name here than in its own crate.

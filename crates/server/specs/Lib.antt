@@ -1,5 +1,6 @@
 pub mod Answering
 pub mod Running
+pub mod Seats
 pub mod Starting
 pub mod Threads
 pub mod Timeouts

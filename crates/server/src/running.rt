@@ -8,11 +8,13 @@ ghost use Rattle.peer_core.specs.Acts.{Makes};
 ghost use Rattle.server.specs.Running.{IsLeftOpen, end_error};
 ghost use Rattle.server.specs.Threads.{ServeTogether};
 ghost use Rattle.server.specs.Working.{AreRounds, hosts_of};
+ghost use Rattle.server.specs.declared.errors.ServerError.TheVariants.{Memory};
 
 use crate::errors::{EndError, ServerError};
 use crate::promises::{Timer, Worker};
 use crate::round_clocks::RoundClock;
 use crate::runtimes::Runtime;
+use crate::seats::Seat;
 use crate::servers::Server;
 use crate::threads::{end_timer, end_workers, start_all};
 use hash_ring::PointHash;
@@ -197,6 +199,26 @@ impl<
         ensures { result.now ≡ self.now.server }
     {
         &self.server
+    }
+
+    /// Returns a seat at the server's node, with one of its handles. While a seat is there the node cannot be closed.
+    ///
+    /// # Errors
+    ///
+    /// - `Memory`: the server has as many owners as it may.
+    pub fn seat(
+        &self,
+        rt: &R,
+        alloc: Global,
+        handle: NodePass<H>,
+    ) -> Result<Seat<R, H, A>, ServerError>
+        requires { Fits self.now.server.node handle }
+        ensures server { IfOk result (λ s. s.server ≡ self.now.server) }
+        ensures handle { IfOk result (λ s. s.handle ≡ handle) }
+        ensures refusal { IsOkUnless result Memory }
+    {
+        let server = Arc::try_clone(&self.server)?;
+        Ok(Seat::new(*rt, alloc, server, handle))
     }
 
     /// Waits for the last connection that was to be served, then ends the rounds, and returns how many connections were served. A

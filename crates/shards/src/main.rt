@@ -6,12 +6,11 @@
 
 use anyhow::{Context, Result, ensure};
 use ringpop::{
-    Address, Handler, HandlerFault as Fault, Incarnation, Keys, Member, NodePass, RoundClock,
-    Running, Runtime, ServerClock, Settings, Sha256Hash, TcpLink, Text, start,
+    Address, Handler, HandlerFault as Fault, Incarnation, Keys, RoundClock, Running, Runtime, Seat,
+    Settings, Sha256Hash, Text, start,
 };
 use std::alloc::Global;
 use std::collections::{BTreeMap, VecDeque};
-use std::marker::Model;
 use std::net::{Net, TcpListener, TcpStream};
 use std::sync::{Mutex, Wait};
 
@@ -37,67 +36,39 @@ impl Handler for Trips {
     }
 }
 
-/// A node of the service: its server, and the handle by which this thread calls it, which fits it.
+/// A node of the service: its server, and the seat by which this thread calls it.
 #[derive(Drop)]
 struct Node<R: RoundClock> {
     running: Running<Sha256Hash, Trips, R>,
-    handle: NodePass<Sha256Hash>,
-}
-
-impl<R: RoundClock> Model for Node<R> {
-    ghost use Rattle.ringpop.specs.Passes.{Fits};
-
-    ghost Value = { Unit {0} };
-
-    ghost view = { λ _. tt };
-
-    ghost invariant = { λ n. Fits n.running.server.node n.handle };
+    seat: Seat<R, Sha256Hash, Trips>,
 }
 
 impl<R: Net<Listener = TcpListener, Stream = TcpStream> + Runtime + AllocGlobal + Print> Node<R> {
     /// Starts a node, which joins the hosts, and is one of them from then on.
     fn start(rt: &R, address: &str, incarnation: u64, hosts: &mut Vec<Address>) -> Result<Self> {
-        let address = Address::parse(address)?;
+        let (alloc, address) = (rt.alloc(), Address::parse(address)?);
         let incarnation = Incarnation::new(incarnation).context("bad incarnation")?;
-        let counts = Mutex::new(BTreeMap::new(rt.alloc()));
+        let counts = Mutex::new(BTreeMap::new(alloc));
         let trips = Trips { address, counts };
         let settings = Settings::new(address, incarnation);
-        let (running, mut handles) = start(rt, rt.alloc(), Sha256Hash, trips, &settings)?;
-        let handle = handles.pop().context("no handle")?;
-        let node = Node { running, handle }.join(rt, hosts.as_slice())?;
-        hosts.push(address)?;
-        Ok(node)
-    }
-
-    /// Joins the hosts, if there are any.
-    fn join(self, rt: &R, hosts: &[Address]) -> Result<Self> {
-        if hosts.is_empty() {
-            return Ok(self);
+        let (running, mut handles) = start(rt, alloc, Sha256Hash, trips, &settings)?;
+        let mut seat = running.seat(rt, alloc, handles.pop().context("no handle")?)?;
+        if !hosts.is_empty() {
+            ensure!(hosts.len() <= 4_096, "too many hosts");
+            seat.join(hosts.as_slice())?;
         }
-        ensure!(hosts.len() <= 4_096, "too many hosts");
-        let Node { running, handle } = self;
-        let (mut handle, server) = (handle, running.server());
-        let mut link = TcpLink::new(*rt);
-        let mut member = Member::new(&server.node, &mut handle, &mut link, rt.alloc());
-        member.join(rt, hosts, server.stopwatch.moment(rt))?;
-        member.into_pass();
-        Ok(Node { running, handle })
+        hosts.push(address)?;
+        Ok(Node { running, seat })
     }
 
     /// Has the owner of a rider count a trip, whichever node that is, and prints its answer.
-    fn count_trip(self, rt: &R, rider: &str) -> Result<Self> {
-        let Node { running, handle } = self;
-        let (mut handle, server, alloc) = (handle, running.server(), rt.alloc());
-        let clock = ServerClock::new(*rt, server.stopwatch);
-        let keys = Keys::new(alloc, Text::new(alloc, rider)?)?;
-        let mut link = TcpLink::new(*rt);
-        let mut member = Member::new(&server.node, &mut handle, &mut link, alloc);
-        match member.request(rt, &server.handler, &clock, keys, Text::new(alloc, "")?) {
+    fn count_trip(&mut self, rt: &R, rider: &str) -> Result<()> {
+        let keys = Keys::new(rt.alloc(), Text::new(rt.alloc(), rider)?)?;
+        match self.seat.request(keys, Text::new(rt.alloc(), "")?) {
             Ok(trips) => println!(rt; "{rider}: trip {}", trips.as_str())?,
             Err(error) => println!(rt; "{rider}: {error}")?,
         }
-        member.into_pass();
-        Ok(Node { running, handle })
+        Ok(())
     }
 }
 
@@ -117,8 +88,9 @@ fn main(rt: HostRuntime) -> Result<()> {
         }
     }
     for rider in rt.lines(rt.alloc()) {
-        let node = nodes.pop_front().context("no node")?;
-        nodes.push_back(node.count_trip(&rt, rider?.as_str())?)?;
+        let mut node = nodes.pop_front().context("no node")?;
+        node.count_trip(&rt, rider?.as_str())?;
+        nodes.push_back(node)?;
     }
     for Node { running, .. } in nodes {
         running.stop(&rt);

@@ -1,14 +1,12 @@
-//! A service to begin with: each key is answered by the node that owns it. Edit `Greeter`, and what `ask` asks.
+//! A service to begin with: each key is answered by the node that owns it. Edit `Greeter`, and what `serve` asks.
 //!
 //!     ADDRESS INCARNATION [HOST ..]     runs a node, which joins the hosts; a line of input is a key, whose owner is asked
 #![tactic(auto)]
 
-ghost use Rattle.ringpop.specs.Passes.{Fits};
-
 use anyhow::{Context, Result};
 use ringpop::{
-    Address, Handler, HandlerFault as Fault, Incarnation, Keys, Member, NodePass, Running, Runtime,
-    ServerClock, Settings, Sha256Hash, TcpLink, Text, start,
+    Address, Handler, HandlerFault as Fault, Incarnation, Keys, Runtime, Settings, Sha256Hash,
+    Text, start,
 };
 use std::alloc::Global;
 use std::net::{Net, TcpListener, TcpStream};
@@ -31,25 +29,21 @@ impl Handler for Greeter {
     }
 }
 
-/// Asks the owner of each key that comes, until the input ends.
-fn ask<R: Net<Listener = TcpListener, Stream = TcpStream> + Runtime + AllocGlobal + Input + Print>(
-    rt: &R,
-    running: &Running<Sha256Hash, Greeter, R>,
-    mut handle: NodePass<Sha256Hash>,
-) -> Result<()>
-    requires { Fits running.now.server.node handle }
-{
-    let (alloc, server) = (rt.alloc(), running.server());
-    let clock = ServerClock::new(*rt, server.stopwatch);
-    let mut link = TcpLink::new(*rt);
-    let mut member = Member::new(&server.node, &mut handle, &mut link, alloc);
+/// Runs a node, and asks the owner of each key that comes, until the input ends.
+fn serve<
+    R: Net<Listener = TcpListener, Stream = TcpStream> + Runtime + AllocGlobal + Input + Print,
+>(rt: &R, settings: &Settings<'_>) -> Result<()> {
+    let (alloc, address) = (rt.alloc(), settings.address);
+    let (running, mut handles) = start(rt, alloc, Sha256Hash, Greeter { address }, settings)?;
+    let mut seat = running.seat(rt, alloc, handles.pop().context("no handle")?)?;
     for key in rt.lines(alloc) {
         let keys = Keys::new(alloc, Text::new(alloc, key?.as_str())?)?;
-        match member.request(rt, &server.handler, &clock, keys, Text::new(alloc, "")?) {
+        match seat.request(keys, Text::new(alloc, "")?) {
             Ok(answer) => println!(rt; "{}", answer.as_str())?,
             Err(error) => println!(rt; "{error}")?,
         }
     }
+    running.stop(rt);
     Ok(())
 }
 
@@ -68,9 +62,5 @@ fn main(rt: HostRuntime) -> Result<()> {
             Incarnation::new(number).context("bad INCARNATION")?,
         )
     };
-    let greeter = Greeter { address };
-    let (running, mut handles) = start(&rt, rt.alloc(), Sha256Hash, greeter, &settings)?;
-    ask(&rt, &running, handles.pop().context("no handle")?)?;
-    running.stop(&rt);
-    Ok(())
+    serve(&rt, &settings)
 }

@@ -1,0 +1,3 @@
+//! The ring by itself.
+
+pub use hash_ring::{Ring, RingError, Server};

@@ -1,10 +1,11 @@
 //! A server's node as one thread of the service calls it.
-ghost use Rattle.std.specs.Prelude.{◌≡◌, ◌<◌, ◌^◌, length};
+ghost use Rattle.std.specs.Prelude.{◌≡◌, ◌<◌, ◌^◌, IfErr, IfOk, length};
 ghost use Rattle.std.specs.Arc.{arc_value};
+ghost use Rattle.node_core.specs.Calls.{OfEvent, WithReply};
 ghost use Rattle.node_core.specs.declared.events.Event.TheVariants as event;
 ghost use Rattle.node_core.specs.declared.events.Reply.TheVariants as reply;
-ghost use Rattle.locked_node.specs.Passes.{Fits};
-ghost use Rattle.peer_core.specs.MemberErrors.{answer_of_leave, error_of_join, error_of_request, widened};
+ghost use Rattle.locked_node.specs.Passes.{Fits, IsBarred, IsCalled};
+ghost use Rattle.peer_core.specs.MemberErrors.{answer_of_call, answer_of_leave, answer_of_rejoin, error_of_join, error_of_request, widened};
 ghost use Rattle.peer_core.specs.Parts.{Does};
 ghost use Rattle.server.specs.Seats.{Did, JoinsHosts, Replied, Requests};
 
@@ -15,7 +16,8 @@ use cluster_core::TcpLink;
 use hash_ring::PointHash;
 use locked_node::NodePass;
 use message_core::{Keys, Text};
-use peer_core::{Handler, JoinError, LeaveError, Member, RequestError};
+use node_core::ChangeList;
+use peer_core::{CallError, Handler, JoinError, LeaveError, Member, RejoinError, RequestError};
 use std::alloc::Global;
 use std::marker::Model;
 use std::net::Net;
@@ -118,6 +120,63 @@ fn request_by<R: Net + Wait + Clock + Copy, H: PointHash, A: Handler>(
     answer
 }
 
+/// Copies the members by a handle.
+fn members_by<R: Net + Wait + Clock + Copy, H: PointHash, A>(
+    rt: &R,
+    alloc: Global,
+    server: &Server<H, A>,
+    handle: &mut NodePass<H>,
+) -> Result<ChangeList, CallError>
+    requires fits { Fits server.now.node handle.old }
+    ensures called { IfOk (answer_of_call result) (λ a. IsCalled H.hash_of server.now.node handle.old handle.new (OfEvent event.Members) (WithReply (reply.Members a))) }
+    ensures refused { IfErr (answer_of_call result) (IsBarred server.now.node handle.old handle.new) }
+    ensures fits { Fits server.now.node handle.new }
+{
+    let mut link = TcpLink::new(*rt);
+    let mut member = Member::new(&server.node, handle, &mut link, alloc);
+    let answer = member.members(rt);
+    let _handle = member.into_pass();
+    answer
+}
+
+/// Leaves by a handle.
+fn leave_by<R: Net + Wait + Clock + Copy, H: PointHash, A>(
+    rt: &R,
+    alloc: Global,
+    server: &Server<H, A>,
+    handle: &mut NodePass<H>,
+) -> Result<Change, LeaveError>
+    requires fits { Fits server.now.node handle.old }
+    ensures called { IfOk (answer_of_leave result) (λ a. IsCalled H.hash_of server.now.node handle.old handle.new (OfEvent event.Leave) (WithReply (reply.Leave a))) }
+    ensures refused { IfErr (answer_of_leave result) (IsBarred server.now.node handle.old handle.new) }
+    ensures fits { Fits server.now.node handle.new }
+{
+    let mut link = TcpLink::new(*rt);
+    let mut member = Member::new(&server.node, handle, &mut link, alloc);
+    let answer = member.leave(rt);
+    let _handle = member.into_pass();
+    answer
+}
+
+/// Comes back by a handle.
+fn rejoin_by<R: Net + Wait + Clock + Copy, H: PointHash, A>(
+    rt: &R,
+    alloc: Global,
+    server: &Server<H, A>,
+    handle: &mut NodePass<H>,
+) -> Result<Change, RejoinError>
+    requires fits { Fits server.now.node handle.old }
+    ensures called { IfOk (answer_of_rejoin result) (λ a. IsCalled H.hash_of server.now.node handle.old handle.new (OfEvent event.Rejoin) (WithReply (reply.Rejoin a))) }
+    ensures refused { IfErr (answer_of_rejoin result) (IsBarred server.now.node handle.old handle.new) }
+    ensures fits { Fits server.now.node handle.new }
+{
+    let mut link = TcpLink::new(*rt);
+    let mut member = Member::new(&server.node, handle, &mut link, alloc);
+    let answer = member.rejoin(rt);
+    let _handle = member.into_pass();
+    answer
+}
+
 impl<R: Net + Wait + Clock + Copy, H: PointHash, A: Handler> Seat<R, H, A> {
     /// Sends a Join to each host, fewer than 2^32, in their order. Returns the number of hosts that answered by a Joined. It is
     /// [`Member::join`], over TCP and at the server's moment.
@@ -170,6 +229,18 @@ impl<R: Net + Wait + Clock + Copy, H: PointHash, A: Handler> Seat<R, H, A> {
         self.server.node.owner(&self.rt, &mut self.handle, key)
     }
 
+    /// The members that the node holds, itself among them, ascending by address.
+    ///
+    /// # Errors
+    ///
+    /// - `Memory`: an allocation failed.
+    /// - `ForeignPass`, `PassSpent`: the lock refused the handle.
+    pub fn members(&mut self) -> Result<ChangeList, CallError>
+        ensures { Replied H.hash_of event.Members reply.Members (answer_of_call result) self.old self.new }
+    {
+        members_by(&self.rt, self.alloc, &self.server, &mut self.handle)
+    }
+
     /// Leaves the cluster: the node asserts so, and rounds and answers pass it on. Returns its entry after that, as a change.
     ///
     /// # Errors
@@ -180,11 +251,21 @@ impl<R: Net + Wait + Clock + Copy, H: PointHash, A: Handler> Seat<R, H, A> {
     pub fn leave(&mut self) -> Result<Change, LeaveError>
         ensures { Replied H.hash_of event.Leave reply.Leave (answer_of_leave result) self.old self.new }
     {
-        let mut link = TcpLink::new(self.rt);
-        let mut member = Member::new(&self.server.node, &mut self.handle, &mut link, self.alloc);
-        let left = member.leave(&self.rt);
-        let _handle = member.into_pass();
-        left
+        leave_by(&self.rt, self.alloc, &self.server, &mut self.handle)
+    }
+
+    /// Comes back after leaving, at the node's next incarnation. Returns its entry after that, as a change.
+    ///
+    /// # Errors
+    ///
+    /// - `NotLeft`: the node has not left.
+    /// - `Exhausted`: no incarnation is left.
+    /// - `Memory`: an allocation failed; the node has still left then.
+    /// - `ForeignPass`, `PassSpent`: the lock refused the handle.
+    pub fn rejoin(&mut self) -> Result<Change, RejoinError>
+        ensures { Replied H.hash_of event.Rejoin reply.Rejoin (answer_of_rejoin result) self.old self.new }
+    {
+        rejoin_by(&self.rt, self.alloc, &self.server, &mut self.handle)
     }
 
     /// The server: its node, its handler, its time.

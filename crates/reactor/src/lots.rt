@@ -127,8 +127,17 @@ impl<K: Drop> Lot<K> {
     /// Parks a connection at this millisecond, until its client sends something or, if it is full, takes something. It is closed instead if
     /// idle connections are, and if the system or the memory is short.
     pub fn park<R: Wait>(&self, rt: &R, connection: Connection<K>, now: u64) {
-        if !self.hold(rt, connection, now) {
+        if self.hold(rt, connection, now) {
+            self.call_if_full();
+        } else {
             self.free(1);
+        }
+    }
+
+    /// Wakes the reactor if it waits for a place, since a connection can be closed for another now.
+    fn call_if_full(&self) {
+        if self.is_full.swap(false, Ordering::SeqCst) {
+            let _woken = self.waker.wake();
         }
     }
 
@@ -202,8 +211,8 @@ impl<K: Drop> Lot<K> {
             return true;
         }
         self.is_full.store(true, Ordering::SeqCst);
-        // (once more, since a place that became free before did not wake it)
-        self.places.has_free()
+        // (once more, since what became free or was parked before did not wake it)
+        self.places.has_free() || self.waiting(rt) > 0
     }
 
     /// Closes the connections that wait for something to read, and each that is parked for that from now on.

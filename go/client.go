@@ -59,7 +59,8 @@ func RingFromAgent(ctx context.Context, where string) (*Ring, error) {
 }
 
 // Request has the service of the key's owner answer a POST, and returns its answer, whatever its status. It answers ErrUnreachable, and an
-// *AgentError if the agent refuses. A request may be done twice, and may have been done after an error: give what may not be repeated an id.
+// *AgentError if the agent refuses. A 502 whose text is one of the agent's lines (HTTP.md) is an answer, and no error: the service gave none.
+// A request may be done twice, and may have been done after an error or a 502: give what may not be repeated an id.
 func (client *Client) Request(ctx context.Context, key string, body []byte) (*Answer, error) {
 	answer, err := client.ask(ctx, http.MethodPost, "/keys/"+url.PathEscape(key), body)
 	if err != nil {
@@ -172,8 +173,9 @@ func ringOf(members []Member, replicas int, own netip.AddrPort) (*Ring, error) {
 	return ring, nil
 }
 
-// Watch gives the ring now, and from then on each other ring, as soon as the agent has it, until the context ends, which closes the channel.
-// An agent that does not answer or refuses is asked again each second. A ring that stood for less than a moment may be passed over.
+// Watch gives the ring now, and from then on each other ring, until the context ends, which closes the channel. An agent that does not answer or
+// refuses is asked again each second. One that knows `GET /ring` answers as soon as it has another ring; one that does not is asked for its
+// members each second. A ring that did not last until it was asked for is passed over.
 func (client *Client) Watch(ctx context.Context) <-chan *Ring {
 	rings := make(chan *Ring)
 	go func() {

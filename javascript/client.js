@@ -16,7 +16,7 @@ const refusal = answer => new AgentError(answer.status, answer.text.replace(/\n$
 const isUnknown = answer => answer.status === 404 || answer.status === 405;
 const isNobody = answer => answer.status === 503 && answer.text === `${NOBODY}\n`;
 
-/** Asks an agent over HTTP. Each call rejects with Unreachable if no agent answers, and with AgentError if it refuses. */
+/** Asks an agent over HTTP. Each call rejects with Unreachable if no agent answers, and with AgentError if it refuses; but see `request` for a 502. */
 class Client {
   #agent = new http.Agent({ keepAlive: true, timeout: IDLE });
 
@@ -31,8 +31,9 @@ class Client {
   }
 
   /**
-   * Has the service of the key's owner answer, and gives its answer, whatever its status: `{ status, body, text, owner, headers }`. A request may be
-   * done twice, and may have been done after an error: give what may not be repeated an id.
+   * Has the service of the key's owner answer, and gives its answer, whatever its status: `{ status, body, text, owner, headers }`. A 502 whose text is
+   * one of the agent's lines (HTTP.md) is given, and does not reject: the service gave no answer. A request may be done twice, and may have been done
+   * after an error or a 502: give what may not be repeated an id. An agent that passes on no method but POST refuses another one, and drops the headers.
    */
   async request(key, body = '', { method = 'POST', headers = {} } = {}) {
     const answer = await this.#ask(method, `/keys/${encodeURIComponent(key)}`, { body, headers });
@@ -75,8 +76,9 @@ class Client {
   }
 
   /**
-   * The ring now, and from then on each other ring, as soon as the agent has it, until `signal` is aborted. An agent that does not answer or refuses
-   * is asked again each second. A ring that stood for less than a moment may be passed over.
+   * The ring now, and from then on each other ring, until `signal` is aborted. An agent that does not answer or refuses is asked again each second. One
+   * that knows `GET /ring` answers as soon as it has another ring; one that does not is asked for its members each second. A ring that did not last
+   * until it was asked for is passed over.
    */
   async *watch({ ring, wait = 30, signal } = {}) {
     while (!signal?.aborted) {

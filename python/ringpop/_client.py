@@ -36,7 +36,7 @@ class Answer(NamedTuple):
 class Client:
     """Asks an agent over HTTP. It may be shared between threads: each has a connection of its own, which is kept.
 
-    Each call raises Unreachable if no agent answers, and AgentError with the agent's own line if it refuses.
+    Each call raises Unreachable if no agent answers, and AgentError with the agent's own line if it refuses; but see `request` for a 502.
     """
 
     def __init__(self, url: str = "http://127.0.0.1:7980", *, timeout: float = 60.0) -> None:
@@ -54,7 +54,9 @@ class Client:
     def request(self, key: Text, body: Text = b"", *, method: str = "POST", headers: Mapping[str, str] | None = None) -> Answer:
         """Has the service of the key's owner answer, and returns its answer, whatever its status.
 
-        A request may be done twice, and may have been done after an error (see AGENT.md): give what may not be repeated an id.
+        A 502 whose text is one of the agent's lines (HTTP.md) is returned, not raised: the service gave no answer. A request may be done twice,
+        and may have been done after an error or a 502 (AGENT.md): give what may not be repeated an id. An agent that passes on no method but
+        POST refuses another one, and drops the headers.
         """
         answer = self._ask(method, _path("/keys/", key), body, headers)
         if answer.owner is None or "x-ringpop-error" in answer.headers:
@@ -92,10 +94,11 @@ class Client:
         return self._ring(self._json(self._ask("GET", "/members")), "members")
 
     def watch(self, ring: Ring | None = None, *, wait: float = 30.0) -> Iterator[Ring]:
-        """The ring now, unless it equals the one that is given, and from then on each other ring, as soon as the agent has it.
+        """The ring now, unless it equals the one that is given, and from then on each other ring.
 
-        It has no end; an agent that does not answer or refuses is asked again each second. A ring that stood for less than a moment may be
-        passed over. The agent holds each question for at most `wait` seconds, 1 to 60.
+        It has no end; an agent that does not answer or refuses is asked again each second. One that knows `GET /ring` holds each question for at
+        most `wait` seconds, 1 to 60, and answers as soon as it has another ring; one that does not is asked for its members each second. A ring
+        that did not last until it was asked for is passed over.
         """
         while True:
             try:

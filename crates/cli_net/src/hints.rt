@@ -87,7 +87,7 @@ fn say_threads<R: Eprint>(rt: &R, words: &ServeWords) {
 fn say_open<R: Eprint>(rt: &R, words: &AgentWords) {
     if let Some(address) = words.http {
         let _ = eprintln!(rt;
-            "ringpop: '{address}' for --http: whoever reaches that address may stop the node, since nobody is asked who they are; give one of 127.0.0.0/8, or --http-any where only trusted machines reach it"
+            "ringpop: '{address}' for --http: whoever reaches that address may stop the node, since HTTP asks for no password; give one of 127.0.0.0/8, or --http-any if only trusted machines reach it"
         );
     }
 }

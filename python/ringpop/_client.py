@@ -36,11 +36,12 @@ class Answer(NamedTuple):
 class Client:
     """Asks an agent over HTTP. It may be shared between threads: each has a connection of its own, which is kept.
 
-    Each call raises Unreachable if no agent answers, and AgentError with the agent's own line if it refuses; but see `request` for a 502.
+    Each call raises Unreachable if no agent answers, and AgentError with the agent's own line if it refuses; but see `request` for a 502. After its
+    agent restarted a thread's next call may raise Unreachable once, since the kept connection has ended.
     """
 
     def __init__(self, url: str = "http://127.0.0.1:7980", *, timeout: float = 60.0) -> None:
-        """Makes a client of the agent at this URL. A request may take `timeout` seconds: after a crash one for a key takes nine.
+        """Makes a client of the agent at this URL. A request may take `timeout` seconds, connecting included: after a crash one for a key takes nine.
 
         Raises ValueError if the URL is not `http://HOST:PORT`.
         """

@@ -19,7 +19,8 @@ pub use locked_node::NodePass;
 pub use message_core::{Keys, Text, WireError};
 pub use node_core::{ChangeList, Config, ConfigField, View};
 pub use peer_core::{
-    CallError, Handler, HandlerFault, JoinError, LeaveError, RejoinError, RequestError,
+    CallError, Clock, ClusterError, Handler, HandlerFault, HandlerMut, Healing, JoinError,
+    LeaveError, Link, LinkError, Member, RejoinError, RequestError, Round, RoundError,
 };
 pub use server::{
     EndError, Ended, HealingPlan, MAX_HANDLES, RoundClock, Running, Runtime, Seat, Server,

@@ -3,3 +3,4 @@ mod Reading
 mod Closing
 mod Completing
 mod Scripting
+mod Owning

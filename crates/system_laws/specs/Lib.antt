@@ -3,3 +3,4 @@ pub mod Reading
 pub mod Closing
 pub mod Completeness
 pub mod Scripts
+pub mod Owning

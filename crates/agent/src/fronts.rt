@@ -27,6 +27,7 @@ use message_core::{Keys, Text};
 use node_core::View;
 use peer_core::ClusterError;
 use std::alloc::{AllocError, Global};
+use std::sync::atomic::{AtomicBool, Ordering};
 use std::time::Instant;
 
 /// The most requests that wait for a key's owner at a time. The other threads answer what needs no wait.
@@ -118,22 +119,22 @@ impl<'f, 'a, R: Host> Front<'f, 'a, R> {
         let Ok(keys) = Keys::new(self.alloc, key) else {
             return Err(Refusal::Memory);
         };
-        let mut handler = NotedHandler {
+        let handler = NotedHandler {
             handler: &agent.application,
-            was_asked: false,
+            was_asked: AtomicBool::new(false),
         };
         self.link.last = None;
         let answer = self.caller.request(
             &agent.rt,
             self.alloc,
             self.link,
-            &mut handler,
+            &handler,
             &agent.clock(),
             keys,
             body,
         );
         let owner = match self.link.last {
-            Some(last) if !handler.was_asked => last,
+            Some(last) if !handler.was_asked.load(Ordering::SeqCst) => last,
             _ => agent.own,
         };
         match answer {

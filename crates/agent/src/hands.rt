@@ -10,6 +10,7 @@ use cluster_core::TcpLink;
 use crossbeam_channel::Receiver;
 use std::alloc::Global;
 use std::sync::Arc;
+use std::sync::atomic::{AtomicBool, Ordering};
 
 /// Returns the line of this node's own answer to a request, for which the application has what is left of the limit, and
 /// whether the application was asked: it is if this node owns the request by its view.
@@ -21,12 +22,12 @@ fn own_answer<R: Host>(
     job: &Job,
 ) -> (Option<Vec<u8>>, bool) {
     let application = Limited::new(&agent.application, millis_left(agent, job.since));
-    let mut handler = NotedHandler {
+    let handler = NotedHandler {
         handler: &application,
-        was_asked: false,
+        was_asked: AtomicBool::new(false),
     };
-    let line = line_for(agent, alloc, caller, link, &mut handler, &job.input);
-    (line, handler.was_asked)
+    let line = line_for(agent, alloc, caller, link, &handler, &job.input);
+    (line, handler.was_asked.load(Ordering::SeqCst))
 }
 
 /// Answers a request over its connection. One that this node does not own is passed on to the owner. If no other node

@@ -19,4 +19,3 @@ pub mod Servings
 pub mod Forwarded
 pub mod Requested
 pub mod Resent
-pub mod HandlingCounts

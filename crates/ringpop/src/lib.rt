@@ -19,8 +19,7 @@ pub use locked_node::NodePass;
 pub use message_core::{Keys, Text, WireError};
 pub use node_core::{ChangeList, Config, ConfigField, View};
 pub use peer_core::{
-    CallError, Clock, ClusterError, Handler, HandlerFault, HandlerMut, Healing, JoinError,
-    LeaveError, Link, LinkError, Member, RejoinError, RequestError, Round, RoundError,
+    CallError, Handler, HandlerFault, JoinError, LeaveError, RejoinError, RequestError,
 };
 pub use server::{
     EndError, Ended, HealingPlan, MAX_HANDLES, RoundClock, Running, Runtime, Seat, Server,

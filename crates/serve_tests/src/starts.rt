@@ -209,7 +209,7 @@ fn request<R: Net<Listener = TcpListener, Stream = TcpStream> + Runtime>(
         now: Cell::new(0),
         waits: Cell::new(0),
     };
-    let answer = member.request(rt, &mut &*handler, &clock, keys, body);
+    let answer = member.request(rt, handler, &clock, keys, body);
     Some((answer, clock.waits.get(), clock.now.get()))
 }
 

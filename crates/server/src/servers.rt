@@ -5,7 +5,7 @@ ghost use Rattle.cluster_core.specs.Sockets.{limits_of};
 ghost use Rattle.peer_core.specs.Acts.{Makes};
 ghost use Rattle.server.specs.Answering.{IsSame};
 ghost use Rattle.server.specs.Timeouts.{AreStandardTimeouts};
-ghost use Rattle.server.specs.Working.{ServesEach, hosts_of};
+ghost use Rattle.server.specs.Working.{IsConnection, Times, hosts_of};
 
 use crate::connections::serve_connection;
 use crate::healing::HealingPlan;
@@ -16,7 +16,7 @@ use change_core::Address;
 use cluster_core::{Deadline, TcpLink};
 use hash_ring::PointHash;
 use locked_node::{LockedNode, NodePass};
-use peer_core::{HandlerMut, Member};
+use peer_core::{Handler, Member};
 use std::alloc::Global;
 use std::net::{IpAddr, Ipv4Addr, Net, SocketAddr, TcpListener, TcpStream};
 use std::sync::atomic::{AtomicBool, AtomicU64, Ordering};
@@ -227,15 +227,14 @@ impl<H: PointHash, A> Server<H, A> {
 
 /// Serves connections by a member until none is left, once the threads may start, and returns how many. PingReqs are
 /// relayed over its link, which has the server's timeouts.
-fn work_over<R: Net + Wait + Clock, H: PointHash, T, A: HandlerMut>(
-    server: &Server<H, T>,
+fn work_over<R: Net + Wait + Clock, H: PointHash, A: Handler>(
+    server: &Server<H, A>,
     member: &mut Member<'_, H, TcpLink<R>>,
-    handler: &mut A,
     rt: &R,
     alloc: Global,
 ) -> u64
     requires { limits_of member.old.link.now ≡ server.now.timeouts.links }
-    ensures made { Makes member.old.node (ServesEach H.hash_of A.handled result handler.old handler.new) member.old.pass.now member.new.pass.now }
+    ensures made { Makes member.old.node (Times (IsConnection H.hash_of (A.may_handle server.now.handler)) result) member.old.pass.now member.new.pass.now }
     ensures same { IsSame member.old member.new }
 {
     server.wait_for_start(rt);
@@ -243,27 +242,25 @@ fn work_over<R: Net + Wait + Clock, H: PointHash, T, A: HandlerMut>(
         let Some(stream) = server.next_connection(rt) else {
             return served;
         };
-        serve_connection(server, member, handler, rt, alloc, stream);
+        serve_connection(server, member, rt, alloc, stream);
     }
     server.connections
 }
 
-/// Serves connections until none is left, once the threads may start, and returns how many. The handler is called once for
-/// each Forward that the node owns, and else never.
-pub fn work<R: Net + Wait + Clock + Copy, H: PointHash, T, A: HandlerMut>(
-    server: &Server<H, T>,
+/// Serves connections until none is left, once the threads may start, and returns how many.
+pub fn work<R: Net + Wait + Clock + Copy, H: PointHash, A: Handler>(
+    server: &Server<H, A>,
     pass: &mut NodePass<H>,
-    handler: &mut A,
     rt: &R,
     alloc: Global,
 ) -> u64
     requires { Fits server.now.node pass.old }
-    ensures made { Makes server.now.node (ServesEach H.hash_of A.handled result handler.old handler.new) pass.old pass.new }
+    ensures made { Makes server.now.node (Times (IsConnection H.hash_of (A.may_handle server.now.handler)) result) pass.old pass.new }
     ensures fits { Fits server.now.node pass.new }
 {
     let mut link = TcpLink::with_limits(*rt, server.timeouts.links);
     let mut member = Member::new(&server.node, pass, &mut link, alloc);
-    let connections = work_over(server, &mut member, handler, rt, alloc);
+    let connections = work_over(server, &mut member, rt, alloc);
     let _pass = member.into_pass();
     connections
 }

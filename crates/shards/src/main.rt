@@ -62,15 +62,9 @@ impl<R: Net<Listener = TcpListener, Stream = TcpStream> + Runtime + AllocGlobal 
     }
 
     /// Has the owner of a rider count a trip, whichever node that is, and prints its answer.
-    fn count_trip(self, rt: &R, rider: &str) -> Result<Self> {
-        let Node { running, handle } = self;
-        let (mut handle, server, alloc) = (handle, running.server(), rt.alloc());
-        let clock = ServerClock::new(*rt, server.stopwatch);
-        let keys = Keys::new(alloc, Text::new(alloc, rider)?)?;
-        let body = Text::new(alloc, "")?;
-        let mut link = TcpLink::new(*rt);
-        let mut member = Member::new(&server.node, &mut handle, &mut link, alloc);
-        match member.request(rt, &mut &server.handler, &clock, keys, body) {
+    fn count_trip(&mut self, rt: &R, rider: &str) -> Result<()> {
+        let keys = Keys::new(rt.alloc(), Text::new(rt.alloc(), rider)?)?;
+        match self.seat.request(keys, Text::new(rt.alloc(), "")?) {
             Ok(trips) => println!(rt; "{rider}: trip {}", trips.as_str())?,
             Err(error) => println!(rt; "{rider}: {error}")?,
         }

@@ -3,4 +3,3 @@ mod Reading
 mod Closing
 mod Completing
 mod Scripting
-mod Owning

@@ -3,4 +3,3 @@ pub mod Reading
 pub mod Closing
 pub mod Completeness
 pub mod Scripts
-pub mod Owning

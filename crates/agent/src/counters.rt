@@ -127,8 +127,9 @@ impl Counters {
         }
     }
 
-    /// Returns these counts, and 0 for each that is counted elsewhere.
-    pub fn counts(&self) -> Counts {
+    /// Returns the counts, with these numbers of requests that were to be handled here, and that the application did not
+    /// answer, and without those of connections that rest, which are 0.
+    pub fn counts(&self, handled: u64, application_failures: u64) -> Counts {
         let mut buckets = [0; BUCKETS];
         for (place, count) in buckets.iter_mut().zip(self.buckets.iter()) {
             *place = count.get();
@@ -145,7 +146,11 @@ impl Counters {
             inconclusive: self.inconclusive.get(),
             idle: self.idle.get(),
             broken: self.broken.get(),
-            application_failures: 0,
+            application_failures,
+            resting: 0,
+            max_resting: 0,
+            reused: 0,
+            closed: 0,
             link_failures: self.link_failures.get(),
             allocation_failures: self.allocation_failures.get(),
             micros: self.micros.get(),

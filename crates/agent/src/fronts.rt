@@ -181,8 +181,7 @@ impl<'f, 'a, R: Host> Front<'f, 'a, R> {
     fn show_counts(&self, members: &[Change]) -> Result<Reply, Refusal>
         ensures { ShowsCounts members.now result }
     {
-        let counts = self.agent.counts();
-        Reply::metrics(self.alloc, &counts, members)
+        Reply::metrics(self.alloc, &self.agent.counts(), members)
     }
 
     /// Returns the counts, with the members by status.

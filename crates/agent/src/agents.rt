@@ -5,14 +5,12 @@ use crate::counters::{Count, Counters};
 use crate::journals::Journal;
 use crate::notices::Notices;
 use crate::systems::Host;
-use agent_core::Counts;
+use agent_core::{Counts, PortCounts};
 use change_core::{Address, Moment};
-use kept_links::Pool;
 use log::{LevelFilter, Logged};
 use reactor::Places;
 use server::{ServerClock, Stopwatch, Timeouts};
-use std::net::TcpStream;
-use std::sync::Mutex;
+use std::alloc::Global;
 use std::sync::atomic::{AtomicBool, Ordering};
 use std::sync::{Arc, Mutex};
 use std::thread::Parker;
@@ -66,14 +64,10 @@ pub struct Agent<R> {
     /// The passes that no thread has.
     pub passes: Mutex<Passes>,
     pub counters: Counters,
-    /// The connections to other nodes that rest between two requests.
-    pub spares: Pool<TcpStream>,
     /// The number of HTTP requests that wait for a key's owner.
     pub waiting: Count,
     /// The number of requests that are being relayed.
     pub relaying: Count,
-    /// The number of hands that keep a connection of another node.
-    pub keeping: Count,
     /// The number of workers that answer HTTP.
     pub workers: Count,
     /// The number of them that serve a connection.
@@ -116,20 +110,6 @@ impl<R: Host> Agent<R> {
     /// Returns the clock by which requests are tried again.
     pub fn clock(&self) -> ServerClock<R> {
         ServerClock::new(self.rt, self.stopwatch)
-    }
-
-    /// Returns the counts of this agent.
-    pub fn counts(&self) -> Counts {
-        let (application, spares) = (&self.application, &self.spares);
-        Counts {
-            resting: spares.resting(&self.rt) as u64,
-            max_resting: spares.most() as u64,
-            reused: spares.reused(),
-            closed: spares.closed(),
-            ..self
-                .counters
-                .counts(application.handled.get(), application.failures.get())
-        }
     }
 
     /// Returns the phase of the agent.

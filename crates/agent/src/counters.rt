@@ -127,9 +127,8 @@ impl Counters {
         }
     }
 
-    /// Returns the counts, with these numbers of requests that were to be handled here, and that the application did not
-    /// answer, and without those of connections that rest, which are 0.
-    pub fn counts(&self, handled: u64, application_failures: u64) -> Counts {
+    /// Returns these counts, and 0 for each that is counted elsewhere.
+    pub fn counts(&self) -> Counts {
         let mut buckets = [0; BUCKETS];
         for (place, count) in buckets.iter_mut().zip(self.buckets.iter()) {
             *place = count.get();
@@ -146,11 +145,7 @@ impl Counters {
             inconclusive: self.inconclusive.get(),
             idle: self.idle.get(),
             broken: self.broken.get(),
-            application_failures,
-            resting: 0,
-            max_resting: 0,
-            reused: 0,
-            closed: 0,
+            application_failures: 0,
             link_failures: self.link_failures.get(),
             allocation_failures: self.allocation_failures.get(),
             micros: self.micros.get(),

@@ -181,7 +181,8 @@ impl<'f, 'a, R: Host> Front<'f, 'a, R> {
     fn show_counts(&self, members: &[Change]) -> Result<Reply, Refusal>
         ensures { ShowsCounts members.now result }
     {
-        Reply::metrics(self.alloc, &self.agent.counts(), members)
+        let counts = self.agent.counts();
+        Reply::metrics(self.alloc, &counts, members)
     }
 
     /// Returns the counts, with the members by status.

@@ -120,8 +120,7 @@ impl<'a, R: Host> Rounds<'a, R> {
         }
     }
 
-    /// Makes one round of gossip, counts it, and logs its error and how the members changed. Then closes the connections to other nodes that
-    /// rested for long.
+    /// Makes one round of gossip, counts it, and logs its error and how the members changed.
     fn make(&mut self) {
         let agent = self.agent;
         let now = agent.now();
@@ -131,7 +130,6 @@ impl<'a, R: Host> Rounds<'a, R> {
         self.log(&round);
         agent.renew(&mut self.caller);
         self.heal(now);
-        agent.spares.close_rested(&agent.rt, &agent.rt);
     }
 
     /// Heals after a round, unless the node has left: members that parted find one another again.

@@ -102,22 +102,6 @@ round_samples counts =
     ++ sample (codes "ringpop_rounds_total{outcome=\"inconclusive\"}") counts.inconclusive
     ++ sample (codes "ringpop_rounds_total{outcome=\"error\"}") counts.broken
 
--- the number of connections to other nodes that rest, and the most that can
-abbrev pub resting_samples : Counts → List ℕ
-resting_samples counts =
-    line (codes "# TYPE ringpop_kept_connections gauge")
-    ++ sample (codes "ringpop_kept_connections") counts.resting
-    ++ line (codes "# TYPE ringpop_kept_connections_max gauge")
-    ++ sample (codes "ringpop_kept_connections_max") counts.max_resting
-
--- how often connections that had rested were used again, and how many were closed
-abbrev pub reuse_samples : Counts → List ℕ
-reuse_samples counts =
-    line (codes "# TYPE ringpop_kept_connections_reused_total counter")
-    ++ sample (codes "ringpop_kept_connections_reused_total") counts.reused
-    ++ line (codes "# TYPE ringpop_kept_connections_closed_total counter")
-    ++ sample (codes "ringpop_kept_connections_closed_total") counts.closed
-
 -- the numbers of failures: of the application, of links, and of allocations
 abbrev pub other_samples : Counts → List ℕ
 other_samples counts =
@@ -151,5 +135,5 @@ worker_samples counts =
 -- the whole text
 abbrev pub metrics_text : Counts → List Change → List ℕ
 metrics_text counts members =
-    status_samples members ++ address_samples (length members) ++ request_samples counts ++ time_samples counts ++ round_samples counts
-    ++ resting_samples counts ++ reuse_samples counts ++ other_samples counts
+    status_samples members ++ address_samples (length members) ++ request_samples counts ++ time_samples counts ++ round_samples counts ++ other_samples counts
+    ++ connection_samples counts.http ++ worker_samples counts

@@ -1,7 +1,7 @@
 //! The counts of an agent, in the text format of Prometheus (version 0.0.4).
 ghost use Rattle.std.specs.Prelude.{◌≡◌, ◌<◌, ◌++◌, IfOk, OnOk, count_by, length, string_bytes};
 ghost use Rattle.change_core.specs.Status.{rank};
-ghost use Rattle.agent_core.specs.Metrics.{address_samples, bucket_of, bucket_sample, bucket_samples, holds, metrics_text, other_samples, request_samples, resting_samples, reuse_samples, round_samples, sample, status_sample, status_samples, time_samples, within};
+ghost use Rattle.agent_core.specs.Metrics.{address_samples, bucket_of, bucket_sample, bucket_samples, connection_samples, holds, metrics_text, other_samples, request_samples, round_samples, sample, status_sample, status_samples, time_samples, within, worker_samples};
 
 use change_core::{Change, MAX_MEMBERS, Status};
 use std::alloc::{AllocError, Global};
@@ -55,14 +55,6 @@ pub struct Counts {
     pub broken: u64,
     /// Requests of keys that this node's application was given and did not answer.
     pub application_failures: u64,
-    /// Connections to other nodes that rest until the next request.
-    pub resting: u64,
-    /// The most that there can be of them.
-    pub max_resting: u64,
-    /// Requests that went over a connection that had rested.
-    pub reused: u64,
-    /// Connections that had rested, or were to, and were closed.
-    pub closed: u64,
     /// Sends to another node that failed.
     pub link_failures: u64,
     /// Allocations that failed.
@@ -284,25 +276,37 @@ fn push_others(text: &mut String, counts: &Counts) -> Result<(), AllocError>
     Ok(())
 }
 
-/// Appends the number of connections to other nodes that rest, and the most that can.
-fn push_resting(text: &mut String, counts: &Counts) -> Result<(), AllocError>
-    ensures { OnOk result (string_bytes text.new ≡ string_bytes text.old ++ resting_samples counts.now) }
+/// Appends the numbers of connections, the most that there may be, and those that found no place.
+fn push_connections(text: &mut String, http: &PortCounts) -> Result<(), AllocError>
+    ensures { OnOk result (string_bytes text.new ≡ string_bytes text.old ++ connection_samples http.now) }
 {
-    text.push_str("# TYPE ringpop_kept_connections gauge\n")?;
-    push_sample(text, "ringpop_kept_connections", counts.resting)?;
-    text.push_str("# TYPE ringpop_kept_connections_max gauge\n")?;
-    push_sample(text, "ringpop_kept_connections_max", counts.max_resting)?;
+    text.push_str("# TYPE ringpop_connections_used gauge\n")?;
+    push_sample(text, "ringpop_connections_used{port=\"http\"}", http.used)?;
+    text.push_str("# TYPE ringpop_connections_max gauge\n")?;
+    push_sample(text, "ringpop_connections_max{port=\"http\"}", http.max)?;
+    text.push_str("# TYPE ringpop_connections_evicted_total counter\n")?;
+    push_sample(
+        text,
+        "ringpop_connections_evicted_total{port=\"http\"}",
+        http.evicted,
+    )?;
+    text.push_str("# TYPE ringpop_accept_failures_total counter\n")?;
+    push_sample(
+        text,
+        "ringpop_accept_failures_total{port=\"http\"}",
+        http.failures,
+    )?;
     Ok(())
 }
 
-/// Appends how often connections that had rested were used again, and how many were closed.
-fn push_reuse(text: &mut String, counts: &Counts) -> Result<(), AllocError>
-    ensures { OnOk result (string_bytes text.new ≡ string_bytes text.old ++ reuse_samples counts.now) }
+/// Appends the number of workers that serve a connection, and of all workers.
+fn push_workers(text: &mut String, counts: &Counts) -> Result<(), AllocError>
+    ensures { OnOk result (string_bytes text.new ≡ string_bytes text.old ++ worker_samples counts.now) }
 {
-    text.push_str("# TYPE ringpop_kept_connections_reused_total counter\n")?;
-    push_sample(text, "ringpop_kept_connections_reused_total", counts.reused)?;
-    text.push_str("# TYPE ringpop_kept_connections_closed_total counter\n")?;
-    push_sample(text, "ringpop_kept_connections_closed_total", counts.closed)?;
+    text.push_str("# TYPE ringpop_workers_used gauge\n")?;
+    push_sample(text, "ringpop_workers_used", counts.workers_used)?;
+    text.push_str("# TYPE ringpop_workers_max gauge\n")?;
+    push_sample(text, "ringpop_workers_max", counts.workers_max)?;
     Ok(())
 }
 
@@ -324,8 +328,6 @@ pub fn metrics_text(
     push_requests(&mut text, counts)?;
     push_times(&mut text, counts)?;
     push_rounds(&mut text, counts)?;
-    push_resting(&mut text, counts)?;
-    push_reuse(&mut text, counts)?;
     push_others(&mut text, counts)?;
     push_connections(&mut text, &counts.http)?;
     push_workers(&mut text, counts)?;

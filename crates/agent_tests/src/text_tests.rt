@@ -111,14 +111,6 @@ ringpop_rounds_total{outcome=\"reached\"} 50
 ringpop_rounds_total{outcome=\"suspected\"} 2
 ringpop_rounds_total{outcome=\"inconclusive\"} 3
 ringpop_rounds_total{outcome=\"error\"} 0
-# TYPE ringpop_kept_connections gauge
-ringpop_kept_connections 12
-# TYPE ringpop_kept_connections_max gauge
-ringpop_kept_connections_max 128
-# TYPE ringpop_kept_connections_reused_total counter
-ringpop_kept_connections_reused_total 13
-# TYPE ringpop_kept_connections_closed_total counter
-ringpop_kept_connections_closed_total 14
 # TYPE ringpop_application_failures_total counter
 ringpop_application_failures_total 6
 # TYPE ringpop_link_failures_total counter
@@ -164,10 +156,6 @@ fn writes_metrics(rt: HostRuntime) {
         inconclusive: 3,
         broken: 0,
         application_failures: 6,
-        resting: 12,
-        max_resting: 128,
-        reused: 13,
-        closed: 14,
         link_failures: 8,
         allocation_failures: u64::MAX,
         http: PortCounts {

@@ -15,6 +15,7 @@ mod fronts;
 mod hands;
 mod hosts;
 mod journals;
+mod lines;
 mod links;
 mod notices;
 mod peers;

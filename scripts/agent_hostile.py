@@ -29,8 +29,6 @@ from nodes import NOBODY, ROOT, STEP, Wrong, call, message, rest
 MAX_KEY_BYTES, MAX_BODY_BYTES, MAX_READ_BYTES, PATIENCE = 1_024, 131_072, 1_048_576, 30
 # how many connections an agent answers at a time
 FRONTS = 256
-# how many connections of other nodes are open at a time
-NODE_PLACES = 1_000
 # a request to the service takes this many seconds at most, and one of another node that waits for a hand this many in all
 LIMIT, LIMIT_IN_ALL = 4.0, 4.5
 # after a line about a service or a node the log says nothing more of it for this many seconds
@@ -273,40 +271,12 @@ class Hostile:
             stream.close()
         self.check_up("1,000 that said nothing")
 
-    def at_node(self):
-        return socket.create_connection(("127.0.0.1", self.agent.port), 10)
-
-    def node_port(self):
-        """Other nodes that say nothing, stop in a line, or drip: pings are answered meanwhile. One connection takes several lines."""
-        line = json.dumps(message("ping", checksum=NOBODY, changes=[])).encode()
-        kept, last = line + b" \n", line + b"\n"
-        with self.at_node() as stream:
-            lines = stream.makefile("rb")
-            for sent in (kept, kept * 3, kept[:10], kept[10:], last + kept):
-                stream.sendall(sent)
-                for _ in range(min(sent.count(b"\n"), sent.count(b" \n") or 1)):
-                    if json.loads(lines.readline())["kind"] != "ack":
-                        raise Wrong("a next line on a node's connection is not answered")
-            if lines.readline():
-                raise Wrong("a line that does not ask for it keeps a node's connection")
-        self.pings.longest = 0.0
-        waiting = []
-        for number in range(NODE_PLACES + 96):
-            waiting.append(self.at_node())
-            waiting[-1].sendall((b"", line[:10])[number % 2])
-            if number < 96:
-                time.sleep(1 / 32)
-        self.check_up(f"{len(waiting)} that stop at the node's port")
-        print(f"the longest ping meanwhile {self.pings.longest:.3f} s", flush=True)
-        for stream in waiting:
-            stream.close()
-
     def play(self):
         for number in range(50):
             self.agent.ask("POST", f"/keys/{number}", b"hello")
         self.check_up("at first")
         before = self.agent.held_at_rest()
-        for part in (self.keys, self.bodies, self.heads, self.pipelines, self.deaf, self.node_port, self.crowd, self.slow):
+        for part in (self.keys, self.bodies, self.heads, self.pipelines, self.deaf, self.crowd, self.slow):
             part()
         self.check_up("at the end")
         after = self.agent.held_at_rest()

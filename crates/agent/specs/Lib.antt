@@ -2,7 +2,6 @@ pub mod Answers
 pub mod Calling
 pub mod Connections
 pub mod Exchanges
-pub mod Lines
 pub mod Performing
 pub mod Relays
 pub mod Replies

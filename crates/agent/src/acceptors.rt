@@ -1,18 +1,16 @@
-//! The threads that accept connections and watch those that wait, one for other nodes and one for HTTP; and HTTP from its start to its end.
+//! HTTP from its start to its end: the thread that accepts connections and watches those that wait, and the workers.
 ghost use Rattle.std.specs.Prelude.{◌≡◌, ◌-◌, ◌/◌, min};
 
 use crate::agents::Agent;
 use crate::connections::{Kept, MAX_IDLE};
 use crate::errors::AgentError;
-use crate::lines::Lines;
-use crate::peers::MAX_LINE_WAIT;
 use crate::systems::{Host, System};
 use crate::workers::serve_http;
 use agent_core::Notice;
 use cluster_core::Deadline;
 use crossbeam_channel::Receiver;
 use log::{info, warn};
-use reactor::{Connection, Lot, Places, Reactor, Timing, max_descriptors};
+use reactor::{Connection, Lot, Reactor, Timing, max_descriptors};
 use std::alloc::Global;
 use std::hash::RandomState;
 use std::net::TcpListener;
@@ -23,20 +21,17 @@ use std::{io, thread};
 /// The number of workers that answer HTTP, each one connection at a time.
 const WORKERS: u32 = 256;
 
-/// The most connections of other nodes that are open at a time.
-const NODE_CONNECTIONS: u32 = 1_000;
+/// The number of threads of an agent for HTTP: the workers, and the one that accepts connections and watches those that wait.
+pub const HTTP_THREADS: u32 = WORKERS + 1;
 
 /// The least number of descriptors with which an agent answers HTTP.
 const MIN_DESCRIPTORS: u64 = 64;
 
 /// The most descriptors that are left for what is no HTTP connection of a client: those to the application and to other nodes, and the like.
-const MAX_OTHERS: u64 = 2_048;
+const MAX_OTHERS: u64 = 1_024;
 
 /// The milliseconds for which a worker waits for the next bytes of a connection before it parks it.
 const PATIENCE: u64 = 50;
-
-/// The milliseconds for which a thread waits for the next bytes of another node, or for room for more, before it parks the connection.
-const LINE_PATIENCE: u64 = 5;
 
 /// The most milliseconds between two looks at the connections that wait.
 const MAX_REST: u64 = 1_000;
@@ -48,7 +43,7 @@ const LAST_IDLE: u64 = 1_000;
 const MAX_LAST_WAIT: u64 = 10_000;
 
 /// Returns how many HTTP connections may be open at a time where this number is wanted and there are these descriptors: they take half of them,
-/// or all but 2,048 if that is more.
+/// or all but 1,024 if that is more.
 fn places_with(descriptors: u64, wanted: u32) -> u64
     ensures { result ≡ min (descriptors - min (descriptors / 2) MAX_OTHERS) wanted }
 {
@@ -56,57 +51,21 @@ fn places_with(descriptors: u64, wanted: u32) -> u64
     (descriptors - others).min(wanted as u64)
 }
 
-/// Returns how many connections of other nodes may be open at a time where this number is wanted and there are these descriptors: they take half
-/// of those that HTTP leaves.
-fn node_places_with(descriptors: u64, wanted: u32) -> u64
-    ensures { result ≡ min (min (descriptors / 2) MAX_OTHERS / 2) wanted }
-{
-    let others = (descriptors / 2).min(MAX_OTHERS);
-    (others / 2).min(wanted as u64)
-}
-
-/// Sets how many connections of a kind may be open at a time, and logs it if that is fewer than are wanted.
-fn set_limit<R: Host>(
-    agent: &Agent<R>,
-    places: &Places,
-    kind: &str,
-    limit: u64,
-    wanted: u32,
-    descriptors: u64,
-) {
-    if limit < wanted as u64 {
-        warn!(agent.log(); "{limit} {kind} connections at a time, not {wanted}: there are {descriptors} descriptors (ulimit -n)");
-    }
-    places.set_limit(limit as usize);
-}
-
-/// Sets how many connections may be open at a time, of other nodes and of HTTP, and logs it if that is fewer than are wanted.
+/// Sets how many HTTP connections may be open at a time, and logs it if that is fewer than are wanted.
 ///
 /// # Errors
 ///
 /// - `FewDescriptors`: the system gives this process fewer than 64 descriptors.
-pub fn set_places<R: Host>(agent: &Agent<R>, http: u32) -> Result<(), AgentError> {
+pub fn set_places<R: Host>(agent: &Agent<R>, wanted: u32) -> Result<(), AgentError> {
     let descriptors = max_descriptors().unwrap_or(u64::MAX);
     if descriptors < MIN_DESCRIPTORS {
         return Err(AgentError::FewDescriptors(descriptors));
     }
-    let nodes = NODE_CONNECTIONS;
-    set_limit(
-        agent,
-        &agent.http,
-        "HTTP",
-        places_with(descriptors, http),
-        http,
-        descriptors,
-    );
-    set_limit(
-        agent,
-        &agent.nodes,
-        "node",
-        node_places_with(descriptors, nodes),
-        nodes,
-        descriptors,
-    );
+    let places = places_with(descriptors, wanted);
+    if places < wanted as u64 {
+        warn!(agent.log(); "{places} HTTP connections at a time, not {wanted}: there are {descriptors} descriptors (ulimit -n)");
+    }
+    agent.http.set_limit(places as usize);
     Ok(())
 }
 
@@ -133,24 +92,23 @@ fn start_worker<R: System>(
 }
 
 /// Logs that the system lets no connection be accepted, or does again, unless the log said so last.
-fn note<R: Host>(agent: &Agent<R>, notice: &mut Notice, kind: &str, accepted: &io::Result<bool>) {
+fn note<R: Host>(agent: &Agent<R>, notice: &mut Notice, accepted: &io::Result<bool>) {
     if !notice.note(accepted.is_err(), agent.now()) {
         return;
     }
     match accepted {
-        Err(error) => warn!(agent.log(); "no {kind} connection can be accepted: {error}"),
-        Ok(_) => info!(agent.log(); "{kind} connections are accepted again"),
+        Err(error) => warn!(agent.log(); "no HTTP connection can be accepted: {error}"),
+        Ok(_) => info!(agent.log(); "HTTP connections are accepted again"),
     }
 }
 
-/// Accepts connections of a kind, and has those that are ready answered, until the reactor is to end. What waits to be accepted then is accepted
-/// first.
-fn accept_until_end<R: Host, K: Drop>(agent: &Agent<R>, reactor: &mut Reactor<K>, kind: &str) {
+/// Accepts connections, and has those that are ready answered, until HTTP is to end. What waits to be accepted then is accepted first.
+fn accept_until_end<R: Host>(agent: &Agent<R>, reactor: &mut Reactor<Kept>) {
     let mut notice = Notice::new();
     for _ in agent.rt.forever() {
         let is_ending = reactor.lot().is_ending();
         let accepted = reactor.turn(&agent.rt, agent.now().number());
-        note(agent, &mut notice, kind, &accepted);
+        note(agent, &mut notice, &accepted);
         if is_ending && !matches!(accepted, Ok(true)) {
             return;
         }
@@ -176,15 +134,10 @@ fn answer_last<R: Host>(agent: &Agent<R>, reactor: &mut Reactor<Kept>) {
     }
 }
 
-/// Accepts connections of other nodes and watches them, for ever.
-fn watch_nodes<R: Host>(agent: Arc<Agent<R>, Global>, mut reactor: Reactor<Lines>) {
-    accept_until_end(&*agent, &mut reactor, "node");
-}
-
-/// Accepts HTTP connections and watches them until HTTP ends, and then those that are open until they are closed.
+/// Accepts connections and watches them until HTTP ends, and then those that are open until they are closed.
 fn watch<R: Host>(agent: Arc<Agent<R>, Global>, mut reactor: Reactor<Kept>) {
     let agent = &*agent;
-    accept_until_end(agent, &mut reactor, "HTTP");
+    accept_until_end(agent, &mut reactor);
     reactor.close();
     answer_last(agent, &mut reactor);
 }
@@ -221,35 +174,6 @@ pub fn start_http<R: System>(
     let started = thread::spawn(rt, move || watch(agent, reactor));
     let _thread = started.map_err(|_| AgentError::NoThread)?;
     Ok(lot)
-}
-
-/// Starts the thread that accepts connections of other nodes, as many as there are places. Returns the lot of those that wait, and the queue of
-/// those that are ready.
-///
-/// # Errors
-///
-/// - `NoReactor`: the system lets no connections be watched.
-/// - `NoThread`: the system gave no thread.
-/// - `Memory`: an allocation failed.
-pub fn start_nodes<R: System>(
-    rt: &R,
-    alloc: Global,
-    agent: &Arc<Agent<R>, Global>,
-    listener: TcpListener,
-) -> Result<(Arc<Lot<Lines>, Global>, Receiver<Connection<Lines>>), AgentError> {
-    let timing = Timing {
-        patience: Duration::from_millis(LINE_PATIENCE),
-        idle: MAX_LINE_WAIT,
-    };
-    let places = Arc::try_clone(&agent.nodes)?;
-    let (reactor, ready) = Reactor::new(rt, alloc, listener, places, timing).map_err(
-        |_| AgentError::NoReactor,
-    )?;
-    let lot = Arc::try_clone(reactor.lot())?;
-    let agent = Arc::try_clone(agent)?;
-    let started = thread::spawn(rt, move || watch_nodes(agent, reactor));
-    let _thread = started.map_err(|_| AgentError::NoThread)?;
-    Ok((lot, ready))
 }
 
 /// Ends HTTP: each connection that was made is answered and closed, or ten seconds have passed.

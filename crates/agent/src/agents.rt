@@ -72,8 +72,6 @@ pub struct Agent<R> {
     pub workers: Count,
     /// The number of them that serve a connection.
     pub serving: Count,
-    /// The places of connections of other nodes.
-    pub nodes: Arc<Places, Global>,
     /// The places of HTTP connections.
     pub http: Arc<Places, Global>,
     /// What the log said last of other nodes and, at its own address, of messages to them.
@@ -96,16 +94,6 @@ pub struct Agent<R> {
     pub bell: Parker,
     /// The parker that is unparked when the last rounds have spread that the node left.
     pub spread: Parker,
-}
-
-/// Returns the counts of a port by its places.
-fn port_counts(places: &Places) -> PortCounts {
-    PortCounts {
-        used: places.open() as u64,
-        max: places.limit() as u64,
-        evicted: places.evicted(),
-        failures: places.failures(),
-    }
 }
 
 impl<R: Host> Agent<R> {
@@ -137,20 +125,21 @@ impl<R: Host> Agent<R> {
 
     /// Returns the counts.
     pub fn counts(&self) -> Counts {
+        let http = &*self.http;
+        let port = PortCounts {
+            used: http.open() as u64,
+            max: http.limit() as u64,
+            evicted: http.evicted(),
+            failures: http.failures(),
+        };
         Counts {
             handled: self.application.handled.get(),
             application_failures: self.application.failures.get(),
-            nodes: port_counts(&self.nodes),
-            http: port_counts(&self.http),
+            http: port,
             workers_used: self.serving.get(),
             workers_max: self.workers.get(),
             ..self.counters.counts()
         }
-    }
-
-    /// Returns whether the system lets no connection be accepted, of other nodes or of HTTP.
-    pub fn cannot_accept(&self) -> bool {
-        self.nodes.is_failing() || self.http.is_failing()
     }
 
     /// Returns whether each worker that answers HTTP serves a connection, so that others may wait for one.

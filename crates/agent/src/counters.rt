@@ -150,7 +150,6 @@ impl Counters {
             allocation_failures: self.allocation_failures.get(),
             micros: self.micros.get(),
             buckets,
-            nodes: PortCounts::default(),
             http: PortCounts::default(),
             workers_used: 0,
             workers_max: 0,

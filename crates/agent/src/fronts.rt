@@ -278,7 +278,7 @@ impl<'f, 'a, R: Host> Front<'f, 'a, R> {
         match self.agent.phase() {
             Phase::Joining => Err(Refusal::NotJoined),
             Phase::Left => Err(Refusal::HasLeft),
-            Phase::Serving if self.agent.cannot_accept() => Err(Refusal::CannotAccept),
+            Phase::Serving if self.agent.http.is_failing() => Err(Refusal::CannotAccept),
             Phase::Serving if !self.agent.application.is_up() => Err(Refusal::ApplicationDown),
             Phase::Serving => Ok(Reply::Line("ok\n")),
         }

@@ -15,7 +15,6 @@ mod fronts;
 mod hands;
 mod hosts;
 mod journals;
-mod lines;
 mod links;
 mod notices;
 mod peers;

@@ -4,7 +4,7 @@ ghost use Rattle.std.specs.Io.KnownBytes.{Appends};
 ghost use Rattle.agent.specs.Texts.{agent_text, serving_line};
 ghost use Rattle.wire_json.specs.Input.{AppendsPrefix};
 
-use crate::acceptors::{end_http, set_places, start_http, start_nodes};
+use crate::acceptors::{end_http, set_places, start_http};
 use crate::agents::{Agent, Flag};
 use crate::applications::Application;
 use crate::callers::{Caller, Passes};
@@ -14,9 +14,8 @@ use crate::errors::AgentError;
 use crate::hands::serve_requests;
 use crate::hosts::join_hosts;
 use crate::journals::Journal;
-use crate::lines::Lines;
 use crate::notices::Notices;
-use crate::peers::{Errand, serve_peers};
+use crate::peers::{Job, serve_peers};
 use crate::rounds::make_rounds;
 use crate::settings::Settings;
 use crate::systems::System;
@@ -26,7 +25,7 @@ use crossbeam_channel::{Receiver, Sender, bounded};
 use hash_ring::Sha256Hash;
 use log::warn;
 use node_core::{Config, NodeError, NodeState};
-use reactor::{Connection, Lot, Places};
+use reactor::{Lot, Places};
 use server::{Stopwatch, Timeouts};
 use std::alloc::Global;
 use std::io::Write;
@@ -143,7 +142,6 @@ fn agent_of<R: System>(
         relaying: Count::new(),
         workers: Count::new(),
         serving: Count::new(),
-        nodes: Arc::new(alloc, Places::new())?,
         http: Arc::new(alloc, Places::new())?,
         notices: Notices::new(alloc),
         disowners: Notices::new(alloc),
@@ -178,19 +176,17 @@ fn start_peers<R: System>(
     rt: &R,
     alloc: Global,
     agent: &Arc<Agent<R>, Global>,
-    lot: &Arc<Lot<Lines>, Global>,
-    ready: &Receiver<Connection<Lines>>,
-    hands: &Sender<Errand>,
+    listener: &Arc<TcpListener, Global>,
+    hands: &Sender<Job>,
 ) -> Result<(), AgentError> {
     for _ in 0..PEERS {
         let caller = caller_of(agent)?;
         let agent = Arc::try_clone(agent)?;
-        let lot = Arc::try_clone(lot)?;
-        let ready = ready.clone()?;
+        let listener = Arc::try_clone(listener)?;
         let hands = hands.clone()?;
         let started = thread::spawn(
             rt,
-            move || serve_peers(agent, alloc, caller, lot, ready, hands),
+            move || serve_peers(agent, alloc, caller, listener, hands),
         );
         let _thread = started.map_err(|_| AgentError::NoThread)?;
     }
@@ -202,19 +198,14 @@ fn start_hands<R: System>(
     rt: &R,
     alloc: Global,
     agent: &Arc<Agent<R>, Global>,
-    lot: &Arc<Lot<Lines>, Global>,
-    errands: &Receiver<Errand>,
+    jobs: &Receiver<Job>,
     count: u32,
 ) -> Result<(), AgentError> {
     for _ in 0..count {
         let caller = caller_of(agent)?;
         let agent = Arc::try_clone(agent)?;
-        let lot = Arc::try_clone(lot)?;
-        let errands = errands.clone()?;
-        let started = thread::spawn(
-            rt,
-            move || serve_requests(agent, alloc, caller, lot, errands),
-        );
+        let jobs = jobs.clone()?;
+        let started = thread::spawn(rt, move || serve_requests(agent, alloc, caller, jobs));
         let _thread = started.map_err(|_| AgentError::NoThread)?;
     }
     Ok(())
@@ -302,17 +293,16 @@ fn start<R: System>(
     settings: Settings,
 ) -> Result<Option<Arc<Lot<Kept>, Global>>, AgentError> {
     set_places(&**agent, settings.http_connections)?;
-    let listener = listen(rt, settings.bind)?;
+    let listener = Arc::new(alloc, listen(rt, settings.bind)?)?;
     let front = match settings.http {
         Some(address) => Some(listen(rt, address)?),
         None => None,
     };
     let mut first = caller_of(agent)?;
     let initial = first.own(rt).ok();
-    let (hands, errands) = bounded(alloc, MAX_QUEUED_REQUESTS)?;
-    let (nodes, ready) = start_nodes(rt, alloc, agent, listener)?;
-    start_peers(rt, alloc, agent, &nodes, &ready, &hands)?;
-    start_hands(rt, alloc, agent, &nodes, &errands, settings.hands)?;
+    let (hands, jobs) = bounded(alloc, MAX_QUEUED_REQUESTS)?;
+    start_peers(rt, alloc, agent, &listener, &hands)?;
+    start_hands(rt, alloc, agent, &jobs, settings.hands)?;
     let lot = match front {
         Some(front) => Some(start_http(rt, alloc, agent, front)?),
         None => None,

@@ -112,22 +112,17 @@ other_samples counts =
     ++ line (codes "# TYPE ringpop_allocation_failures_total counter")
     ++ sample (codes "ringpop_allocation_failures_total") counts.allocation_failures
 
--- the samples of a metric for each port: that for other nodes, and that for HTTP
-unfoldable pub port_samples : List ℕ → ℕ → ℕ → List ℕ
-port_samples name nodes http =
-    name ++ (codes "{port=\"node\"} " ++ (decimal nodes ++ 10 ∷ (name ++ (codes "{port=\"http\"} " ++ (decimal http ++ 10 ∷ [])))))
-
--- the connections at each port: how many are open, how many may be, how many were closed for others, and how often none was accepted
-abbrev pub connection_samples : Counts → List ℕ
-connection_samples counts =
+-- the connections of clients over HTTP: how many are open, how many may be, how many were closed for others, and how often none was accepted
+abbrev pub connection_samples : PortCounts → List ℕ
+connection_samples http =
     line (codes "# TYPE ringpop_connections_used gauge")
-    ++ port_samples (codes "ringpop_connections_used") counts.nodes.used counts.http.used
+    ++ sample (codes "ringpop_connections_used{port=\"http\"}") http.used
     ++ line (codes "# TYPE ringpop_connections_max gauge")
-    ++ port_samples (codes "ringpop_connections_max") counts.nodes.max counts.http.max
+    ++ sample (codes "ringpop_connections_max{port=\"http\"}") http.max
     ++ line (codes "# TYPE ringpop_connections_evicted_total counter")
-    ++ port_samples (codes "ringpop_connections_evicted_total") counts.nodes.evicted counts.http.evicted
+    ++ sample (codes "ringpop_connections_evicted_total{port=\"http\"}") http.evicted
     ++ line (codes "# TYPE ringpop_accept_failures_total counter")
-    ++ port_samples (codes "ringpop_accept_failures_total") counts.nodes.failures counts.http.failures
+    ++ sample (codes "ringpop_accept_failures_total{port=\"http\"}") http.failures
 
 -- the workers that serve a connection, and all workers
 abbrev pub worker_samples : Counts → List ℕ
@@ -141,4 +136,4 @@ worker_samples counts =
 abbrev pub metrics_text : Counts → List Change → List ℕ
 metrics_text counts members =
     status_samples members ++ address_samples (length members) ++ request_samples counts ++ time_samples counts ++ round_samples counts ++ other_samples counts
-    ++ connection_samples counts ++ worker_samples counts
+    ++ connection_samples counts.http ++ worker_samples counts

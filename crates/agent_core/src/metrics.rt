@@ -1,7 +1,7 @@
 //! The counts of an agent, in the text format of Prometheus (version 0.0.4).
 ghost use Rattle.std.specs.Prelude.{◌≡◌, ◌<◌, ◌++◌, IfOk, OnOk, count_by, length, string_bytes};
 ghost use Rattle.change_core.specs.Status.{rank};
-ghost use Rattle.agent_core.specs.Metrics.{address_samples, bucket_of, bucket_sample, bucket_samples, connection_samples, holds, metrics_text, other_samples, port_samples, request_samples, round_samples, sample, status_sample, status_samples, time_samples, within, worker_samples};
+ghost use Rattle.agent_core.specs.Metrics.{address_samples, bucket_of, bucket_sample, bucket_samples, connection_samples, holds, metrics_text, other_samples, request_samples, round_samples, sample, status_sample, status_samples, time_samples, within, worker_samples};
 
 use change_core::{Change, MAX_MEMBERS, Status};
 use std::alloc::{AllocError, Global};
@@ -59,8 +59,6 @@ pub struct Counts {
     pub link_failures: u64,
     /// Allocations that failed.
     pub allocation_failures: u64,
-    /// The connections of other nodes.
-    pub nodes: PortCounts,
     /// The connections of clients over HTTP.
     pub http: PortCounts,
     /// The workers that serve one of them.
@@ -278,38 +276,24 @@ fn push_others(text: &mut String, counts: &Counts) -> Result<(), AllocError>
     Ok(())
 }
 
-/// Appends the samples of a metric for each port.
-fn push_ports(text: &mut String, name: &str, nodes: u64, http: u64) -> Result<(), AllocError>
-    ensures { OnOk result (string_bytes text.new ≡ string_bytes text.old ++ port_samples name.now nodes http) }
-{
-    write!(
-        text,
-        "{name}{{port=\"node\"}} {nodes}\n{name}{{port=\"http\"}} {http}\n"
-    )?;
-    Ok(())
-}
-
 /// Appends the numbers of connections, the most that there may be, and those that found no place.
-fn push_connections(text: &mut String, counts: &Counts) -> Result<(), AllocError>
-    ensures { OnOk result (string_bytes text.new ≡ string_bytes text.old ++ connection_samples counts.now) }
+fn push_connections(text: &mut String, http: &PortCounts) -> Result<(), AllocError>
+    ensures { OnOk result (string_bytes text.new ≡ string_bytes text.old ++ connection_samples http.now) }
 {
-    let Counts { nodes, http, .. } = counts;
     text.push_str("# TYPE ringpop_connections_used gauge\n")?;
-    push_ports(text, "ringpop_connections_used", nodes.used, http.used)?;
+    push_sample(text, "ringpop_connections_used{port=\"http\"}", http.used)?;
     text.push_str("# TYPE ringpop_connections_max gauge\n")?;
-    push_ports(text, "ringpop_connections_max", nodes.max, http.max)?;
+    push_sample(text, "ringpop_connections_max{port=\"http\"}", http.max)?;
     text.push_str("# TYPE ringpop_connections_evicted_total counter\n")?;
-    push_ports(
+    push_sample(
         text,
-        "ringpop_connections_evicted_total",
-        nodes.evicted,
+        "ringpop_connections_evicted_total{port=\"http\"}",
         http.evicted,
     )?;
     text.push_str("# TYPE ringpop_accept_failures_total counter\n")?;
-    push_ports(
+    push_sample(
         text,
-        "ringpop_accept_failures_total",
-        nodes.failures,
+        "ringpop_accept_failures_total{port=\"http\"}",
         http.failures,
     )?;
     Ok(())
@@ -345,7 +329,7 @@ pub fn metrics_text(
     push_times(&mut text, counts)?;
     push_rounds(&mut text, counts)?;
     push_others(&mut text, counts)?;
-    push_connections(&mut text, counts)?;
+    push_connections(&mut text, &counts.http)?;
     push_workers(&mut text, counts)?;
     Ok(text)
 }

@@ -118,32 +118,18 @@ ringpop_link_failures_total 8
 # TYPE ringpop_allocation_failures_total counter
 ringpop_allocation_failures_total 18446744073709551615
 # TYPE ringpop_connections_used gauge
-ringpop_connections_used{port=\"node\"} 9
 ringpop_connections_used{port=\"http\"} 12
 # TYPE ringpop_connections_max gauge
-ringpop_connections_max{port=\"node\"} 1000
 ringpop_connections_max{port=\"http\"} 10000
 # TYPE ringpop_connections_evicted_total counter
-ringpop_connections_evicted_total{port=\"node\"} 10
 ringpop_connections_evicted_total{port=\"http\"} 13
 # TYPE ringpop_accept_failures_total counter
-ringpop_accept_failures_total{port=\"node\"} 11
 ringpop_accept_failures_total{port=\"http\"} 14
 # TYPE ringpop_workers_used gauge
 ringpop_workers_used 15
 # TYPE ringpop_workers_max gauge
 ringpop_workers_max 256
 ";
-
-/// Returns the counts of a port.
-fn port(used: u64, max: u64, evicted: u64, failures: u64) -> PortCounts {
-    PortCounts {
-        used,
-        max,
-        evicted,
-        failures,
-    }
-}
 
 #[test]
 fn writes_metrics(rt: HostRuntime) {
@@ -172,8 +158,12 @@ fn writes_metrics(rt: HostRuntime) {
         application_failures: 6,
         link_failures: 8,
         allocation_failures: u64::MAX,
-        nodes: port(9, 1_000, 10, 11),
-        http: port(12, 10_000, 13, 14),
+        http: PortCounts {
+            used: 12,
+            max: 10_000,
+            evicted: 13,
+            failures: 14,
+        },
         workers_used: 15,
         workers_max: 256,
     };

@@ -211,8 +211,8 @@ impl<K: Drop> Lot<K> {
             return true;
         }
         self.is_full.store(true, Ordering::SeqCst);
-        // (once more, since a place that became free before did not wake it)
-        self.places.has_free()
+        // (once more, since what became free or was parked before did not wake it)
+        self.places.has_free() || self.waiting(rt) > 0
     }
 
     /// Closes the connections that wait for something to read, and each that is parked for that from now on.

@@ -28,8 +28,8 @@ fn reason_of(fault: WireError) -> Reason
     }
 }
 
-/// Returns the input that a line is, without its newline: its message, or a refusal.
-pub fn decoded(alloc: Global, line: &[u8]) -> Input
+/// Returns the input that a line is.
+fn decoded(alloc: Global, line: &[u8]) -> Input
     ensures { IsReadAs line.now result }
 {
     match decode(alloc, line) {

@@ -25,7 +25,7 @@ pub use clocks::ServerClock;
 pub use connections::serve_connection;
 pub use errors::{EndError, ServerError};
 pub use healing::HealingPlan;
-pub use inputs::{Input, decoded, hear};
+pub use inputs::{Input, hear};
 pub use round_clocks::RoundClock;
 pub use rounds::make_rounds;
 pub use running::{Ended, Running};

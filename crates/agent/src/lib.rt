@@ -19,6 +19,7 @@ mod links;
 mod notices;
 mod peers;
 mod pumps;
+mod questions;
 mod relays;
 mod replies;
 mod requests;
@@ -27,6 +28,7 @@ mod rounds;
 mod runs;
 mod settings;
 mod systems;
+mod watchers;
 mod workers;
 
 pub use acceptors::HTTP_THREADS;

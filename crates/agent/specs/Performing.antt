@@ -1,6 +1,5 @@
 -- What an action makes the node do, and the reply or the refusal that comes of it.
-use Rattle.std.specs.Prelude.{◌≡◌, ◌≢◌, ◌⊎◌, ℕ, Bool, true, false, cond, bytes_eq, map, string_bytes, List, [], ◌∷◌, ◌++◌, take, codes, Option, Some, None, Result, Ok, Err}
-use Rattle.change_core.specs.Digest.{digest_digits}
+use Rattle.std.specs.Prelude.{◌≡◌, ◌≢◌, ◌⊎◌, ℕ, List, [], ◌∷◌, ◌++◌, take, codes, Result, Ok, Err}
 use Rattle.change_core.specs.Members.{members}
 use Rattle.change_core.specs.declared.changes.Change.{Change}
 use Rattle.hash_ring.specs.Points.{owners}
@@ -15,7 +14,7 @@ use Rattle.peer_core.specs.Parts.{Part, Tries}
 use Rattle.peer_core.specs.declared.errors.ClusterError.{ClusterError}
 use Rattle.peer_core.specs.declared.errors.ClusterError.TheVariants as error
 use Rattle.agent_core.specs.Metrics.{metrics_text}
-use Rattle.agent_core.specs.Texts.{all_owners_text, digest_line, members_text, on_ring, owners_text, ring_text, shown_owners}
+use Rattle.agent_core.specs.Texts.{digest_line, members_text, owners_text}
 use Rattle.agent_core.specs.declared.actions.Action.{Action}
 use Rattle.agent_core.specs.declared.actions.Action.TheVariants as action
 use Rattle.agent_core.specs.declared.answers.Kind.{Kind}
@@ -26,7 +25,7 @@ use Rattle.agent_core.specs.declared.refusals.Refusal.TheVariants as refusal
 use Rattle.agent.specs.Calling.{AnyAnswer, AnyHandling, AnyTimes, Looks, hash_number, hash_of}
 use Rattle.agent.specs.Replies.{IsText}
 use Rattle.agent.specs.declared.replies.Reply.{Reply}
-use Rattle.agent.specs.declared.replies.Reply.TheVariants.{Handled, Page, Ring, Unchanged}
+use Rattle.agent.specs.declared.replies.Reply.TheVariants.{Handled, Page}
 
 -- the reply to an action, or its refusal
 abbrev pub Outcome : Type 0
@@ -83,39 +82,6 @@ digest_by changes = (digest_of (members changes)).bytes
 abbrev pub ShowsMembers : ℕ → ℕ → List Change → Outcome → Type 0
 ShowsMembers own replicas held = Shows kind.Json (members_text own (digest_by held) replicas held)
 
--- the address of the node itself, if its keys are left out
-abbrev pub hidden_of : ℕ → Bool → Option ℕ
-hidden_of own only_others = cond only_others (Some own) None
-
--- the text of the first owners of a key by a view, by the address whose keys are left out, if there is one
-abbrev pub key_text : Viewed Sha256Hash → ℕ → Option ℕ → List ℕ → List ℕ
-key_text view count hidden key = shown_owners hidden (first_owners view key count)
-
--- the reply is the first owners of keys by this view, one list for each key in their order
-abbrev pub ShowsAllOwners : Option ℕ → List (List ℕ) → ℕ → Viewed Sha256Hash → Outcome → Type 0
-ShowsAllOwners hidden keys count view = Shows kind.Json (all_owners_text (map (key_text view count hidden) keys))
-
--- the digest of the ring of a node that holds these members: it depends on those that serve, and their weights, alone
-abbrev pub ring_digest : List Change → List ℕ
-ring_digest held = digest_by (on_ring held)
-
--- whether a text is the one of a digest
-abbrev pub is_known : Option (List ℕ) → List ℕ → Bool
-is_known None digest = false
-is_known (Some after) digest = bytes_eq after (digest_digits digest)
-
--- the reply says that the ring has this digest still, or shows it with this text
-abbrev pub IsRing : List ℕ → List ℕ → Bool → Reply → Type 0
-IsRing bytes text known (Ring digest shown) = (known ≡ false) × (digest.bytes ≡ bytes) × (string_bytes shown ≡ text)
-IsRing bytes text known (Unchanged digest) = (known ≡ true) × (digest.bytes ≡ bytes)
-IsRing bytes text known other = ⊥
-
--- the reply is the ring of a node at this address with this many replicas that holds these members, unless its digest has this text
-abbrev pub ShowsRing : ℕ → ℕ → Option (List ℕ) → List Change → Outcome → Type 0
-ShowsRing own replicas after held (Ok shown) =
-    IsRing (ring_digest held) (ring_text own (ring_digest held) replicas (on_ring held)) (is_known after (ring_digest held)) shown
-ShowsRing own replicas after held (Err why) = why ≡ refusal.Memory
-
 -- the reply is the number of these members by status, and counts
 abbrev pub ShowsCounts : List Change → Outcome → Type 0
 ShowsCounts held outcome = (counts : Counts) × Shows kind.Text (metrics_text counts held) outcome
@@ -153,10 +119,6 @@ Performs own replicas (action.Handle key body) outcome acts =
     (Declines refusal.NotJoined outcome acts ⊎ Declines refusal.Busy outcome acts) ⊎ AsksOwner key body outcome acts
 Performs own replicas (action.Owners key count) outcome acts =
     Declines refusal.NotJoined outcome acts ⊎ After Looks (ComesOf (ShowsOwners key count)) outcome acts
-Performs own replicas (action.AllOwners keys count only_others) outcome acts =
-    Declines refusal.NotJoined outcome acts ⊎ After Looks (ComesOf (ShowsAllOwners (hidden_of own only_others) keys count)) outcome acts
-Performs own replicas (action.Ring after) outcome acts =
-    Declines refusal.NotJoined outcome acts ⊎ After (Tries call.Members reply.Members) (ComesOf (ShowsRing own replicas after)) outcome acts
 Performs own replicas action.Members outcome acts = After (Tries call.Members reply.Members) (ComesOf (ShowsMembers own replicas)) outcome acts
 Performs own replicas action.Digest outcome acts =
     After (Tries call.Digest reply.Digest) (ComesOf (λ digest. Shows kind.Text (digest_line digest.bytes))) outcome acts

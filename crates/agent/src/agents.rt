@@ -5,7 +5,7 @@ use crate::counters::{Count, Counters};
 use crate::journals::Journal;
 use crate::notices::Notices;
 use crate::systems::Host;
-use crate::watchers::Watchers;
+use agent_core::{Counts, PortCounts};
 use change_core::{Address, Moment};
 use log::{LevelFilter, Logged};
 use reactor::Places;
@@ -72,10 +72,8 @@ pub struct Agent<R> {
     pub workers: Count,
     /// The number of them that serve a connection.
     pub serving: Count,
-    /// Whether the system lets no HTTP connection be accepted.
-    pub cannot_accept: Flag,
-    /// The questions about the ring that wait until it changes.
-    pub watchers: Watchers,
+    /// The places of HTTP connections.
+    pub http: Arc<Places, Global>,
     /// What the log said last of other nodes and, at its own address, of messages to them.
     pub notices: Notices,
     /// What the log said last of nodes that disown what this node's members give them.

@@ -10,7 +10,6 @@ use crate::agents::{Agent, Flag};
 use crate::fronts::Front;
 use crate::pumps::{Pause, pump};
 use crate::systems::Host;
-use crate::watchers::Question;
 use crossbeam_channel::Receiver;
 use http_server::{Config, Connection};
 use std::alloc::Global;
@@ -38,8 +37,6 @@ pub struct Kept {
     pub connection: Box<Connection>,
     /// Whether it waits for room for the rest of its answers.
     pub is_full: bool,
-    /// The bytes of a question about the ring that waits, which the connection has not read.
-    pub unread: Vec<u8>,
     ghost limits: { config_of (box_value connection) ≡ connection_limits },
     ghost settled: { is_full ≡ false → IsSettled (history (box_value connection)) },
 }
@@ -57,10 +54,6 @@ pub struct Requests<'a, R> {
     pub until: u64,
     /// Whether it has read before.
     pub has_read: bool,
-    /// Bytes that came in an earlier visit and were not read.
-    pub unread: Vec<u8>,
-    /// The question that is to wait, whose bytes are not read.
-    pub question: Option<Question>,
 }
 
 impl<'a, R: Host> Requests<'a, R> {
@@ -86,30 +79,6 @@ impl<'a, R: Host> Requests<'a, R> {
             outcome => outcome,
         }
     }
-
-    /// Reads the question that has waited.
-    fn read_unread(&mut self, buf: &mut [u8]) -> usize {
-        let count = self.unread.len().min(buf.len());
-        buf[..count].copy_from_slice(&self.unread[..count]);
-        self.unread.drain(..count);
-        count
-    }
-
-    /// Returns whether these bytes, the last that came, are a question that is to wait. They are then kept, and not read.
-    fn sets_aside(&mut self, came: &[u8]) -> bool {
-        let agent = self.agent;
-        let Some(question) = Question::of(came) else {
-            return false;
-        };
-        if agent.is_stopping.get()
-            || !agent.watchers.would_wait(&agent.rt, &question)
-            || self.unread.extend_from_slice(came).is_err()
-        {
-            return false;
-        }
-        self.question = Some(question);
-        true
-    }
 }
 
 /// The first read after an answer starts the time of the next request. A read in which nothing comes is made again while enough workers are free.
@@ -134,15 +103,7 @@ impl<'a, R: Host> Read for Requests<'a, R> {
                 outcome => return outcome,
             }
         }
-        self.has_read = true;
-        if !self.unread.is_empty() {
-            return Ok(self.read_unread(buf));
-        }
-        let count = self.read_once(buf)?;
-        if count <= buf.len() && self.sets_aside(&buf[..count]) {
-            return Err(ErrorKind::WouldBlock.into());
-        }
-        Ok(count)
+        Err(ErrorKind::WouldBlock.into())
     }
 }
 
@@ -206,12 +167,8 @@ pub fn serve_over<R: Host, I: Read, O: Write>(
     pump(connection, front, reader, writer)
 }
 
-/// Returns a connection as it is kept, by what it waits for, with bytes that it has not read; None if it is done, or failed.
-pub fn kept_of(
-    waits: io::Result<Pause>,
-    connection: Box<Connection>,
-    unread: Vec<u8>,
-) -> Option<Kept>
+/// Returns a connection as it is kept, by what it waits for; None if it is done, or failed.
+pub fn kept_of(waits: io::Result<Pause>, connection: Box<Connection>) -> Option<Kept>
     requires limits { config_of (box_value connection) ≡ connection_limits }
     requires settled { waits ≡ Ok pause.Input → IsSettled (history (box_value connection)) }
     ensures same { IfSome result (λ kept. kept.connection ≡ connection) }
@@ -220,12 +177,10 @@ pub fn kept_of(
         Ok(Pause::Input) => Some(Kept {
             connection,
             is_full: false,
-            unread,
         }),
         Ok(Pause::Room) => Some(Kept {
             connection,
             is_full: true,
-            unread,
         }),
         Ok(Pause::Done) | Err(_) => None,
     }

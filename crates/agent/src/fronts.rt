@@ -34,7 +34,7 @@ use std::time::Instant;
 const MAX_WAITING_REQUESTS: u64 = 224;
 
 /// Returns the refusal for an error of the node.
-pub fn refusal_of(error: ClusterError) -> Refusal
+fn refusal_of(error: ClusterError) -> Refusal
     ensures { result ≡ refusal_of error }
 {
     match error {
@@ -50,7 +50,7 @@ pub fn refusal_of(error: ClusterError) -> Refusal
 }
 
 /// Returns the digest of these members.
-pub fn digest_of(alloc: Global, members: &[Change]) -> Result<Digest, Refusal>
+fn digest_of(alloc: Global, members: &[Change]) -> Result<Digest, Refusal>
     ensures digest { IfOk result (λ digest. digest.bytes ≡ digest_by members.now) }
     ensures refused { IfErr result (λ e. e ≡ Refusal.Memory) }
 {
@@ -292,12 +292,6 @@ impl<'f, 'a, R: Host> Front<'f, 'a, R> {
         match action {
             Action::Handle { key, body } => self.handle(key, body),
             Action::Owners { key, count } => self.owners(&key, count),
-            Action::AllOwners {
-                keys,
-                count,
-                only_others,
-            } => self.all_owners(&keys, count, only_others),
-            Action::Ring { after } => self.ring(after.as_ref()),
             Action::Members => self.members(),
             Action::Metrics => self.metrics(),
             Action::Digest => self.digest(),

@@ -19,7 +19,6 @@ mod links;
 mod notices;
 mod peers;
 mod pumps;
-mod questions;
 mod relays;
 mod replies;
 mod requests;
@@ -28,7 +27,6 @@ mod rounds;
 mod runs;
 mod settings;
 mod systems;
-mod watchers;
 mod workers;
 
 pub use acceptors::HTTP_THREADS;

@@ -2,17 +2,14 @@
 use crate::agents::Agent;
 use crate::callers::Caller;
 use crate::changes::{is_refuted, log_changes, log_since_start};
-use crate::connections::Kept;
 use crate::hosts::{MAX_FIRST_WAIT, link_of};
 use crate::links::NotedLink;
-use crate::questions::ring_digest;
 use crate::systems::Host;
 use agent_core::{Notice, Refutations, are_many_addresses};
 use change_core::{Address, Change, Digest, MAX_MEMBERS, Moment};
 use log::{info, warn};
 use node_core::ChangeList;
 use peer_core::{ClusterError, Healing, Round};
-use reactor::Lot;
 use std::alloc::Global;
 use std::sync::Arc;
 use std::thread;
@@ -90,26 +87,9 @@ impl<'a, R: Host> Rounds<'a, R> {
             log_since_start(&agent.log(), initial, after, has_moved);
         }
         self.warn_of_addresses(used, after);
-        self.note_ring(after);
         self.members = Some(changed.members);
         self.digest = Some(changed.digest);
         is_own
-    }
-
-    /// Notes the digest of the ring with these members, for the questions that wait until it changes.
-    fn note_ring(&self, members: &[Change]) {
-        if let Ok(ring) = ring_digest(self.alloc, members) {
-            self.agent.watchers.note(&self.agent.rt, ring);
-        }
-    }
-
-    /// Has the questions answered for which the ring has changed, or whose wait is over; all of them once the agent is to end.
-    fn answer_watchers(&self, lot: &Lot<Kept>) {
-        let agent = self.agent;
-        let now = agent.now().number();
-        agent
-            .watchers
-            .answer_due(&agent.rt, lot, now, agent.is_stopping.get());
     }
 
     /// Warns if many of the addresses that there can be are used; `before` is how many were.
@@ -191,7 +171,6 @@ pub fn make_rounds<R: Host>(
     initial: Option<Change>,
     hosts: Vec<Address>,
     period: u64,
-    lot: Option<Arc<Lot<Kept>, Global>>,
 ) {
     let agent = &*agent;
     let mut rounds = Rounds {
@@ -211,9 +190,6 @@ pub fn make_rounds<R: Host>(
     for _ in agent.rt.forever() {
         let begun = agent.now().number();
         rounds.make();
-        if let Some(lot) = &lot {
-            rounds.answer_watchers(&**lot);
-        }
         if agent.is_stopping.get() {
             last = last.saturating_add(1);
             if last >= LAST_ROUNDS {

@@ -19,7 +19,6 @@ use crate::peers::{Job, serve_peers};
 use crate::rounds::make_rounds;
 use crate::settings::Settings;
 use crate::systems::System;
-use crate::watchers::Watchers;
 use change_core::{Address, Change, Incarnation, MAX_NUMBER, Moment};
 use cluster_core::{share, socket_address};
 use crossbeam_channel::{Receiver, Sender, bounded};
@@ -143,8 +142,7 @@ fn agent_of<R: System>(
         relaying: Count::new(),
         workers: Count::new(),
         serving: Count::new(),
-        cannot_accept: Flag::new(false),
-        watchers: Watchers::new(alloc),
+        http: Arc::new(alloc, Places::new())?,
         notices: Notices::new(alloc),
         disowners: Notices::new(alloc),
         is_starting: Flag::new(!settings.hosts.is_empty()),
@@ -221,13 +219,12 @@ fn start_rounds<R: System>(
     initial: Option<Change>,
     hosts: Vec<Address>,
     period: u64,
-    lot: Option<Arc<Lot<Kept>, Global>>,
 ) -> Result<(), AgentError> {
     let caller = caller_of(agent)?;
     let agent = Arc::try_clone(agent)?;
     let started = thread::spawn(
         rt,
-        move || make_rounds(agent, alloc, caller, initial, hosts, period, lot),
+        move || make_rounds(agent, alloc, caller, initial, hosts, period),
     );
     let _thread = started.map_err(|_| AgentError::NoThread)?;
     Ok(())
@@ -311,11 +308,7 @@ fn start<R: System>(
         None => None,
     };
     let Settings { hosts, period, .. } = settings;
-    let watched = match &lot {
-        Some(lot) => Some(Arc::try_clone(lot)?),
-        None => None,
-    };
-    start_rounds(rt, alloc, agent, initial, hosts.clone()?, period, watched)?;
+    start_rounds(rt, alloc, agent, initial, hosts.clone()?, period)?;
     start_joins(rt, alloc, agent, hosts)?;
     Ok(lot)
 }

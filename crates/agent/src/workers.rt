@@ -9,7 +9,6 @@ use crate::connections::{Answers, Kept, Requests, kept_of, new_connection, serve
 use crate::fronts::Front;
 use crate::links::NotedLink;
 use crate::systems::Host;
-use crate::watchers::Question;
 use crossbeam_channel::Receiver;
 use http_server::Connection;
 use reactor::Lot;
@@ -21,39 +20,25 @@ use std::sync::Arc;
 /// The most milliseconds that the client may take to receive an answer, or the answers to requests that it sent together.
 const MAX_TAKEN: u64 = 5_000;
 
-/// What a visit leaves.
-#[derive(Drop)]
-struct Left {
-    /// What is kept of the connection; None if it is done or failed.
-    kept: Option<Kept>,
-    /// The millisecond at which the time of its next request is up.
-    until: u64,
-    /// The question that is to wait.
-    question: Option<Question>,
-}
-
-/// Returns the connection that was kept and the bytes that it has not read, or a new one; None if out of memory for it.
-fn open(alloc: Global, keys: RandomState, kept: Option<Kept>) -> Option<(Box<Connection>, Vec<u8>)>
-    ensures { IfSome result (λ opened. config_of (box_value opened.0) ≡ connection_limits) }
+/// Returns the connection that was kept, or a new one; None if out of memory for it.
+fn open(alloc: Global, keys: RandomState, kept: Option<Kept>) -> Option<Box<Connection>>
+    ensures { IfSome result (λ connection. config_of (box_value connection) ≡ connection_limits) }
 {
     match kept {
-        Some(kept) => Some((kept.connection, kept.unread)),
-        None => {
-            let connection = Box::new(alloc, new_connection(alloc, keys)).ok()?;
-            Some((connection, Vec::new(alloc)))
-        }
+        Some(kept) => Some(kept.connection),
+        None => Box::new(alloc, new_connection(alloc, keys)).ok(),
     }
 }
 
-/// Serves a connection while requests come.
+/// Serves a connection while requests come. Returns what is kept of it, None if it is done or failed, and the millisecond at which the time of
+/// its next request is up.
 fn serve<R: Host>(
     front: &mut Front<'_, '_, R>,
     ready: &Receiver<reactor::Connection<Kept>>,
     mut connection: Box<Connection>,
-    unread: Vec<u8>,
     stream: &TcpStream,
     until: u64,
-) -> Left
+) -> (Option<Kept>, u64)
     requires { config_of (box_value connection) ≡ connection_limits }
 {
     let is_answering = Flag::new(false);
@@ -64,25 +49,13 @@ fn serve<R: Host>(
         is_answering: &is_answering,
         until,
         has_read: false,
-        unread,
-        question: None,
     };
     let mut answers = Answers {
         stream,
         is_answering: &is_answering,
     };
     let waits = serve_over(front, &mut *connection, &mut requests, &mut answers);
-    let Requests {
-        unread,
-        question,
-        until,
-        ..
-    } = requests;
-    Left {
-        kept: kept_of(waits, connection, unread),
-        until,
-        question,
-    }
+    (kept_of(waits, connection), requests.until)
 }
 
 /// Serves a connection while requests come, and then parks it; or closes it if it is done, fails, or its time is up.
@@ -100,17 +73,17 @@ fn visit<R: Host>(
         is_full: was_full,
         until,
     } = visited;
-    let Some((connection, unread)) = open(front.alloc, keys, kept) else {
+    let Some(connection) = open(front.alloc, keys, kept) else {
         return lot.close(stream);
     };
-    let left = serve(front, ready, connection, unread, &stream, until);
-    let Some(kept) = left.kept else {
+    let (kept, next) = serve(front, ready, connection, &stream, until);
+    let Some(kept) = kept else {
         return lot.close(stream);
     };
     let now = agent.now().number();
     let is_full = kept.is_full;
     let until = match is_full {
-        false => left.until,
+        false => next,
         true if was_full => until,
         true => now.saturating_add(MAX_TAKEN),
     };
@@ -120,10 +93,7 @@ fn visit<R: Host>(
         is_full,
         until,
     };
-    match left.question {
-        Some(question) if !is_full => agent.watchers.add(&agent.rt, lot, waiting, question, now),
-        _ => lot.park(&agent.rt, waiting, now),
-    }
+    lot.park(&agent.rt, waiting, now);
 }
 
 /// Answers HTTP until the queue of the connections that are ready has no sender.

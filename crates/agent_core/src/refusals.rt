@@ -1,10 +1,8 @@
 //! The refusals of requests, and the status and the text of each.
 ghost use Rattle.std.specs.Prelude.{◌≡◌, ◌≤◌, ◌∷◌, ◌++◌, []};
 ghost use Rattle.agent_core.specs.Refusals.{failure_text, line_of, status_of};
-ghost use Rattle.agent_core.specs.declared.refusals.Refusal.TheVariants.{Memory as no_memory};
 
 use crate::verbs::Verb;
-use std::alloc::{AllocError, AllocFailed};
 
 /// A part of a request that is malformed.
 #[derive(Clone, Copy, Debug, PartialEq, Eq)]
@@ -15,10 +13,6 @@ pub enum Part {
     Count,
     /// The body is not UTF-8.
     Body,
-    /// The body of a request for the owners of keys starts with `[` and is not a JSON list.
-    Keys,
-    /// The query is not `after=` and a digest, or that, `&wait=` and a number from 1 to 60.
-    After,
 }
 
 /// A reason why a request to the application has no answer that can be passed on.
@@ -54,8 +48,6 @@ pub enum Refusal {
     Exhausted,
     /// The body has more than 131,072 bytes.
     LongBody,
-    /// A request for the owners of keys has more than 4,096.
-    ManyKeys,
     /// The application failed, and no more is known.
     ApplicationFailed,
     /// The application of the key's owner gave no answer that can be passed on.
@@ -96,22 +88,6 @@ impl Failure {
     }
 }
 
-impl From<AllocError> for Refusal {
-    ghost from_gives = { λ _ e. e ≡ no_memory };
-
-    fn from(_error: AllocError) -> Self {
-        Refusal::Memory
-    }
-}
-
-impl<T: Drop> From<AllocFailed<T>> for Refusal {
-    ghost from_gives = { λ _ e. e ≡ no_memory };
-
-    fn from(_error: AllocFailed<T>) -> Self {
-        Refusal::Memory
-    }
-}
-
 impl Refusal {
     /// Returns the status code of HTTP (RFC 9110, section 15).
     pub fn status(self) -> u16
@@ -124,7 +100,7 @@ impl Refusal {
             Refusal::NotFound => 404,
             Refusal::BadMethod(_) => 405,
             Refusal::AlreadyLeft | Refusal::NotLeft | Refusal::Exhausted => 409,
-            Refusal::LongBody | Refusal::ManyKeys => 413,
+            Refusal::LongBody => 413,
             Refusal::ApplicationFailed | Refusal::Unanswered(_) => 502,
             Refusal::ApplicationDown
             | Refusal::NotJoined
@@ -146,10 +122,6 @@ impl Refusal {
             Refusal::Malformed(Part::Key) => "bad key: not 1 to 1024 bytes of UTF-8\n",
             Refusal::Malformed(Part::Count) => "bad count: not n=1 to n=4096\n",
             Refusal::Malformed(Part::Body) => "bad body: not UTF-8\n",
-            Refusal::Malformed(Part::Keys) => "bad keys: not a JSON list of texts\n",
-            Refusal::Malformed(Part::After) => {
-                "bad query: not after=DIGEST, or after=DIGEST&wait=1 to wait=60\n"
-            }
             Refusal::CrossSite => "refused: asked by a page of another site\n",
             Refusal::NotFound => "nothing at this path\n",
             Refusal::BadMethod(Verb::Get) => "bad method: this path takes GET\n",
@@ -158,7 +130,6 @@ impl Refusal {
             Refusal::NotLeft => "the node has not left\n",
             Refusal::Exhausted => "no incarnation is left\n",
             Refusal::LongBody => "bad body: more than 131072 bytes\n",
-            Refusal::ManyKeys => "bad keys: more than 4096\n",
             Refusal::ApplicationFailed => "the application failed\n",
             Refusal::Unanswered(failure) => failure.line(),
             Refusal::ApplicationDown => "the application does not answer\n",

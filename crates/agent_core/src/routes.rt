@@ -1,10 +1,9 @@
 //! The action that a request asks for, by its method, path, query and body.
 ghost use Rattle.std.specs.Prelude.{◌≡◌, ◌≢◌, IfOk, IfErr, OnOk, option_copied};
-ghost use Rattle.agent_core.specs.Requests.{AsksForKey, AsksForRing, asked, body_in, count_in, count_of, handled, key_in, key_text, named, open_at, place_of, plain, segment, verb_name};
+ghost use Rattle.agent_core.specs.Requests.{AsksForKey, asked, body_in, count_in, count_of, handled, key_in, key_text, named, place_of, plain, segment, verb_name};
 
 use crate::actions::Action;
 use crate::packs::MAX_BODY_BYTES;
-use crate::questions::{all_owners, ring};
 use crate::refusals::{Part, Refusal};
 use crate::verbs::Verb;
 use message_core::{Text, WireError};
@@ -18,7 +17,7 @@ pub const MAX_KEY_BYTES: usize = 1_024;
 pub const MAX_OWNERS: usize = 4_096;
 
 /// Returns a copy of the text.
-pub(crate) fn text_of(alloc: Global, text: &str) -> Result<Text, Refusal>
+fn text_of(alloc: Global, text: &str) -> Result<Text, Refusal>
     ensures copy { IfOk result (λ t. t ≡ text.now) }
     ensures refusal { IfErr result (λ e. e ≡ Refusal.Memory) }
 {
@@ -61,7 +60,7 @@ fn body_of(alloc: Global, body: &[u8]) -> Result<Text, Refusal>
 }
 
 /// Returns the number that decimal digits write; None if it is not 1 to 4,096, or has a sign.
-pub(crate) fn count_of(digits: &str) -> Option<usize>
+fn count_of(digits: &str) -> Option<usize>
     ensures { result ≡ count_of digits.now }
 {
     if digits.starts_with('+') {
@@ -78,7 +77,7 @@ pub(crate) fn count_of(digits: &str) -> Option<usize>
 }
 
 /// Returns the number of owners that a query asks for: one if there is no query.
-pub(crate) fn count_in(query: Option<&str>) -> Result<usize, Refusal>
+fn count_in(query: Option<&str>) -> Result<usize, Refusal>
     ensures { result ≡ count_in (option_copied query.entry) }
 {
     let Some(query) = query else {
@@ -162,29 +161,6 @@ pub fn key_text<'a>(path: &'a str, field: Option<&'a str>) -> Option<&'a str>
     path.strip_prefix("/keys/").map(segment)
 }
 
-/// Returns the action at a path with no key in it.
-fn open(
-    alloc: Global,
-    method: &str,
-    path: &str,
-    query: Option<&str>,
-    body: &[u8],
-) -> Result<Action, Refusal>
-    ensures action { IfOk result (λ action. open_at method.now path.now (option_copied query.entry) body.now ≡ Ok action) }
-    ensures refused { IfErr result (λ e. e ≢ Refusal.Memory → open_at method.now path.now (option_copied query.entry) body.now ≡ Err e) }
-    ensures memory { result ≡ Err Refusal.Memory → AsksForRing method.now path.now }
-{
-    if path == "/owners" {
-        check_method(method, Verb::Post)?;
-        return all_owners(alloc, query, body);
-    }
-    if path == "/ring" {
-        check_method(method, Verb::Get)?;
-        return ring(alloc, query);
-    }
-    plain(method, path)
-}
-
 /// Returns the action that a request asks for. The paths with a key are `POST /keys/KEY`, which reads the body and no
 /// query, and `GET /owner/KEY`, which reads the query (`n=COUNT`, or none for 1) and no body. The others read neither.
 ///
@@ -218,5 +194,5 @@ pub fn route(
         check_method(method, Verb::Get)?;
         return owners(alloc, rest, query);
     }
-    open(alloc, method, path, query, body)
+    plain(method, path)
 }

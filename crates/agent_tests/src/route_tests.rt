@@ -6,9 +6,6 @@ use std::alloc::{AllocError, Global};
 enum Wanted {
     Handle(&'static str, &'static str),
     Owners(&'static str, usize),
-    /// The first key, the last, how many there are, the number of owners and whether only those of others are wanted.
-    AllOwners(&'static str, &'static str, usize, usize, bool),
-    Ring(Option<&'static str>),
     Members,
     Digest,
     Health,
@@ -27,26 +24,6 @@ fn is_wanted(asked: &Result<Action, Refusal>, wanted: Wanted) -> bool {
         }
         (Ok(Action::Owners { key, count }), Wanted::Owners(a, n)) => key.as_str() == a
             && *count == n,
-        (
-            Ok(
-                Action::AllOwners {
-                    keys,
-                    count,
-                    only_others,
-                },
-            ),
-            Wanted::AllOwners(first, last, number, n, others),
-        ) => {
-            let keys = keys.as_slice();
-            keys.len() == number
-                && keys.first().is_none_or(|key| key.as_str() == first)
-                && keys.last().is_none_or(|key| key.as_str() == last)
-                && *count == n
-                && *only_others == others
-        }
-        (Ok(Action::Ring { after: Some(after) }), Wanted::Ring(Some(text))) => after.as_str()
-            == text,
-        (Ok(Action::Ring { after: None }), Wanted::Ring(None)) => true,
         (Ok(Action::Members), Wanted::Members)
         | (Ok(Action::Digest), Wanted::Digest)
         | (Ok(Action::Health), Wanted::Health)
@@ -73,199 +50,71 @@ const KEY: Wanted = Wanted::Refused(Refusal::Malformed(Part::Key));
 
 const COUNT: Wanted = Wanted::Refused(Refusal::Malformed(Part::Count));
 
-const KEYS: Wanted = Wanted::Refused(Refusal::Malformed(Part::Keys));
-
-const AFTER: Wanted = Wanted::Refused(Refusal::Malformed(Part::After));
-
 const GET_ONLY: Wanted = Wanted::Refused(Refusal::BadMethod(Verb::Get));
 
 const POST_ONLY: Wanted = Wanted::Refused(Refusal::BadMethod(Verb::Post));
 
 const NOWHERE: Wanted = Wanted::Refused(Refusal::NotFound);
 
-static ROWS: [Row; 79] = [
-    (
-        "POST",
-        "/keys/a",
-        None,
-        b"hello",
-        Wanted::Handle("a", "hello"),
-    ),
-    ("POST", "/keys/a", None, b"", Wanted::Handle("a", "")),
-    (
-        "POST",
-        "/keys/a%20b%2Fc%C3%BC",
-        None,
-        b"x",
-        Wanted::Handle("a b/c\u{fc}", "x"),
-    ),
-    ("POST", "/keys/a/b", None, b"x", Wanted::Handle("a/b", "x")),
-    ("POST", "/keys/a+b", None, b"x", Wanted::Handle("a+b", "x")),
-    ("POST", "/keys/%", None, b"x", Wanted::Handle("%", "x")),
-    (
-        "POST",
-        "/keys/%zz%4",
-        None,
-        b"x",
-        Wanted::Handle("%zz%4", "x"),
-    ),
-    ("POST", "/keys/%00", None, b"x", Wanted::Handle("\0", "x")),
-    (
-        "POST",
-        "/keys/a",
-        Some("n=0"),
-        b"x",
-        Wanted::Handle("a", "x"),
-    ),
-    (
-        "POST",
-        "/keys/a",
-        None,
-        b"\xc3",
-        Wanted::Refused(Refusal::Malformed(Part::Body)),
-    ),
-    ("POST", "/keys/", None, b"x", KEY),
-    ("POST", "/keys/%ff", None, b"x", KEY),
-    ("POST", "/keys/%ff", None, b"\xc3", KEY),
-    ("GET", "/keys/a", None, b"", POST_ONLY),
-    ("PUT", "/keys/%ff", None, b"\xc3", POST_ONLY),
-    ("post", "/keys/a", None, b"", POST_ONLY),
-    ("POST", "/keys", None, b"x", NOWHERE),
-    ("POST", "/Keys/a", None, b"x", NOWHERE),
-    ("POST", "//keys/a", None, b"x", NOWHERE),
-    ("GET", "/owner/a", None, b"", Wanted::Owners("a", 1)),
-    ("GET", "/owner/a", Some("n=1"), b"", Wanted::Owners("a", 1)),
-    (
-        "GET",
-        "/owner/a",
-        Some("n=3"),
-        b"\xc3",
-        Wanted::Owners("a", 3),
-    ),
-    (
-        "GET",
-        "/owner/a",
-        Some("n=0003"),
-        b"",
-        Wanted::Owners("a", 3),
-    ),
-    (
-        "GET",
-        "/owner/a",
-        Some("n=4096"),
-        b"",
-        Wanted::Owners("a", 4096),
-    ),
-    ("GET", "/owner/a", Some("n=4097"), b"", COUNT),
-    ("GET", "/owner/a", Some("n=0"), b"", COUNT),
-    ("GET", "/owner/a", Some("n="), b"", COUNT),
-    ("GET", "/owner/a", Some("n=+3"), b"", COUNT),
-    ("GET", "/owner/a", Some("n=-3"), b"", COUNT),
-    ("GET", "/owner/a", Some("n=3 "), b"", COUNT),
-    ("GET", "/owner/a", Some("n=3&n=4"), b"", COUNT),
-    ("GET", "/owner/a", Some("N=3"), b"", COUNT),
-    ("GET", "/owner/a", Some(""), b"", COUNT),
-    (
-        "GET",
-        "/owner/a",
-        Some("n=18446744073709551617"),
-        b"",
-        COUNT,
-    ),
-    ("GET", "/owner/", Some("n=0"), b"", KEY),
-    ("POST", "/owner/a", None, b"", GET_ONLY),
-    ("GET", "/owner", None, b"", NOWHERE),
-    ("GET", "/members", None, b"", Wanted::Members),
-    ("GET", "/members", Some("x"), b"\xff", Wanted::Members),
-    ("GET", "/digest", None, b"", Wanted::Digest),
-    ("GET", "/healthz", None, b"", Wanted::Health),
-    ("GET", "/metrics", None, b"", Wanted::Metrics),
-    ("GET", "/", None, b"", Wanted::Page),
-    ("POST", "/leave", None, b"", Wanted::Leave),
-    ("POST", "/rejoin", None, b"", Wanted::Rejoin),
-    ("POST", "/stop", None, b"", Wanted::Stop),
-    (
-        "POST",
-        "/owners",
-        None,
-        b"a\nb%0Ac\r\nd",
-        Wanted::AllOwners("a", "d", 3, 1, false),
-    ),
-    (
-        "POST",
-        "/owners",
-        Some("n=2&not-mine=1"),
-        b"[\"a\", \"b%0A\\n\"]",
-        Wanted::AllOwners("a", "b%0A\n", 2, 2, true),
-    ),
-    (
-        "POST",
-        "/owners",
-        Some("not-mine=1&n=3"),
-        b"%5B\n",
-        Wanted::AllOwners("[", "[", 1, 3, true),
-    ),
-    (
-        "POST",
-        "/owners",
-        Some("not-mine=1"),
-        b"",
-        Wanted::AllOwners("", "", 0, 1, true),
-    ),
-    (
-        "POST",
-        "/owners",
-        None,
-        b"[]",
-        Wanted::AllOwners("", "", 0, 1, false),
-    ),
-    ("POST", "/owners", None, b"a\n\nb", KEY),
-    ("POST", "/owners", None, b"[\"a\",1]", KEY),
-    ("POST", "/owners", None, b"[\"\"]", KEY),
-    ("POST", "/owners", Some("n=0"), b"a", COUNT),
-    ("POST", "/owners", Some("not-mine=0"), b"a", COUNT),
-    ("POST", "/owners", None, b"[\"a\"", KEYS),
-    ("POST", "/owners", None, b"[] []", KEYS),
-    (
-        "POST",
-        "/owners",
-        None,
-        b"\xc3",
-        Wanted::Refused(Refusal::Malformed(Part::Body)),
-    ),
-    ("GET", "/owners", None, b"", POST_ONLY),
-    ("GET", "/ring", None, b"", Wanted::Ring(None)),
-    (
-        "GET",
-        "/ring",
-        Some("after=x"),
-        b"",
-        Wanted::Ring(Some("x")),
-    ),
-    (
-        "GET",
-        "/ring",
-        Some("after=x&wait=60"),
-        b"",
-        Wanted::Ring(Some("x")),
-    ),
-    ("GET", "/ring", Some("after=x&wait=61"), b"", AFTER),
-    ("GET", "/ring", Some("after=x&wait=0"), b"", AFTER),
-    ("GET", "/ring", Some("after=x&n=1"), b"", AFTER),
-    ("GET", "/ring", Some("wait=1"), b"", AFTER),
-    ("POST", "/ring", None, b"", GET_ONLY),
-    ("POST", "/members", None, b"", GET_ONLY),
-    ("HEAD", "/digest", None, b"", GET_ONLY),
-    ("DELETE", "/healthz", None, b"", GET_ONLY),
-    ("POST", "/metrics", None, b"", GET_ONLY),
-    ("POST", "/", None, b"", GET_ONLY),
-    ("GET", "/leave", None, b"", POST_ONLY),
-    ("GET", "/rejoin", None, b"", POST_ONLY),
-    ("GET", "/stop", None, b"", POST_ONLY),
-    ("GET", "", None, b"", NOWHERE),
-    ("GET", "/members/", None, b"", NOWHERE),
-    ("BREW", "/favicon.ico", None, b"", NOWHERE),
-];
+static ROWS: [Row; 57] = rows! {
+    "POST", "/keys/a", None, b"hello", Wanted::Handle("a", "hello");
+    "POST", "/keys/a", None, b"", Wanted::Handle("a", "");
+    "POST", "/keys/a%20b%2Fc%C3%BC", None, b"x", Wanted::Handle("a b/c\u{fc}", "x");
+    "POST", "/keys/a/b", None, b"x", Wanted::Handle("a/b", "x");
+    "POST", "/keys/a+b", None, b"x", Wanted::Handle("a+b", "x");
+    "POST", "/keys/%", None, b"x", Wanted::Handle("%", "x");
+    "POST", "/keys/%zz%4", None, b"x", Wanted::Handle("%zz%4", "x");
+    "POST", "/keys/%00", None, b"x", Wanted::Handle("\0", "x");
+    "POST", "/keys/a", Some("n=0"), b"x", Wanted::Handle("a", "x");
+    "POST", "/keys/a", None, b"\xc3", Wanted::Refused(Refusal::Malformed(Part::Body));
+    "POST", "/keys/", None, b"x", KEY;
+    "POST", "/keys/%ff", None, b"x", KEY;
+    "POST", "/keys/%ff", None, b"\xc3", KEY;
+    "GET", "/keys/a", None, b"", POST_ONLY;
+    "PUT", "/keys/%ff", None, b"\xc3", POST_ONLY;
+    "post", "/keys/a", None, b"", POST_ONLY;
+    "POST", "/keys", None, b"x", NOWHERE;
+    "POST", "/Keys/a", None, b"x", NOWHERE;
+    "POST", "//keys/a", None, b"x", NOWHERE;
+    "GET", "/owner/a", None, b"", Wanted::Owners("a", 1);
+    "GET", "/owner/a", Some("n=1"), b"", Wanted::Owners("a", 1);
+    "GET", "/owner/a", Some("n=3"), b"\xc3", Wanted::Owners("a", 3);
+    "GET", "/owner/a", Some("n=0003"), b"", Wanted::Owners("a", 3);
+    "GET", "/owner/a", Some("n=4096"), b"", Wanted::Owners("a", 4096);
+    "GET", "/owner/a", Some("n=4097"), b"", COUNT;
+    "GET", "/owner/a", Some("n=0"), b"", COUNT;
+    "GET", "/owner/a", Some("n="), b"", COUNT;
+    "GET", "/owner/a", Some("n=+3"), b"", COUNT;
+    "GET", "/owner/a", Some("n=-3"), b"", COUNT;
+    "GET", "/owner/a", Some("n=3 "), b"", COUNT;
+    "GET", "/owner/a", Some("n=3&n=4"), b"", COUNT;
+    "GET", "/owner/a", Some("N=3"), b"", COUNT;
+    "GET", "/owner/a", Some(""), b"", COUNT;
+    "GET", "/owner/a", Some("n=18446744073709551617"), b"", COUNT;
+    "GET", "/owner/", Some("n=0"), b"", KEY;
+    "POST", "/owner/a", None, b"", GET_ONLY;
+    "GET", "/owner", None, b"", NOWHERE;
+    "GET", "/members", None, b"", Wanted::Members;
+    "GET", "/members", Some("x"), b"\xff", Wanted::Members;
+    "GET", "/digest", None, b"", Wanted::Digest;
+    "GET", "/healthz", None, b"", Wanted::Health;
+    "GET", "/metrics", None, b"", Wanted::Metrics;
+    "GET", "/", None, b"", Wanted::Page;
+    "POST", "/leave", None, b"", Wanted::Leave;
+    "POST", "/rejoin", None, b"", Wanted::Rejoin;
+    "POST", "/stop", None, b"", Wanted::Stop;
+    "POST", "/members", None, b"", GET_ONLY;
+    "HEAD", "/digest", None, b"", GET_ONLY;
+    "DELETE", "/healthz", None, b"", GET_ONLY;
+    "POST", "/metrics", None, b"", GET_ONLY;
+    "POST", "/", None, b"", GET_ONLY;
+    "GET", "/leave", None, b"", POST_ONLY;
+    "GET", "/rejoin", None, b"", POST_ONLY;
+    "GET", "/stop", None, b"", POST_ONLY;
+    "GET", "", None, b"", NOWHERE;
+    "GET", "/members/", None, b"", NOWHERE;
+    "BREW", "/favicon.ico", None, b"", NOWHERE;
+};
 
 #[test]
 fn asks_what_each_row_says(rt: HostRuntime) {
@@ -314,49 +163,6 @@ fn takes_keys_and_bodies_up_to_their_length(rt: HostRuntime) {
         assert!(rt;
             *fits || is_wanted(&asked, Wanted::Refused(Refusal::LongBody)),
             "{len}"
-        );
-    }
-}
-
-/// The start of a request, and the digest and the seconds of the question that waits.
-static QUESTIONS: [(&str, Option<(&str, usize)>); 5] = [
-    ("GET /ring?after=ab&wait=5 HTTP/1.1\r\n", Some(("ab", 5))),
-    ("GET /ring?after=ab HTTP/1.1\r\n", Some(("ab", 0))),
-    ("GET /ring?after=ab&wait=5", None),
-    ("GET /ring HTTP/1.1\r\n", None),
-    ("GET /members?after=ab&wait=5 HTTP/1.1\r\n", None),
-];
-
-#[test]
-fn finds_the_question_that_waits(rt: HostRuntime) {
-    for (head, wanted) in &QUESTIONS {
-        assert!(rt; question_at(*head) == *wanted);
-    }
-}
-
-/// 4,096 lines are keys, and one more is too many; the same of a JSON list.
-#[test]
-fn takes_keys_up_to_their_number(rt: HostRuntime) {
-    for (count, fits) in &[(4_096usize, true), (4_097, false)] {
-        let lines = again!(&rt, _, vec![in rt.alloc(); b'\n'; *count]);
-        let mut lines = lines.ok().expect(&rt, "lines");
-        for byte in lines.iter_mut().take(1) {
-            *byte = b'k';
-        }
-        let asked = again!(
-            &rt,
-            Refusal::Memory,
-            route(rt.alloc(), "POST", "/owners", None, &lines)
-        );
-        assert!(rt;
-            is_wanted(
-                &asked,
-                if *fits {
-                    KEY
-                } else {
-                    Wanted::Refused(Refusal::ManyKeys)
-                }
-            )
         );
     }
 }

@@ -33,54 +33,6 @@ fn writes_owners(rt: HostRuntime) {
     }
 }
 
-#[test]
-fn writes_the_owners_of_one_key_of_many(rt: HostRuntime) {
-    let owners = [address(&rt, "10.0.0.1:7946"), address(&rt, "10.0.0.2:1")];
-    for (hidden, wanted) in &[
-        (None, "[\"10.0.0.1:7946\",\"10.0.0.2:1\"]"),
-        (Some(owners[1]), "[\"10.0.0.1:7946\",\"10.0.0.2:1\"]"),
-        (Some(owners[0]), "null"),
-    ] {
-        let mut text = String::new(rt.alloc());
-        let pushed = again!(
-            &rt,
-            AllocError,
-            {
-                text.clear();
-                push_owners(&mut text, &owners, *hidden)
-            }
-        );
-        assert!(rt; pushed.is_ok() && text.as_str() == *wanted, "{wanted}");
-    }
-}
-
-#[test]
-fn writes_the_ring(rt: HostRuntime) {
-    let digest = Digest::parse(DIGITS).expect(&rt, "a digest");
-    let members = [
-        member(&rt, "10.0.0.1:7946", Status::Suspect, 7, 1),
-        member(&rt, "10.0.0.2:7946", Status::Faulty, 0, 8),
-        member(&rt, "10.0.0.3:7946", Status::Alive, 9, 2),
-    ];
-    let servers = again!(&rt, AllocError, on_ring(rt.alloc(), &members))
-        .ok()
-        .expect(&rt, "servers");
-    let text = again!(
-        &rt,
-        AllocError,
-        ring_text(
-            rt.alloc(),
-            members[0].address,
-            &digest,
-            100,
-            servers.as_slice()
-        )
-    );
-    let wanted =
-        "{\"ring\":\"e3b0c44298fc1c149afbf4c8996fb92427ae41e4649b934ca495991b7852b855\",\"own\":\"10.0.0.1:7946\",\"replicas\":100,\"serving\":[{\"address\":\"10.0.0.1:7946\",\"weight\":1},{\"address\":\"10.0.0.3:7946\",\"weight\":2}]}\n";
-    assert!(rt; text.ok().expect(&rt, "a text").as_str() == wanted);
-}
-
 /// The SHA-256 of the empty text (FIPS 180-4).
 const DIGITS: &str = "e3b0c44298fc1c149afbf4c8996fb92427ae41e4649b934ca495991b7852b855";
 

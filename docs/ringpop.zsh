@@ -34,9 +34,8 @@ _ringpop() {
             ;;
         agent)
             _arguments '--bind[where the node listens, if not at ADDRESS]:address:' '--http[where HTTP is answered]:address:' \
-                '--http-any[let that be beyond 127.0.0.0/8]' '--app[where the application takes requests]:address:' \
-                '--any-request[pass on any HTTP request of a key]' \
-                '--hands[requests of other nodes at a time, 1 to 256]:hands:' \
+                '--http-any[allow --http outside 127.0.0.0/8]' '--app[where the application takes requests]:address:' \
+                '--hands[threads for requests of other nodes, 1 to 256]:hands:' \
                 '--http-connections[HTTP connections at a time, 1 to 65536]:connections:' '--period[milliseconds between two rounds, 1 to 60000]:ms:' \
                 '--per-message[changes in a message, 1 to 4096]:changes:' '--replicas[points for each unit of weight, 1 to 1000]:points:' \
                 '--weight[share of the keys, 1 to 8]:weight:' '--incarnation[first incarnation]:incarnation:' \

@@ -1,7 +1,6 @@
 pub mod Answering
 pub mod Called
 pub mod Conversing
-pub mod Fielded
 pub mod Performed
 pub mod Relaying
 pub mod Written

@@ -1,5 +1,5 @@
 -- What an action makes the node do, and the reply or the refusal that comes of it.
-use Rattle.std.specs.Prelude.{◌≡◌, ◌≢◌, ◌⊎◌, ℕ, Bool, true, false, List, [], ◌∷◌, ◌++◌, take, codes, Result, Ok, Err}
+use Rattle.std.specs.Prelude.{◌≡◌, ◌≢◌, ◌⊎◌, ℕ, List, [], ◌∷◌, ◌++◌, take, codes, Result, Ok, Err}
 use Rattle.change_core.specs.Members.{members}
 use Rattle.change_core.specs.declared.changes.Change.{Change}
 use Rattle.hash_ring.specs.Points.{owners}
@@ -14,7 +14,6 @@ use Rattle.peer_core.specs.Parts.{Part, Tries}
 use Rattle.peer_core.specs.declared.errors.ClusterError.{ClusterError}
 use Rattle.peer_core.specs.declared.errors.ClusterError.TheVariants as error
 use Rattle.agent_core.specs.Metrics.{metrics_text}
-use Rattle.agent_core.specs.Parts.{text_of_body}
 use Rattle.agent_core.specs.Texts.{digest_line, members_text, owners_text}
 use Rattle.agent_core.specs.declared.actions.Action.{Action}
 use Rattle.agent_core.specs.declared.actions.Action.TheVariants as action
@@ -98,21 +97,9 @@ ShowsAnswer text (Err why) = ⊥
 abbrev pub IsAsked : List ℕ → List ℕ → Part Sha256Hash (List ℕ)
 IsAsked key body = IsRequest hash_of AnyAnswer AnyHandling AnyTimes (key ∷ []) body
 
--- What comes of a request: the text that answered it, or the refusal for its error. One that may not be performed twice can end early, at a node
--- that may have performed it and gave no reply.
-abbrev pub Settled : Bool → Result (List ℕ) ClusterError → Outcome → Type 0
-Settled is_repeatable result outcome =
-    ComesOf ShowsAnswer result outcome ⊎ ((is_repeatable ≡ false) × (result ≡ Err error.Memory) × (outcome ≡ Err refusal.AnswerLost))
-
--- a request of one key is made, which this text has; it is not if memory runs out for it
-abbrev pub AsksOwner : List ℕ → List ℕ → Bool → Outcome → OfActs Sha256Hash
-AsksOwner key request is_repeatable outcome acts =
-    Declines refusal.Memory outcome acts ⊎ After (IsAsked key request) (Settled is_repeatable) outcome acts
-
--- so it is, unless the hosts are still being asked, or too many requests wait
-abbrev pub Passes : List ℕ → List ℕ → Bool → Outcome → OfActs Sha256Hash
-Passes key request is_repeatable outcome acts =
-    (Declines refusal.NotJoined outcome acts ⊎ Declines refusal.Busy outcome acts) ⊎ AsksOwner key request is_repeatable outcome acts
+-- a request of one key is made; it is not if memory runs out for its key
+abbrev pub AsksOwner : List ℕ → List ℕ → Outcome → OfActs Sha256Hash
+AsksOwner key body outcome acts = Declines refusal.Memory outcome acts ⊎ After (IsAsked key body) (ComesOf ShowsAnswer) outcome acts
 
 -- the node left, or had left already, and the agent stops; or it is refused as a leave is
 abbrev pub Stops : Result Change ClusterError → Outcome → Type 0
@@ -128,8 +115,8 @@ IsHealth (Err why) =
 
 -- An action of the agent whose node has this address and this many replicas, its outcome, and all calls of the node that were made for it.
 abbrev pub Performs : ℕ → ℕ → Action → Outcome → OfActs Sha256Hash
-Performs own replicas (action.Handle key body) outcome acts = Passes key (text_of_body body) true outcome acts
-Performs own replicas (action.Pass key request is_repeatable) outcome acts = Passes key request is_repeatable outcome acts
+Performs own replicas (action.Handle key body) outcome acts =
+    (Declines refusal.NotJoined outcome acts ⊎ Declines refusal.Busy outcome acts) ⊎ AsksOwner key body outcome acts
 Performs own replicas (action.Owners key count) outcome acts =
     Declines refusal.NotJoined outcome acts ⊎ After Looks (ComesOf (ShowsOwners key count)) outcome acts
 Performs own replicas action.Members outcome acts = After (Tries call.Members reply.Members) (ComesOf (ShowsMembers own replicas)) outcome acts

@@ -8,7 +8,6 @@ use Rattle.agent_core.specs.Requests.{asked}
 use Rattle.agent_core.specs.declared.actions.Action.{Action}
 use Rattle.agent_core.specs.declared.refusals.Refusal.{Refusal}
 use Rattle.agent_core.specs.declared.refusals.Refusal.TheVariants.{CrossSite, Memory}
-use Rattle.agent.specs.Passing.{IsNotPassed, IsPassed}
 
 -- the method by which a request is answered: a HEAD as a GET (RFC 9110, section 9.3.2)
 abbrev pub answered_as : List ℕ → List ℕ
@@ -27,12 +26,10 @@ abbrev pub Refuses : Result Action Refusal → Refusal → Type 0
 Refuses (Err wrong) refusal = (refusal ≡ wrong) ⊎ (refusal ≡ Memory)
 Refuses (Ok action) refusal = refusal ≡ Memory
 
--- a request may be refused so: as one that is not passed on, as that of a page of another site, or else as fits what it asks for
+-- a request may be refused so: as that of a page of another site, or else as fits what it asks for
 abbrev pub IsRefused : Request (List ℕ) → Refusal → Type 0
-IsRefused request refusal =
-    IsNotPassed request refusal
-    ⊎ ((IsCrossSite request × (refusal ≡ CrossSite)) ⊎ (¬ (IsCrossSite request) × Refuses (asked_by request) refusal))
+IsRefused request refusal = (IsCrossSite request × (refusal ≡ CrossSite)) ⊎ (¬ (IsCrossSite request) × Refuses (asked_by request) refusal)
 
--- a request is passed on; or it is of no page of another site, and asks for this action
+-- a request is of no page of another site, and asks for this action
 abbrev pub AsksFor : Request (List ℕ) → Action → Type 0
-AsksFor request action = IsPassed request action ⊎ (¬ (IsCrossSite request) × (asked_by request ≡ Ok action))
+AsksFor request action = ¬ (IsCrossSite request) × (asked_by request ≡ Ok action)

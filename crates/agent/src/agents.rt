@@ -7,7 +7,6 @@ use crate::notices::Notices;
 use crate::systems::Host;
 use agent_core::{Counts, PortCounts};
 use change_core::{Address, Moment};
-use http::HeaderName;
 use log::{LevelFilter, Logged};
 use reactor::Places;
 use server::{ServerClock, Stopwatch, Timeouts};
@@ -62,8 +61,6 @@ pub struct Agent<R> {
     pub stopwatch: Stopwatch,
     pub timeouts: Timeouts,
     pub application: Application<R>,
-    /// The field that names the key of a request, if any request of a key is passed on.
-    pub key_field: Option<HeaderName>,
     /// The passes that no thread has.
     pub passes: Mutex<Passes>,
     pub counters: Counters,

@@ -3,23 +3,20 @@ ghost use Rattle.std.specs.Prelude.{◌≡◌, Bool, OnOk, IfErr, IfOk};
 ghost use Rattle.http_server.specs.Response.{IsBlank};
 ghost use Rattle.node_core.specs.declared.events.Event.TheVariants as call;
 ghost use Rattle.node_core.specs.declared.events.Reply.TheVariants as reply;
-ghost use Rattle.peer_core.specs.Forwarding.{IsRequest};
 ghost use Rattle.peer_core.specs.Parts.{Does, Tries};
 ghost use Rattle.agent_core.specs.declared.actions.Action.TheVariants as action;
 ghost use Rattle.agent.specs.Answers.{IsAnswered, Settles, ShowsOutcome};
-ghost use Rattle.agent.specs.Calling.{AnyAnswer, AnyHandling, AnyTimes, HasMade, hash_of};
+ghost use Rattle.agent.specs.Calling.{HasMade};
 ghost use Rattle.agent.specs.Performing.{AsksOwner, IsHealth, Outcome, Performs, ShowsCounts, ShowsMembers, ShowsOwners, digest_by, refusal_of};
 
 use crate::agents::{Agent, Phase};
-use crate::applications::Application;
 use crate::callers::Caller;
 use crate::links::{NotedHandler, NotedLink};
-use crate::onces::OnceLink;
 use crate::replies::Reply;
-use crate::requests::{action_of, is_keyed};
+use crate::requests::action_of;
 use crate::responses::{put_refusal, put_reply};
 use crate::systems::Host;
-use agent_core::{Action, Refusal, pack_body};
+use agent_core::{Action, Refusal};
 use bytes::Bytes;
 use change_core::{Address, Change, Digest, MAX_MEMBERS};
 use hash_ring::Sha256Hash;
@@ -30,7 +27,6 @@ use message_core::{Keys, Text};
 use node_core::View;
 use peer_core::ClusterError;
 use std::alloc::{AllocError, Global};
-use std::net::{IpAddr, TcpStream};
 use std::sync::atomic::{AtomicBool, Ordering};
 use std::time::Instant;
 
@@ -94,33 +90,13 @@ pub struct Front<'f, 'a, R> {
     pub alloc: Global,
     pub caller: &'f mut Caller,
     pub link: &'f mut NotedLink<'a, R>,
-    /// The address of the client, if any request is passed on and the system says it.
-    pub client: Option<IpAddr>,
 }
 
 impl<'f, 'a, R: Host> Front<'f, 'a, R> {
-    /// Takes the address of the client at the other end of a connection, if any request is passed on.
-    pub fn greet(&mut self, stream: &TcpStream) {
-        if self.agent.key_field.is_some() {
-            self.client = stream.peer_addr().ok().map(|address| address.ip());
-        }
-    }
-
-    /// Has the owner of a key answer a request that is a body alone.
+    /// Has the owner of a key answer a request, unless the hosts are still being asked or too many requests wait already.
+    /// Returns the answer and the owner.
     fn handle(&mut self, key: Text, body: Text) -> Result<Reply, Refusal>
         ensures performed { HasMade (Performs self.old.agent.now.own self.old.agent.now.replicas (action.Handle key body) result) self.old.caller.now self.new.caller.now }
-        ensures agent { self.new.agent ≡ self.old.agent }
-    {
-        match pack_body(self.alloc, body) {
-            Ok(text) => self.pass(key, text, true),
-            Err(_) => Err(Refusal::Memory),
-        }
-    }
-
-    /// Has the owner of a key answer the request that a text has, unless the hosts are still being asked or too many requests
-    /// wait already. Returns the answer and the owner.
-    fn pass(&mut self, key: Text, request: Text, is_repeatable: bool) -> Result<Reply, Refusal>
-        ensures performed { HasMade (Performs self.old.agent.now.own self.old.agent.now.replicas (action.Pass key request is_repeatable) result) self.old.caller.now self.new.caller.now }
         ensures agent { self.new.agent ≡ self.old.agent }
     {
         if self.agent.is_starting.get() {
@@ -129,14 +105,14 @@ impl<'f, 'a, R: Host> Front<'f, 'a, R> {
         if !self.agent.waiting.add_below(MAX_WAITING_REQUESTS) {
             return Err(Refusal::Busy);
         }
-        let reply = self.ask_owner(key, request, is_repeatable);
+        let reply = self.ask_owner(key, body);
         self.agent.waiting.subtract(1);
         reply
     }
 
-    /// Has the owner of a key answer the request that a text has, and returns the answer and the owner.
-    fn ask_owner(&mut self, key: Text, request: Text, is_repeatable: bool) -> Result<Reply, Refusal>
-        ensures asked { HasMade (AsksOwner key request is_repeatable result) self.old.caller.now self.new.caller.now }
+    /// Has the owner of a key answer a request, and returns the answer and the owner.
+    fn ask_owner(&mut self, key: Text, body: Text) -> Result<Reply, Refusal>
+        ensures asked { HasMade (AsksOwner key body result) self.old.caller.now self.new.caller.now }
         ensures agent { self.new.agent ≡ self.old.agent }
     {
         let agent = self.agent;
@@ -148,69 +124,23 @@ impl<'f, 'a, R: Host> Front<'f, 'a, R> {
             was_asked: AtomicBool::new(false),
         };
         self.link.last = None;
-        let (answer, is_over) = if is_repeatable {
-            (self.ask(&handler, keys, request), false)
-        } else {
-            self.ask_once(&handler, keys, request)
-        };
+        let answer = self.caller.request(
+            &agent.rt,
+            self.alloc,
+            self.link,
+            &handler,
+            &agent.clock(),
+            keys,
+            body,
+        );
         let owner = match self.link.last {
             Some(last) if !handler.was_asked.load(Ordering::SeqCst) => last,
             _ => agent.own,
         };
         match answer {
             Ok(text) => Ok(Reply::Handled { owner, text }),
-            Err(ClusterError::Memory) if is_over => Err(Refusal::AnswerLost),
             Err(error) => Err(refusal_of(error)),
         }
-    }
-
-    /// Returns the answer to a request, which is sent again on the schedule of an attempt.
-    fn ask(
-        &mut self,
-        handler: &NotedHandler<'_, Application<R>>,
-        keys: Keys,
-        request: Text,
-    ) -> Result<Text, ClusterError>
-        ensures node { self.new.caller.now.node ≡ self.old.caller.now.node }
-        ensures did { Does self.old.caller.now.node (IsRequest hash_of AnyAnswer AnyHandling AnyTimes keys request) result self.old.caller.now.pass self.new.caller.now.pass }
-        ensures agent { self.new.agent ≡ self.old.agent }
-    {
-        let agent = self.agent;
-        self.caller.request(
-            &agent.rt,
-            self.alloc,
-            self.link,
-            handler,
-            &agent.clock(),
-            keys,
-            request,
-        )
-    }
-
-    /// Returns the answer to a request that is sent again only while no node can have performed it, and whether it ended
-    /// because one may have.
-    fn ask_once(
-        &mut self,
-        handler: &NotedHandler<'_, Application<R>>,
-        keys: Keys,
-        request: Text,
-    ) -> (Result<Text, ClusterError>, bool)
-        ensures node { self.new.caller.now.node ≡ self.old.caller.now.node }
-        ensures did { Does self.old.caller.now.node (IsRequest hash_of AnyAnswer AnyHandling AnyTimes keys request) result.0 self.old.caller.now.pass self.new.caller.now.pass }
-        ensures agent { self.new.agent ≡ self.old.agent }
-    {
-        let agent = self.agent;
-        let mut link = OnceLink::new(&mut *self.link);
-        let answer = self.caller.request(
-            &agent.rt,
-            self.alloc,
-            &mut link,
-            handler,
-            &agent.clock(),
-            keys,
-            request,
-        );
-        (answer, link.is_over)
     }
 
     /// Returns the first owners of a key, unless the hosts are still being asked.
@@ -361,11 +291,6 @@ impl<'f, 'a, R: Host> Front<'f, 'a, R> {
     {
         match action {
             Action::Handle { key, body } => self.handle(key, body),
-            Action::Pass {
-                key,
-                request,
-                is_repeatable,
-            } => self.pass(key, request, is_repeatable),
             Action::Owners { key, count } => self.owners(&key, count),
             Action::Members => self.members(),
             Action::Metrics => self.metrics(),
@@ -383,8 +308,7 @@ impl<'f, 'a, R: Host> Front<'f, 'a, R> {
         ensures settled { HasMade (Settles self.old.agent.now.own self.old.agent.now.replicas request.now result) self.old.caller.now self.new.caller.now }
         ensures agent { self.new.agent ≡ self.old.agent }
     {
-        let field = self.agent.key_field.as_ref();
-        match action_of(self.alloc, request, field, self.client) {
+        match action_of(self.alloc, request) {
             Ok(action) => self.act(action),
             Err(refusal) => Err(refusal),
         }
@@ -423,7 +347,7 @@ impl<'f, 'a, R: Host> Front<'f, 'a, R> {
     {
         let start = Instant::now(&self.agent.rt).ok();
         let reply = self.reply(request);
-        if is_keyed(request, self.agent.key_field.as_ref()) {
+        if request.uri().path().starts_with("/keys/") {
             self.count(&reply, start);
         }
         if matches!(&reply, Err(Refusal::Memory)) {

@@ -1,20 +1,17 @@
 //! Responses of HTTP, from replies and refusals.
-ghost use Rattle.std.specs.Prelude.{◌≡◌, ◌≢◌, List, [], ◌∷◌, ◌++◌, map, None, Ok, true, false, OnOk, IfOk, IfSome};
-ghost use Rattle.std.specs.List.{All};
+ghost use Rattle.std.specs.Prelude.{◌≡◌, [], ◌∷◌, ◌++◌, OnOk, IfOk};
 ghost use Rattle.change_core.specs.Address.{address_text};
 ghost use Rattle.http.specs.StatusCode.{IsStatusCode};
 ghost use Rattle.http_header.specs.FieldValue.{plain_value};
-ghost use Rattle.http1.specs.Fields.{Header};
-ghost use Rattle.http_server.specs.Response.{IsBlank, IsResponse, fields, fields_of};
+ghost use Rattle.http_server.specs.Response.{IsBlank, IsResponse, fields_of};
 ghost use Rattle.agent_core.specs.Packs.{unpacked};
 ghost use Rattle.agent_core.specs.Refusals.{kind_name};
-ghost use Rattle.agent.specs.Replies.{AreFields, HasNoAnswer, IsField, IsNoAnswer, ShowsAnswer, ShowsParts, ShowsRefusal, ShowsReply, allowed_methods, answered_kind, closing, fields_for, flat, lower, owner_field, reply_body, reply_kind, reply_status};
+ghost use Rattle.agent.specs.Replies.{ShowsRefusal, ShowsReply, allowed_methods, answered_kind, closing, fields_for, owner_field, reply_body, reply_kind, reply_status};
 
 use crate::replies::Reply;
-use agent_core::{Answer, Kind, Refusal, Verb, parts_in, status_in, unpack, unpack_bytes};
+use agent_core::{Answer, Kind, Refusal, Verb, unpack};
 use bytes::BufMut;
 use change_core::Address;
-use http::header::{HeaderNameError, HeaderValueError};
 use http::{HeaderName, HeaderValue, StatusCode};
 use http_server::Response;
 use message_core::Text;
@@ -63,130 +60,6 @@ fn kind_of(is_json: bool) -> Kind
     if is_json { Kind::Json } else { Kind::Text }
 }
 
-/// Returns the field with this name and this value; None if they are no field's.
-fn field_of(
-    alloc: Global,
-    name: &[u8],
-    value: &[u8],
-) -> Result<Option<(HeaderName, HeaderValue)>, AllocError>
-    ensures field { IfOk result (λ r. IfSome r (λ field. IsField (name.now, value.now) × ((field.0, field.1.bytes) ≡ lower (name.now, value.now)))) }
-    ensures none { result ≡ Ok None → ¬ (IsField (name.now, value.now)) }
-{
-    let name = match HeaderName::from_bytes(alloc, name) {
-        Ok(name) => name,
-        Err(HeaderNameError::OutOfMemory) => return Err(AllocError),
-        Err(HeaderNameError::Invalid) => return Ok(None),
-    };
-    match HeaderValue::from_bytes(alloc, value) {
-        Ok(value) => Ok(Some((name, value))),
-        Err(HeaderValueError::OutOfMemory) => Err(AllocError),
-        Err(HeaderValueError::Invalid) => Ok(None),
-    }
-}
-
-/// Returns the fields whose names and values these parts are; None if they are no fields'.
-fn fields_of(
-    alloc: Global,
-    parts: &[&[u8]],
-) -> Result<Option<Vec<(HeaderName, HeaderValue)>>, AllocError>
-    ensures fields { IfOk result (λ r. IfSome r (λ shown. AreFields (map (λ p. p.now) parts.now) (fields shown.items))) }
-    ensures none { result ≡ Ok None → (fields : List Header) → All IsField fields → map (λ p. p.now) parts.now ≢ flat fields }
-{
-    let mut fields = Vec::with_capacity(alloc, parts.len() / 2)?;
-    let mut rest = parts;
-    while !rest.is_empty() {
-        let [name, value, after @ ..] = rest else {
-            return Ok(None);
-        };
-        let Some(field) = field_of(alloc, name, value)? else {
-            return Ok(None);
-        };
-        fields.push(field)?;
-        rest = after;
-    }
-    Ok(Some(fields))
-}
-
-/// Adds fields.
-fn put_fields(
-    response: &mut Response,
-    shown: Vec<(HeaderName, HeaderValue)>,
-) -> Result<(), AllocError>
-    ensures status { response.new.status ≡ response.old.status }
-    ensures body { response.new.body ≡ response.old.body }
-    ensures fields { OnOk result (fields_of response.new ≡ fields_of response.old ++ fields shown.items) }
-{
-    for (name, value) in shown {
-        response.add_header(name, value)?;
-    }
-    Ok(())
-}
-
-/// Writes an answer whose parts are its status, its body, and the name and the value of each field into a blank response.
-/// Returns whether the parts are those of an answer; if they are not, nothing is written.
-fn put_parts(
-    alloc: Global,
-    response: &mut Response,
-    parts: &[&[u8]],
-    closes: bool,
-) -> Result<bool, AllocError>
-    requires { IsBlank response.old }
-    ensures shown { result ≡ Ok true → ShowsParts (map (λ p. p.now) parts.now) closes [] response.new }
-    ensures none { result ≡ Ok false → IsBlank response.new × IsNoAnswer (map (λ p. p.now) parts.now) }
-{
-    let [digits, body, rest @ ..] = parts else {
-        return Ok(false);
-    };
-    let Some(status) = status_in(digits) else {
-        return Ok(false);
-    };
-    let Some(fields) = fields_of(alloc, rest)? else {
-        return Ok(false);
-    };
-    if let Ok(status) = StatusCode::from_u16(status) {
-        response.status = status;
-    }
-    put_closing(response, closes)?;
-    put_fields(response, fields)?;
-    response.body.put_slice(body)?;
-    Ok(true)
-}
-
-/// Writes the answer to a request that was passed on whole into a blank response. Returns whether the text is one; if it is
-/// not, nothing is written.
-fn put_whole(
-    alloc: Global,
-    response: &mut Response,
-    text: &str,
-    closes: bool,
-) -> Result<bool, AllocError>
-    requires { IsBlank response.old }
-    ensures shown { result ≡ Ok true → ShowsAnswer text.now closes [] response.new }
-    ensures none { result ≡ Ok false → IsBlank response.new × HasNoAnswer text.now }
-{
-    let Some(bytes) = unpack_bytes(alloc, text)? else {
-        return Ok(false);
-    };
-    match parts_in(alloc, bytes.as_slice())? {
-        Some(parts) => put_parts(alloc, response, parts.as_slice(), closes),
-        None => Ok(false),
-    }
-}
-
-/// Writes the answer to a request that was a body alone into a blank response.
-fn put_plain(response: &mut Response, text: &str, closes: bool) -> Result<(), AllocError>
-    requires { IsBlank response.old }
-    ensures { OnOk result (IsResponse (unpacked text.now).status (fields_for closes (answered_kind (unpacked text.now).is_json)) (unpacked text.now).body response.new) }
-{
-    let packed = unpack(text);
-    let answer = Answer {
-        status: packed.status,
-        kind: kind_of(packed.is_json),
-        body: packed.body,
-    };
-    put(response, answer, closes)
-}
-
 /// Writes the answer of an application into a blank response, with a header that names the owner.
 fn put_handled(
     alloc: Global,
@@ -198,9 +71,13 @@ fn put_handled(
     requires { IsBlank response.old }
     ensures { OnOk result (ShowsReply (Reply.Handled owner text.now) closes response.new) }
 {
-    if !put_whole(alloc, response, text.as_str(), closes)? {
-        put_plain(response, text.as_str(), closes)?;
-    }
+    let packed = unpack(text.as_str());
+    let answer = Answer {
+        status: packed.status,
+        kind: kind_of(packed.is_json),
+        body: packed.body,
+    };
+    put(response, answer, closes)?;
     let owner = value_of(alloc, owner)?;
     response.add_header(HeaderName::from_static("x-ringpop-owner"), owner)
 }
@@ -266,16 +143,8 @@ pub fn put_refusal(
     ensures { OnOk result (ShowsRefusal refusal closes response.new) }
 {
     put(response, Answer::refused(refusal), closes)?;
-    match refusal {
-        Refusal::BadMethod(verb) => {
-            response.add_header(HeaderName::from_static("allow"), allowed(verb))
-        }
-        Refusal::AnswerLost => response.add_header(
-            HeaderName::from_static("x-ringpop-error"),
-            HeaderValue::from_static(
-                "the owner may have performed the request: its answer did not come",
-            ),
-        ),
-        _ => Ok(()),
+    if let Refusal::BadMethod(verb) = refusal {
+        response.add_header(HeaderName::from_static("allow"), allowed(verb))?;
     }
+    Ok(())
 }

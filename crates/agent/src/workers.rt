@@ -76,7 +76,6 @@ fn visit<R: Host>(
     let Some(connection) = open(front.alloc, keys, kept) else {
         return lot.close(stream);
     };
-    front.greet(&stream);
     let (kept, next) = serve(front, ready, connection, &stream, until);
     let Some(kept) = kept else {
         return lot.close(stream);
@@ -117,7 +116,6 @@ pub fn serve_http<R: Host>(
             alloc,
             caller: &mut caller,
             link: &mut link,
-            client: None,
         };
         agent.serving.add(1);
         visit(&mut front, &*lot, &ready, keys, visited);

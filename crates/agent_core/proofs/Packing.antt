@@ -61,7 +61,7 @@ header_of-unmarked (a ∷ []) h = refl
 header_of-unmarked (a ∷ b ∷ []) h = refl
 header_of-unmarked (a ∷ b ∷ c ∷ []) h = refl
 header_of-unmarked (a ∷ b ∷ c ∷ d ∷ []) h = refl
-header_of-unmarked (mark ∷ b ∷ c ∷ d ∷ e ∷ rest) h = cond-false _ _ _ (and_left _ _ (false_from_ne_true _ (λ within. not_within mark within (or_parts _ _ h).0)))
+header_of-unmarked (mark ∷ b ∷ c ∷ d ∷ e ∷ rest) h = cond-false _ _ _ (and_left _ _ (false_from_ne_true _ (λ within. not_within mark within h)))
 
 -- the answer of these parts
 abbrev answer : List ℕ → ℕ → Bool → Unpacked

@@ -2,7 +2,6 @@ pub mod Requests
 pub mod Refusals
 pub mod Packs
 pub mod Parts
-pub mod Passing
 pub mod Texts
 pub mod Metrics
 pub mod Warnings

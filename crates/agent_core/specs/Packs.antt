@@ -1,10 +1,10 @@
 -- An application's answer as one text, and back.
 use Rattle.std.specs.Prelude.{◌&&◌, ◌||◌, ◌==◌, ◌+◌, ◌*◌, ◌-◌, not, Bool, false, cond, ℕ, nat_le, List, [], ◌∷◌, ◌++◌, Option, Some, None, drop, decimal}
 
--- whether a body starts with a mark: 1 for text, 2 for JSON, 3 for parts
+-- whether a body starts with a mark: 1 for text, 2 for JSON
 abbrev pub is_marked : List ℕ → Bool
 is_marked [] = false
-is_marked (x ∷ xs) = ((x == 1) || (x == 2)) || (x == 3)
+is_marked (x ∷ xs) = (x == 1) || (x == 2)
 
 -- the mark, the status, a space and the body
 abbrev pub marked : ℕ → Bool → List ℕ → List ℕ
@@ -24,12 +24,6 @@ header_of (mark ∷ hundreds ∷ tens ∷ ones ∷ space ∷ body) =
     cond (is_within 1 2 mark && (is_within 50 53 hundreds && (is_within 48 57 tens && (is_within 48 57 ones && (space == 32)))))
     (Some (100 * (hundreds - 48) + 10 * (tens - 48) + (ones - 48), mark == 2)) None
 header_of other = None
-
--- the status that three digits write, if it is from 200 to 599
-abbrev pub status_in : List ℕ → Option ℕ
-status_in (hundreds ∷ tens ∷ ones ∷ []) =
-    cond (is_within 50 53 hundreds && (is_within 48 57 tens && is_within 48 57 ones)) (Some (100 * (hundreds - 48) + 10 * (tens - 48) + (ones - 48))) None
-status_in other = None
 
 -- an answer that a text represents
 pub record Unpacked : Type 0 where

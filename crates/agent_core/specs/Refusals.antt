@@ -19,8 +19,6 @@ status_of refusal.AlreadyLeft = 409
 status_of refusal.NotLeft = 409
 status_of refusal.Exhausted = 409
 status_of refusal.LongBody = 413
-status_of refusal.LongRequest = 413
-status_of refusal.NotPassed = 501
 status_of refusal.ApplicationFailed = 502
 status_of (refusal.Unanswered why) = 502
 status_of refusal.ApplicationDown = 503
@@ -32,7 +30,6 @@ status_of refusal.Busy = 503
 status_of refusal.Spent = 503
 status_of refusal.Memory = 503
 status_of refusal.OwnerSilent = 504
-status_of refusal.AnswerLost = 504
 
 -- the text of a refusal for a failure of the application
 abbrev pub failure_text : Failure → List ℕ
@@ -54,8 +51,6 @@ text_of refusal.AlreadyLeft = codes "the node has left already"
 text_of refusal.NotLeft = codes "the node has not left"
 text_of refusal.Exhausted = codes "no incarnation is left"
 text_of refusal.LongBody = codes "bad body: more than 131072 bytes"
-text_of refusal.LongRequest = codes "bad body: more than 524288 bytes"
-text_of refusal.NotPassed = codes "CONNECT and Upgrade are not passed on"
 text_of refusal.ApplicationFailed = codes "the application failed"
 text_of (refusal.Unanswered why) = failure_text why
 text_of refusal.ApplicationDown = codes "the application does not answer"
@@ -67,7 +62,6 @@ text_of refusal.Busy = codes "too many requests wait"
 text_of refusal.Spent = codes "the node takes no more calls"
 text_of refusal.Memory = codes "out of memory"
 text_of refusal.OwnerSilent = codes "the owner does not answer"
-text_of refusal.AnswerLost = codes "the owner may have performed the request: its answer did not come"
 
 -- that text as a line
 abbrev pub line_of : Refusal → List ℕ

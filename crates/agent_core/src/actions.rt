@@ -5,22 +5,9 @@ use message_core::Text;
 #[derive(Debug, Drop)]
 pub enum Action {
     /// The key's owner handles the request.
-    Handle {
-        key: Text,
-        body: Text,
-    },
-    /// The key's owner handles the request that this text has. It is sent again, though the owner may have performed it, only
-    /// if it may be performed twice.
-    Pass {
-        key: Text,
-        request: Text,
-        is_repeatable: bool,
-    },
+    Handle { key: Text, body: Text },
     /// The answer has the first `count` owners of a key, 1 to 4,096, or all serving members if there are fewer.
-    Owners {
-        key: Text,
-        count: usize,
-    },
+    Owners { key: Text, count: usize },
     /// The answer has the members and their digest.
     Members,
     /// The answer has the digest of the members.

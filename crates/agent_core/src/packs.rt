@@ -1,6 +1,6 @@
 //! An application's answer (its status, whether it is JSON, and its body) as the one text that a Reply carries.
 ghost use Rattle.std.specs.Prelude.{◌≡◌, ◌<◌, ◌≤◌, IfOk, IfSome, IsOkUnless, OnSome, length, slice_index, string_bytes};
-ghost use Rattle.agent_core.specs.Packs.{header_of, is_marked, marked, packed, status_in, unpacked};
+ghost use Rattle.agent_core.specs.Packs.{header_of, is_marked, marked, packed, unpacked};
 
 use message_core::{Text, WireError};
 use std::alloc::{AllocError, Global};
@@ -23,12 +23,12 @@ pub struct Packed<'a> {
     pub body: &'a str,
 }
 
-/// Returns whether a body starts with a mark: U+0001 for text, U+0002 for JSON, U+0003 for parts.
+/// Returns whether a body starts with a mark: U+0001 for text, U+0002 for JSON.
 fn is_marked(body: &[u8]) -> bool
     ensures { result ≡ is_marked body.now }
 {
     match body {
-        [first, ..] => *first == 1 || *first == 2 || *first == 3,
+        [first, ..] => *first == 1 || *first == 2,
         [] => false,
     }
 }
@@ -83,23 +83,6 @@ fn header_of(text: &[u8]) -> Option<(u16, bool)>
                 + u16::from(ones - b'0');
             Some((status, *mark == 2))
         }
-        _ => None,
-    }
-}
-
-/// Returns the status that three digits write; None if they write none from 200 to 599.
-pub fn status_in(digits: &[u8]) -> Option<u16>
-    ensures status { result ≡ status_in digits.now }
-    ensures range { IfSome result (λ status. (200 ≤ status) × (status ≤ 599)) }
-{
-    match digits {
-        [
-            hundreds @ b'2'..=b'5',
-            tens @ b'0'..=b'9',
-            ones @ b'0'..=b'9',
-        ] => Some(
-            100 * u16::from(hundreds - b'0') + 10 * u16::from(tens - b'0') + u16::from(ones - b'0'),
-        ),
         _ => None,
     }
 }

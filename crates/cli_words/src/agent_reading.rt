@@ -9,8 +9,8 @@ ghost use Rattle.cli_words.specs.Words.{AreAddressesAt, AreAgentNumbersAt, IsAdd
 use crate::agent_words::{AgentWords, LogLevel, MAX_HANDS, MAX_HTTP_CONNECTIONS, MAX_PERIOD};
 use crate::cluster_words::{address_at, address_of, hosts_at, incarnation, weight};
 use crate::commands::{
-    ADDRESS, ANY_REQUEST, APP, BIND, HANDS, HTTP, HTTP_ANY, HTTP_CONNECTIONS, LOG, PER_MESSAGE,
-    PERIOD,
+    ADDRESS, APP, BIND, HANDS, HTTP, HTTP_ANY, HTTP_CONNECTIONS, LOG, PER_MESSAGE, PERIOD,
+    agent_alone,
 };
 use crate::faults::WordsError;
 use crate::words::{absent, flag, number, refusal, replicas};
@@ -145,7 +145,6 @@ fn words_with(matches: &ArgMatches<'_>, addresses: Addresses) -> Option<AgentWor
         http,
         http_any: flag(matches, HTTP_ANY),
         app,
-        any_request: flag(matches, ANY_REQUEST),
         hands: hands as u32,
         http_connections: http_connections as u32,
         period,

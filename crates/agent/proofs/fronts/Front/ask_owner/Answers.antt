@@ -6,4 +6,4 @@ use Rattle.agent.proofs.fronts.Front.ask_owner.Goals as goal
 
 pub returns-in_default-clause-asked : goal.returns-in_default-clause-asked
 returns-in_default-clause-asked g c =
-    made_none (AsksOwner c.args.key c.args.request c.args.is_repeatable (Err Memory)) c.args.self.now.caller.now c.args.self.now.caller.now refl (inl (refl, refl))
+    made_none (AsksOwner c.args.key c.args.body (Err Memory)) c.args.self.now.caller.now c.args.self.now.caller.now refl (inl (refl, refl))

@@ -1,4 +1,3 @@
-pub mod Agents
 pub mod Asking
 pub mod Commands
 pub mod Dialled

@@ -98,10 +98,10 @@ fn names_an_agents_bad_address(rt: HostRuntime) {
 const REFUSED_WORDS: [(&str, &str); 29] = rows! {
     "ringpop ", "error: unrecognized subcommand ''\n";
     "ringpop server", "error: unrecognized subcommand 'server'\n";
-    "ringpop --help", "The members of a cluster and the owners of its keys";
+    "ringpop --help", "Names the members of a cluster and the owners of its keys";
     "ringpop --version", "ringpop 1.0.0-dev\n";
     "elsewhere/ringpop sim --help",
-        "Reads a script of nodes in one process, a command a line; answers each with a line\n\nUsage: ringpop sim [OPTIONS]\n";
+        "Reads a script of commands for simulated nodes; answers each command with a line\n\nUsage: ringpop sim [OPTIONS]\n";
     "ringpop fold x", "error: unexpected argument 'x' found\n";
     "ringpop hash", "error: the following required arguments were not provided:\n";
     "ringpop owner", "error: the following required arguments were not provided:\n";
@@ -126,7 +126,7 @@ const REFUSED_WORDS: [(&str, &str); 29] = rows! {
     "ringpop members ", "ringpop: bad address\n";
     "ringpop tell x", "ringpop: bad address\n";
     "ringpop tell --help",
-        "Reads at most 4096 change lines; tells them to a running node, and prints how many members it then holds\n\nUsage: ringpop tell <HOST>\n";
+        "Reads change lines; sends them to a running node, and prints how many members it then holds\n\nUsage: ringpop tell <HOST>\n";
 };
 
 /// Other words are refused by `clap`, in its own text, with status 2; `--sum` or `--replicas` of `ask` without `--any` among them. Behind
@@ -140,12 +140,12 @@ fn refuses_words(rt: HostRuntime) {
 
 /// Lines with an argument that has to be an address and is not, or without one, and the text that names it.
 const BAD_ARGUMENTS: [(&str, &str); 7] = rows! {
-    "ringpop members localhost:7946", "'localhost:7946' for HOST: give an IPv4 address and a port, as 127.0.0.1:7946";
+    "ringpop members localhost:7946", "'localhost:7946' for HOST: give an IPv4 address and a port of 1 to 65535, as 127.0.0.1:7946";
     "ringpop serve --sum 127.0.0.1:1 1 1 127.0.0.1:2 127.0.0.1 x",
-        "'127.0.0.1' for HOST: give an IPv4 address and a port, as 127.0.0.1:7946";
-    "ringpop ask --any [::1]:1 x y", "'[::1]:1' for ADDRESS: give an IPv4 address and a port, as 127.0.0.1:7946";
-    "ringpop agent --app x --http y 127.0.0.1:1 z", "'y' for --http: give an IPv4 address and a port, as 127.0.0.1:7946";
-    "ringpop agent --bind x --http y 0 z", "'0' for ADDRESS: give an IPv4 address and a port, as 127.0.0.1:7946";
+        "'127.0.0.1' for HOST: give an IPv4 address and a port of 1 to 65535, as 127.0.0.1:7946";
+    "ringpop ask --any [::1]:1 x y", "'[::1]:1' for ADDRESS: give an IPv4 address and a port of 1 to 65535, as 127.0.0.1:7946";
+    "ringpop agent --app x --http y 127.0.0.1:1 z", "'y' for --http: give an IPv4 address and a port of 1 to 65535, as 127.0.0.1:7946";
+    "ringpop agent --bind x --http y 0 z", "'0' for ADDRESS: give an IPv4 address and a port of 1 to 65535, as 127.0.0.1:7946";
     "ringpop members 127.0.0.1:1", "";
     "ringpop hash x", "";
 };

@@ -87,8 +87,8 @@ func (client *Client) Owner(ctx context.Context, key string) (netip.AddrPort, er
 	return told.Owners[0], nil
 }
 
-// Owners is the first n owners of each key, 1 to 16, in the order of the keys; those of each 4,096 keys are of one moment. It answers ErrNobody
-// if no member serves. An agent that knows no `POST /owners` is asked for its members instead.
+// Owners is the first n owners of each key, in the order of the keys; those of each 4,096 keys are of one moment. Each has none if no
+// member serves. An agent that knows no `POST /owners` is asked for its members instead.
 func (client *Client) Owners(ctx context.Context, keys []string, n int) ([][]netip.AddrPort, error) {
 	owners := make([][]netip.AddrPort, 0, len(keys))
 	for start := 0; start < len(keys); start += mostKeys {
@@ -212,11 +212,15 @@ func (client *Client) other(ctx context.Context, ring *Ring) (*Ring, error) {
 	if ring == nil {
 		return client.Ring(ctx)
 	}
+	asked := time.Now()
 	answer, err := client.ask(ctx, http.MethodGet, fmt.Sprintf("/ring?after=%s&wait=%d", ring.Digest(), wait/time.Second), nil)
 	if err != nil {
 		return nil, err
 	}
 	if answer.Status == http.StatusNotModified {
+		if time.Since(asked) < pause {
+			rest(ctx) // (it did not wait)
+		}
 		return nil, nil
 	}
 	if answer.Status == http.StatusNotFound {

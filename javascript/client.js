@@ -47,7 +47,7 @@ class Client {
     return isNobody(answer) ? null : this.#json(answer).owners[0];
   }
 
-  /** The first n owners of each key, 1 to 16, in the order of the keys; empty lists if no member serves. Those of each 4,096 keys are of one moment. */
+  /** The first n owners of each key, in the order of the keys; empty lists if no member serves. Those of each 4,096 keys are of one moment. */
   async owners(keys, n = 1) {
     if (typeof keys === 'string') throw new TypeError(`give a list of keys, and not one key: ${JSON.stringify(keys)}`);
     const wanted = [...keys];
@@ -119,8 +119,12 @@ class Client {
   /** The ring if it is another one than this, after the wait at the latest. */
   async #other(ring, wait, signal) {
     if (!ring) return this.ring();
+    const asked = Date.now();
     const answer = await this.#ask('GET', `/ring?after=${ring.digest}&wait=${wait}`, { extra: wait * 1000, signal });
-    if (answer.status === 304) return undefined;
+    if (answer.status === 304) {
+      if (Date.now() - asked < PAUSE) await sleep(PAUSE); // (it did not wait)
+      return undefined;
+    }
     if (answer.status === 404) {
       await sleep(PAUSE);
       return this.ring();

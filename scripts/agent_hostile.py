@@ -328,9 +328,9 @@ class SlowService:
             told, spent = self.ask(agent, 16, "6")
             if set(told) != {failed} or not LIMIT - 0.1 < spent < LIMIT_IN_ALL + 1:
                 raise Wrong(f"16 requests to a service that takes 6 s: {told} after {spent:.1f} s")
-        told, spent = self.ask(self.other, 96, "2")
+        told, spent = self.ask(self.other, 64, "2")
         if told[200, "2"] < 60 or set(told) - {(200, "2"), failed} or spent > LIMIT_IN_ALL + 1:
-            raise Wrong(f"96 requests of 2 s by another node: {told} after {spent:.1f} s")
+            raise Wrong(f"64 requests of 2 s by another node: {told} after {spent:.1f} s")
 
     def failures(self):
         return int(re.search(r"\nringpop_application_failures_total (\d+)\n", self.own.ask("GET", "/metrics")[1])[1])

@@ -22,7 +22,7 @@ MOST = 1_000_000
 # within how many seconds a node prints that it serves
 PATIENCE = 30
 # the ports of a script's nodes; an agent has a port for HTTP this much above its own, and its application one twice as much
-STEP = 16
+STEP = 20
 # a busy machine can miss a node's limit for a line, half a second: what took nearly as long is tried again, this often at most
 LIMIT, TRIES = 0.4, 10
 # how many attempts a script made, and how many of them were repeats; two, and one in fifty attempts, may be
@@ -52,7 +52,7 @@ def address(port):
 
 def first_port():
     """The first of three times STEP ports, below those that the system gives to connections, and hardly another script's."""
-    return 12_000 + os.getpid() % 400 * 3 * STEP
+    return 12_000 + os.getpid() % 300 * 3 * STEP
 
 
 def first_line(stream, seconds):

@@ -66,7 +66,7 @@ def main(program, *words):
     def tell(what, row):
         print(what, *(row(nodes) for nodes in sizes), sep=" | ", flush=True)
 
-    for per_message in (64, 256, 1_024):
+    for per_message in (64, 256, 512, 1_024):
         tell(f"all start at once, {per_message} changes a message: rounds until all agree, sent by a node",
              lambda nodes: mass_start(program, nodes, per_message))
     for what, happens in (("killed", KILL), ("joins", JOIN), ("leaves", LEAVE)):

@@ -137,8 +137,11 @@ class Client:
         """The ring if it is another one than this, after the wait at the latest."""
         if ring is None:
             return self.ring()
+        asked = time.monotonic()
         answer = self._ask("GET", f"/ring?after={ring.digest}&wait={max(1, min(60, int(wait)))}", extra=wait)
         if answer.status == 304:
+            if time.monotonic() - asked < PAUSE:
+                time.sleep(PAUSE)  # (it did not wait)
             return None
         if answer.status == 404:
             time.sleep(PAUSE)

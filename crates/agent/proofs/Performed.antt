@@ -1,5 +1,5 @@
 -- The calls of a thread, one after the other, and what comes of them.
-use Rattle.std.proofs.Common.{◌≡◌, ◌∙◌, ℕ, false, length, List, [], Result, Ok, Err, inl, refl, subst, sym, true≢false}
+use Rattle.std.proofs.Common.{◌≡◌, ◌∙◌, ℕ, false, length, List, [], Result, Ok, Err, inl, inr, refl, subst, sym, true≢false}
 use Rattle.std.specs.Prelude.{◌≢◌, ◌==◌, IfErr, IfOk, is_err}
 use Rattle.hash_ring.specs.declared.hash.Sha256Hash.{Sha256Hash}
 use Rattle.locked_node.specs.declared.node.LockedNode.{LockedNode}
@@ -11,9 +11,11 @@ use Rattle.peer_core.proofs.Acts.{makes_as, makes_none, makes_then}
 use Rattle.agent_core.specs.declared.answers.Kind.{Kind}
 use Rattle.agent_core.specs.declared.answers.Kind.TheVariants as kind
 use Rattle.agent_core.specs.Texts.{owners_text}
+use Rattle.agent_core.specs.declared.actions.Action.TheVariants as action
+use Rattle.agent_core.specs.declared.refusals.Refusal.{Refusal}
 use Rattle.agent_core.specs.declared.refusals.Refusal.TheVariants as refusal
-use Rattle.agent.specs.Calling.{Calling, HasMade}
-use Rattle.agent.specs.Performing.{After, Outcome, Shows, ShowsOwners, first_owners}
+use Rattle.agent.specs.Calling.{Calling, HasMade, Looks}
+use Rattle.agent.specs.Performing.{After, AsksIfPlaced, Finds, IsFound, Outcome, Performs, Shows, ShowsOwners, crowded, first_owners}
 use Rattle.agent.specs.Replies.{IsText}
 
 module _ (So : OfActs Sha256Hash) where
@@ -41,6 +43,26 @@ made_after Done Comes result outcome old new same does comes = record {
   node = same;
   makes = makes_as (After Done Comes outcome) (λ acts done. (result, done, comes)) does.makes;
 }
+
+-- a view, and what is found by it
+pub made_found : (key : List ℕ) (result : Result (Viewed Sha256Hash) ClusterError) (found : Result ℕ Refusal) (old new : Calling) → new.node ≡ old.node
+    → Does old.node Looks result old.pass new.pass → IsFound key result found → HasMade (Finds key found) old new
+made_found key result found old new same does is = record { node = same; makes = makes_as (Finds key found) (λ acts done. (result, done, is)) does.makes }
+
+-- the owner of a key, and then a request of it
+pub made_handled : (own replicas : ℕ) (key body : List ℕ) (found : Result ℕ Refusal) (outcome : Outcome) (a b c : Calling) → HasMade (Finds key found) a b
+    → HasMade (AsksIfPlaced own key body outcome found) b c → HasMade (Performs own replicas (action.Handle key body) outcome) a c
+made_handled own replicas key body found outcome a b c first next =
+    let Next = AsksIfPlaced own key body outcome found in
+    made_as (Performs own replicas (action.Handle key body) outcome) (Then (Finds key found) Next) a c (λ acts both. inr (found, both))
+    (made_then (Finds key found) Next a b c first next)
+
+-- no place for a request
+pub made_crowded : (own owner : ℕ) (key body : List ℕ) (why : Refusal) (old : Calling) → why ≡ crowded own owner
+    → HasMade (AsksIfPlaced own key body (Err why) (Ok owner)) old old
+made_crowded own owner key body why old is =
+    subst (λ (it : Refusal). HasMade (AsksIfPlaced own key body (Err it) (Ok owner)) old old) (sym is)
+    (made_none (AsksIfPlaced own key body (Err (crowded own owner)) (Ok owner)) old old refl (inl (refl, refl)))
 
 -- a text, or out of memory for it
 pub shows : (content : Kind) (text : List ℕ) (outcome : Outcome) → IfOk outcome (IsText content text) → IfErr outcome (λ e. e ≡ refusal.Memory) → Shows content text outcome

@@ -20,7 +20,7 @@ use Rattle.peer_core.specs.declared.errors.ClusterError.{ClusterError}
 use Rattle.peer_core.proofs.Acts.{makes_as}
 use Rattle.peer_core.proofs.Exchanges.{Silent, calls_agree, sends_silent, sends_then}
 use Rattle.agent.specs.Calling.{Calling, HasMade, Looks}
-use Rattle.agent.specs.Relays.{Chooses, IsNotReturned, IsPassedOn, IsRelayOf, IsRelayed, MakesNone, Meets, Names, PassesOn}
+use Rattle.agent.specs.Relays.{Chooses, Keeps, NamesNobody, IsNotReturned, IsPassedOn, IsRelayOf, IsRelayed, MakesNone, Meets, Names, PassesOn}
 use Rattle.agent.specs.declared.relays.Relayed.{Relayed}
 use Rattle.agent.specs.declared.relays.Relayed.TheVariants.{NotDone}
 use Rattle.agent.proofs.Performed.{made_as, made_none, made_then}
@@ -192,3 +192,13 @@ module _ {L : Type 0} (Came : MayAnswer) (went : Went L) where
   -- nothing was done for an input
   pub relays_nothing : (heard : Input) (relayed : Relayed) (x : L) (a : Calling) → relayed ≡ NotDone → IsRelayOf Came went heard relayed x x a a
   relays_nothing heard relayed x a is = inr (is, ([], omega arith, made_none (SendsTo went [] x x) a a refl (sends_none [] x [] refl)))
+
+-- no other node is the owner, so the request is kept; or its sender is
+pub kept_unnamed : (request : Message) (a b : Calling) → HasMade (NamesNobody request) a b → HasMade (Keeps request) a b
+kept_unnamed request a b h = made_as (Keeps request) (NamesNobody request) a b (λ acts none. inl none) h
+
+pub kept_by_sender : (request : Message) (sender : Address) (So : OfActs Sha256Hash) (a b c : Calling) → sender ≡ request.source → HasMade (Names request sender) a b
+    → HasMade So b c → HasMade (Keeps request) a c
+kept_by_sender request sender So a b c same named later =
+    let first = subst (λ (it : Address). HasMade (Names request it) a b) same named in
+    made_as (Keeps request) (Then (Names request request.source) So) a c (λ acts t. inr (t.0, t.1, t.2, t.3, tt)) (made_then (Names request request.source) So a b c first later)

@@ -1,20 +1,21 @@
 -- What an action makes the node do, and the reply or the refusal that comes of it.
-use Rattle.std.specs.Prelude.{◌≡◌, ◌≢◌, ◌⊎◌, ℕ, List, [], ◌∷◌, ◌++◌, take, codes, Result, Ok, Err}
+use Rattle.std.specs.Prelude.{◌≡◌, ◌≢◌, ◌⊎◌, ◌==◌, ℕ, Bool, true, false, cond, bytes_eq, map, string_bytes, List, [], ◌∷◌, ◌++◌, take, codes, Option, Some, None, Result, Ok, Err}
+use Rattle.change_core.specs.Digest.{digest_digits}
 use Rattle.change_core.specs.Members.{members}
 use Rattle.change_core.specs.declared.changes.Change.{Change}
-use Rattle.hash_ring.specs.Points.{owners}
+use Rattle.hash_ring.specs.Points.{owner, owners}
 use Rattle.hash_ring.specs.declared.hash.Sha256Hash.{Sha256Hash}
 use Rattle.node_core.specs.Messages.{digest_of}
 use Rattle.node_core.specs.Viewing.{Viewed}
 use Rattle.node_core.specs.declared.events.Event.TheVariants as call
 use Rattle.node_core.specs.declared.events.Reply.TheVariants as reply
-use Rattle.peer_core.specs.Acts.{OfActs, Nothing}
+use Rattle.peer_core.specs.Acts.{OfActs, Nothing, Then}
 use Rattle.peer_core.specs.Forwarding.{IsRequest}
 use Rattle.peer_core.specs.Parts.{Part, Tries}
 use Rattle.peer_core.specs.declared.errors.ClusterError.{ClusterError}
 use Rattle.peer_core.specs.declared.errors.ClusterError.TheVariants as error
 use Rattle.agent_core.specs.Metrics.{metrics_text}
-use Rattle.agent_core.specs.Texts.{digest_line, members_text, owners_text}
+use Rattle.agent_core.specs.Texts.{all_owners_text, digest_line, members_text, on_ring, owners_text, ring_text, shown_owners}
 use Rattle.agent_core.specs.declared.actions.Action.{Action}
 use Rattle.agent_core.specs.declared.actions.Action.TheVariants as action
 use Rattle.agent_core.specs.declared.answers.Kind.{Kind}
@@ -25,7 +26,7 @@ use Rattle.agent_core.specs.declared.refusals.Refusal.TheVariants as refusal
 use Rattle.agent.specs.Calling.{AnyAnswer, AnyHandling, AnyTimes, Looks, hash_number, hash_of}
 use Rattle.agent.specs.Replies.{IsText}
 use Rattle.agent.specs.declared.replies.Reply.{Reply}
-use Rattle.agent.specs.declared.replies.Reply.TheVariants.{Handled, Page}
+use Rattle.agent.specs.declared.replies.Reply.TheVariants.{Handled, Page, Ring, Unchanged}
 
 -- the reply to an action, or its refusal
 abbrev pub Outcome : Type 0
@@ -82,6 +83,39 @@ digest_by changes = (digest_of (members changes)).bytes
 abbrev pub ShowsMembers : ℕ → ℕ → List Change → Outcome → Type 0
 ShowsMembers own replicas held = Shows kind.Json (members_text own (digest_by held) replicas held)
 
+-- the address of the node itself, if its keys are left out
+abbrev pub hidden_of : ℕ → Bool → Option ℕ
+hidden_of own only_others = cond only_others (Some own) None
+
+-- the text of the first owners of a key by a view, by the address whose keys are left out, if there is one
+abbrev pub key_text : Viewed Sha256Hash → ℕ → Option ℕ → List ℕ → List ℕ
+key_text view count hidden key = shown_owners hidden (first_owners view key count)
+
+-- the reply is the first owners of keys by this view, one list for each key in their order
+abbrev pub ShowsAllOwners : Option ℕ → List (List ℕ) → ℕ → Viewed Sha256Hash → Outcome → Type 0
+ShowsAllOwners hidden keys count view = Shows kind.Json (all_owners_text (map (key_text view count hidden) keys))
+
+-- the digest of the ring of a node that holds these members: it depends on those that serve, and their weights, alone
+abbrev pub ring_digest : List Change → List ℕ
+ring_digest held = digest_by (on_ring held)
+
+-- whether a text is the one of a digest
+abbrev pub is_known : Option (List ℕ) → List ℕ → Bool
+is_known None digest = false
+is_known (Some after) digest = bytes_eq after (digest_digits digest)
+
+-- the reply says that the ring has this digest still, or shows it with this text
+abbrev pub IsRing : List ℕ → List ℕ → Bool → Reply → Type 0
+IsRing bytes text known (Ring digest shown) = (known ≡ false) × (digest.bytes ≡ bytes) × (string_bytes shown ≡ text)
+IsRing bytes text known (Unchanged digest) = (known ≡ true) × (digest.bytes ≡ bytes)
+IsRing bytes text known other = ⊥
+
+-- the reply is the ring of a node at this address with this many replicas that holds these members, unless its digest has this text
+abbrev pub ShowsRing : ℕ → ℕ → Option (List ℕ) → List Change → Outcome → Type 0
+ShowsRing own replicas after held (Ok shown) =
+    IsRing (ring_digest held) (ring_text own (ring_digest held) replicas (on_ring held)) (is_known after (ring_digest held)) shown
+ShowsRing own replicas after held (Err why) = why ≡ refusal.Memory
+
 -- the reply is the number of these members by status, and counts
 abbrev pub ShowsCounts : List Change → Outcome → Type 0
 ShowsCounts held outcome = (counts : Counts) × Shows kind.Text (metrics_text counts held) outcome
@@ -101,6 +135,29 @@ IsAsked key body = IsRequest hash_of AnyAnswer AnyHandling AnyTimes (key ∷ [])
 abbrev pub AsksOwner : List ℕ → List ℕ → Outcome → OfActs Sha256Hash
 AsksOwner key body outcome acts = Declines refusal.Memory outcome acts ⊎ After (IsAsked key body) (ComesOf ShowsAnswer) outcome acts
 
+-- what is found of the owner of a key by the result of a call for a view: the owner, or why there is none
+abbrev pub IsFound : List ℕ → Result (Viewed Sha256Hash) ClusterError → Result ℕ Refusal → Type 0
+IsFound key (Ok view) (Ok found) = owner hash_number view.replicas view.servers key ≡ Some found
+IsFound key (Ok view) (Err why) = (owner hash_number view.replicas view.servers key ≡ None) × (why ≡ refusal.Nobody)
+IsFound key (Err e) found = found ≡ Err (refusal_of e)
+
+-- the node is asked for a view, by which this is the owner of a key, or why there is none
+abbrev pub Finds : List ℕ → Result ℕ Refusal → OfActs Sha256Hash
+Finds key found acts = (result : Result (Viewed Sha256Hash) ClusterError) × Looks result acts × IsFound key result found
+
+-- the refusal of a request that finds no place: those of the node's own keys and those of each other owner have places of their own
+abbrev pub crowded : ℕ → ℕ → Refusal
+crowded own found = cond (found == own) refusal.Busy (refusal.OwnerBusy found)
+
+-- a request of a key is made if its owner was found and there is a place for it
+abbrev pub AsksIfPlaced : ℕ → List ℕ → List ℕ → Outcome → Result ℕ Refusal → OfActs Sha256Hash
+AsksIfPlaced own key body outcome (Ok found) acts = Declines (crowded own found) outcome acts ⊎ AsksOwner key body outcome acts
+AsksIfPlaced own key body outcome (Err why) acts = Declines why outcome acts
+
+-- the owner of a key is found first, and then a request of it is made
+abbrev pub Handles : ℕ → List ℕ → List ℕ → Outcome → OfActs Sha256Hash
+Handles own key body outcome acts = (found : Result ℕ Refusal) × Then (Finds key found) (AsksIfPlaced own key body outcome found) acts
+
 -- the node left, or had left already, and the agent stops; or it is refused as a leave is
 abbrev pub Stops : Result Change ClusterError → Outcome → Type 0
 Stops (Ok left) outcome = Says (codes "stopping") outcome
@@ -113,16 +170,26 @@ IsHealth (Ok shown) = IsText kind.Text (codes "ok" ++ 10 ∷ []) shown
 IsHealth (Err why) =
     (why ≡ refusal.NotJoined) ⊎ ((why ≡ refusal.HasLeft) ⊎ ((why ≡ refusal.CannotAccept) ⊎ (why ≡ refusal.ApplicationDown)))
 
+-- the agent makes rounds, or it does not
+abbrev pub IsLiveness : Outcome → Type 0
+IsLiveness (Ok shown) = IsText kind.Text (codes "ok" ++ 10 ∷ []) shown
+IsLiveness (Err why) = why ≡ refusal.NoRounds
+
 -- An action of the agent whose node has this address and this many replicas, its outcome, and all calls of the node that were made for it.
 abbrev pub Performs : ℕ → ℕ → Action → Outcome → OfActs Sha256Hash
-Performs own replicas (action.Handle key body) outcome acts =
-    (Declines refusal.NotJoined outcome acts ⊎ Declines refusal.Busy outcome acts) ⊎ AsksOwner key body outcome acts
+Performs own replicas (action.Handle key body) outcome acts = Declines refusal.NotJoined outcome acts ⊎ Handles own key body outcome acts
 Performs own replicas (action.Owners key count) outcome acts =
     Declines refusal.NotJoined outcome acts ⊎ After Looks (ComesOf (ShowsOwners key count)) outcome acts
+Performs own replicas (action.AllOwners keys count only_others) outcome acts =
+    Declines refusal.NotJoined outcome acts ⊎ After Looks (ComesOf (ShowsAllOwners (hidden_of own only_others) keys count)) outcome acts
+Performs own replicas (action.Ring after) outcome acts =
+    (Declines refusal.NotJoined outcome acts ⊎ Declines refusal.ManyQuestions outcome acts)
+    ⊎ After (Tries call.Members reply.Members) (ComesOf (ShowsRing own replicas after)) outcome acts
 Performs own replicas action.Members outcome acts = After (Tries call.Members reply.Members) (ComesOf (ShowsMembers own replicas)) outcome acts
 Performs own replicas action.Digest outcome acts =
     After (Tries call.Digest reply.Digest) (ComesOf (λ digest. Shows kind.Text (digest_line digest.bytes))) outcome acts
 Performs own replicas action.Health outcome acts = Nothing acts × IsHealth outcome
+Performs own replicas action.Live outcome acts = Nothing acts × IsLiveness outcome
 Performs own replicas action.Metrics outcome acts = After (Tries call.Members reply.Members) (ComesOf ShowsCounts) outcome acts
 Performs own replicas action.Page outcome acts = Nothing acts × (outcome ≡ Ok Page)
 Performs own replicas action.Leave outcome acts = After (Tries call.Leave reply.Leave) (ComesOf (λ left. Says (codes "left"))) outcome acts

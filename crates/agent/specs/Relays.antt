@@ -1,5 +1,5 @@
 -- A request of another node that is passed on to its owner.
-use Rattle.std.specs.Prelude.{◌≡◌, ◌≢◌, ◌⊎◌, ◌≤◌, ℕ, List, [], ◌∷◌, length, slice_get, Some, Result, Ok, Err}
+use Rattle.std.specs.Prelude.{◌≡◌, ◌≢◌, ◌⊎◌, ◌≤◌, ℕ, List, [], ◌∷◌, length, slice_get, Some, IfOk, Result, Ok, Err}
 use Rattle.change_core.specs.Status.{IsServing}
 use Rattle.change_core.specs.declared.addresses.Address.{Address}
 use Rattle.change_core.specs.declared.changes.Change.{Change}
@@ -18,14 +18,15 @@ use Rattle.peer_core.specs.Exchanges.{SendsTo, messages_in}
 use Rattle.peer_core.specs.Joining.{IsJoin}
 use Rattle.peer_core.specs.Links.{MayAnswer, Went}
 use Rattle.peer_core.specs.Serving.{message_by}
+use Rattle.peer_core.specs.declared.errors.ClusterError.{ClusterError}
 use Rattle.peer_core.specs.declared.errors.LinkError.{LinkError}
 use Rattle.peer_core.specs.declared.errors.LinkError.TheVariants as link
 use Rattle.server.specs.Answering.{line_text}
 use Rattle.server.specs.declared.inputs.Input.{Input}
 use Rattle.server.specs.declared.inputs.Input.TheVariants as input
-use Rattle.agent.specs.Calling.{Calling, HasMade, hash_number}
+use Rattle.agent.specs.Calling.{Calling, HasMade, Looks, hash_number}
 use Rattle.agent.specs.declared.relays.Relayed.{Relayed}
-use Rattle.agent.specs.declared.relays.Relayed.TheVariants.{Reply, NoReply, NotDone}
+use Rattle.agent.specs.declared.relays.Relayed.TheVariants.{Lost, Reply, NoReply, NotDone}
 
 -- an address is the owner of the one key of a request by a view, and not that of the node whose view it is
 abbrev pub IsOwnerBy : Viewed Sha256Hash → Content → Address → Type 0
@@ -33,9 +34,21 @@ IsOwnerBy view (content.Forward keys body) a =
     (length keys ≤ 1) × ((key : List ℕ) × (slice_get keys 0 ≡ Some key) × (owner hash_number view.replicas view.servers key ≡ Some a)) × (a ≢ view.own)
 IsOwnerBy view told a = ⊥
 
+-- by a view no other node owns the key of the request, or it has more than one
+abbrev pub HasNoOwnerBy : Viewed Sha256Hash → Content → Type 0
+HasNoOwnerBy view told = (a : Address) → ¬ (IsOwnerBy view told a)
+
 -- the node was asked for a view, by which this is the owner
 abbrev pub Names : Message → Address → OfActs Sha256Hash
 Names request a acts = (view : Viewed Sha256Hash) × Just (looked (Ok view)) acts × IsOwnerBy view request.content a
+
+-- the node was asked for a view: it gave none, or one by which no other node is the owner
+abbrev pub NamesNobody : Message → OfActs Sha256Hash
+NamesNobody request acts = (seen : Result (Viewed Sha256Hash) ClusterError) × Looks seen acts × IfOk seen (λ view. HasNoOwnerBy view request.content)
+
+-- no other node than the sender is the owner by the view that is asked for first
+abbrev pub Keeps : Message → OfActs Sha256Hash
+Keeps request acts = NamesNobody request acts ⊎ Then (Names request request.source) (λ later. Unit {0}) acts
 
 -- calls by which the node makes no message for another
 abbrev pub MakesNone : OfActs Sha256Hash
@@ -50,10 +63,17 @@ abbrev pub IsNotDone : Result Message LinkError → Type 0
 IsNotDone (Ok message) = kind_of message.content ≡ kind.NotOwner
 IsNotDone (Err error) = error ≡ link.Spent
 
--- what comes of a request by the answer to it: what goes back is the Reply that came; and only if the request was not performed, that is said
+-- the answer to a request is a Reply
+abbrev pub IsReply : Result Message LinkError → Type 0
+IsReply (Ok message) = kind_of message.content ≡ kind.Reply
+IsReply (Err error) = ⊥
+
+-- what comes of a request by the answer to it: what goes back is the Reply that came, if there is memory for its line; and only if the request was not
+-- performed, that is said
 abbrev pub IsRelayedAs : Result Message LinkError → Relayed → Type 0
 IsRelayedAs answer (Reply line) = (message : Message) × (answer ≡ Ok message) × (kind_of message.content ≡ kind.Reply) × (line.items ≡ line_text message)
-IsRelayedAs answer NoReply = ¬ (IsNotDone answer)
+IsRelayedAs answer Lost = IsReply answer
+IsRelayedAs answer NoReply = ¬ (IsNotDone answer) × ¬ (IsReply answer)
 IsRelayedAs answer NotDone = IsNotDone answer
 
 module _ {L : Type 0} (Came : MayAnswer) (went : Went L) where

@@ -42,6 +42,9 @@ const LAST_IDLE: u64 = 1_000;
 /// The most milliseconds that the end waits for connections to close.
 const MAX_LAST_WAIT: u64 = 10_000;
 
+/// The milliseconds between two looks for questions whose wait is over.
+const BETWEEN_SWEEPS: u64 = 1_000;
+
 /// Returns how many HTTP connections may be open at a time where this number is wanted and there are these descriptors: they take half of them,
 /// or all but 1,024 if that is more.
 fn places_with(descriptors: u64, wanted: u32) -> u64
@@ -102,12 +105,29 @@ fn note<R: Host>(agent: &Agent<R>, notice: &mut Notice, accepted: &io::Result<bo
     }
 }
 
+/// Has the questions about the ring answered that are due, once a second, which is noted in `swept`, or all of them, if the agent is to end; and makes
+/// a turn of the reactor. Returns what that does.
+fn turn<R: Host>(
+    agent: &Agent<R>,
+    reactor: &mut Reactor<Kept>,
+    swept: &mut u64,
+) -> io::Result<bool> {
+    let now = agent.now().number();
+    let is_stopping = agent.is_stopping.get();
+    if is_stopping || now.saturating_sub(*swept) >= BETWEEN_SWEEPS {
+        *swept = now;
+        agent.watchers.answer_due(&agent.rt, now, is_stopping);
+    }
+    reactor.turn(&agent.rt, now)
+}
+
 /// Accepts connections, and has those that are ready answered, until HTTP is to end. What waits to be accepted then is accepted first.
 fn accept_until_end<R: Host>(agent: &Agent<R>, reactor: &mut Reactor<Kept>) {
     let mut notice = Notice::new();
+    let mut swept = 0;
     for _ in agent.rt.forever() {
         let is_ending = reactor.lot().is_ending();
-        let accepted = reactor.turn(&agent.rt, agent.now().number());
+        let accepted = turn(agent, reactor, &mut swept);
         note(agent, &mut notice, &accepted);
         if is_ending && !matches!(accepted, Ok(true)) {
             return;
@@ -119,10 +139,10 @@ fn accept_until_end<R: Host>(agent: &Agent<R>, reactor: &mut Reactor<Kept>) {
 /// Has the connections answered on which a request comes within a second, and then closes those that are idle, until none is open.
 fn answer_last<R: Host>(agent: &Agent<R>, reactor: &mut Reactor<Kept>) {
     let end = agent.now().number().saturating_add(LAST_IDLE);
+    let mut swept = 0;
     for _ in agent.rt.forever() {
-        let now = agent.now().number();
-        let _none = reactor.turn(&agent.rt, now);
-        let left = end.saturating_sub(now);
+        let _none = turn(agent, reactor, &mut swept);
+        let left = end.saturating_sub(agent.now().number());
         if left == 0 {
             reactor.close_idle(&agent.rt);
         }
@@ -167,6 +187,7 @@ pub fn start_http<R: System>(
         |_| AgentError::NoReactor,
     )?;
     let lot = Arc::try_clone(reactor.lot())?;
+    agent.watchers.set_lot(rt, Arc::try_clone(&lot)?);
     for _ in 0..WORKERS {
         start_worker(rt, alloc, agent, &lot, &ready, keys)?;
     }
@@ -178,10 +199,10 @@ pub fn start_http<R: System>(
 
 /// Ends HTTP: each connection that was made is answered and closed, or ten seconds have passed.
 pub fn end_http<R: System>(rt: &R, agent: &Agent<R>, lot: &Lot<Kept>) {
+    lot.end();
     let Ok(deadline) = Deadline::after(rt, Duration::from_millis(MAX_LAST_WAIT)) else {
         return;
     };
-    lot.end();
     for _ in rt.forever() {
         let Ok(left) = deadline.left() else {
             return;

@@ -5,6 +5,8 @@ use crate::counters::{Count, Counters};
 use crate::journals::Journal;
 use crate::notices::Notices;
 use crate::systems::Host;
+use crate::waiting::Waiting;
+use crate::watchers::{MAX_QUESTIONS, Watchers};
 use agent_core::{Counts, PortCounts};
 use change_core::{Address, Moment};
 use log::{LevelFilter, Logged};
@@ -56,6 +58,8 @@ pub struct Agent<R> {
     /// The node's address.
     pub own: Address,
     pub replicas: u32,
+    /// The milliseconds between the beginnings of two rounds.
+    pub period: u64,
     /// The number of threads that have the application answer other nodes.
     pub hands: u32,
     pub stopwatch: Stopwatch,
@@ -64,8 +68,8 @@ pub struct Agent<R> {
     /// The passes that no thread has.
     pub passes: Mutex<Passes>,
     pub counters: Counters,
-    /// The number of HTTP requests that wait for a key's owner.
-    pub waiting: Count,
+    /// The HTTP requests that wait for a key's owner.
+    pub waiting: Waiting,
     /// The number of requests that are being relayed.
     pub relaying: Count,
     /// The number of workers that answer HTTP.
@@ -74,6 +78,8 @@ pub struct Agent<R> {
     pub serving: Count,
     /// The places of HTTP connections.
     pub http: Arc<Places, Global>,
+    /// The questions about the ring that wait until it changes.
+    pub watchers: Watchers,
     /// What the log said last of other nodes and, at its own address, of messages to them.
     pub notices: Notices,
     /// What the log said last of nodes that disown what this node's members give them.
@@ -84,6 +90,8 @@ pub struct Agent<R> {
     pub has_left: Flag,
     /// Held while the node leaves or comes back.
     pub moving: Mutex<()>,
+    /// The moment at which the last round ended, and what heals after it, or that of the start.
+    pub last_round: Count,
     /// Whether the node left or came back since the log last looked at its members. Set and read while `moving` is held.
     pub has_moved: Flag,
     /// Whether the node has left and the agent is to end.
@@ -135,11 +143,19 @@ impl<R: Host> Agent<R> {
         Counts {
             handled: self.application.handled.get(),
             application_failures: self.application.failures.get(),
+            waiting: self.waiting.counts(&self.rt),
             http: port,
             workers_used: self.serving.get(),
             workers_max: self.workers.get(),
+            questions_used: self.watchers.count.get(),
+            questions_max: self.max_questions(),
             ..self.counters.counts()
         }
+    }
+
+    /// Returns how many questions about the ring may wait: 1,000, or as many as half of the HTTP connections that may be open.
+    pub fn max_questions(&self) -> u64 {
+        MAX_QUESTIONS.min(self.http.limit() as u64 / 2)
     }
 
     /// Returns whether each worker that answers HTTP serves a connection, so that others may wait for one.

@@ -20,20 +20,28 @@ use server::Stopwatch;
 use std::alloc::Global;
 use std::io;
 use std::net::TcpStream;
-use std::sync::{Mutex, Wait};
+use std::sync::{Mutex, MutexGuard, Wait};
 use std::time::Duration;
 
 /// The most milliseconds for a request to the application and its answer, connecting and a second try included.
 const MAX_APPLICATION_MILLIS: u64 = 4_000;
 
+/// The most milliseconds in which the application has to accept a connection to be taken for up.
+const MAX_PROBE_MILLIS: u64 = 1_000;
+
 /// The most connections to the application that are kept between requests.
 const MAX_APPLICATION_CONNECTIONS: usize = 128;
+
+/// The milliseconds for which a connection is kept without a request: shorter than many servers keep theirs.
+const MAX_KEPT_MILLIS: u64 = 4_000;
 
 /// A connection to the application.
 #[derive(Drop)]
 struct Kept {
     client: Client,
     stream: TcpStream,
+    /// The millisecond at which it was kept.
+    since: u64,
 }
 
 /// The handler of requests: a program that answers them over HTTP or, if it has no address, an echo, whose answer is
@@ -51,12 +59,13 @@ pub struct Application<R> {
     pub failures: Count,
     /// What the log said last of the program.
     notices: Notices,
+    /// The connections that are kept, the newest last.
     kept: Mutex<Vec<Kept>>,
 }
 
 /// Returns the text of a Reply for a refusal.
-fn refused(alloc: Global, refusal: Refusal) -> Result<Text, HandlerFault>
-    ensures { IfOk result (λ text. text ≡ packed (status_of refusal) false (line_of refusal)) }
+fn refused(alloc: Global, refusal: &Refusal) -> Result<Text, HandlerFault>
+    ensures { IfOk result (λ text. text ≡ packed (status_of refusal.now) false (line_of refusal.now)) }
 {
     pack(alloc, refusal.status(), false, refusal.line()).map_err(handler_fault)
 }
@@ -114,16 +123,29 @@ impl<R: Host> Application<R> {
         }
     }
 
+    /// Locks the connections that are kept, those that were kept for too long excepted, which are closed.
+    fn lock_kept(&self, now: u64) -> MutexGuard<'_, Vec<Kept>> {
+        let mut kept = self.kept.lock(&self.rt);
+        kept.retain(|it| now < it.since.saturating_add(MAX_KEPT_MILLIS));
+        kept
+    }
+
+    fn now(&self) -> u64 {
+        self.stopwatch.moment(&self.rt).number()
+    }
+
     fn take_kept(&self) -> Option<Kept> {
-        self.kept.lock(&self.rt).pop()
+        self.lock_kept(self.now()).pop()
     }
 
     /// Keeps a connection for another request, if it can have one and fewer than 128 are kept. Out of memory drops it.
-    fn keep(&self, connection: Kept) {
+    fn keep(&self, mut connection: Kept) {
         if !connection.client.is_idle() {
             return;
         }
-        let mut kept = self.kept.lock(&self.rt);
+        let now = self.now();
+        connection.since = now;
+        let mut kept = self.lock_kept(now);
         if kept.len() < MAX_APPLICATION_CONNECTIONS {
             let _kept = kept.push(connection);
         }
@@ -135,14 +157,16 @@ impl<R: Host> Application<R> {
         Some(Kept {
             client: Client::new(Limits::default()),
             stream,
+            since: 0,
         })
     }
 
-    /// Returns whether the application accepts a connection; the echo always does.
+    /// Returns whether the application accepts a connection within a second; the echo always does. Closes what was kept for too long.
     pub fn is_up(&self) -> bool {
+        drop(self.lock_kept(self.now()));
         match self.at {
             Some(at) => self
-                .connect(at, Duration::from_millis(MAX_APPLICATION_MILLIS))
+                .connect(at, Duration::from_millis(MAX_PROBE_MILLIS))
                 .is_some(),
             None => true,
         }
@@ -224,7 +248,7 @@ impl<R: Host> Application<R> {
         };
         match packed(alloc, 200, false, text.as_bytes()) {
             Some(text) => text,
-            None => refused(alloc, Refusal::Unanswered(Failure::BadAnswer)),
+            None => refused(alloc, &Refusal::Unanswered(Failure::BadAnswer)),
         }
     }
 
@@ -259,7 +283,7 @@ impl<R: Host> Application<R> {
         };
         self.note_failure(at, failure);
         // (a Reply and no error, so that the asking node does not try again)
-        refused(alloc, Refusal::Unanswered(failure))
+        refused(alloc, &Refusal::Unanswered(failure))
     }
 }
 
@@ -335,6 +359,6 @@ impl Handler for Overloaded {
         _keys: &Keys,
         _body: &Text,
     ) -> Result<Text, HandlerFault> {
-        refused(alloc, Refusal::Busy)
+        refused(alloc, &Refusal::Busy)
     }
 }

@@ -13,6 +13,7 @@ ghost use Rattle.agent.specs.Calling.{Looks, hash_of};
 ghost use Rattle.server.specs.Answering.{IsSilent, Responds};
 ghost use Rattle.peer_core.specs.Correcting.{IsCorrectingRound};
 ghost use Rattle.peer_core.specs.Forwarding.{IsRequest};
+ghost use Rattle.peer_core.specs.Handling.{between};
 ghost use Rattle.peer_core.specs.Healing.{IsHealing, after_round};
 ghost use Rattle.peer_core.specs.Resending.{SendsRequest};
 ghost use Rattle.peer_core.specs.Rounds.{IsRound};
@@ -24,7 +25,7 @@ use locked_node::{LockedNode, NodePass};
 use message_core::{Keys, Text};
 use node_core::{ChangeList, View};
 use peer_core::{
-    Clock, ClusterError, Handler, Healing, Link, Member, Round, correcting_round, gossip_round,
+    Clock, ClusterError, HandlerMut, Healing, Link, Member, Round, correcting_round, gossip_round,
     handle_or_forward, heal, join,
 };
 use server::{Input, respond};
@@ -38,20 +39,20 @@ pub type Node = LockedNode<Sha256Hash>;
 
 /// Returns the line that answers an input by a node and a pass, with room for its newline; None if it needs no answer, or none
 /// could be made.
-fn respond_by<R: Wait, L: Link, A: Handler>(
+fn respond_by<R: Wait, L: Link, A: HandlerMut>(
     rt: &R,
     alloc: Global,
     node: &Node,
     pass: &mut NodePass<Sha256Hash>,
     link: &mut L,
-    handler: &A,
+    handler: &mut A,
     now: Moment,
     input: &Input,
 ) -> Option<Vec<u8>>
     requires { Fits node.now pass.old }
-    ensures sent { IfSome result (λ line. Makes node.now (Responds hash_of L.may_answer (A.may_handle handler.now) now input.now line.items) pass.old pass.new) }
+    ensures sent { IfSome result (λ line. Makes node.now (Responds hash_of L.may_answer (between A.handled handler.old handler.new) now input.now line.items) pass.old pass.new) }
     ensures room { IfSome result (λ line. vec_len line < vec_capacity line) }
-    ensures silent { IfNone result (IsSilent hash_of L.may_answer (A.may_handle handler.now) now input.now node.now pass.old pass.new) }
+    ensures silent { IfNone result (IsSilent hash_of L.may_answer (between A.handled handler.old handler.new) now input.now node.now pass.old pass.new) }
     ensures fits { Fits node.now pass.new }
 {
     let mut member = Member::new(node, pass, link, alloc);
@@ -192,19 +193,19 @@ impl Caller {
 
     /// Returns the line that answers the input from another node, with room for its newline; None if it needs no answer, or
     /// none could be made.
-    pub fn respond<R: Wait, L: Link, A: Handler>(
+    pub fn respond<R: Wait, L: Link, A: HandlerMut>(
         &mut self,
         rt: &R,
         alloc: Global,
         link: &mut L,
-        handler: &A,
+        handler: &mut A,
         now: Moment,
         input: &Input,
     ) -> Option<Vec<u8>>
         ensures node { self.new.node ≡ self.old.node }
-        ensures sent { IfSome result (λ line. Makes self.old.node (Responds hash_of L.may_answer (A.may_handle handler.now) now input.now line.items) self.old.pass self.new.pass) }
+        ensures sent { IfSome result (λ line. Makes self.old.node (Responds hash_of L.may_answer (between A.handled handler.old handler.new) now input.now line.items) self.old.pass self.new.pass) }
         ensures room { IfSome result (λ line. vec_len line < vec_capacity line) }
-        ensures silent { IfNone result (IsSilent hash_of L.may_answer (A.may_handle handler.now) now input.now self.old.node self.old.pass self.new.pass) }
+        ensures silent { IfNone result (IsSilent hash_of L.may_answer (between A.handled handler.old handler.new) now input.now self.old.node self.old.pass self.new.pass) }
     {
         respond_by(
             rt,
@@ -232,19 +233,19 @@ impl Caller {
     /// - `Memory`: out of memory, here, in the handler or in the link.
     /// - `ForeignPass`: the pass has another node's name.
     /// - `PassSpent`: the pass has made all its calls.
-    pub fn request<R: Wait, L: Link, A: Handler, C: Clock>(
+    pub fn request<R: Wait, L: Link, A: HandlerMut, C: Clock>(
         &mut self,
         rt: &R,
         alloc: Global,
         link: &mut L,
-        handler: &A,
+        handler: &mut A,
         clock: &C,
         keys: Keys,
         body: Text,
     ) -> Result<Text, ClusterError>
         ensures node { self.new.node ≡ self.old.node }
-        ensures did { Does self.old.node (IsRequest hash_of L.may_answer (A.may_handle handler.now) C.time keys body) result self.old.pass self.new.pass }
-        ensures sent { Makes self.old.node (SendsRequest hash_of L.went keys body result link.old link.new) self.old.pass self.new.pass }
+        ensures did { Does self.old.node (IsRequest hash_of L.may_answer (between A.handled handler.old handler.new).once C.time keys body) result self.old.pass self.new.pass }
+        ensures sent { Makes self.old.node (SendsRequest hash_of L.went A.handled keys body result handler.old handler.new link.old link.new) self.old.pass self.new.pass }
     {
         handle_or_forward(
             rt,

@@ -7,9 +7,11 @@ ghost use Rattle.agent.specs.Connections.{IsSettled, SendsAnswers, connection_li
 ghost use Rattle.agent.specs.declared.pumps.Pause.TheVariants as pause;
 
 use crate::agents::{Agent, Flag};
+use crate::framings::Framing;
 use crate::fronts::Front;
 use crate::pumps::{Pause, pump};
 use crate::systems::Host;
+use crate::watchers::Question;
 use crossbeam_channel::Receiver;
 use http_server::{Config, Connection};
 use std::alloc::Global;
@@ -31,12 +33,23 @@ const MAX_WAITS: u32 = 20;
 /// The least number of bytes for which a read has room, which a connection that waits holds.
 const MIN_ROOM: usize = 512;
 
+/// The bytes that came over a connection.
+#[derive(Drop)]
+pub struct Came {
+    /// The place in the requests at which the bytes end that its HTTP has read.
+    pub framing: Framing,
+    /// The bytes of a question about the ring, which its HTTP has not read.
+    pub unread: Vec<u8>,
+}
+
 /// A connection between two visits. Each whole request that came is answered, and each answer is written, unless it waits for room.
 #[derive(Drop)]
 pub struct Kept {
     pub connection: Box<Connection>,
     /// Whether it waits for room for the rest of its answers.
     pub is_full: bool,
+    /// Where the bytes that were read end, and those that were not.
+    pub came: Came,
     ghost limits: { config_of (box_value connection) ≡ connection_limits },
     ghost settled: { is_full ≡ false → IsSettled (history (box_value connection)) },
 }
@@ -54,6 +67,11 @@ pub struct Requests<'a, R> {
     pub until: u64,
     /// Whether it has read before.
     pub has_read: bool,
+    pub came: Came,
+    /// The question that is to wait, and is counted. Its bytes are not read.
+    pub question: Option<Question>,
+    /// Set if the request that is read is a question for which there is no place to wait.
+    pub is_turned_away: &'a Flag,
 }
 
 impl<'a, R: Host> Requests<'a, R> {
@@ -79,20 +97,12 @@ impl<'a, R: Host> Requests<'a, R> {
             outcome => outcome,
         }
     }
-}
 
-/// The first read after an answer starts the time of the next request. A read in which nothing comes is made again while enough workers are free.
-/// After the first of a visit nothing is read while other connections wait for a worker.
-impl<'a, R: Host> Read for Requests<'a, R> {
-    fn read(&mut self, buf: &mut [u8]) -> io::Result<usize> {
-        let now = self.agent.now().number();
-        if self.is_answering.get() {
-            self.is_answering.set(false);
-            self.until = now.saturating_add(MAX_IDLE);
-        }
-        if now >= self.until {
-            return Err(ErrorKind::TimedOut.into());
-        }
+    /// Reads once. A read in which nothing comes is made again while enough workers are free. After the first of a visit nothing is read while
+    /// other connections wait for a worker.
+    fn read_some(&mut self, buf: &mut [u8]) -> io::Result<usize>
+        ensures { ReadsAtMost result buf.new }
+    {
         for _ in 0..MAX_WAITS {
             if self.has_read && self.is_needed() {
                 break;
@@ -104,6 +114,77 @@ impl<'a, R: Host> Read for Requests<'a, R> {
             }
         }
         Err(ErrorKind::WouldBlock.into())
+    }
+
+    /// Reads from the question that has waited.
+    fn read_unread(&mut self, buf: &mut [u8]) -> io::Result<usize>
+        ensures { ReadsAtMost result buf.new }
+    {
+        let mut unread = self.came.unread.as_slice();
+        let count = unread.read(buf)?;
+        let read = count.min(self.came.unread.len());
+        self.came.unread.drain(..read);
+        Ok(count)
+    }
+
+    /// Returns whether these bytes, the last that came, start with a question that is to wait. They are then kept, and not read.
+    fn sets_aside(&mut self, bytes: &[u8]) -> bool {
+        let agent = self.agent;
+        let Some(question) = Question::of(bytes) else {
+            return false;
+        };
+        if !self.came.framing.is_between()
+            || agent.is_stopping.get()
+            || !agent.watchers.is_known(&agent.rt, &question)
+        {
+            return false;
+        }
+        if !agent.watchers.count.add_below(agent.max_questions()) {
+            self.is_turned_away.set(true);
+            return false;
+        }
+        if self.came.unread.extend_from_slice(bytes).is_err() {
+            agent.watchers.count.subtract(1);
+            return false;
+        }
+        self.question = Some(question);
+        true
+    }
+
+    /// Reads what is next, from the question that has waited or from the client, unless that is a question which is to wait.
+    fn read_next(&mut self, buf: &mut [u8]) -> io::Result<usize>
+        ensures { ReadsAtMost result buf.new }
+    {
+        if self.came.framing.is_between() {
+            self.is_turned_away.set(false);
+        }
+        let has_waited = !self.came.unread.is_empty();
+        let count = if has_waited {
+            self.read_unread(buf)?
+        } else {
+            self.read_some(buf)?
+        };
+        let bytes = buf.get(..count).unwrap_or(&[]);
+        if !has_waited && self.sets_aside(bytes) {
+            return Err(ErrorKind::WouldBlock.into());
+        }
+        self.came.framing.take(bytes);
+        Ok(count)
+    }
+}
+
+/// The first read after an answer starts the time of the next request.
+impl<'a, R: Host> Read for Requests<'a, R> {
+    fn read(&mut self, buf: &mut [u8]) -> io::Result<usize> {
+        let now = self.agent.now().number();
+        if self.is_answering.get() {
+            self.is_answering.set(false);
+            self.until = now.saturating_add(MAX_IDLE);
+        }
+        if now >= self.until {
+            return Err(ErrorKind::TimedOut.into());
+        }
+        self.read_next(buf)
     }
 }
 
@@ -167,8 +248,8 @@ pub fn serve_over<R: Host, I: Read, O: Write>(
     pump(connection, front, reader, writer)
 }
 
-/// Returns a connection as it is kept, by what it waits for; None if it is done, or failed.
-pub fn kept_of(waits: io::Result<Pause>, connection: Box<Connection>) -> Option<Kept>
+/// Returns a connection as it is kept, by what it waits for and what came; None if it is done, or failed.
+pub fn kept_of(waits: io::Result<Pause>, connection: Box<Connection>, came: Came) -> Option<Kept>
     requires limits { config_of (box_value connection) ≡ connection_limits }
     requires settled { waits ≡ Ok pause.Input → IsSettled (history (box_value connection)) }
     ensures same { IfSome result (λ kept. kept.connection ≡ connection) }
@@ -177,10 +258,12 @@ pub fn kept_of(waits: io::Result<Pause>, connection: Box<Connection>) -> Option<
         Ok(Pause::Input) => Some(Kept {
             connection,
             is_full: false,
+            came,
         }),
         Ok(Pause::Room) => Some(Kept {
             connection,
             is_full: true,
+            came,
         }),
         Ok(Pause::Done) | Err(_) => None,
     }

@@ -1,5 +1,5 @@
 //! The counters of an agent.
-use agent_core::{BUCKETS, Counts, PortCounts, bucket_of};
+use agent_core::{BUCKETS, Counts, PortCounts, WaitingCounts, bucket_of};
 use peer_core::{ClusterError, Round};
 use std::sync::atomic::{AtomicU64, Ordering};
 
@@ -150,9 +150,12 @@ impl Counters {
             allocation_failures: self.allocation_failures.get(),
             micros: self.micros.get(),
             buckets,
+            waiting: WaitingCounts::default(),
             http: PortCounts::default(),
             workers_used: 0,
             workers_max: 0,
+            questions_used: 0,
+            questions_max: 0,
         }
     }
 }

@@ -1,5 +1,5 @@
 //! The service that answers HTTP requests.
-ghost use Rattle.std.specs.Prelude.{◌≡◌, Bool, OnOk, IfErr, IfOk};
+ghost use Rattle.std.specs.Prelude.{◌≡◌, Bool, OnOk, IfErr, IfOk, Ok};
 ghost use Rattle.http_server.specs.Response.{IsBlank};
 ghost use Rattle.node_core.specs.declared.events.Event.TheVariants as call;
 ghost use Rattle.node_core.specs.declared.events.Reply.TheVariants as reply;
@@ -7,16 +7,16 @@ ghost use Rattle.peer_core.specs.Parts.{Does, Tries};
 ghost use Rattle.agent_core.specs.declared.actions.Action.TheVariants as action;
 ghost use Rattle.agent.specs.Answers.{IsAnswered, Settles, ShowsOutcome};
 ghost use Rattle.agent.specs.Calling.{HasMade};
-ghost use Rattle.agent.specs.Performing.{AsksOwner, IsHealth, Outcome, Performs, ShowsCounts, ShowsMembers, ShowsOwners, digest_by, refusal_of};
+ghost use Rattle.agent.specs.Performing.{AsksIfPlaced, AsksOwner, Finds, IsFound, IsHealth, IsLiveness, Outcome, Performs, ShowsCounts, ShowsMembers, ShowsOwners, crowded, digest_by, refusal_of};
 
-use crate::agents::{Agent, Phase};
+use crate::agents::{Agent, Flag, Phase};
 use crate::callers::Caller;
 use crate::links::{NotedHandler, NotedLink};
 use crate::replies::Reply;
 use crate::requests::action_of;
 use crate::responses::{put_refusal, put_reply};
 use crate::systems::Host;
-use agent_core::{Action, Refusal};
+use agent_core::{Action, Refusal, is_live};
 use bytes::Bytes;
 use change_core::{Address, Change, Digest, MAX_MEMBERS};
 use hash_ring::Sha256Hash;
@@ -27,14 +27,10 @@ use message_core::{Keys, Text};
 use node_core::View;
 use peer_core::ClusterError;
 use std::alloc::{AllocError, Global};
-use std::sync::atomic::{AtomicBool, Ordering};
 use std::time::Instant;
 
-/// The most requests that wait for a key's owner at a time. The other threads answer what needs no wait.
-const MAX_WAITING_REQUESTS: u64 = 224;
-
 /// Returns the refusal for an error of the node.
-fn refusal_of(error: ClusterError) -> Refusal
+pub fn refusal_of(error: ClusterError) -> Refusal
     ensures { result ≡ refusal_of error }
 {
     match error {
@@ -50,7 +46,11 @@ fn refusal_of(error: ClusterError) -> Refusal
 }
 
 /// Returns the digest of these members.
-fn digest_of(alloc: Global, members: &[Change]) -> Result<Digest, Refusal>
+///
+/// # Errors
+///
+/// - `Memory`: out of memory.
+pub fn digest_of(alloc: Global, members: &[Change]) -> Result<Digest, Refusal>
     ensures digest { IfOk result (λ digest. digest.bytes ≡ digest_by members.now) }
     ensures refused { IfErr result (λ e. e ≡ Refusal.Memory) }
 {
@@ -63,6 +63,27 @@ fn digest_of(alloc: Global, members: &[Change]) -> Result<Digest, Refusal>
         }
     }
     table.digest().map_err(|_| Refusal::Memory)
+}
+
+/// Returns the owner of a key by a view.
+fn owner_by(view: &View<Sha256Hash>, key: &Text) -> Result<Address, Refusal>
+    ensures { IsFound key.now (Ok view.now) result }
+{
+    match view.owner(key.as_str().as_bytes()) {
+        Some(owner) => Ok(owner),
+        None => Err(Refusal::Nobody),
+    }
+}
+
+/// Returns the refusal of a request that finds no place among those that wait for an owner, at the node with its own address.
+fn crowded(own: Address, owner: Address) -> Refusal
+    ensures { result ≡ crowded own owner }
+{
+    if owner == own {
+        Refusal::Busy
+    } else {
+        Refusal::OwnerBusy(owner)
+    }
 }
 
 /// Makes the reply with the first owners of a key by a view.
@@ -90,10 +111,12 @@ pub struct Front<'f, 'a, R> {
     pub alloc: Global,
     pub caller: &'f mut Caller,
     pub link: &'f mut NotedLink<'a, R>,
+    /// Set if the request is a question about the ring for which there is no place to wait.
+    pub is_turned_away: &'f Flag,
 }
 
 impl<'f, 'a, R: Host> Front<'f, 'a, R> {
-    /// Has the owner of a key answer a request, unless the hosts are still being asked or too many requests wait already.
+    /// Has the owner of a key answer a request, unless the hosts are still being asked or too many requests wait for it.
     /// Returns the answer and the owner.
     fn handle(&mut self, key: Text, body: Text) -> Result<Reply, Refusal>
         ensures performed { HasMade (Performs self.old.agent.now.own self.old.agent.now.replicas (action.Handle key body) result) self.old.caller.now self.new.caller.now }
@@ -102,11 +125,34 @@ impl<'f, 'a, R: Host> Front<'f, 'a, R> {
         if self.agent.is_starting.get() {
             return Err(Refusal::NotJoined);
         }
-        if !self.agent.waiting.add_below(MAX_WAITING_REQUESTS) {
-            return Err(Refusal::Busy);
+        match self.owner_of(&key) {
+            Ok(owner) => self.ask_if_placed(owner, key, body),
+            Err(refusal) => Err(refusal),
+        }
+    }
+
+    /// Returns the owner of a key by this node's view.
+    fn owner_of(&mut self, key: &Text) -> Result<Address, Refusal>
+        ensures found { HasMade (Finds key.now result) self.old.caller.now self.new.caller.now }
+        ensures agent { self.new.agent ≡ self.old.agent }
+    {
+        match self.caller.view(&self.agent.rt) {
+            Ok(view) => owner_by(&view, key),
+            Err(error) => Err(refusal_of(error)),
+        }
+    }
+
+    /// Has the owner of a key, which this node's view gave, answer a request, unless too many wait for that owner.
+    fn ask_if_placed(&mut self, owner: Address, key: Text, body: Text) -> Result<Reply, Refusal>
+        ensures asked { HasMade (AsksIfPlaced self.old.agent.now.own key body result (Ok owner)) self.old.caller.now self.new.caller.now }
+        ensures agent { self.new.agent ≡ self.old.agent }
+    {
+        let agent = self.agent;
+        if !agent.waiting.take(&agent.rt, agent.own, owner) {
+            return Err(crowded(agent.own, owner));
         }
         let reply = self.ask_owner(key, body);
-        self.agent.waiting.subtract(1);
+        agent.waiting.give_back(&agent.rt, agent.own, owner);
         reply
     }
 
@@ -119,22 +165,22 @@ impl<'f, 'a, R: Host> Front<'f, 'a, R> {
         let Ok(keys) = Keys::new(self.alloc, key) else {
             return Err(Refusal::Memory);
         };
-        let handler = NotedHandler {
+        let mut handler = NotedHandler {
             handler: &agent.application,
-            was_asked: AtomicBool::new(false),
+            was_asked: false,
         };
         self.link.last = None;
         let answer = self.caller.request(
             &agent.rt,
             self.alloc,
             self.link,
-            &handler,
+            &mut handler,
             &agent.clock(),
             keys,
             body,
         );
         let owner = match self.link.last {
-            Some(last) if !handler.was_asked.load(Ordering::SeqCst) => last,
+            Some(last) if !handler.was_asked => last,
             _ => agent.own,
         };
         match answer {
@@ -284,6 +330,20 @@ impl<'f, 'a, R: Host> Front<'f, 'a, R> {
         }
     }
 
+    /// Returns `ok` if the agent makes rounds, whether it handles requests or not: the last one ended, or the agent started, less than a period and
+    /// ten seconds ago.
+    fn liveness(&self) -> Result<Reply, Refusal>
+        ensures { IsLiveness result }
+    {
+        let agent = self.agent;
+        let last = agent.last_round.get().saturating_add(agent.period);
+        if is_live(last, agent.now().number()) {
+            Ok(Reply::Line("ok\n"))
+        } else {
+            Err(Refusal::NoRounds)
+        }
+    }
+
     /// Performs an action, and returns its reply.
     fn act(&mut self, action: Action) -> Result<Reply, Refusal>
         ensures performed { HasMade (Performs self.old.agent.now.own self.old.agent.now.replicas action result) self.old.caller.now self.new.caller.now }
@@ -292,10 +352,17 @@ impl<'f, 'a, R: Host> Front<'f, 'a, R> {
         match action {
             Action::Handle { key, body } => self.handle(key, body),
             Action::Owners { key, count } => self.owners(&key, count),
+            Action::AllOwners {
+                keys,
+                count,
+                only_others,
+            } => self.all_owners(&keys, count, only_others),
+            Action::Ring { after } => self.ring(after.as_ref()),
             Action::Members => self.members(),
             Action::Metrics => self.metrics(),
             Action::Digest => self.digest(),
             Action::Health => self.health(),
+            Action::Live => self.liveness(),
             Action::Page => Ok(Reply::Page),
             Action::Leave => self.leave(),
             Action::Rejoin => self.rejoin(),
@@ -356,7 +423,7 @@ impl<'f, 'a, R: Host> Front<'f, 'a, R> {
         let closes = self.closes();
         match &reply {
             Ok(reply) => put_reply(self.alloc, response, reply, closes),
-            Err(refusal) => put_refusal(response, *refusal, closes),
+            Err(refusal) => put_refusal(self.alloc, response, refusal, closes),
         }
     }
 }

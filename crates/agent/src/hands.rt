@@ -9,8 +9,9 @@ use crate::systems::Host;
 use cluster_core::TcpLink;
 use crossbeam_channel::Receiver;
 use std::alloc::Global;
+use std::io::ErrorKind;
+use std::net::TcpStream;
 use std::sync::Arc;
-use std::sync::atomic::{AtomicBool, Ordering};
 
 /// Returns the line of this node's own answer to a request, for which the application has what is left of the limit, and
 /// whether the application was asked: it is if this node owns the request by its view.
@@ -22,12 +23,12 @@ fn own_answer<R: Host>(
     job: &Job,
 ) -> (Option<Vec<u8>>, bool) {
     let application = Limited::new(&agent.application, millis_left(agent, job.since));
-    let handler = NotedHandler {
+    let mut handler = NotedHandler {
         handler: &application,
-        was_asked: AtomicBool::new(false),
+        was_asked: false,
     };
-    let line = line_for(agent, alloc, caller, link, &handler, &job.input);
-    (line, handler.was_asked.load(Ordering::SeqCst))
+    let line = line_for(agent, alloc, caller, link, &mut handler, &job.input);
+    (line, handler.was_asked)
 }
 
 /// Answers a request over its connection. One that this node does not own is passed on to the owner. If no other node
@@ -45,7 +46,7 @@ fn serve_request<R: Host>(
         let mut relay_link = relay_link(agent);
         line = match relay(agent, alloc, caller, &mut relay_link, &mut job) {
             Relayed::Reply(reply) => Some(reply),
-            Relayed::NoReply => None,
+            Relayed::Lost | Relayed::NoReply => None,
             Relayed::NotDone => own_answer(agent, alloc, caller, link, &job).0,
         };
         agent.renew(caller);
@@ -55,8 +56,24 @@ fn serve_request<R: Host>(
     }
 }
 
+/// Returns whether the node that sent a request has hung up: its connection has ended, or failed.
+fn has_hung_up(stream: &TcpStream) -> bool {
+    if stream.set_nonblocking(true).is_err() {
+        return true;
+    }
+    let seen = stream.peek(&mut [0]);
+    if stream.set_nonblocking(false).is_err() {
+        return true;
+    }
+    match seen {
+        Ok(count) => count == 0,
+        Err(error) => error.kind() != ErrorKind::WouldBlock,
+    }
+}
+
 /// Answers the requests of the queue, until the queue has no sender. A request for which no time is left is dropped, since
-/// the node that sent it would get the answer too late.
+/// the node that sent it would get the answer too late; so is one whose sender has hung up, since another node may have
+/// answered it.
 pub fn serve_requests<R: Host>(
     agent: Arc<Agent<R>, Global>,
     alloc: Global,
@@ -69,7 +86,7 @@ pub fn serve_requests<R: Host>(
         let Ok(job) = jobs.recv(&agent.rt) else {
             return;
         };
-        if millis_left(agent, job.since) > 0 {
+        if millis_left(agent, job.since) > 0 && !has_hung_up(&job.stream) {
             serve_request(agent, alloc, &mut caller, &mut link, job);
         }
     }

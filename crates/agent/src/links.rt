@@ -9,10 +9,9 @@ use cluster_core::{Limits, TcpLink};
 use forward_core::MAX_SENDS;
 use log::{info, warn};
 use message_core::{Content, Keys, Message, Text};
-use peer_core::{Handler, HandlerFault, Link, LinkError};
+use peer_core::{Handler, HandlerFault, HandlerMut, Link, LinkError};
 use std::alloc::Global;
 use std::sync::Wait;
-use std::sync::atomic::{AtomicBool, Ordering};
 
 /// Returns whether a call failed by this node's own link, which says nothing of the other node.
 fn is_own(error: LinkError) -> bool
@@ -146,20 +145,20 @@ impl<'a, R: Host> Link for NotedLink<'a, R> {
 #[derive(Drop)]
 pub struct NotedHandler<'a, A> {
     pub handler: &'a A,
-    pub was_asked: AtomicBool,
+    pub was_asked: bool,
 }
 
-impl<'a, A: Handler> Handler for NotedHandler<'a, A> {
-    ghost may_handle = { λ noted. A.may_handle noted.handler.now };
+impl<'a, A: Handler> HandlerMut for NotedHandler<'a, A> {
+    ghost handled = { λ keys body answer old new. A.may_handle old.handler.now keys body answer };
 
-    fn handle<R: Wait>(
-        &self,
+    fn handle_mut<R: Wait>(
+        &mut self,
         rt: &R,
         alloc: Global,
         keys: &Keys,
         body: &Text,
     ) -> Result<Text, HandlerFault> {
-        self.was_asked.store(true, Ordering::SeqCst);
+        self.was_asked = true;
         self.handler.handle(rt, alloc, keys, body)
     }
 }

@@ -8,7 +8,7 @@ use change_core::Moment;
 use cluster_core::{Deadline, TcpLink, Timed, send_owned_line};
 use crossbeam_channel::{Sender, TrySendError};
 use message_core::{Content, Message};
-use peer_core::Handler;
+use peer_core::HandlerMut;
 use server::{Input, hear};
 use std::alloc::Global;
 use std::net::{TcpListener, TcpStream};
@@ -28,12 +28,12 @@ pub struct Job {
 }
 
 /// Returns the line that answers an input, with room for its newline; None if it needs no answer, or none could be made.
-pub fn line_for<R: Host, A: Handler>(
+pub fn line_for<R: Host, A: HandlerMut>(
     agent: &Agent<R>,
     alloc: Global,
     caller: &mut Caller,
     link: &mut TcpLink<R>,
-    handler: &A,
+    handler: &mut A,
     input: &Input,
 ) -> Option<Vec<u8>> {
     let now = agent.now();
@@ -50,12 +50,12 @@ pub fn send_back<R: Host>(agent: &Agent<R>, stream: TcpStream, line: Vec<u8>) {
 }
 
 /// Answers an input over its connection.
-fn answer<R: Host, A: Handler>(
+fn answer<R: Host, A: HandlerMut>(
     agent: &Agent<R>,
     alloc: Global,
     caller: &mut Caller,
     link: &mut TcpLink<R>,
-    handler: &A,
+    handler: &mut A,
     job: Job,
 ) {
     let line = line_for(agent, alloc, caller, link, handler, &job.input);
@@ -106,10 +106,10 @@ fn serve_connection<R: Host>(
         since,
     };
     if !is_request {
-        return answer(agent, alloc, caller, link, &agent.application, job);
+        return answer(agent, alloc, caller, link, &mut &agent.application, job);
     }
     if let Err(TrySendError::Full(job)) = hands.try_send(&agent.rt, job) {
-        answer(agent, alloc, caller, link, &Overloaded, job);
+        answer(agent, alloc, caller, link, &mut &Overloaded, job);
     }
 }
 

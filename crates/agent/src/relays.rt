@@ -1,11 +1,11 @@
 //! Requests that other nodes sent to this one though it does not own them: they are passed on to the owner, and its reply
 //! goes back.
-ghost use Rattle.std.specs.Prelude.{◌≡◌, ◌≤◌, ◌∷◌, [], IfNone, IfSome, IsTrue};
+ghost use Rattle.std.specs.Prelude.{◌≡◌, ◌≤◌, ◌∷◌, ◌/◌, [], cond, IfNone, IfSome, IsTrue};
 ghost use Rattle.peer_core.specs.Acts.{Then};
 ghost use Rattle.peer_core.specs.Exchanges.{SendsTo};
 ghost use Rattle.peer_core.specs.Serving.{message_by};
 ghost use Rattle.agent.specs.Calling.{HasMade};
-ghost use Rattle.agent.specs.Relays.{Chooses, IsOwnerBy, IsNotReturned, IsPassedOn, IsRelayOf, IsRelayed, IsRelayedAs, MakesNone, Meets, Names};
+ghost use Rattle.agent.specs.Relays.{Chooses, HasNoOwnerBy, IsOwnerBy, IsNotReturned, IsPassedOn, IsRelayOf, IsRelayed, IsRelayedAs, Keeps, MakesNone, Meets, Names, NamesNobody};
 
 use crate::agents::Agent;
 use crate::callers::Caller;
@@ -38,6 +38,8 @@ const MAX_RELAY: u64 = 4_100;
 pub enum Relayed {
     /// The owner replied by this line.
     Reply(Vec<u8>),
+    /// The owner replied, and memory ran out for its line.
+    Lost,
     /// There is no reply, though the owner may have performed the request.
     NoReply,
     /// No other node performed the request.
@@ -69,7 +71,8 @@ pub fn relay_link<R: Host>(agent: &Agent<R>) -> NotedLink<'_, R> {
 /// Returns the owner of a request of one key by a view, if it is another node than the one whose view it is. None for a
 /// request of several keys: an agent sends none.
 fn owner_by(view: &View<Sha256Hash>, request: &Content) -> Option<Address>
-    ensures { IfSome result (IsOwnerBy view.now request.now) }
+    ensures named { IfSome result (IsOwnerBy view.now request.now) }
+    ensures unnamed { IfNone result (HasNoOwnerBy view.now request.now) }
 {
     let Content::Forward(keys, _) = request else {
         return None;
@@ -88,6 +91,7 @@ fn owner_by(view: &View<Sha256Hash>, request: &Content) -> Option<Address>
 /// Returns the owner of a request by this node's view, if it is another node.
 fn owner_of<R: Host>(agent: &Agent<R>, caller: &mut Caller, request: &Message) -> Option<Address>
     ensures named { IfSome result (λ owner. HasMade (Names request.now owner) caller.old caller.new) }
+    ensures unnamed { IfNone result (HasMade (NamesNobody request.now) caller.old caller.new) }
     ensures quiet { HasMade MakesNone caller.old caller.new }
 {
     let Ok(view) = caller.view(&agent.rt) else {
@@ -148,6 +152,7 @@ fn agreed_owner<R: Host, L: Link>(
 ) -> Option<Address>
     ensures chosen { IfSome result (λ owner. HasMade (Chooses L.may_answer L.went request.now owner link.old link.new) caller.old caller.new) }
     ensures withheld { IfNone result (HasMade (SendsTo L.went (request.now.source ∷ []) link.old link.new) caller.old caller.new) }
+    ensures kept { IfNone result (HasMade (Keeps request.now) caller.old caller.new) }
 {
     let owner = owner_of(agent, caller, request)?;
     if owner != request.source {
@@ -168,7 +173,7 @@ fn relayed_as(alloc: Global, answer: &Result<Message, LinkError>) -> Relayed
         Ok(message) => match &message.content {
             Content::Reply(_) => match encode(alloc, message) {
                 Ok(line) => Relayed::Reply(line),
-                Err(_) => Relayed::NoReply,
+                Err(_) => Relayed::Lost,
             },
             Content::NotOwner => Relayed::NotDone,
             _ => Relayed::NoReply,
@@ -200,6 +205,13 @@ fn pass_on<W: Wait, L: Link>(
     relayed_as(alloc, &answer)
 }
 
+/// Counts a Reply for whose line memory ran out.
+fn count_lost<R: Host>(agent: &Agent<R>, relayed: &Relayed) {
+    if matches!(relayed, Relayed::Lost) {
+        agent.counters.allocation_failures.add(1);
+    }
+}
+
 /// Passes a request that came at this moment on to its owner, if it is another node and enough time is left. Returns what
 /// came of it, `NotDone` also if it was not sent. The request is unchanged.
 fn ask_owner<R: Host, L: Link>(
@@ -223,20 +235,18 @@ fn ask_owner<R: Host, L: Link>(
         return Relayed::NotDone;
     }
     agent.counters.passed_on.add(1);
-    pass_on(&agent.rt, alloc, link, &own, owner, request)
+    let relayed = pass_on(&agent.rt, alloc, link, &own, owner, request);
+    count_lost(agent, &relayed);
+    relayed
 }
 
 /// Returns how many requests are relayed at a time, at most: as many as half of the hands, so that the others answer what
 /// this node owns. A node that has left owns nothing: as many as all of them.
-fn most_relayed<R: Host>(agent: &Agent<R>) -> u64
-    ensures { result ≤ agent.now.hands }
+fn most_relayed(hands: u32, has_left: bool) -> u64
+    ensures { result ≡ cond has_left hands (hands / 2) }
 {
-    let hands = u64::from(agent.hands);
-    if agent.has_left.get() {
-        hands
-    } else {
-        hands / 2
-    }
+    let hands = u64::from(hands);
+    if has_left { hands } else { hands / 2 }
 }
 
 /// Passes a request on to its owner, unless too many others are being relayed: then nothing is sent, not even a Join.
@@ -254,7 +264,8 @@ pub fn relay<R: Host, L: Link>(
     let Input::Message(request) = &mut job.input else {
         return Relayed::NotDone;
     };
-    if !agent.relaying.add_below(most_relayed(agent)) {
+    let most = most_relayed(agent.hands, agent.has_left.get());
+    if !agent.relaying.add_below(most) {
         return Relayed::NotDone;
     }
     let relayed = ask_owner(agent, alloc, caller, link, request, job.since);

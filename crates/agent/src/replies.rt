@@ -21,12 +21,16 @@ pub enum Reply {
     Text(String),
     /// JSON.
     Json(String),
+    /// The ring as JSON, and its digest.
+    Ring { digest: Digest, text: String },
+    /// The ring has this digest still.
+    Unchanged { digest: Digest },
     /// The page that shows the ring, as HTML.
     Page,
 }
 
 /// Returns the refusal of a request for which memory ran out.
-fn out_of_memory(_error: AllocError) -> Refusal
+pub fn out_of_memory(_error: AllocError) -> Refusal
     ensures { result ≡ Refusal.Memory }
 {
     Refusal::Memory

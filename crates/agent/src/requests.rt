@@ -27,6 +27,7 @@ fn is_cross_site(request: &Request<Bytes>) -> bool
 }
 
 /// Returns the action that a request asks for by its method, path, query and body.
+#[tactic(auto, using(crate::proofs::Refused::refuses))]
 fn routed(alloc: Global, request: &Request<Bytes>) -> Result<Action, Refusal>
     ensures action { IfOk result (λ action. asked_by request.now ≡ Ok action) }
     ensures refused { IfErr result (Refuses (asked_by request.now)) }

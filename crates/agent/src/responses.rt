@@ -6,12 +6,12 @@ ghost use Rattle.http_header.specs.FieldValue.{plain_value};
 ghost use Rattle.http_server.specs.Response.{IsBlank, IsResponse, fields_of};
 ghost use Rattle.agent_core.specs.Packs.{unpacked};
 ghost use Rattle.agent_core.specs.Refusals.{kind_name};
-ghost use Rattle.agent.specs.Replies.{ShowsRefusal, ShowsReply, allowed_methods, answered_kind, closing, fields_for, owner_field, reply_body, reply_kind, reply_status};
+ghost use Rattle.agent.specs.Replies.{ShowsRefusal, ShowsReply, allowed_methods, answered_kind, closing, fields_for, named_owner, owner_field, reply_body, reply_kind, reply_status, tag_field, tag_text};
 
 use crate::replies::Reply;
 use agent_core::{Answer, Kind, Refusal, Verb, unpack};
 use bytes::BufMut;
-use change_core::Address;
+use change_core::{Address, Digest, DigestText};
 use http::{HeaderName, HeaderValue, StatusCode};
 use http_server::Response;
 use message_core::Text;
@@ -53,6 +53,16 @@ fn value_of(alloc: Global, address: Address) -> Result<HeaderValue, AllocError>
     HeaderValue::from_string(text).map_err(|_| AllocError)
 }
 
+/// Adds the field that names the owner of the key.
+fn put_owner(alloc: Global, response: &mut Response, owner: Address) -> Result<(), AllocError>
+    ensures status { response.new.status ≡ response.old.status }
+    ensures body { response.new.body ≡ response.old.body }
+    ensures fields { OnOk result (fields_of response.new ≡ fields_of response.old ++ named_owner owner) }
+{
+    let owner = value_of(alloc, owner)?;
+    response.add_header(HeaderName::from_static("x-ringpop-owner"), owner)
+}
+
 /// Returns the kind of an application's answer.
 fn kind_of(is_json: bool) -> Kind
     ensures { result ≡ answered_kind is_json }
@@ -78,8 +88,7 @@ fn put_handled(
         body: packed.body,
     };
     put(response, answer, closes)?;
-    let owner = value_of(alloc, owner)?;
-    response.add_header(HeaderName::from_static("x-ringpop-owner"), owner)
+    put_owner(alloc, response, owner)
 }
 
 /// Writes a text with status 200 into a blank response.
@@ -93,6 +102,61 @@ fn put_text(response: &mut Response, kind: Kind, body: &str, closes: bool) -> Re
         body,
     };
     put(response, answer, closes)
+}
+
+/// Returns the header value that names a digest: its digits between quotes (RFC 9110, section 8.8.3).
+fn tag_of(alloc: Global, digest: &Digest) -> Result<HeaderValue, AllocError>
+    ensures { IfOk result (λ value. value ≡ plain_value (tag_text digest.now.bytes)) }
+{
+    let digits = DigestText::of(digest);
+    let mut text = String::from_str(alloc, "\"")?;
+    text.push_str(digits.as_str())?;
+    text.push_str("\"")?;
+    HeaderValue::from_string(text).map_err(|_| AllocError)
+}
+
+/// Adds the field that names the ring's digest.
+fn put_tag(alloc: Global, response: &mut Response, digest: &Digest) -> Result<(), AllocError>
+    ensures status { response.new.status ≡ response.old.status }
+    ensures body { response.new.body ≡ response.old.body }
+    ensures fields { OnOk result (fields_of response.new ≡ fields_of response.old ++ tag_field digest.now.bytes) }
+{
+    let tag = tag_of(alloc, digest)?;
+    response.add_header(HeaderName::from_static("etag"), tag)
+}
+
+/// Writes the ring into a blank response, with a header that names its digest.
+fn put_ring(
+    alloc: Global,
+    response: &mut Response,
+    digest: &Digest,
+    text: &str,
+    closes: bool,
+) -> Result<(), AllocError>
+    requires { IsBlank response.old }
+    ensures { OnOk result (IsResponse 200 (fields_for closes Kind.Json ++ tag_field digest.now.bytes) text.now response.new) }
+{
+    put_text(response, Kind::Json, text, closes)?;
+    put_tag(alloc, response, digest)
+}
+
+/// Writes into a blank response that the ring has a digest still (RFC 9110, section 15.4.5).
+fn put_unchanged(
+    alloc: Global,
+    response: &mut Response,
+    digest: &Digest,
+    closes: bool,
+) -> Result<(), AllocError>
+    requires { IsBlank response.old }
+    ensures { OnOk result (IsResponse 304 (fields_for closes Kind.Json ++ tag_field digest.now.bytes) [] response.new) }
+{
+    let answer = Answer {
+        status: 304,
+        kind: Kind::Json,
+        body: "",
+    };
+    put(response, answer, closes)?;
+    put_tag(alloc, response, digest)
 }
 
 /// Writes a reply into a blank response. If `closes`, a header tells the client that the connection is closed after it.
@@ -114,6 +178,8 @@ pub fn put_reply(
         Reply::Line(line) => put(response, Answer::line(line), closes),
         Reply::Text(text) => put_text(response, Kind::Text, text.as_str(), closes),
         Reply::Json(text) => put_text(response, Kind::Json, text.as_str(), closes),
+        Reply::Ring { digest, text } => put_ring(alloc, response, digest, text.as_str(), closes),
+        Reply::Unchanged { digest } => put_unchanged(alloc, response, digest, closes),
         Reply::Page => put(response, Answer::page(), closes),
     }
 }
@@ -129,22 +195,26 @@ fn allowed(verb: Verb) -> HeaderValue
 }
 
 /// Writes a refusal into a blank response: its status, its line of text and, for `BadMethod`, the methods that the path
-/// takes. If `closes`, a header tells the client that the connection is closed after it.
+/// takes, for `OwnerBusy` the owner. If `closes`, a header tells the client that the connection is closed after it.
 ///
 /// # Errors
 ///
 /// - `AllocError`: out of memory. A part of the refusal is written.
 pub fn put_refusal(
+    alloc: Global,
     response: &mut Response,
-    refusal: Refusal,
+    refusal: &Refusal,
     closes: bool,
 ) -> Result<(), AllocError>
     requires { IsBlank response.old }
-    ensures { OnOk result (ShowsRefusal refusal closes response.new) }
+    ensures { OnOk result (ShowsRefusal refusal.now closes response.new) }
 {
     put(response, Answer::refused(refusal), closes)?;
-    if let Refusal::BadMethod(verb) = refusal {
-        response.add_header(HeaderName::from_static("allow"), allowed(verb))?;
+    match refusal {
+        Refusal::BadMethod(verb) => {
+            response.add_header(HeaderName::from_static("allow"), allowed(*verb))
+        }
+        Refusal::OwnerBusy(owner) => put_owner(alloc, response, *owner),
+        _ => Ok(()),
     }
-    Ok(())
 }

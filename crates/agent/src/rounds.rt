@@ -4,6 +4,7 @@ use crate::callers::Caller;
 use crate::changes::{is_refuted, log_changes, log_since_start};
 use crate::hosts::{MAX_FIRST_WAIT, link_of};
 use crate::links::NotedLink;
+use crate::questions::ring_digest;
 use crate::systems::Host;
 use agent_core::{Notice, Refutations, are_many_addresses};
 use change_core::{Address, Change, Digest, MAX_MEMBERS, Moment};
@@ -31,6 +32,8 @@ struct Rounds<'a, R> {
     /// The members at the last logged change, or after the hosts were first asked, and their digest.
     members: Option<ChangeList>,
     digest: Option<Digest>,
+    /// The digest of the members whose ring was noted for the questions that wait.
+    noted: Option<Digest>,
     refutations: Refutations,
     /// What the log said last of the rounds, and of healing.
     round_notice: Notice,
@@ -92,6 +95,37 @@ impl<'a, R: Host> Rounds<'a, R> {
         is_own
     }
 
+    /// Notes the digest of the ring for the questions that wait until it changes; none if memory runs out for it, so that they are answered.
+    /// The next round tries again then.
+    fn note_ring(&mut self) {
+        let agent = self.agent;
+        if agent.is_starting.get() {
+            return;
+        }
+        let Ok(digest) = self.caller.digest(&agent.rt) else {
+            return;
+        };
+        if self.noted == Some(digest) {
+            return;
+        }
+        let ring = match self.caller.members(&agent.rt) {
+            Ok(members) => ring_digest(self.alloc, members.as_slice()).ok(),
+            Err(_) => None,
+        };
+        self.noted = if ring.is_some() { Some(digest) } else { None };
+        agent.watchers.note(&agent.rt, ring);
+    }
+
+    /// Has the questions answered for which the ring has changed.
+    fn answer_questions(&mut self) {
+        self.note_ring();
+        let agent = self.agent;
+        let now = agent.now().number();
+        agent
+            .watchers
+            .answer_due(&agent.rt, now, agent.is_stopping.get());
+    }
+
     /// Warns if many of the addresses that there can be are used; `before` is how many were.
     fn warn_of_addresses(&self, before: usize, members: &[Change]) {
         let used = members.len();
@@ -120,16 +154,21 @@ impl<'a, R: Host> Rounds<'a, R> {
         }
     }
 
-    /// Makes one round of gossip, counts it, and logs its error and how the members changed.
+    /// Makes one round of gossip, counts it, and logs its error and how the members changed. Questions are answered before it and after it, since it may
+    /// take some seconds.
     fn make(&mut self) {
         let agent = self.agent;
+        self.answer_questions();
         let now = agent.now();
         let round = self.gossip(now);
         agent.counters.add_round(&round);
+        agent.last_round.set(agent.now().number());
         self.log_errors(&round, now);
         self.log(&round);
+        self.answer_questions();
         agent.renew(&mut self.caller);
         self.heal(now);
+        agent.last_round.set(agent.now().number());
     }
 
     /// Heals after a round, unless the node has left: members that parted find one another again.
@@ -182,6 +221,7 @@ pub fn make_rounds<R: Host>(
         initial,
         members: None,
         digest: None,
+        noted: None,
         refutations: Refutations::new(),
         round_notice: Notice::new(),
         healing_notice: Notice::new(),

@@ -19,6 +19,8 @@ use crate::peers::{Job, serve_peers};
 use crate::rounds::make_rounds;
 use crate::settings::Settings;
 use crate::systems::System;
+use crate::waiting::Waiting;
+use crate::watchers::Watchers;
 use change_core::{Address, Change, Incarnation, MAX_NUMBER, Moment};
 use cluster_core::{share, socket_address};
 use crossbeam_channel::{Receiver, Sender, bounded};
@@ -132,23 +134,26 @@ fn agent_of<R: System>(
         level: settings.level,
         own: settings.address,
         replicas: settings.replicas,
+        period: settings.period,
         hands: settings.hands,
         stopwatch,
         timeouts: Timeouts::standard(),
         application: application_of(rt, alloc, stopwatch, settings),
         passes: Mutex::new(passes),
         counters: Counters::new(),
-        waiting: Count::new(),
+        waiting: Waiting::new(alloc)?,
         relaying: Count::new(),
         workers: Count::new(),
         serving: Count::new(),
         http: Arc::new(alloc, Places::new())?,
+        watchers: Watchers::new(alloc),
         notices: Notices::new(alloc),
         disowners: Notices::new(alloc),
         is_starting: Flag::new(!settings.hosts.is_empty()),
         has_joined: Flag::new(settings.hosts.is_empty()),
         has_left: Flag::new(false),
         moving: Mutex::new(()),
+        last_round: Count::new(),
         has_moved: Flag::new(false),
         is_stopping: Flag::new(false),
         is_spent: Flag::new(false),
@@ -292,7 +297,9 @@ fn start<R: System>(
     agent: &Arc<Agent<R>, Global>,
     settings: Settings,
 ) -> Result<Option<Arc<Lot<Kept>, Global>>, AgentError> {
-    set_places(&**agent, settings.http_connections)?;
+    if settings.http.is_some() {
+        set_places(&**agent, settings.http_connections)?;
+    }
     let listener = Arc::new(alloc, listen(rt, settings.bind)?)?;
     let front = match settings.http {
         Some(address) => Some(listen(rt, address)?),
@@ -351,7 +358,7 @@ fn set_up<R: System>(
 /// - `BadConfig`: a field of the node's configuration is out of its range.
 /// - `CannotListen`: this address can't be listened at, that for other nodes or that for HTTP; with the system's reason.
 /// - `NoRandom`: the system gave no random numbers for the threads that answer HTTP.
-/// - `FewDescriptors`: the system gives this process fewer than 64 descriptors.
+/// - `FewDescriptors`: it is to answer HTTP, and the system gives this process fewer than 64 descriptors.
 /// - `NoReactor`: the system lets no connections be watched.
 /// - `NoThread`: the system gave no thread.
 /// - `CannotWrite`: the writer failed.

@@ -1,14 +1,16 @@
 //! The workers that answer HTTP. One serves a connection while requests come, and parks it once it is idle.
-ghost use Rattle.std.specs.Prelude.{◌≡◌, IfSome, box_value};
+ghost use Rattle.std.specs.Prelude.{◌≡◌, ◌≢◌, ◌+◌, ◌-◌, ◌^◌, false, true, min, IfSome, box_value};
 ghost use Rattle.http_server.specs.Connection.{config_of};
 ghost use Rattle.agent.specs.Connections.{connection_limits};
 
 use crate::agents::{Agent, Flag};
 use crate::callers::Caller;
-use crate::connections::{Answers, Kept, Requests, kept_of, new_connection, serve_over};
+use crate::connections::{Answers, Came, Kept, Requests, kept_of, new_connection, serve_over};
+use crate::framings::Framing;
 use crate::fronts::Front;
 use crate::links::NotedLink;
 use crate::systems::Host;
+use crate::watchers::Question;
 use crossbeam_channel::Receiver;
 use http_server::Connection;
 use reactor::Lot;
@@ -20,25 +22,43 @@ use std::sync::Arc;
 /// The most milliseconds that the client may take to receive an answer, or the answers to requests that it sent together.
 const MAX_TAKEN: u64 = 5_000;
 
-/// Returns the connection that was kept, or a new one; None if out of memory for it.
-fn open(alloc: Global, keys: RandomState, kept: Option<Kept>) -> Option<Box<Connection>>
-    ensures { IfSome result (λ connection. config_of (box_value connection) ≡ connection_limits) }
+/// What a visit leaves.
+#[derive(Drop)]
+struct Left {
+    /// What is kept of the connection; None if it is done or failed.
+    kept: Option<Kept>,
+    /// The millisecond at which the time of its next request is up.
+    until: u64,
+    /// The question that is to wait.
+    question: Option<Question>,
+}
+
+/// Returns the connection that was kept and what came over it, or a new one; None if out of memory for it.
+fn open(alloc: Global, keys: RandomState, kept: Option<Kept>) -> Option<(Box<Connection>, Came)>
+    ensures { IfSome result (λ opened. config_of (box_value opened.0) ≡ connection_limits) }
 {
     match kept {
-        Some(kept) => Some(kept.connection),
-        None => Box::new(alloc, new_connection(alloc, keys)).ok(),
+        Some(kept) => Some((kept.connection, kept.came)),
+        None => {
+            let connection = Box::new(alloc, new_connection(alloc, keys)).ok()?;
+            let came = Came {
+                framing: Framing::new(),
+                unread: Vec::new(alloc),
+            };
+            Some((connection, came))
+        }
     }
 }
 
-/// Serves a connection while requests come. Returns what is kept of it, None if it is done or failed, and the millisecond at which the time of
-/// its next request is up.
+/// Serves a connection while requests come.
 fn serve<R: Host>(
     front: &mut Front<'_, '_, R>,
     ready: &Receiver<reactor::Connection<Kept>>,
     mut connection: Box<Connection>,
+    came: Came,
     stream: &TcpStream,
     until: u64,
-) -> (Option<Kept>, u64)
+) -> Left
     requires { config_of (box_value connection) ≡ connection_limits }
 {
     let is_answering = Flag::new(false);
@@ -49,13 +69,43 @@ fn serve<R: Host>(
         is_answering: &is_answering,
         until,
         has_read: false,
+        came,
+        question: None,
+        is_turned_away: front.is_turned_away,
     };
     let mut answers = Answers {
         stream,
         is_answering: &is_answering,
     };
     let waits = serve_over(front, &mut *connection, &mut requests, &mut answers);
-    (kept_of(waits, connection), requests.until)
+    let Requests {
+        came,
+        question,
+        until,
+        ..
+    } = requests;
+    Left {
+        kept: kept_of(waits, connection, came),
+        until,
+        question,
+    }
+}
+
+/// Returns the millisecond at which the time of a connection that waits from now on is up: that of its next request, if it waits for something to
+/// read; if it waits for room, five seconds from now, or the time that it had before if it waited for room, and no request was read since.
+fn end_of_wait(is_full: bool, was_full: bool, until: u64, next: u64, now: u64) -> u64
+    ensures reading { is_full ≡ false → result ≡ next }
+    ensures first { is_full ≡ true → was_full ≡ false → result ≡ min (now + MAX_TAKEN) (2 ^ 64 - 1) }
+    ensures other { is_full ≡ true → next ≢ until → result ≡ min (now + MAX_TAKEN) (2 ^ 64 - 1) }
+    ensures same { is_full ≡ true → was_full ≡ true → next ≡ until → result ≡ until }
+{
+    if !is_full {
+        next
+    } else if was_full && next == until {
+        until
+    } else {
+        now.saturating_add(MAX_TAKEN)
+    }
 }
 
 /// Serves a connection while requests come, and then parks it; or closes it if it is done, fails, or its time is up.
@@ -73,27 +123,32 @@ fn visit<R: Host>(
         is_full: was_full,
         until,
     } = visited;
-    let Some(connection) = open(front.alloc, keys, kept) else {
+    let Some((connection, came)) = open(front.alloc, keys, kept) else {
         return lot.close(stream);
     };
-    let (kept, next) = serve(front, ready, connection, &stream, until);
+    let Left {
+        kept,
+        until: next,
+        question,
+    } = serve(front, ready, connection, came, &stream, until);
     let Some(kept) = kept else {
+        if question.is_some() {
+            agent.watchers.count.subtract(1);
+        }
         return lot.close(stream);
     };
     let now = agent.now().number();
     let is_full = kept.is_full;
-    let until = match is_full {
-        false => next,
-        true if was_full => until,
-        true => now.saturating_add(MAX_TAKEN),
-    };
     let waiting = reactor::Connection {
         stream,
         kept: Some(kept),
         is_full,
-        until,
+        until: end_of_wait(is_full, was_full, until, next, now),
     };
-    lot.park(&agent.rt, waiting, now);
+    match question {
+        Some(question) => agent.watchers.add(&agent.rt, waiting, question, now),
+        None => lot.park(&agent.rt, waiting, now),
+    }
 }
 
 /// Answers HTTP until the queue of the connections that are ready has no sender.
@@ -111,11 +166,13 @@ pub fn serve_http<R: Host>(
         let Ok(visited) = ready.recv(&agent.rt) else {
             break;
         };
+        let is_turned_away = Flag::new(false);
         let mut front = Front {
             agent,
             alloc,
             caller: &mut caller,
             link: &mut link,
+            is_turned_away: &is_turned_away,
         };
         agent.serving.add(1);
         visit(&mut front, &*lot, &ready, keys, visited);

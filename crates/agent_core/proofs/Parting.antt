@@ -10,7 +10,7 @@ use Rattle.base64.specs.Engines.{standard}
 use Rattle.base64.specs.GeneralPurpose.{IsBytes, decode_of, encode_of}
 use Rattle.agent_core.specs.Parts.{joined, packed_bytes, part_of}
 
--- two parts in front of the same bytes are one, and so is what comes after them
+-- if the bytes of a part and bytes after them equal those of another part and bytes after them, the parts are equal, and so are the bytes after
 pub unjoined : (p q r s : List ℕ) → length p < 2 ^ 64 → length q < 2 ^ 64 → part_of p ++ r ≡ part_of q ++ s → (p ≡ q) × (r ≡ s)
 unjoined p q r s p_fits q_fits e =
     let sizes : to_be_bytes w64 (length p) ≡ to_be_bytes w64 (length q) = ap (take 8) e in
@@ -52,7 +52,7 @@ left (d ∷ done) (p ∷ ps) rest small e =
     let d_size : length (part_of d) ≡ length (to_be_bytes w64 (length d)) + length d = length-append (to_be_bytes w64 (length d)) d in
     left done ps rest (omega arith) (unjoined p d (joined ps) (joined done ++ rest) (omega arith) (omega arith) same).1
 
--- bytes in front of which there is no part are not parts
+-- if bytes are left that do not begin with the bytes of a part, the whole is not the bytes of parts
 pub no_parts : (done ps : List (List ℕ)) (rest : List ℕ) → length (joined ps) < 2 ^ 64 → 0 < length rest → ((part more : List ℕ) → rest ≢ part_of part ++ more) → joined ps ≢ joined done ++ rest
 no_parts done ps rest short some none e =
     let l = left done ps rest short e in

@@ -13,7 +13,7 @@ use Rattle.agent_core.specs.declared.actions.Action.{Action}
 use Rattle.agent_core.specs.declared.refusals.Part.TheVariants.{Key, Body}
 use Rattle.agent_core.specs.declared.refusals.Refusal.{Refusal}
 use Rattle.agent_core.specs.declared.refusals.Refusal.TheVariants.{Malformed, BadMethod, Memory}
-use Rattle.agent_core.specs.Requests.{after, asked, body_in, by, count_in, count_of, handled, key_in, key_of, named, place_of, plain, verb_name}
+use Rattle.agent_core.specs.Requests.{after, asked, body_in, by, count_in, count_of, handled, key_in, key_of, named, open_at, place_of, plain, verb_name}
 
 -- ---- the rest of a text after a prefix
 
@@ -121,9 +121,15 @@ pub asked-owner_method : (method path rest body : List ℕ) (query : Option (Lis
     → asked method path query body ≡ Err (BadMethod Get)
 asked-owner_method method path rest body query k e m = rw (← k, ← e) (by-wrong method Get _ m)
 
-pub asked-plain : (method path body : List ℕ) (query : Option (List ℕ)) → None ≡ after (codes "/keys/") path → None ≡ after (codes "/owner/") path
-    → asked method path query body ≡ plain method (place_of path)
-asked-plain method path body query k e = rw (← k, ← e) refl
+pub asked-open : (method path body : List ℕ) (query : Option (List ℕ)) → None ≡ after (codes "/keys/") path → None ≡ after (codes "/owner/") path
+    → asked method path query body ≡ open_at method path query body
+asked-open method path body query k e = rw (← k, ← e) refl
+
+-- a result that is the action at a path, or a fault, is that of the request
+pub answered-open : (r asks x : Result Action Refusal) → asks ≡ x → IfOk r (λ action. x ≡ Ok action) → IfErr r (λ e. e ≢ Memory → x ≡ Err e)
+    → IfOk r (λ action. asks ≡ Ok action) × IfErr r (λ e. e ≢ Memory → asks ≡ Err e)
+answered-open (Ok action) asks x e ok err = (e ∙ ok, tt)
+answered-open (Err refusal) asks x e ok err = (tt, λ n. e ∙ err n)
 
 -- a result that is the action at a path without a key has its error
 pub answered-plain : (r x : Result Action Refusal) → x ≡ r → IfErr r (λ e. e ≢ Memory → x ≡ Err e)

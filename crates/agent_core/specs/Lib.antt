@@ -4,4 +4,5 @@ pub mod Packs
 pub mod Parts
 pub mod Texts
 pub mod Metrics
+pub mod Shares
 pub mod Warnings

@@ -7,6 +7,7 @@ use Rattle.change_core.specs.Status.{rank, status_word}
 use Rattle.change_core.specs.Numbers.{most_members}
 use Rattle.agent_core.specs.declared.metrics.Counts.{Counts}
 use Rattle.agent_core.specs.declared.metrics.PortCounts.{PortCounts}
+use Rattle.agent_core.specs.declared.metrics.WaitingCounts.{WaitingCounts}
 
 -- the bucket of a time in microseconds
 abbrev pub bucket_of : ℕ → ℕ
@@ -112,6 +113,20 @@ other_samples counts =
     ++ line (codes "# TYPE ringpop_allocation_failures_total counter")
     ++ sample (codes "ringpop_allocation_failures_total") counts.allocation_failures
 
+-- the requests that wait: how many of this node's keys and of others', how many may, the share of each other owner, and how many found no place
+abbrev pub waiting_samples : WaitingCounts → List ℕ
+waiting_samples waiting =
+    line (codes "# TYPE ringpop_waiting_used gauge")
+    ++ sample (codes "ringpop_waiting_used{owner=\"self\"}") waiting.own
+    ++ sample (codes "ringpop_waiting_used{owner=\"others\"}") waiting.others
+    ++ line (codes "# TYPE ringpop_waiting_max gauge")
+    ++ sample (codes "ringpop_waiting_max{owner=\"self\"}") 96
+    ++ sample (codes "ringpop_waiting_max{owner=\"others\"}") 128
+    ++ line (codes "# TYPE ringpop_waiting_share gauge")
+    ++ sample (codes "ringpop_waiting_share") 32
+    ++ line (codes "# TYPE ringpop_waiting_refused_total counter")
+    ++ sample (codes "ringpop_waiting_refused_total") waiting.refused
+
 -- the connections of clients over HTTP: how many are open, how many may be, how many were closed for others, and how often none was accepted
 abbrev pub connection_samples : PortCounts → List ℕ
 connection_samples http =
@@ -132,8 +147,16 @@ worker_samples counts =
     ++ line (codes "# TYPE ringpop_workers_max gauge")
     ++ sample (codes "ringpop_workers_max") counts.workers_max
 
+-- the questions about the ring that wait, and the most that may
+abbrev pub question_samples : Counts → List ℕ
+question_samples counts =
+    line (codes "# TYPE ringpop_questions_used gauge")
+    ++ sample (codes "ringpop_questions_used") counts.questions_used
+    ++ line (codes "# TYPE ringpop_questions_max gauge")
+    ++ sample (codes "ringpop_questions_max") counts.questions_max
+
 -- the whole text
 abbrev pub metrics_text : Counts → List Change → List ℕ
 metrics_text counts members =
     status_samples members ++ address_samples (length members) ++ request_samples counts ++ time_samples counts ++ round_samples counts ++ other_samples counts
-    ++ connection_samples counts.http ++ worker_samples counts
+    ++ waiting_samples counts.waiting ++ connection_samples counts.http ++ worker_samples counts ++ question_samples counts

@@ -3,7 +3,7 @@ use Rattle.std.specs.Prelude.{ℕ, List, [], ◌∷◌, ◌++◌, codes}
 use Rattle.agent_core.specs.declared.verbs.Verb.TheVariants.{Get, Post}
 use Rattle.agent_core.specs.declared.refusals.Failure.{Failure}
 use Rattle.agent_core.specs.declared.refusals.Failure.TheVariants as failure
-use Rattle.agent_core.specs.declared.refusals.Part.TheVariants.{Key, Count, Body}
+use Rattle.agent_core.specs.declared.refusals.Part.TheVariants.{Key, Count, Body, Keys, After}
 use Rattle.agent_core.specs.declared.refusals.Refusal.{Refusal}
 use Rattle.agent_core.specs.declared.refusals.Refusal.TheVariants as refusal
 use Rattle.agent_core.specs.declared.answers.Kind.{Kind}
@@ -19,14 +19,18 @@ status_of refusal.AlreadyLeft = 409
 status_of refusal.NotLeft = 409
 status_of refusal.Exhausted = 409
 status_of refusal.LongBody = 413
+status_of refusal.ManyKeys = 413
 status_of refusal.ApplicationFailed = 502
 status_of (refusal.Unanswered why) = 502
 status_of refusal.ApplicationDown = 503
 status_of refusal.NotJoined = 503
 status_of refusal.HasLeft = 503
 status_of refusal.CannotAccept = 503
+status_of refusal.NoRounds = 503
 status_of refusal.Nobody = 503
 status_of refusal.Busy = 503
+status_of refusal.ManyQuestions = 503
+status_of (refusal.OwnerBusy owner) = 503
 status_of refusal.Spent = 503
 status_of refusal.Memory = 503
 status_of refusal.OwnerSilent = 504
@@ -43,6 +47,8 @@ abbrev pub text_of : Refusal → List ℕ
 text_of (refusal.Malformed Key) = codes "bad key: not 1 to 1024 bytes of UTF-8"
 text_of (refusal.Malformed Count) = codes "bad count: not n=1 to n=4096"
 text_of (refusal.Malformed Body) = codes "bad body: not UTF-8"
+text_of (refusal.Malformed Keys) = codes "bad keys: not a JSON list of texts"
+text_of (refusal.Malformed After) = codes "bad query: not after=DIGEST, or after=DIGEST&wait=1 to wait=60"
 text_of refusal.CrossSite = codes "refused: asked by a page of another site"
 text_of refusal.NotFound = codes "nothing at this path"
 text_of (refusal.BadMethod Get) = codes "bad method: this path takes GET"
@@ -51,14 +57,19 @@ text_of refusal.AlreadyLeft = codes "the node has left already"
 text_of refusal.NotLeft = codes "the node has not left"
 text_of refusal.Exhausted = codes "no incarnation is left"
 text_of refusal.LongBody = codes "bad body: more than 131072 bytes"
+text_of refusal.ManyKeys = codes "bad keys: more than 4096"
 text_of refusal.ApplicationFailed = codes "the application failed"
 text_of (refusal.Unanswered why) = failure_text why
 text_of refusal.ApplicationDown = codes "the application does not answer"
 text_of refusal.NotJoined = codes "no host has answered"
 text_of refusal.HasLeft = codes "the node has left"
 text_of refusal.CannotAccept = codes "no HTTP connection can be accepted"
+text_of refusal.NoRounds = codes "no round of gossip ended in the last ten seconds"
 text_of refusal.Nobody = codes "nobody serves"
 text_of refusal.Busy = codes "too many requests wait"
+text_of refusal.ManyQuestions = codes "too many questions wait: 1000, or half of the connections; ask again after a second, or without wait"
+text_of (refusal.OwnerBusy owner) =
+    codes "too many requests wait for the owner of this key: send it again later; keys of other owners are answered"
 text_of refusal.Spent = codes "the node takes no more calls"
 text_of refusal.Memory = codes "out of memory"
 text_of refusal.OwnerSilent = codes "the owner does not answer"

@@ -1,19 +1,38 @@
 //! The actions that requests ask for.
+use crate::key_lists::KeyList;
 use message_core::Text;
 
 /// An action that a request asks for.
 #[derive(Debug, Drop)]
 pub enum Action {
     /// The key's owner handles the request.
-    Handle { key: Text, body: Text },
+    Handle {
+        key: Text,
+        body: Text,
+    },
     /// The answer has the first `count` owners of a key, 1 to 4,096, or all serving members if there are fewer.
-    Owners { key: Text, count: usize },
+    Owners {
+        key: Text,
+        count: usize,
+    },
+    /// The answer has the first `count` owners of each key; `null` for a key of this node if `only_others`.
+    AllOwners {
+        keys: KeyList,
+        count: usize,
+        only_others: bool,
+    },
+    /// The answer has the ring, unless its digest has this text.
+    Ring {
+        after: Option<Text>,
+    },
     /// The answer has the members and their digest.
     Members,
     /// The answer has the digest of the members.
     Digest,
     /// The answer says whether the node handles requests.
     Health,
+    /// The answer says whether the node makes rounds.
+    Live,
     /// The answer has the counts.
     Metrics,
     /// The answer is the page that shows the ring.

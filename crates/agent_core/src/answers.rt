@@ -49,11 +49,11 @@ impl Answer<'static> {
     }
 
     /// Makes the answer to a refused request: the refusal's status and its line of text.
-    pub fn refused(refusal: Refusal) -> Self
-        ensures status { result.status ≡ status_of refusal }
+    pub fn refused(refusal: &Refusal) -> Self
+        ensures status { result.status ≡ status_of refusal.now }
         ensures range { (400 ≤ result.status) × (result.status ≤ 599) }
         ensures kind { result.kind ≡ Kind.Text }
-        ensures body { result.body.now ≡ line_of refusal }
+        ensures body { result.body.now ≡ line_of refusal.now }
     {
         Answer {
             status: refusal.status(),

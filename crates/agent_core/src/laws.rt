@@ -1,8 +1,13 @@
-//! Theorems of packed answers, over all statuses and bodies, and of parts.
+//! Theorems of packed answers, over all statuses and bodies, of parts, and of rings and the texts of their digests.
 ghost use Rattle.std.specs.Prelude.{◌≡◌, ◌≢◌, ◌<◌, ◌≤◌, ◌^◌, ℕ, List, [], ◌∷◌, Bool, length};
 ghost use Rattle.std.specs.List.{All};
 ghost use Rattle.agent_core.specs.Packs.{packed, unpacked};
 ghost use Rattle.agent_core.specs.Parts.{joined, packed_bytes, text_of_body, text_of_parts};
+ghost use Rattle.change_core.specs.Members.{digest_text, members};
+ghost use Rattle.change_core.specs.declared.changes.Change.{Change};
+ghost use Rattle.hash_ring.specs.Points.{owners};
+ghost use Rattle.hash_ring.specs.Serving.{servers_of};
+ghost use Rattle.agent_core.specs.Texts.{on_ring};
 ghost use Rattle.base64.specs.GeneralPurpose.{IsBytes};
 
 /// Unpacking a packed answer returns its status, whether it is JSON, and its body, for each status from 200 to 599.
@@ -20,4 +25,13 @@ pub fn packs()
 pub fn parts()
     ensures joined { (a : List (List ℕ)) (b : List (List ℕ)) → All (λ p. length p < 2 ^ 64) a → All (λ p. length p < 2 ^ 64) b → joined a ≡ joined b → a ≡ b }
     ensures packed { (a : List ℕ) (b : List ℕ) → IsBytes a → IsBytes b → packed_bytes a ≡ packed_bytes b → a ≡ b }
+{}
+
+/// Rings whose digests are of one text have the same members that serve, with the same weights, and so the same owners of each key, by the same
+/// hash and the same number of replicas.
+pub fn rings()
+    ensures serving { (a : List Change) (b : List Change) → digest_text (on_ring a) ≡ digest_text (on_ring b) → on_ring a ≡ on_ring b }
+    ensures servers { (a : List Change) (b : List Change) → on_ring (members a) ≡ on_ring (members b) → servers_of a ≡ servers_of b }
+    ensures owners { (hash : List ℕ → ℕ) (replicas : ℕ) (key : List ℕ) (a : List Change) (b : List Change)
+        → digest_text (on_ring (members a)) ≡ digest_text (on_ring (members b)) → owners hash replicas (servers_of a) key ≡ owners hash replicas (servers_of b) key }
 {}

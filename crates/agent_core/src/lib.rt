@@ -5,25 +5,31 @@
 
 mod actions;
 mod answers;
+mod key_lists;
 pub mod laws;
 mod metrics;
 mod packs;
 mod pages;
 mod parts;
+mod questions;
 mod refusals;
 mod routes;
+mod shares;
 mod texts;
 mod verbs;
 mod warnings;
 
 pub use actions::Action;
 pub use answers::{Answer, Kind};
-pub use metrics::{BUCKETS, Counts, PortCounts, bucket_of, metrics_text};
+pub use key_lists::{KeyList, MAX_LISTED};
+pub use metrics::{BUCKETS, Counts, PortCounts, WaitingCounts, bucket_of, metrics_text};
 pub use packs::{MAX_BODY_BYTES, MAX_STATUS, MIN_STATUS, Packed, pack, unpack};
 pub use pages::PAGE;
 pub use parts::{MAX_REQUEST_BYTES, pack_body, pack_bytes, parts_in, push_part, unpack_bytes};
+pub use questions::{MAX_SECONDS, question_at};
 pub use refusals::{Failure, Part, Refusal};
 pub use routes::{MAX_KEY_BYTES, MAX_OWNERS, key_of, key_text, route};
-pub use texts::{digest_line, members_text, owners_text};
+pub use shares::{MAX_OWN, MAX_WAITING, OWNER_SHARE, Shares};
+pub use texts::{digest_line, members_text, on_ring, owners_text, push_owners, ring_text};
 pub use verbs::Verb;
-pub use warnings::{MANY_ADDRESSES, Notice, Refutations, are_many_addresses};
+pub use warnings::{MANY_ADDRESSES, Notice, Refutations, are_many_addresses, is_live};

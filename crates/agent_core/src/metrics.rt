@@ -1,8 +1,9 @@
 //! The counts of an agent, in the text format of Prometheus (version 0.0.4).
 ghost use Rattle.std.specs.Prelude.{◌≡◌, ◌<◌, ◌++◌, IfOk, OnOk, count_by, length, string_bytes};
 ghost use Rattle.change_core.specs.Status.{rank};
-ghost use Rattle.agent_core.specs.Metrics.{address_samples, bucket_of, bucket_sample, bucket_samples, connection_samples, holds, metrics_text, other_samples, request_samples, round_samples, sample, status_sample, status_samples, time_samples, within, worker_samples};
+ghost use Rattle.agent_core.specs.Metrics.{address_samples, bucket_of, bucket_sample, bucket_samples, connection_samples, holds, metrics_text, other_samples, question_samples, request_samples, round_samples, sample, status_sample, status_samples, time_samples, waiting_samples, within, worker_samples};
 
+use crate::shares::{MAX_OWN, MAX_WAITING, OWNER_SHARE};
 use change_core::{Change, MAX_MEMBERS, Status};
 use std::alloc::{AllocError, Global};
 use std::fmt::Write;
@@ -22,6 +23,17 @@ pub struct PortCounts {
     pub evicted: u64,
     /// How often the system let none be accepted.
     pub failures: u64,
+}
+
+/// The requests of keys that wait at an agent for the application of the key's owner.
+#[derive(Clone, Copy, Debug, Default, PartialEq, Eq)]
+pub struct WaitingCounts {
+    /// Those of keys of this node.
+    pub own: u64,
+    /// Those of keys of other nodes.
+    pub others: u64,
+    /// Those that found no place since the agent started.
+    pub refused: u64,
 }
 
 /// The counts of an agent since it started.
@@ -59,12 +71,18 @@ pub struct Counts {
     pub link_failures: u64,
     /// Allocations that failed.
     pub allocation_failures: u64,
+    /// The requests of keys that wait.
+    pub waiting: WaitingCounts,
     /// The connections of clients over HTTP.
     pub http: PortCounts,
     /// The workers that serve one of them.
     pub workers_used: u64,
     /// The workers that there are.
     pub workers_max: u64,
+    /// The questions about the ring that wait.
+    pub questions_used: u64,
+    /// The most that may.
+    pub questions_max: u64,
 }
 
 /// Returns the bucket of a time in microseconds, from 0 to 9.
@@ -276,6 +294,31 @@ fn push_others(text: &mut String, counts: &Counts) -> Result<(), AllocError>
     Ok(())
 }
 
+/// Appends the numbers of requests that wait, the most that may, and how many found no place.
+fn push_waiting(text: &mut String, waiting: &WaitingCounts) -> Result<(), AllocError>
+    ensures { OnOk result (string_bytes text.new ≡ string_bytes text.old ++ waiting_samples waiting.now) }
+{
+    text.push_str("# TYPE ringpop_waiting_used gauge\n")?;
+    push_sample(text, "ringpop_waiting_used{owner=\"self\"}", waiting.own)?;
+    push_sample(
+        text,
+        "ringpop_waiting_used{owner=\"others\"}",
+        waiting.others,
+    )?;
+    text.push_str("# TYPE ringpop_waiting_max gauge\n")?;
+    push_sample(text, "ringpop_waiting_max{owner=\"self\"}", MAX_OWN)?;
+    push_sample(
+        text,
+        "ringpop_waiting_max{owner=\"others\"}",
+        MAX_WAITING as u64,
+    )?;
+    text.push_str("# TYPE ringpop_waiting_share gauge\n")?;
+    push_sample(text, "ringpop_waiting_share", OWNER_SHARE as u64)?;
+    text.push_str("# TYPE ringpop_waiting_refused_total counter\n")?;
+    push_sample(text, "ringpop_waiting_refused_total", waiting.refused)?;
+    Ok(())
+}
+
 /// Appends the numbers of connections, the most that there may be, and those that found no place.
 fn push_connections(text: &mut String, http: &PortCounts) -> Result<(), AllocError>
     ensures { OnOk result (string_bytes text.new ≡ string_bytes text.old ++ connection_samples http.now) }
@@ -310,6 +353,17 @@ fn push_workers(text: &mut String, counts: &Counts) -> Result<(), AllocError>
     Ok(())
 }
 
+/// Appends the number of questions about the ring that wait, and the most that may.
+fn push_questions(text: &mut String, counts: &Counts) -> Result<(), AllocError>
+    ensures { OnOk result (string_bytes text.new ≡ string_bytes text.old ++ question_samples counts.now) }
+{
+    text.push_str("# TYPE ringpop_questions_used gauge\n")?;
+    push_sample(text, "ringpop_questions_used", counts.questions_used)?;
+    text.push_str("# TYPE ringpop_questions_max gauge\n")?;
+    push_sample(text, "ringpop_questions_max", counts.questions_max)?;
+    Ok(())
+}
+
 /// Returns the counts, and the number of members with each status, in the text format of Prometheus.
 ///
 /// # Errors
@@ -329,7 +383,9 @@ pub fn metrics_text(
     push_times(&mut text, counts)?;
     push_rounds(&mut text, counts)?;
     push_others(&mut text, counts)?;
+    push_waiting(&mut text, &counts.waiting)?;
     push_connections(&mut text, &counts.http)?;
     push_workers(&mut text, counts)?;
+    push_questions(&mut text, counts)?;
     Ok(text)
 }

@@ -1,8 +1,11 @@
 //! The refusals of requests, and the status and the text of each.
 ghost use Rattle.std.specs.Prelude.{◌≡◌, ◌≤◌, ◌∷◌, ◌++◌, []};
 ghost use Rattle.agent_core.specs.Refusals.{failure_text, line_of, status_of};
+ghost use Rattle.agent_core.specs.declared.refusals.Refusal.TheVariants.{Memory as no_memory};
 
 use crate::verbs::Verb;
+use change_core::Address;
+use std::alloc::{AllocError, AllocFailed};
 
 /// A part of a request that is malformed.
 #[derive(Clone, Copy, Debug, PartialEq, Eq)]
@@ -13,6 +16,10 @@ pub enum Part {
     Count,
     /// The body is not UTF-8.
     Body,
+    /// The body of a request for the owners of keys starts with `[` and is not a JSON list.
+    Keys,
+    /// The query is not `after=` and a digest, or that, `&wait=` and a number from 1 to 60.
+    After,
 }
 
 /// A reason why a request to the application has no answer that can be passed on.
@@ -48,6 +55,8 @@ pub enum Refusal {
     Exhausted,
     /// The body has more than 131,072 bytes.
     LongBody,
+    /// A request for the owners of keys has more than 4,096.
+    ManyKeys,
     /// The application failed, and no more is known.
     ApplicationFailed,
     /// The application of the key's owner gave no answer that can be passed on.
@@ -60,10 +69,16 @@ pub enum Refusal {
     HasLeft,
     /// The system lets no HTTP connection be accepted.
     CannotAccept,
+    /// No round of gossip ended in the last ten seconds.
+    NoRounds,
     /// No member serves, so no key has an owner.
     Nobody,
     /// Too many requests wait for the application.
     Busy,
+    /// As many questions about the ring wait as may.
+    ManyQuestions,
+    /// Too many requests wait for the key's owner, the node at this address.
+    OwnerBusy(Address),
     /// The node takes no more calls.
     Spent,
     /// Out of memory.
@@ -88,10 +103,26 @@ impl Failure {
     }
 }
 
+impl From<AllocError> for Refusal {
+    ghost from_gives = { λ _ e. e ≡ no_memory };
+
+    fn from(_error: AllocError) -> Self {
+        Refusal::Memory
+    }
+}
+
+impl<T: Drop> From<AllocFailed<T>> for Refusal {
+    ghost from_gives = { λ _ e. e ≡ no_memory };
+
+    fn from(_error: AllocFailed<T>) -> Self {
+        Refusal::Memory
+    }
+}
+
 impl Refusal {
     /// Returns the status code of HTTP (RFC 9110, section 15).
-    pub fn status(self) -> u16
-        ensures status { result ≡ status_of self }
+    pub fn status(&self) -> u16
+        ensures status { result ≡ status_of self.now }
         ensures range { (400 ≤ result) × (result ≤ 599) }
     {
         match self {
@@ -100,14 +131,17 @@ impl Refusal {
             Refusal::NotFound => 404,
             Refusal::BadMethod(_) => 405,
             Refusal::AlreadyLeft | Refusal::NotLeft | Refusal::Exhausted => 409,
-            Refusal::LongBody => 413,
+            Refusal::LongBody | Refusal::ManyKeys => 413,
             Refusal::ApplicationFailed | Refusal::Unanswered(_) => 502,
             Refusal::ApplicationDown
             | Refusal::NotJoined
             | Refusal::HasLeft
             | Refusal::CannotAccept
+            | Refusal::NoRounds
             | Refusal::Nobody
             | Refusal::Busy
+            | Refusal::ManyQuestions
+            | Refusal::OwnerBusy(_)
             | Refusal::Spent
             | Refusal::Memory => 503,
             Refusal::OwnerSilent => 504,
@@ -115,13 +149,17 @@ impl Refusal {
     }
 
     /// Returns the refusal's text, one line with its newline.
-    pub fn line(self) -> &'static str
-        ensures { result.now ≡ line_of self }
+    pub fn line(&self) -> &'static str
+        ensures { result.now ≡ line_of self.now }
     {
         match self {
             Refusal::Malformed(Part::Key) => "bad key: not 1 to 1024 bytes of UTF-8\n",
             Refusal::Malformed(Part::Count) => "bad count: not n=1 to n=4096\n",
             Refusal::Malformed(Part::Body) => "bad body: not UTF-8\n",
+            Refusal::Malformed(Part::Keys) => "bad keys: not a JSON list of texts\n",
+            Refusal::Malformed(Part::After) => {
+                "bad query: not after=DIGEST, or after=DIGEST&wait=1 to wait=60\n"
+            }
             Refusal::CrossSite => "refused: asked by a page of another site\n",
             Refusal::NotFound => "nothing at this path\n",
             Refusal::BadMethod(Verb::Get) => "bad method: this path takes GET\n",
@@ -130,14 +168,22 @@ impl Refusal {
             Refusal::NotLeft => "the node has not left\n",
             Refusal::Exhausted => "no incarnation is left\n",
             Refusal::LongBody => "bad body: more than 131072 bytes\n",
+            Refusal::ManyKeys => "bad keys: more than 4096\n",
             Refusal::ApplicationFailed => "the application failed\n",
             Refusal::Unanswered(failure) => failure.line(),
             Refusal::ApplicationDown => "the application does not answer\n",
             Refusal::NotJoined => "no host has answered\n",
             Refusal::HasLeft => "the node has left\n",
             Refusal::CannotAccept => "no HTTP connection can be accepted\n",
+            Refusal::NoRounds => "no round of gossip ended in the last ten seconds\n",
             Refusal::Nobody => "nobody serves\n",
             Refusal::Busy => "too many requests wait\n",
+            Refusal::ManyQuestions => {
+                "too many questions wait: 1000, or half of the connections; ask again after a second, or without wait\n"
+            }
+            Refusal::OwnerBusy(_) => {
+                "too many requests wait for the owner of this key: send it again later; keys of other owners are answered\n"
+            }
             Refusal::Spent => "the node takes no more calls\n",
             Refusal::Memory => "out of memory\n",
             Refusal::OwnerSilent => "the owner does not answer\n",

@@ -1,9 +1,10 @@
 //! The action that a request asks for, by its method, path, query and body.
 ghost use Rattle.std.specs.Prelude.{◌≡◌, ◌≢◌, IfOk, IfErr, OnOk, option_copied};
-ghost use Rattle.agent_core.specs.Requests.{AsksForKey, asked, body_in, count_in, count_of, handled, key_in, key_text, named, place_of, plain, segment, verb_name};
+ghost use Rattle.agent_core.specs.Requests.{AsksForKey, AsksForRing, asked, body_in, count_in, count_of, handled, key_in, key_text, named, open_at, place_of, plain, segment, verb_name};
 
 use crate::actions::Action;
 use crate::packs::MAX_BODY_BYTES;
+use crate::questions::{all_owners, ring};
 use crate::refusals::{Part, Refusal};
 use crate::verbs::Verb;
 use message_core::{Text, WireError};
@@ -17,7 +18,7 @@ pub const MAX_KEY_BYTES: usize = 1_024;
 pub const MAX_OWNERS: usize = 4_096;
 
 /// Returns a copy of the text.
-fn text_of(alloc: Global, text: &str) -> Result<Text, Refusal>
+pub(crate) fn text_of(alloc: Global, text: &str) -> Result<Text, Refusal>
     ensures copy { IfOk result (λ t. t ≡ text.now) }
     ensures refusal { IfErr result (λ e. e ≡ Refusal.Memory) }
 {
@@ -60,7 +61,7 @@ fn body_of(alloc: Global, body: &[u8]) -> Result<Text, Refusal>
 }
 
 /// Returns the number that decimal digits write; None if it is not 1 to 4,096, or has a sign.
-fn count_of(digits: &str) -> Option<usize>
+pub(crate) fn count_of(digits: &str) -> Option<usize>
     ensures { result ≡ count_of digits.now }
 {
     if digits.starts_with('+') {
@@ -77,7 +78,7 @@ fn count_of(digits: &str) -> Option<usize>
 }
 
 /// Returns the number of owners that a query asks for: one if there is no query.
-fn count_in(query: Option<&str>) -> Result<usize, Refusal>
+pub(crate) fn count_in(query: Option<&str>) -> Result<usize, Refusal>
     ensures { result ≡ count_in (option_copied query.entry) }
 {
     let Some(query) = query else {
@@ -109,7 +110,8 @@ fn plain(method: &str, path: &str) -> Result<Action, Refusal>
         "/" => (Verb::Get, Action::Page),
         "/members" => (Verb::Get, Action::Members),
         "/digest" => (Verb::Get, Action::Digest),
-        "/healthz" => (Verb::Get, Action::Health),
+        "/healthz" | "/readyz" => (Verb::Get, Action::Health),
+        "/livez" => (Verb::Get, Action::Live),
         "/metrics" => (Verb::Get, Action::Metrics),
         "/leave" => (Verb::Post, Action::Leave),
         "/rejoin" => (Verb::Post, Action::Rejoin),
@@ -161,8 +163,33 @@ pub fn key_text<'a>(path: &'a str, field: Option<&'a str>) -> Option<&'a str>
     path.strip_prefix("/keys/").map(segment)
 }
 
+/// Returns the action at a path with no key in it.
+fn open(
+    alloc: Global,
+    method: &str,
+    path: &str,
+    query: Option<&str>,
+    body: &[u8],
+) -> Result<Action, Refusal>
+    ensures action { IfOk result (λ action. open_at method.now path.now (option_copied query.entry) body.now ≡ Ok action) }
+    ensures refused { IfErr result (λ e. e ≢ Refusal.Memory → open_at method.now path.now (option_copied query.entry) body.now ≡ Err e) }
+    ensures memory { result ≡ Err Refusal.Memory → AsksForRing method.now path.now }
+{
+    if path == "/owners" {
+        check_method(method, Verb::Post)?;
+        return all_owners(alloc, query, body);
+    }
+    if path == "/ring" {
+        check_method(method, Verb::Get)?;
+        return ring(alloc, query);
+    }
+    plain(method, path)
+}
+
 /// Returns the action that a request asks for. The paths with a key are `POST /keys/KEY`, which reads the body and no
-/// query, and `GET /owner/KEY`, which reads the query (`n=COUNT`, or none for 1) and no body. The others read neither.
+/// query, and `GET /owner/KEY`, which reads the query (`n=COUNT`, or none for 1) and no body. `POST /owners` reads the keys in the
+/// body and the query (`n=COUNT`, `not-mine=1`, or both), `GET /ring` the query (`after=DIGEST&wait=SECONDS`, or the first part). The
+/// others read neither.
 ///
 /// # Errors
 ///
@@ -172,9 +199,15 @@ pub fn key_text<'a>(path: &'a str, field: Option<&'a str>) -> Option<&'a str>
 /// - `BadMethod`: the path takes another method, which the error names.
 /// - `Malformed(Part::Key)`: the rest of the path, percent-decoded, is not 1 to 1,024 bytes of UTF-8.
 /// - `LongBody`: the body of a request for a key has more than 131,072 bytes.
-/// - `Malformed(Part::Body)`: that body is not UTF-8.
-/// - `Malformed(Part::Count)`: the query for a key's owners is not `n=` and a number from 1 to 4,096 without a sign.
-/// - `Memory`: out of memory for the key or the body; never at a path without a key.
+/// - `Malformed(Part::Body)`: that body is not UTF-8, or that of a request for the owners of keys.
+/// - `Malformed(Part::Keys)`: the body of a request for the owners of keys starts with `[`, and is not a JSON list.
+/// - `ManyKeys`: it has more than 4,096 keys.
+/// - `Malformed(Part::Key)`: one of them is not 1 to 1,024 bytes of UTF-8.
+/// - `Malformed(Part::Count)`: the query for the owners of one key is not `n=` and a number from 1 to 4,096 without a sign, or that
+///   for the owners of many is not that, `not-mine=1`, or both joined by `&`.
+/// - `Malformed(Part::After)`: the query of a request for the ring is not `after=` and a digest, perhaps with `&wait=` and a number from
+///   1 to 60 without a sign after that.
+/// - `Memory`: out of memory for a key, the body or a digest; never at another path.
 pub fn route(
     alloc: Global,
     method: &str,
@@ -194,5 +227,5 @@ pub fn route(
         check_method(method, Verb::Get)?;
         return owners(alloc, rest, query);
     }
-    plain(method, path)
+    open(alloc, method, path, query, body)
 }

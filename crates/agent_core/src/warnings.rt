@@ -1,5 +1,5 @@
 //! The conditions of the log's warnings.
-ghost use Rattle.std.specs.Prelude.{◌≡◌, ◌≤◌, ◌<◌, ◌/◌, ◌↔◌, IsTrue, false};
+ghost use Rattle.std.specs.Prelude.{◌≡◌, ◌+◌, ◌≤◌, ◌<◌, ◌/◌, ◌↔◌, IsTrue, false};
 ghost use Rattle.agent_core.specs.Warnings.{is_news, is_often, is_over, noted, told};
 
 use change_core::Moment;
@@ -15,6 +15,17 @@ const OFTEN: u32 = 6;
 
 /// The milliseconds after a line about a node, a service or a task for which the log says nothing more of it.
 const QUIET: u64 = 10_000;
+
+/// The milliseconds after the last round from which on an agent is taken as hung.
+const MAX_STILL: u64 = 10_000;
+
+/// Returns whether an agent makes rounds: the last one ended, or it started, less than ten seconds ago. Both moments are in
+/// milliseconds.
+pub fn is_live(last: u64, now: u64) -> bool
+    ensures { IsTrue result ↔ (now < last + 10000) }
+{
+    now.saturating_sub(last) < MAX_STILL
+}
 
 /// Returns whether the number of addresses used, which was `before` and is `now`, is reason for a warning: it is 3,000 or
 /// more, and has reached another hundred.

@@ -1,10 +1,12 @@
 use agent_core::*;
 
 /// A refusal, its status and the start of its line.
-const ROWS: [(Refusal, u16, &str); 24] = rows! {
+const ROWS: [(Refusal, u16, &str); 29] = rows! {
     Refusal::Malformed(Part::Key), 400, "bad key";
     Refusal::Malformed(Part::Count), 400, "bad count";
     Refusal::Malformed(Part::Body), 400, "bad body";
+    Refusal::Malformed(Part::Keys), 400, "bad keys: not a JSON";
+    Refusal::Malformed(Part::After), 400, "bad query";
     Refusal::CrossSite, 403, "refused";
     Refusal::NotFound, 404, "nothing";
     Refusal::BadMethod(Verb::Get), 405, "bad method: this path takes GET";
@@ -13,6 +15,7 @@ const ROWS: [(Refusal, u16, &str); 24] = rows! {
     Refusal::NotLeft, 409, "the node has not left";
     Refusal::Exhausted, 409, "no incarnation";
     Refusal::LongBody, 413, "bad body";
+    Refusal::ManyKeys, 413, "bad keys: more than";
     Refusal::ApplicationFailed, 502, "the application failed";
     Refusal::Unanswered(Failure::NotAccepted), 502, "the owner's application accepts no connection";
     Refusal::Unanswered(Failure::HungUp), 502, "the owner's application hung up";
@@ -21,8 +24,10 @@ const ROWS: [(Refusal, u16, &str); 24] = rows! {
     Refusal::ApplicationDown, 503, "the application does not answer";
     Refusal::NotJoined, 503, "no host";
     Refusal::HasLeft, 503, "the node has left";
+    Refusal::NoRounds, 503, "no round of gossip";
     Refusal::Nobody, 503, "nobody serves";
     Refusal::Busy, 503, "too many requests";
+    Refusal::ManyQuestions, 503, "too many questions wait: 1000";
     Refusal::Spent, 503, "the node takes no more calls";
     Refusal::Memory, 503, "out of memory";
     Refusal::OwnerSilent, 504, "the owner does not answer";
@@ -31,7 +36,7 @@ const ROWS: [(Refusal, u16, &str); 24] = rows! {
 #[test]
 fn answers_each_refusal_with_its_status_and_a_line(rt: HostRuntime) {
     for (refusal, status, start) in &ROWS {
-        let answer = Answer::refused(*refusal);
+        let answer = Answer::refused(refusal);
         assert!(rt; answer.status == *status, "{start}");
         assert!(rt;
             answer.kind.name() == "text/plain; charset=utf-8",

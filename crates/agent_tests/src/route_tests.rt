@@ -1,20 +1,47 @@
 use agent_core::*;
 use std::alloc::{AllocError, Global};
+use std::env::Env;
+use std::process::Abort;
 
 /// The action of a request or its refusal, in a form that can be compared.
 #[derive(Clone, Copy, Debug)]
 enum Wanted {
     Handle(&'static str, &'static str),
     Owners(&'static str, usize),
+    /// The first key, the last, how many there are, the number of owners and whether only those of others are wanted.
+    AllOwners(&'static str, &'static str, usize, usize, bool),
+    Ring(Option<&'static str>),
     Members,
     Digest,
     Health,
+    Live,
     Metrics,
     Page,
     Leave,
     Rejoin,
     Stop,
-    Refused(Refusal),
+    Refused(Reason),
+}
+
+/// A refusal of `route`. (None of them names an address, so a table of them may be a static.)
+#[derive(Clone, Copy, Debug)]
+enum Reason {
+    Malformed(Part),
+    BadMethod(Verb),
+    NotFound,
+    LongBody,
+    ManyKeys,
+}
+
+fn is_refused(refusal: &Refusal, reason: Reason) -> bool {
+    match (refusal, reason) {
+        (Refusal::Malformed(part), Reason::Malformed(wanted)) => *part == wanted,
+        (Refusal::BadMethod(verb), Reason::BadMethod(wanted)) => *verb == wanted,
+        (Refusal::NotFound, Reason::NotFound)
+        | (Refusal::LongBody, Reason::LongBody)
+        | (Refusal::ManyKeys, Reason::ManyKeys) => true,
+        _ => false,
+    }
 }
 
 fn is_wanted(asked: &Result<Action, Refusal>, wanted: Wanted) -> bool {
@@ -24,15 +51,36 @@ fn is_wanted(asked: &Result<Action, Refusal>, wanted: Wanted) -> bool {
         }
         (Ok(Action::Owners { key, count }), Wanted::Owners(a, n)) => key.as_str() == a
             && *count == n,
+        (
+            Ok(
+                Action::AllOwners {
+                    keys,
+                    count,
+                    only_others,
+                },
+            ),
+            Wanted::AllOwners(first, last, number, n, others),
+        ) => {
+            let keys = keys.as_slice();
+            keys.len() == number
+                && keys.first().is_none_or(|key| key.as_str() == first)
+                && keys.last().is_none_or(|key| key.as_str() == last)
+                && *count == n
+                && *only_others == others
+        }
+        (Ok(Action::Ring { after: Some(after) }), Wanted::Ring(Some(text))) => after.as_str()
+            == text,
+        (Ok(Action::Ring { after: None }), Wanted::Ring(None)) => true,
         (Ok(Action::Members), Wanted::Members)
         | (Ok(Action::Digest), Wanted::Digest)
         | (Ok(Action::Health), Wanted::Health)
+        | (Ok(Action::Live), Wanted::Live)
         | (Ok(Action::Metrics), Wanted::Metrics)
         | (Ok(Action::Page), Wanted::Page)
         | (Ok(Action::Leave), Wanted::Leave)
         | (Ok(Action::Rejoin), Wanted::Rejoin)
         | (Ok(Action::Stop), Wanted::Stop) => true,
-        (Err(refusal), Wanted::Refused(wanted)) => *refusal == wanted,
+        (Err(refusal), Wanted::Refused(reason)) => is_refused(refusal, reason),
         _ => false,
     }
 }
@@ -46,17 +94,21 @@ type Row = (
     Wanted,
 );
 
-const KEY: Wanted = Wanted::Refused(Refusal::Malformed(Part::Key));
+const KEY: Wanted = Wanted::Refused(Reason::Malformed(Part::Key));
 
-const COUNT: Wanted = Wanted::Refused(Refusal::Malformed(Part::Count));
+const COUNT: Wanted = Wanted::Refused(Reason::Malformed(Part::Count));
 
-const GET_ONLY: Wanted = Wanted::Refused(Refusal::BadMethod(Verb::Get));
+const KEYS: Wanted = Wanted::Refused(Reason::Malformed(Part::Keys));
 
-const POST_ONLY: Wanted = Wanted::Refused(Refusal::BadMethod(Verb::Post));
+const AFTER: Wanted = Wanted::Refused(Reason::Malformed(Part::After));
 
-const NOWHERE: Wanted = Wanted::Refused(Refusal::NotFound);
+const GET_ONLY: Wanted = Wanted::Refused(Reason::BadMethod(Verb::Get));
 
-static ROWS: [Row; 57] = rows! {
+const POST_ONLY: Wanted = Wanted::Refused(Reason::BadMethod(Verb::Post));
+
+const NOWHERE: Wanted = Wanted::Refused(Reason::NotFound);
+
+static ROWS: [Row; 81] = rows! {
     "POST", "/keys/a", None, b"hello", Wanted::Handle("a", "hello");
     "POST", "/keys/a", None, b"", Wanted::Handle("a", "");
     "POST", "/keys/a%20b%2Fc%C3%BC", None, b"x", Wanted::Handle("a b/c\u{fc}", "x");
@@ -66,7 +118,7 @@ static ROWS: [Row; 57] = rows! {
     "POST", "/keys/%zz%4", None, b"x", Wanted::Handle("%zz%4", "x");
     "POST", "/keys/%00", None, b"x", Wanted::Handle("\0", "x");
     "POST", "/keys/a", Some("n=0"), b"x", Wanted::Handle("a", "x");
-    "POST", "/keys/a", None, b"\xc3", Wanted::Refused(Refusal::Malformed(Part::Body));
+    "POST", "/keys/a", None, b"\xc3", Wanted::Refused(Reason::Malformed(Part::Body));
     "POST", "/keys/", None, b"x", KEY;
     "POST", "/keys/%ff", None, b"x", KEY;
     "POST", "/keys/%ff", None, b"\xc3", KEY;
@@ -98,11 +150,35 @@ static ROWS: [Row; 57] = rows! {
     "GET", "/members", Some("x"), b"\xff", Wanted::Members;
     "GET", "/digest", None, b"", Wanted::Digest;
     "GET", "/healthz", None, b"", Wanted::Health;
+    "GET", "/readyz", None, b"", Wanted::Health;
+    "GET", "/livez", None, b"", Wanted::Live;
     "GET", "/metrics", None, b"", Wanted::Metrics;
     "GET", "/", None, b"", Wanted::Page;
     "POST", "/leave", None, b"", Wanted::Leave;
     "POST", "/rejoin", None, b"", Wanted::Rejoin;
     "POST", "/stop", None, b"", Wanted::Stop;
+    "POST", "/owners", None, b"a\nb%0Ac\r\nd", Wanted::AllOwners("a", "d", 3, 1, false);
+    "POST", "/owners", Some("n=2&not-mine=1"), b"[\"a\", \"b%0A\\n\"]", Wanted::AllOwners("a", "b%0A\n", 2, 2, true);
+    "POST", "/owners", Some("not-mine=1&n=3"), b"%5B\n", Wanted::AllOwners("[", "[", 1, 3, true);
+    "POST", "/owners", Some("not-mine=1"), b"", Wanted::AllOwners("", "", 0, 1, true);
+    "POST", "/owners", None, b"[]", Wanted::AllOwners("", "", 0, 1, false);
+    "POST", "/owners", None, b"a\n\nb", KEY;
+    "POST", "/owners", None, b"[\"a\",1]", KEY;
+    "POST", "/owners", None, b"[\"\"]", KEY;
+    "POST", "/owners", Some("n=0"), b"a", COUNT;
+    "POST", "/owners", Some("not-mine=0"), b"a", COUNT;
+    "POST", "/owners", None, b"[\"a\"", KEYS;
+    "POST", "/owners", None, b"[] []", KEYS;
+    "POST", "/owners", None, b"\xc3", Wanted::Refused(Reason::Malformed(Part::Body));
+    "GET", "/owners", None, b"", POST_ONLY;
+    "GET", "/ring", None, b"", Wanted::Ring(None);
+    "GET", "/ring", Some("after=x"), b"", Wanted::Ring(Some("x"));
+    "GET", "/ring", Some("after=x&wait=60"), b"", Wanted::Ring(Some("x"));
+    "GET", "/ring", Some("after=x&wait=61"), b"", AFTER;
+    "GET", "/ring", Some("after=x&wait=0"), b"", AFTER;
+    "GET", "/ring", Some("after=x&n=1"), b"", AFTER;
+    "GET", "/ring", Some("wait=1"), b"", AFTER;
+    "POST", "/ring", None, b"", GET_ONLY;
     "POST", "/members", None, b"", GET_ONLY;
     "HEAD", "/digest", None, b"", GET_ONLY;
     "DELETE", "/healthz", None, b"", GET_ONLY;
@@ -116,15 +192,26 @@ static ROWS: [Row; 57] = rows! {
     "BREW", "/favicon.ico", None, b"", NOWHERE;
 };
 
+/// Returns whether this request asks what is wanted.
+fn asks(
+    rt: &(impl Env + Abort),
+    alloc: Global,
+    (method, path): (&str, &str),
+    query: Option<&str>,
+    body: &[u8],
+    wanted: Wanted,
+) -> bool {
+    let asked = again!(rt, Refusal::Memory, route(alloc, method, path, query, body));
+    is_wanted(&asked, wanted)
+}
+
 #[test]
 fn asks_what_each_row_says(rt: HostRuntime) {
     for (method, path, query, body, wanted) in &ROWS {
-        let asked = again!(
-            &rt,
-            Refusal::Memory,
-            route(rt.alloc(), *method, *path, *query, *body)
+        assert!(rt;
+            asks(&rt, rt.alloc(), (*method, *path), *query, *body, *wanted),
+            "{method} {path}"
         );
-        assert!(rt; is_wanted(&asked, *wanted), "{method} {path}");
     }
 }
 
@@ -137,32 +224,70 @@ fn path_of(alloc: Global, len: usize) -> Result<String, AllocError> {
     Ok(path)
 }
 
-/// A path with a key of `len` bytes, and a body of `len` bytes.
+/// Returns whether a key of `len` bytes is taken, or else refused.
+fn takes_key(rt: &(impl Env + Abort), alloc: Global, len: usize, fits: bool) -> bool {
+    let path = again!(rt, _, path_of(alloc, len));
+    let path = path.ok().expect(rt, "a path");
+    let asked = again!(rt, Refusal::Memory, route(alloc, "GET", &path, None, b""));
+    asked.is_ok() == fits && (fits || is_wanted(&asked, KEY))
+}
+
+/// Returns whether a body of `len` bytes is taken, or else refused.
+fn takes_body(rt: &(impl Env + Abort), alloc: Global, len: usize, fits: bool) -> bool {
+    let body = again!(rt, _, vec![in alloc; b'b'; len]);
+    let body = body.ok().expect(rt, "a body");
+    let asked = again!(
+        rt,
+        Refusal::Memory,
+        route(alloc, "POST", "/keys/k", None, &body)
+    );
+    asked.is_ok() == fits && (fits || is_wanted(&asked, Wanted::Refused(Reason::LongBody)))
+}
+
 #[test]
 fn takes_keys_and_bodies_up_to_their_length(rt: HostRuntime) {
     for (len, fits) in &[(1_024usize, true), (1_025, false)] {
-        let path = again!(&rt, _, path_of(rt.alloc(), *len));
-        let path = path.ok().expect(&rt, "a path");
-        let asked = again!(
-            &rt,
-            Refusal::Memory,
-            route(rt.alloc(), "GET", &path, None, b"")
-        );
-        assert!(rt; asked.is_ok() == *fits, "{len}");
-        assert!(rt; *fits || is_wanted(&asked, KEY), "{len}");
+        assert!(rt; takes_key(&rt, rt.alloc(), *len, *fits), "{len}");
     }
     for (len, fits) in &[(131_072usize, true), (131_073, false)] {
-        let body = again!(&rt, _, vec![in rt.alloc(); b'b'; *len]);
-        let body = body.ok().expect(&rt, "a body");
-        let asked = again!(
-            &rt,
-            Refusal::Memory,
-            route(rt.alloc(), "POST", "/keys/k", None, &body)
-        );
-        assert!(rt; asked.is_ok() == *fits, "{len}");
-        assert!(rt;
-            *fits || is_wanted(&asked, Wanted::Refused(Refusal::LongBody)),
-            "{len}"
-        );
+        assert!(rt; takes_body(&rt, rt.alloc(), *len, *fits), "{len}");
     }
+}
+
+/// The start of a request, and the digest and the seconds of the question that waits.
+static QUESTIONS: [(&str, Option<(&str, usize)>); 5] = [
+    ("GET /ring?after=ab&wait=5 HTTP/1.1\r\n", Some(("ab", 5))),
+    ("GET /ring?after=ab HTTP/1.1\r\n", Some(("ab", 0))),
+    ("GET /ring?after=ab&wait=5", None),
+    ("GET /ring HTTP/1.1\r\n", None),
+    ("GET /members?after=ab&wait=5 HTTP/1.1\r\n", None),
+];
+
+#[test]
+fn finds_the_question_that_waits(rt: HostRuntime) {
+    for (head, wanted) in &QUESTIONS {
+        assert!(rt; question_at(*head) == *wanted);
+    }
+}
+
+/// Returns whether this many lines, the first with a letter and the others empty, are refused as wanted.
+fn refuses_lines(rt: &(impl Env + Abort), alloc: Global, count: usize, wanted: Wanted) -> bool {
+    let lines = again!(rt, _, vec![in alloc; b'\n'; count]);
+    let mut lines = lines.ok().expect(rt, "lines");
+    for byte in lines.iter_mut().take(1) {
+        *byte = b'k';
+    }
+    let asked = again!(
+        rt,
+        Refusal::Memory,
+        route(alloc, "POST", "/owners", None, &lines)
+    );
+    is_wanted(&asked, wanted)
+}
+
+/// 4,096 lines are keys, and one more is too many. (The first has a byte more.)
+#[test]
+fn takes_keys_up_to_their_number(rt: HostRuntime) {
+    assert!(rt; refuses_lines(&rt, rt.alloc(), 4_097, KEY));
+    assert!(rt; refuses_lines(&rt, rt.alloc(), 4_098, Wanted::Refused(Reason::ManyKeys)));
 }

@@ -33,6 +33,54 @@ fn writes_owners(rt: HostRuntime) {
     }
 }
 
+#[test]
+fn writes_the_owners_of_one_key_of_many(rt: HostRuntime) {
+    let owners = [address(&rt, "10.0.0.1:7946"), address(&rt, "10.0.0.2:1")];
+    for (hidden, wanted) in &[
+        (None, "[\"10.0.0.1:7946\",\"10.0.0.2:1\"]"),
+        (Some(owners[1]), "[\"10.0.0.1:7946\",\"10.0.0.2:1\"]"),
+        (Some(owners[0]), "null"),
+    ] {
+        let mut text = String::new(rt.alloc());
+        let pushed = again!(
+            &rt,
+            AllocError,
+            {
+                text.clear();
+                push_owners(&mut text, &owners, *hidden)
+            }
+        );
+        assert!(rt; pushed.is_ok() && text.as_str() == *wanted, "{wanted}");
+    }
+}
+
+#[test]
+fn writes_the_ring(rt: HostRuntime) {
+    let digest = Digest::parse(DIGITS).expect(&rt, "a digest");
+    let members = [
+        member(&rt, "10.0.0.1:7946", Status::Suspect, 7, 1),
+        member(&rt, "10.0.0.2:7946", Status::Faulty, 0, 8),
+        member(&rt, "10.0.0.3:7946", Status::Alive, 9, 2),
+    ];
+    let servers = again!(&rt, AllocError, on_ring(rt.alloc(), &members))
+        .ok()
+        .expect(&rt, "servers");
+    let text = again!(
+        &rt,
+        AllocError,
+        ring_text(
+            rt.alloc(),
+            members[0].address,
+            &digest,
+            100,
+            servers.as_slice()
+        )
+    );
+    let wanted =
+        "{\"ring\":\"e3b0c44298fc1c149afbf4c8996fb92427ae41e4649b934ca495991b7852b855\",\"own\":\"10.0.0.1:7946\",\"replicas\":100,\"serving\":[{\"address\":\"10.0.0.1:7946\",\"weight\":1},{\"address\":\"10.0.0.3:7946\",\"weight\":2}]}\n";
+    assert!(rt; text.ok().expect(&rt, "a text").as_str() == wanted);
+}
+
 /// The SHA-256 of the empty text (FIPS 180-4).
 const DIGITS: &str = "e3b0c44298fc1c149afbf4c8996fb92427ae41e4649b934ca495991b7852b855";
 
@@ -117,6 +165,16 @@ ringpop_application_failures_total 6
 ringpop_link_failures_total 8
 # TYPE ringpop_allocation_failures_total counter
 ringpop_allocation_failures_total 18446744073709551615
+# TYPE ringpop_waiting_used gauge
+ringpop_waiting_used{owner=\"self\"} 16
+ringpop_waiting_used{owner=\"others\"} 17
+# TYPE ringpop_waiting_max gauge
+ringpop_waiting_max{owner=\"self\"} 96
+ringpop_waiting_max{owner=\"others\"} 128
+# TYPE ringpop_waiting_share gauge
+ringpop_waiting_share 32
+# TYPE ringpop_waiting_refused_total counter
+ringpop_waiting_refused_total 18
 # TYPE ringpop_connections_used gauge
 ringpop_connections_used{port=\"http\"} 12
 # TYPE ringpop_connections_max gauge
@@ -129,7 +187,45 @@ ringpop_accept_failures_total{port=\"http\"} 14
 ringpop_workers_used 15
 # TYPE ringpop_workers_max gauge
 ringpop_workers_max 256
+# TYPE ringpop_questions_used gauge
+ringpop_questions_used 16
+# TYPE ringpop_questions_max gauge
+ringpop_questions_max 1000
 ";
+
+const COUNTS: Counts = Counts {
+    answered: 7,
+    refused: 2,
+    failed: 1,
+    micros: 12_345_678,
+    buckets: [5, 3, 0, 0, 0, 1, 0, 0, 0, 1],
+    handled: 4,
+    forwards: 3,
+    passed_on: 11,
+    idle: 1,
+    reached: 50,
+    suspected: 2,
+    inconclusive: 3,
+    broken: 0,
+    application_failures: 6,
+    link_failures: 8,
+    allocation_failures: u64::MAX,
+    waiting: WaitingCounts {
+        own: 16,
+        others: 17,
+        refused: 18,
+    },
+    http: PortCounts {
+        used: 12,
+        max: 10_000,
+        evicted: 13,
+        failures: 14,
+    },
+    workers_used: 15,
+    workers_max: 256,
+    questions_used: 16,
+    questions_max: 1_000,
+};
 
 #[test]
 fn writes_metrics(rt: HostRuntime) {
@@ -141,32 +237,6 @@ fn writes_metrics(rt: HostRuntime) {
         member(&rt, "10.0.0.2:1", Status::Faulty, 1, 1),
         member(&rt, "10.0.0.3:1", Status::Alive, 1, 1),
     ];
-    let counts = Counts {
-        answered: 7,
-        refused: 2,
-        failed: 1,
-        micros: 12_345_678,
-        buckets: [5, 3, 0, 0, 0, 1, 0, 0, 0, 1],
-        handled: 4,
-        forwards: 3,
-        passed_on: 11,
-        idle: 1,
-        reached: 50,
-        suspected: 2,
-        inconclusive: 3,
-        broken: 0,
-        application_failures: 6,
-        link_failures: 8,
-        allocation_failures: u64::MAX,
-        http: PortCounts {
-            used: 12,
-            max: 10_000,
-            evicted: 13,
-            failures: 14,
-        },
-        workers_used: 15,
-        workers_max: 256,
-    };
-    let text = again!(&rt, AllocError, metrics_text(rt.alloc(), &counts, &members));
+    let text = again!(&rt, AllocError, metrics_text(rt.alloc(), &COUNTS, &members));
     assert!(rt; text.ok().expect(&rt, "a text").as_str() == METRICS);
 }

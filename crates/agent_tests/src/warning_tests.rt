@@ -1,4 +1,4 @@
-use agent_core::{Notice, Refutations, are_many_addresses};
+use agent_core::{Notice, Refutations, are_many_addresses, is_live};
 use change_core::Moment;
 
 /// A number of addresses, a later one, and whether the later one is reason for a warning.
@@ -47,5 +47,18 @@ fn tells_a_change_that_lasts(rt: HostRuntime) {
         };
         assert!(rt; notice.note(*is_failing, now) == *wanted, "{at}");
         assert!(rt; notice.is_over(now) == (*at < 5), "{at}");
+    }
+}
+
+#[test]
+fn lives_by_its_rounds(rt: HostRuntime) {
+    for (last, now, wanted) in &[
+        (0u64, 0u64, true),
+        (5, 10_004, true),
+        (5, 10_005, false),
+        (20_000, 5, true),
+        (0, u64::MAX, false),
+    ] {
+        assert!(rt; is_live(*last, *now) == *wanted, "{last} {now}");
     }
 }

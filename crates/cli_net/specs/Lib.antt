@@ -1,3 +1,4 @@
+pub mod Agents
 pub mod Asking
 pub mod Commands
 pub mod Dialled

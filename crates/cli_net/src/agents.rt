@@ -1,17 +1,22 @@
 //! The subcommand `agent`: a node next to an application.
 ghost use Rattle.std.specs.Prelude.{◌≡◌, IfOk, OnOk};
 ghost use Rattle.std.specs.Io.KnownBytes.{Appends};
+ghost use Rattle.std.specs.Option.{unwrap_or};
 ghost use Rattle.agent.specs.Texts.{agent_text};
+ghost use Rattle.cli_net.specs.Agents.{filter_of, other_hosts};
 ghost use Rattle.wire_json.specs.Input.{AppendsPrefix};
 
 use agent::{AgentError, Settings, System, run};
+use change_core::Address;
 use cli_words::{AgentWords, LogLevel};
 use log::LevelFilter;
-use std::alloc::Global;
+use std::alloc::{AllocError, Global};
 use std::io::Write;
 
 /// Returns the log's filter for a level of the arguments.
-fn filter_of(level: LogLevel) -> LevelFilter {
+fn filter_of(level: LogLevel) -> LevelFilter
+    ensures { result ≡ filter_of level }
+{
     match level {
         LogLevel::Off => LevelFilter::Off,
         LogLevel::Error => LevelFilter::Error,
@@ -21,16 +26,32 @@ fn filter_of(level: LogLevel) -> LevelFilter {
     }
 }
 
-/// Returns the settings of the arguments. The node's own address is left out of the hosts.
+/// Returns the hosts without the node's own address.
+fn other_hosts(alloc: Global, hosts: &[Address], own: Address) -> Result<Vec<Address>, AllocError>
+    ensures { IfOk result (λ v. v.items ≡ other_hosts hosts.now own) }
+{
+    let mut others = Vec::from_slice(alloc, hosts)?;
+    others.retain(|host| *host != own);
+    Ok(others)
+}
+
+/// Returns the settings of the arguments.
 fn settings_of(alloc: Global, words: &AgentWords) -> Result<Settings, AgentError>
     ensures address { IfOk result (λ s. s.address ≡ words.now.address) }
+    ensures bind { IfOk result (λ s. s.bind ≡ unwrap_or words.now.bind words.now.address) }
+    ensures http { IfOk result (λ s. s.http ≡ words.now.http) }
+    ensures http_any { IfOk result (λ s. s.http_any ≡ words.now.http_any) }
+    ensures app { IfOk result (λ s. s.app ≡ words.now.app) }
+    ensures hands { IfOk result (λ s. s.hands ≡ words.now.hands) }
+    ensures http_connections { IfOk result (λ s. s.http_connections ≡ words.now.http_connections) }
+    ensures period { IfOk result (λ s. s.period ≡ words.now.period) }
+    ensures per_message { IfOk result (λ s. s.per_message ≡ words.now.per_message) }
+    ensures replicas { IfOk result (λ s. s.replicas ≡ words.now.replicas) }
+    ensures weight { IfOk result (λ s. s.weight ≡ words.now.weight) }
+    ensures incarnation { IfOk result (λ s. s.incarnation ≡ words.now.incarnation) }
+    ensures level { IfOk result (λ s. s.level ≡ filter_of words.now.level) }
+    ensures hosts { IfOk result (λ s. s.hosts.items ≡ other_hosts words.now.hosts.items words.now.address) }
 {
-    let mut hosts = Vec::new(alloc);
-    for host in &words.hosts {
-        if *host != words.address {
-            hosts.push(*host)?;
-        }
-    }
     Ok(Settings {
         address: words.address,
         bind: words.bind.unwrap_or(words.address),
@@ -45,7 +66,7 @@ fn settings_of(alloc: Global, words: &AgentWords) -> Result<Settings, AgentError
         weight: words.weight,
         incarnation: words.incarnation,
         level: filter_of(words.level),
-        hosts,
+        hosts: other_hosts(alloc, words.hosts.as_slice(), words.address)?,
     })
 }
 

@@ -6,10 +6,11 @@ ghost use Rattle.node_core.specs.Workers.{IsCrew};
 ghost use Rattle.locked_node.specs.Passes.{Fits, opening_of, passes_of};
 ghost use Rattle.cluster_core.specs.Channels.{any_answer, IsChannelFault, failures_of, reached_by};
 ghost use Rattle.cluster_core.specs.Clusters.{address_in, AreAll, AreApart, AreFresh, given_to, HasNoNode, HasNoPost, IsAbandoned, IsNotStarted, IsOfSeat, NodeDoes, NoneHas, SeatDoes, Seats, IsStarted};
-ghost use Rattle.cluster_core.specs.Working.{AnswersOnce, HasWorked, IsMessageServed, Repeats, ServesOnce};
+ghost use Rattle.cluster_core.specs.Working.{AnswersOnce, HasWorked, IsMessageServed, Repeats, ServesEach, ServesOnce};
 ghost use Rattle.peer_core.specs.Acts.{Makes};
 ghost use Rattle.peer_core.specs.Correcting.{IsCorrectingRound};
 ghost use Rattle.peer_core.specs.Errors.{IsHealRefusal, IsRoundRefusal};
+ghost use Rattle.peer_core.specs.Handling.{between, shared};
 ghost use Rattle.peer_core.specs.Healing.{IsHealing, after_round};
 ghost use Rattle.peer_core.specs.Members.{Done};
 ghost use Rattle.peer_core.specs.Parts.{let_in};
@@ -25,7 +26,8 @@ use locked_node::{LockedNode, NodePass};
 use message_core::Message;
 use node_core::{MAX_WORKERS, NodeState};
 use peer_core::{
-    ClusterError, Handler, Healing, LinkError, Member, Round, correcting_round, gossip_round, heal,
+    ClusterError, Handler, HandlerMut, Healing, LinkError, Member, Round, correcting_round,
+    gossip_round, heal,
 };
 use std::alloc::{AllocError, AllocFailed, Global};
 use std::fmt;
@@ -94,26 +96,26 @@ impl<H: PointHash> Model for Cluster<H> {
 }
 
 /// Answers a message, at the moment that a node reads as its last one.
-fn answer_one<R: Wait, H: PointHash, A: Handler>(
+fn answer_one<R: Wait, H: PointHash, A: HandlerMut>(
     rt: &R,
     member: &mut Member<'_, H, ChannelLink>,
-    handler: &A,
+    handler: &mut A,
     message: &Message,
 ) -> Result<Message, LockError>
-    ensures { Done (Serves H.hash_of any_answer (A.may_handle handler.now) message.now 0 message.now.content) (let_in result) member.old member.new }
+    ensures { Done (Serves H.hash_of any_answer (between A.handled handler.old handler.new) message.now 0 message.now.content) (let_in result) member.old member.new }
 {
     member.serve(rt, handler, Moment::beginning(), message)
 }
 
 /// Answers a message, and puts the answer where the caller waits for it.
-fn answer_to<R: Wait, H: PointHash, A: Handler, O: Outlet<Message> + Drop>(
+fn answer_to<R: Wait, H: PointHash, A: HandlerMut, O: Outlet<Message> + Drop>(
     rt: &R,
     member: &mut Member<'_, H, ChannelLink>,
-    handler: &A,
+    handler: &mut A,
     message: &Message,
     to: O,
 )
-    ensures { AnswersOnce H.hash_of (A.may_handle handler.now) (O.put_in to) message.now member.old member.new }
+    ensures { AnswersOnce H.hash_of (between A.handled handler.old handler.new) (O.put_in to) message.now member.old member.new }
 {
     if let Ok(answer) = answer_one(rt, member, handler, message) {
         let _sent = to.put(rt, answer);
@@ -121,14 +123,14 @@ fn answer_to<R: Wait, H: PointHash, A: Handler, O: Outlet<Message> + Drop>(
 }
 
 /// Answers the next message. Returns `false` if none can come any more, or the worker has to end.
-fn serve_next<R: Wait, H: PointHash, A: Handler>(
+fn serve_next<R: Wait, H: PointHash, A: HandlerMut>(
     rt: &R,
     member: &mut Member<'_, H, ChannelLink>,
-    handler: &A,
+    handler: &mut A,
     jobs: &Receiver<Job>,
 ) -> bool
-    ensures served { IsTrue result → (m : _) × ServesOnce H.hash_of (A.may_handle handler.now) m member.old member.new }
-    ensures ended { IsFalse result → member.new ≡ member.old }
+    ensures served { IsTrue result → (m : _) × ServesOnce H.hash_of (between A.handled handler.old handler.new) m member.old member.new }
+    ensures ended { IsFalse result → (member.new ≡ member.old) × (handler.new ≡ handler.old) }
 {
     match &jobs.recv(rt) {
         Ok(Job::Serve(message, to)) => {
@@ -137,6 +139,39 @@ fn serve_next<R: Wait, H: PointHash, A: Handler>(
         }
         Ok(Job::Stop) | Err(_) => false,
     }
+}
+
+/// Answers messages until none can come any more: the handler is called once for each Forward that the node owns.
+fn work_over<R: Wait, H: PointHash, A: HandlerMut>(
+    rt: &R,
+    member: &mut Member<'_, H, ChannelLink>,
+    handler: &mut A,
+    jobs: &Receiver<Job>,
+)
+    ensures served { Makes member.old.node (ServesEach H.hash_of A.handled handler.old handler.new) member.old.pass.now member.new.pass.now }
+    ensures node { member.new.node ≡ member.old.node }
+    ensures pass { member.new.pass.ghost_name ≡ member.old.pass.ghost_name }
+{
+    'jobs: for _ in rt.forever() {
+        if !serve_next(rt, member, handler, jobs) {
+            break;
+        }
+    }
+}
+
+/// Answers messages until none can come any more, by a handler that others may call at the same time.
+fn work_with<R: Wait, H: PointHash, A: Handler>(
+    rt: &R,
+    member: &mut Member<'_, H, ChannelLink>,
+    handler: &A,
+    jobs: &Receiver<Job>,
+)
+    ensures made { Makes member.old.node (Repeats (IsMessageServed H.hash_of (shared (A.may_handle handler.now)))) member.old.pass.now member.new.pass.now }
+    ensures worked { HasWorked H.hash_of member.old.node member.old.pass.now member.new.pass.now }
+    ensures node { member.new.node ≡ member.old.node }
+    ensures pass { member.new.pass.ghost_name ≡ member.old.pass.ghost_name }
+{
+    work_over(rt, member, &mut &*handler, jobs);
 }
 
 /// Answers messages until none can come any more, and gives the pass back.
@@ -150,16 +185,12 @@ fn work<R: Wait + Copy, H: PointHash, A: Handler + Drop>(
     jobs: Receiver<Job>,
 ) -> NodePass<H>
     requires { Fits (arc_value node) pass }
-    ensures made { Makes (arc_value node) (Repeats (IsMessageServed H.hash_of (A.may_handle (arc_value handler)))) pass result }
+    ensures made { Makes (arc_value node) (Repeats (IsMessageServed H.hash_of (shared (A.may_handle (arc_value handler))))) pass result }
     ensures worked { HasWorked H.hash_of (arc_value node) pass result }
     ensures fits { Fits (arc_value node) result }
 {
     let mut member = Member::new(&*node, &mut pass, &mut link, alloc);
-    'jobs: for _ in rt.forever() {
-        if !serve_next(&rt, &mut member, &*handler, &jobs) {
-            break;
-        }
-    }
+    work_with(&rt, &mut member, &*handler, &jobs);
     let _pass = member.into_pass();
     pass
 }

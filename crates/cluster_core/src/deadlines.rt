@@ -29,11 +29,18 @@ impl<'a, C: Clock> Deadline<'a, C> {
         ensures { IfOk result (λ d. limit_of d ≡ limit) }
     {
         let start = Instant::now(clock)?;
-        Ok(Deadline {
+        Ok(Deadline::since(clock, start, limit))
+    }
+
+    /// The limit that began at an instant of this clock.
+    pub(crate) fn since(clock: &'a C, start: Instant, limit: Duration) -> Self
+        ensures { limit_of result ≡ limit }
+    {
+        Deadline {
             clock,
             start,
             limit,
-        })
+        }
     }
 
     /// Returns the time that is left, which is more than 0.

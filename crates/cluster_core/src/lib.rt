@@ -15,8 +15,8 @@ pub use deadlines::{Deadline, Timed};
 pub use dials::Dial;
 pub use node_core::MAX_WORKERS;
 pub use peer_core::{
-    CallError, Clock, ClusterError, Handler, HandlerFault, Healing, JoinError, LeaveError, Link,
-    LinkError, Member, RejoinError, RequestError, Round, RoundError, correcting_round,
-    gossip_round, handle_or_forward, heal, join, refuse, serve_one,
+    CallError, Clock, ClusterError, Handler, HandlerFault, HandlerMut, Healing, JoinError,
+    LeaveError, Link, LinkError, Member, RejoinError, RequestError, Round, RoundError,
+    correcting_round, gossip_round, handle_or_forward, heal, join, refuse, serve_one,
 };
 pub use tcp_links::{Limits, TcpLink, send_line, send_owned_line, socket_address};

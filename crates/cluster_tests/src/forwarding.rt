@@ -219,7 +219,15 @@ pub(crate) fn try_request<R: Wait + Env + Abort>(
     let keys = keys(rt, alloc, asked.keys);
     let body = text(rt, alloc, "body");
     let answer = handle_or_forward(
-        rt, alloc, shared, pass, &mut link, &handler, &clock, keys, body,
+        rt,
+        alloc,
+        shared,
+        pass,
+        &mut link,
+        &mut &handler,
+        &clock,
+        keys,
+        body,
     );
     let words = words_in(&answer);
     drop(answer);

@@ -44,7 +44,7 @@ fn serve_riders<R: Wait + Env + Abort, L: Link, A: Handler, C: Clock>(
     let mut answered = 0u32;
     for rider in riders {
         let keys = keys(rt, alloc, (*rider, *rider));
-        let answer = member.request(rt, handler, clock, keys, text(rt, alloc, "body"))?;
+        let answer = member.request(rt, &mut &*handler, clock, keys, text(rt, alloc, "body"))?;
         if answer.as_str() == "body" {
             answered = answered.wrapping_add(1);
         }
@@ -154,7 +154,7 @@ fn refused_by<R: Wait + Env + Abort, L: Link>(
     let joined = member.join(rt, &[address(rt, 2)], now).err();
     let round = member.round(rt, now).err();
     let keys = keys(rt, alloc, ("zzzz0", "zzzz0"));
-    let answer = member.request(rt, &handler, &Zero, keys, text(rt, alloc, "body"));
+    let answer = member.request(rt, &mut &handler, &Zero, keys, text(rt, alloc, "body"));
     let copied = (member.view(rt).err(), member.members(rt).err());
     let gone = (member.leave(rt).err(), member.rejoin(rt).err());
     (joined, round, answer.err(), copied, gone)

@@ -148,7 +148,16 @@ fn serve<R: Wait + Abort>(
     let mut link = Fake::new(link_mood, link_mood);
     let handler = Counting::new(handler_mood);
     let now = moment(rt, 0);
-    let answer = serve_one(rt, alloc, shared, pass, &mut link, &handler, now, given);
+    let answer = serve_one(
+        rt,
+        alloc,
+        shared,
+        pass,
+        &mut link,
+        &mut &handler,
+        now,
+        given,
+    );
     let said = said_by(rt, &answer);
     drop(answer);
     (said, link.calls, handler.calls())

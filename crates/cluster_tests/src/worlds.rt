@@ -169,7 +169,7 @@ fn answer_by<R: Wait, L: Link>(
     requires { Fits shared.now pass.old }
     ensures { Fits shared.now pass.new }
 {
-    serve_one(rt, alloc, shared, pass, link, &WILLING, now, message).ok()
+    serve_one(rt, alloc, shared, pass, link, &mut &WILLING, now, message).ok()
 }
 
 /// What a node answers to a message, and the node after it.

@@ -1,5 +1,5 @@
 -- What a request comes to, put together from the calls of its tries.
-use Rattle.std.proofs.Common.{◌≡◌, ◌∙◌, ℕ, false, is_ok, refl, sym, ap, subst, Result, Ok, Err, List}
+use Rattle.std.proofs.Common.{◌≡◌, ◌∙◌, ℕ, false, is_ok, refl, sym, ap, subst, inl, inr, Result, Ok, Err, List}
 use Rattle.std.specs.Prelude.{IfErr}
 use Rattle.node_core.specs.declared.errors.NodeError.{NodeError}
 use Rattle.node_core.specs.Viewing.{Viewed}
@@ -21,10 +21,11 @@ use Rattle.peer_core.specs.declared.errors.ClusterError.TheVariants as error
 use Rattle.peer_core.specs.declared.errors.LinkError.{LinkError}
 use Rattle.peer_core.specs.declared.forwarding.Request.{Request}
 use Rattle.peer_core.specs.declared.forwarding.Tried.{Tried}
-use Rattle.peer_core.specs.declared.forwarding.Tried.TheVariants.{Again}
+use Rattle.peer_core.specs.declared.forwarding.Tried.TheVariants.{Answered, Again}
+use Rattle.peer_core.specs.Acts.{Act}
 use Rattle.peer_core.specs.Errors.{error_of_forward, error_of_lock}
 use Rattle.peer_core.specs.Forwarding.{Plans, CarriesOut, Handles, IsForwarded, IsHandled, IsJudged, IsRequest, IsRequestRefusal, Times, LooksUp, Rests, SendsToOwner, StandsFor, TriesOnce, way_of_try}
-use Rattle.peer_core.specs.Handling.{MayHandle}
+use Rattle.peer_core.specs.Handling.{Handled, MayHandle, between}
 use Rattle.peer_core.specs.Links.{MayAnswer}
 use Rattle.peer_core.specs.Parts.{Bars, Does, Next, Until}
 use Rattle.peer_core.specs.Serving.{message_from}
@@ -173,3 +174,29 @@ module _ {H : Type 0} (hash_of : H → List ℕ → ℕ) (Came : MayAnswer) (Han
       Leads locked (IsRequest hash_of Came Handled Time keys body)
       (Until (TriesOnce hash_of Came Handled Time) way_of_try (record { attempt = a; body = body })) p p)
       (sym e) (leads_none locked p (IsRequest hash_of Came Handled Time keys body))
+
+module _ {H : Type 0} (hash_of : H → List ℕ → ℕ) (Came : MayAnswer) (Time : Times) where
+  -- a try after which the request is to be tried again is one by any handler, since it called none
+  again_by : (One Other : MayHandle) (request back : Request) (acts : List (Act H)) → TriesOnce hash_of Came One Time request (Ok (Again back)) acts
+      → TriesOnce hash_of Came Other Time request (Ok (Again back)) acts
+  again_by One Other request back acts (now, told, (attempt, inl h)) = absurd h
+  again_by One Other request back acts (now, told, (attempt, inr ((view, Wait until), t))) = (now, told, (attempt, inr ((view, Wait until), t)))
+  again_by One Other request back acts (now, told, (attempt, inr ((view, Here), (first, next, eq, looks, inl h)))) = absurd h
+  again_by One Other request back acts (now, told, (attempt, inr ((view, Here), (first, next, eq, looks, inr (text, (xs, ys, e, h, gives)))))) =
+      absurd (let no : Ok (Again back) ≡ Ok (Answered text) = gives.1 in cc)
+  again_by One Other request back acts (now, told, (attempt, inr ((view, Send owner), t))) = (now, told, (attempt, inr ((view, Send owner), t)))
+
+  module _ {A : Type 0} (handled : Handled A) {locked : LockedNode H} {p q : NodePass H} (request : Request) where
+    pub did_again : (was is start final : A) (back : Request) (tried : Tried) → tried ≡ Again back
+        → Does locked (TriesOnce hash_of Came (between handled was is).once Time request) (Ok tried) p q
+        → Does locked (TriesOnce hash_of Came (between handled start final).once Time request) (Ok tried) p q
+    did_again was is start final back tried e d =
+        subst (λ (x : Tried). Does locked (TriesOnce hash_of Came (between handled start final).once Time request) (Ok x) p q) (sym e)
+        (does_part (TriesOnce hash_of Came (between handled start final).once Time request) (again_by (between handled was is).once (between handled start final).once request back)
+        (subst (λ (x : Tried). Does locked (TriesOnce hash_of Came (between handled was is).once Time request) (Ok x) p q) e d))
+
+    -- a try by a handler that is as at the start
+    pub did_from : (was is start : A) (r : Result Tried ClusterError) → was ≡ start
+        → Does locked (TriesOnce hash_of Came (between handled was is).once Time request) r p q
+        → Does locked (TriesOnce hash_of Came (between handled start is).once Time request) r p q
+    did_from was is start r e d = subst (λ (x : A). Does locked (TriesOnce hash_of Came (between handled x is).once Time request) r p q) e d

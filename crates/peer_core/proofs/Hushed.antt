@@ -25,13 +25,13 @@ use Rattle.peer_core.specs.declared.hearing.Heard.TheVariants as heard
 use Rattle.peer_core.specs.declared.rounds.Round.TheVariants.{Reached}
 use Rattle.peer_core.specs.Acts.{Act, looked}
 use Rattle.peer_core.specs.Exchanges.{HealingsCount, SendsTo, chosen_hosts, listed}
-use Rattle.peer_core.specs.Handling.{MayHandle}
+use Rattle.peer_core.specs.Handling.{Handlings}
 use Rattle.peer_core.specs.Healing.{Chooses, choice_of}
 use Rattle.peer_core.specs.Joining.{HearsHost}
 use Rattle.peer_core.specs.Links.{Went, word_on}
-use Rattle.peer_core.specs.Parts.{Calls, Tries}
+use Rattle.peer_core.specs.Parts.{Part, Calls, Tries}
 use Rattle.peer_core.specs.Rounds.{Acknowledges, Expires, FailsFrom, FailsOne, HearsHelper, LooksOn, Takes, TellsWord, said_by, waited_for}
-use Rattle.peer_core.specs.Serving.{Answers, Decides, Forwards, GivesMade, Gossips, Receives, Says, Seeks, TellsRequester, Views, message_by, reason_of}
+use Rattle.peer_core.specs.Serving.{Answers, Decides, FailsUnhandled, Forwards, GivesMade, Gossips, Receives, Says, Seeks, TellsRequester, Views, message_by, reason_of}
 use Rattle.peer_core.proofs.Exchanges.{Hushes, Silent, hushes_calls, hushes_fails, hushes_gives, hushes_next, hushes_tries, hushes_until, sendings_count, sends_silent, sends_then, silent_none, silent_one}
 
 module _ {H : Type 0} where
@@ -139,12 +139,19 @@ module _ {H : Type 0} where
       go (Ok (Err n)) acts h = silent_one acts (looked (Err n)) h.0 refl
       go (Err e) acts h = silent_none acts h.0
 
-  hushes_decides : (hash_of : H → List ℕ → ℕ) (Handled : MayHandle) (keys : List (List ℕ)) (body : List ℕ) (view : Result (Viewed H) NodeError) → Hushes (Decides hash_of Handled keys body view)
-  hushes_decides hash_of Handled keys body (Ok view) = record { silent = λ r acts h. silent_none acts h.2.0 }
-  hushes_decides hash_of Handled keys body (Err n) = record { silent = (hushes_says (Refused reason.Memory)).silent }
+  hushes_fails_unhandled : {A : Type 0} (Handled : Handlings) (P : Part H A) → Hushes P → Hushes (FailsUnhandled Handled P)
+  hushes_fails_unhandled {A} Handled P h = record { silent = go }
+    where
+      go : (r : Result A ClusterError) (acts : List (Act H)) → FailsUnhandled Handled P r acts → Silent acts
+      go (Ok a) acts k = h.silent (Ok a) acts k
+      go (Err e) acts k = h.silent (Err e) acts k.1
 
-  pub hushes_forwards : (hash_of : H → List ℕ → ℕ) (Handled : MayHandle) (keys : List (List ℕ)) (body : List ℕ) → Hushes (Forwards hash_of Handled keys body)
-  hushes_forwards hash_of Handled keys body = hushes_next hushes_views (hushes_decides hash_of Handled keys body)
+  hushes_decides : (hash_of : H → List ℕ → ℕ) (Handled : Handlings) (keys : List (List ℕ)) (body : List ℕ) (view : Result (Viewed H) NodeError) → Hushes (Decides hash_of Handled keys body view)
+  hushes_decides hash_of Handled keys body (Ok view) = record { silent = λ r acts h. silent_none acts h.2.0 }
+  hushes_decides hash_of Handled keys body (Err n) = record { silent = λ r acts h. (hushes_says (Refused reason.Memory)).silent r acts h.1 }
+
+  pub hushes_forwards : (hash_of : H → List ℕ → ℕ) (Handled : Handlings) (keys : List (List ℕ)) (body : List ℕ) → Hushes (Forwards hash_of Handled keys body)
+  hushes_forwards hash_of Handled keys body = hushes_next (hushes_fails_unhandled Handled Views hushes_views) (hushes_decides hash_of Handled keys body)
 
 chosen_few : (member host : Option Address) → length (listed member ++ listed host) ≤ 2
 chosen_few None None = omega arith

@@ -19,3 +19,4 @@ pub mod Servings
 pub mod Forwarded
 pub mod Requested
 pub mod Resent
+pub mod HandlingCounts

@@ -2,24 +2,28 @@
 use Rattle.std.proofs.Common.{◌≡◌, ◌≢◌, ℕ, ◌+◌, ◌<◌, ◌≤◌, refl, sym, ap, ◌∙◌, subst, inl, inr, arith, Result, Ok, Err, Some, List, [], ◌∷◌, ◌++◌, length, map, append-nil}
 use Rattle.std.proofs.lemmas.List.Elements.{All-cons, All-nil}
 use Rattle.std.specs.List.{All}
-use Rattle.std.specs.Prelude.{IsErrAnd}
+use Rattle.std.specs.Prelude.{◌⊎◌, IsErrAnd}
 use Rattle.change_core.specs.declared.addresses.Address.{Address}
 use Rattle.message_core.specs.declared.messages.Content.TheVariants as content
 use Rattle.message_core.specs.declared.messages.Message.{Message}
 use Rattle.node_core.specs.Viewing.{Viewed}
 use Rattle.turn_lock.specs.declared.errors.LockError.{LockError}
 use Rattle.turn_lock.specs.declared.errors.LockError.TheVariants as lock
+use Rattle.forward_core.specs.declared.attempts.Stage.TheVariants as stage
 use Rattle.forward_core.specs.declared.attempts.Step.{Step}
-use Rattle.forward_core.specs.declared.attempts.Step.TheVariants.{Wait, Send}
+use Rattle.forward_core.specs.declared.attempts.Step.TheVariants.{Here, Wait, Send}
 use Rattle.forward_core.specs.declared.errors.ForwardError.{ForwardError}
 use Rattle.forward_core.specs.declared.errors.ForwardError.TheVariants as forward
-use Rattle.forward_core.specs.Attempts.{AttemptState, LentState, IsOpen, most_sends, sent, started, with_keys, ReadyStep}
+use Rattle.forward_core.specs.Attempts.{AttemptState, FailedStep, LentState, IsOpen, most_sends, sent, started, with_keys, ReadyStep}
 use Rattle.forward_core.specs.Routes.{AllOwnedBy}
 use Rattle.locked_node.specs.declared.node.LockedNode.{LockedNode}
 use Rattle.locked_node.specs.Passes.{NodePass}
 use Rattle.peer_core.specs.declared.errors.ClusterError.{ClusterError}
 use Rattle.peer_core.specs.declared.errors.ClusterError.TheVariants as error
+use Rattle.peer_core.specs.declared.errors.HandlerFault.{HandlerFault}
+use Rattle.peer_core.specs.declared.errors.HandlerFault.TheVariants as fault
 use Rattle.peer_core.specs.declared.errors.LinkError.{LinkError}
+use Rattle.peer_core.specs.declared.errors.LinkError.TheVariants as link
 use Rattle.peer_core.specs.declared.forwarding.Request.{Request}
 use Rattle.peer_core.specs.declared.forwarding.Tried.{Tried}
 use Rattle.peer_core.specs.declared.forwarding.Tried.TheVariants.{Answered, Again}
@@ -27,10 +31,10 @@ use Rattle.peer_core.specs.Acts.{Act, OfActs, Then, looked, Makes}
 use Rattle.peer_core.specs.Errors.{error_of_forward, error_of_lock}
 use Rattle.peer_core.specs.Exchanges.{IsPart}
 use Rattle.peer_core.specs.Forwarding.{IsFailure, IsHandled, IsJudged, LooksUp}
-use Rattle.peer_core.specs.Handling.{MayHandle}
+use Rattle.peer_core.specs.Handling.{Handled, MayHandle, between}
 use Rattle.peer_core.specs.Links.{Went}
 use Rattle.peer_core.specs.Parts.{Does}
-use Rattle.peer_core.specs.Resending.{AllButLastFailed, EndsBy, Failed, ForwardsOver, GoesToOwner, IsSentOnce, ResendingsCount, Sending, SendsRequest, TrySends, viewed_by, viewed_in}
+use Rattle.peer_core.specs.Resending.{AllButLastFailed, EndsBy, Failed, ForwardsOver, GoesToOwner, IsSentOnce, ResendingsCount, Sending, SendsRequest, TrySends, result_of_handler, viewed_by, viewed_in}
 use Rattle.peer_core.specs.Serving.{message_from}
 use Rattle.peer_core.proofs.Acts.{makes_as, makes_none, makes_then}
 use Rattle.peer_core.proofs.Exchanges.{part_later}
@@ -73,6 +77,26 @@ spent_judged : (now : ℕ) (request : Request) (answer : Result Message LinkErro
 spent_judged now request answer (fails, forward.RetriesSpent, is, (new, step)) = (fails, step.1)
 spent_judged now request answer (fails, f, is, rest) = absurd cc
 
+-- and else only if memory ran out in the link
+of_failed : (now : ℕ) (old new : AttemptState) (f : ForwardError) → old.stage ≡ stage.InFlight → FailedStep now old (Err f) new → f ≡ forward.RetriesSpent
+of_failed now old new forward.RetriesSpent flies h = refl
+of_failed now old new forward.NotInFlight flies h = absurd (h.0 flies)
+of_failed now old new f flies h = absurd h
+
+starved_judged : (now : ℕ) (request : Request) (answer : Result Message LinkError) (e : ClusterError) → request.attempt.stage ≡ stage.InFlight
+    → e ≢ error.RetriesSpent → IsJudged now request answer (Err e) → (e ≡ error.Memory) × (answer ≡ Err link.Memory)
+starved_judged now request answer error.Memory flies unspent h = (refl, h)
+starved_judged now request answer e flies unspent (fails, f, is, (new, step)) =
+    absurd (unspent (is ∙ ap error_of_forward (of_failed now request.attempt new f flies step)))
+
+-- what a handler's result is to the request
+result_handled : (Handled : MayHandle) (keys : List (List ℕ)) (body : List ℕ) (r : Result (List ℕ) ClusterError) → IsHandled Handled keys body r
+    → (answer : Result (List ℕ) HandlerFault) × Handled keys body answer × (r ≡ result_of_handler answer)
+result_handled Handled keys body (Ok text) h = (Ok text, h, refl)
+result_handled Handled keys body (Err error.HandlerFault) h = (Err fault.Failed, h, refl)
+result_handled Handled keys body (Err error.Memory) h = (Err fault.Memory, h, refl)
+result_handled Handled keys body (Err e) h = absurd h
+
 module _ {L H : Type 0} (hash_of : H → List ℕ → ℕ) (went : Went L) where
   module _ (keys : List (List ℕ)) (body : List ℕ) where
     -- nothing is sent
@@ -104,14 +128,6 @@ module _ {L H : Type 0} (hash_of : H → List ℕ → ℕ) (went : Went L) where
         (λ acts t. subst (λ (i : ℕ). Failed hash_of went keys body i a c acts) e
         (subst (λ (zs : List (Act H)). Failed hash_of went keys body (m + n) a c zs) (sym t.2) (failed_then keys body m n a b c t.0 t.1 t.3 t.4))) (makes_then x y)
 
-    -- and then the last
-    ends_on : {keys : List (List ℕ)} {body : List ℕ} {n : ℕ} {p q s : NodePass H} {a b c : L} → n < most_sends
-        → Makes locked (Failed hash_of went keys body n a b) p q → Makes locked (EndsBy hash_of went keys body b c) q s
-        → Makes locked (λ acts. (m : ℕ) × (m < most_sends) × ((mid : L) × Then (Failed hash_of went keys body m a mid) (EndsBy hash_of went keys body mid c) acts)) p s
-    ends_on {keys} {body} {n} {a = a} {b = b} {c = c} lt x y =
-        makes_as (λ acts. (m : ℕ) × (m < most_sends) × ((mid : L) × Then (Failed hash_of went keys body m a mid) (EndsBy hash_of went keys body mid c) acts))
-        (λ acts t. (n, lt, (b, t))) (makes_then x y)
-
   -- the one view by which a step is decided
   looked_up : (now : ℕ) (old new : AttemptState) (view : Viewed H) (step : Step) (acts : List (Act H)) → LooksUp hash_of now old new (Ok (view, step)) acts
       → (acts ≡ looked (Ok view) ∷ []) × ReadyStep hash_of view now old (Ok step) new
@@ -122,72 +138,6 @@ module _ {L H : Type 0} (hash_of : H → List ℕ → ℕ) (went : Went L) where
         all ∙ ap (λ (x : Viewed H). looked (Ok x) ∷ []) (sym t.4.1),
         subst (λ (x : Viewed H). ReadyStep hash_of x now old (Ok step) new) (sym t.4.1) t.4.2,
       )
-
-  again_still : (request : Request) (attempt : AttemptState) (a : L) (acts : List (Act H)) → attempt ≡ request.attempt → request.attempt.sends < most_sends
-      → TrySends hash_of went request a a (Ok (Again (record { attempt = attempt; body = request.body }))) acts
-  again_still request attempt a acts e lt =
-      subst (λ (x : AttemptState). TrySends hash_of went request a a (Ok (Again (record { attempt = x; body = request.body }))) acts) (sym e)
-      (refl, refl, lt, (0, omega arith, none_sent request.attempt.keys request.body a acts))
-
-  try_sent : (request : Request) (view : Viewed H) (owner : Address) (r : Result Tried ClusterError) (a b : L) (acts : List (Act H))
-      → acts ≡ looked (Ok view) ∷ [] → AllOwnedBy hash_of view request.attempt.keys (Some owner) → owner ≢ view.own
-      → IsSentOnce went view owner (record { attempt = sent request.attempt; body = request.body }) r a b → TrySends hash_of went request a b r acts
-  try_sent request view owner (Ok (Answered text)) a b acts e owned other (answer, gone, judged) = inr (view, answer, e, (owner, owned, other, gone))
-  try_sent request view owner (Ok (Again back)) a b acts e owned other (answer, gone, (now, (fails, step, same))) = (
-    ap (λ (x : AttemptState). x.keys) step.2,
-    same,
-    subst (λ (x : AttemptState). x.sends < most_sends) (sym step.2) step.1,
-    (
-      1,
-      sym (ap (λ (x : AttemptState). x.sends) step.2),
-      one_failed request.attempt.keys request.body view answer a b acts e (owner, owned, other, gone) fails,
-    ),
-  )
-  try_sent request view owner (Err error.RetriesSpent) a b acts e owned other (answer, gone, (now, judged)) =
-      let spent = spent_judged now (record { attempt = sent request.attempt; body = request.body }) answer judged in
-      (spent.1, one_failed request.attempt.keys request.body view answer a b acts e (owner, owned, other, gone) spent.0)
-  try_sent request view owner (Err x) a b acts e owned other (answer, gone, judged) = inr (view, answer, e, (owner, owned, other, gone))
-
-  -- a try that fails before it sends anything
-  fails_unsent : (request : Request) (e : ClusterError) (a : L) (acts : List (Act H)) → e ≢ error.RetriesSpent → TrySends hash_of went request a a (Err e) acts
-  fails_unsent request error.RetriesSpent a acts unspent = absurd (unspent refl)
-  fails_unsent request e a acts unspent = inl (none_sent request.attempt.keys request.body a acts)
-
-  module _ {locked : LockedNode H} {p q : NodePass H} where
-    -- a try that ended the request, and sent nothing
-    pub try_ends : {A : Type 0} {P : Result A ClusterError → OfActs H} (request : Request) (r : Result A ClusterError) (text : List ℕ) (a : L)
-        → Does locked P r p q → Makes locked (TrySends hash_of went request a a (Ok (Answered text))) p q
-    try_ends request r text a d =
-        makes_as (TrySends hash_of went request a a (Ok (Answered text))) (λ acts h. inl (none_sent request.attempt.keys request.body a acts)) d.makes
-
-    pub try_fails : {A : Type 0} {P : Result A ClusterError → OfActs H} (request : Request) (r : Result A ClusterError) (known : Result Tried ClusterError) (e : ClusterError) (a : L)
-        → IsErrAnd known (λ x. x ≡ e) → e ≢ error.RetriesSpent → Does locked P r p q → Makes locked (TrySends hash_of went request a a known) p q
-    try_fails request r (Ok t) e a is unspent d = absurd is
-    try_fails request r (Err x) e a is unspent d =
-        makes_as (TrySends hash_of went request a a (Err x)) (λ acts h. fails_unsent request x a acts (λ spent. unspent (sym is ∙ spent))) d.makes
-
-    -- one that lets the request rest
-    pub try_rests : (now : ℕ) (request : Request) (attempt : AttemptState) (view : Viewed H) (step : Step) (until : ℕ) (a : L) → request.attempt.sends < most_sends
-        → Does locked (LooksUp hash_of now request.attempt attempt) (Ok (view, step)) p q → step ≡ Wait until
-        → Makes locked (TrySends hash_of went request a a (Ok (Again (record { attempt = attempt; body = request.body })))) p q
-    try_rests now request attempt view step until a lt d e =
-        makes_as (TrySends hash_of went request a a (Ok (Again (record { attempt = attempt; body = request.body }))))
-        (λ acts h.
-        again_still request attempt a acts
-        (subst (λ (s : Step). ReadyStep hash_of view now request.attempt (Ok s) attempt) e (looked_up now request.attempt attempt view step acts h).1).3 lt)
-        d.makes
-
-    -- and one that sends it
-    pub try_sends : (now : ℕ) (request : Request) (attempt : AttemptState) (view : Viewed H) (step : Step) (owner : Address) (r : Result Tried ClusterError) (a b : L)
-        → request.attempt.sends < most_sends → Does locked (LooksUp hash_of now request.attempt attempt) (Ok (view, step)) p q → step ≡ Send owner
-        → IsSentOnce went view owner (record { attempt = attempt; body = request.body }) r a b → Makes locked (TrySends hash_of went request a b r) p q
-    try_sends now request attempt view step owner r a b lt d e once = makes_as (TrySends hash_of went request a b r) go d.makes
-      where
-        go : (acts : List (Act H)) → LooksUp hash_of now request.attempt attempt (Ok (view, step)) acts → TrySends hash_of went request a b r acts
-        go acts h =
-            let l : (acts ≡ looked (Ok view) ∷ []) × ReadyStep hash_of view now request.attempt (Ok step) attempt = looked_up now request.attempt attempt view step acts h in
-            let s : ReadyStep hash_of view now request.attempt (Ok (Send owner)) attempt = subst (λ (x : Step). ReadyStep hash_of view now request.attempt (Ok x) attempt) e l.1 in
-            try_sent request view owner r a b acts l.0 s.1 s.2 (subst (λ (x : AttemptState). IsSentOnce went view owner (record { attempt = x; body = request.body }) r a b) s.3 once)
 
   -- So much of a request was sent, with its keys and its body: as many Forwards failed as its attempt says.
   pub record Resent (keys : List (List ℕ)) (body : List ℕ) (request : Request) (locked : LockedNode H) (p q : NodePass H) (a b : L) : Type 0 where
@@ -215,44 +165,180 @@ module _ {L H : Type 0} (hash_of : H → List ℕ → ℕ) (went : Went L) where
         subst (λ (ks : List (List ℕ)). Makes locked (Failed hash_of went ks body n b c) q s) e
         (subst (λ (t : List ℕ). Makes locked (Failed hash_of went request.attempt.keys t n b c) q s) f m)
 
-    ended_as : {q s : NodePass H} {b c : L} (keys : List (List ℕ)) (body : List ℕ) (request : Request) → request.attempt.keys ≡ keys → request.body ≡ body
-        → Makes locked (EndsBy hash_of went request.attempt.keys request.body b c) q s → Makes locked (EndsBy hash_of went keys body b c) q s
-    ended_as {q} {s} {b} {c} keys body request e f m =
-        subst (λ (ks : List (List ℕ)). Makes locked (EndsBy hash_of went ks body b c) q s) e
-        (subst (λ (t : List ℕ). Makes locked (EndsBy hash_of went request.attempt.keys t b c) q s) f m)
+module _ {L H A : Type 0} (hash_of : H → List ℕ → ℕ) (went : Went L) (handled : Handled A) where
+  again_still : (request : Request) (attempt : AttemptState) (w : A) (a : L) (acts : List (Act H)) → attempt ≡ request.attempt → request.attempt.sends < most_sends
+      → TrySends hash_of went handled request w w a a (Ok (Again (record { attempt = attempt; body = request.body }))) acts
+  again_still request attempt w a acts e lt =
+      subst (λ (x : AttemptState). TrySends hash_of went handled request w w a a (Ok (Again (record { attempt = x; body = request.body }))) acts) (sym e)
+      (refl, refl, refl, lt, (0, omega arith, none_sent hash_of went request.attempt.keys request.body a acts))
 
-    pub resent_again : {keys : List (List ℕ)} {body : List ℕ} {p q s : NodePass H} {a b c : L} (request back : Request) (tried : Tried) → tried ≡ Again back
-        → Resent keys body request locked p q a b → Makes locked (TrySends hash_of went request b c (Ok tried)) q s → Resent keys body back locked p s a c
-    resent_again {keys} {body} {p} {q} {s} {a} {b} {c} request back tried e x m =
-        let y : Makes locked (TrySends hash_of went request b c (Ok (Again back))) q s = subst (λ (t : Tried). Makes locked (TrySends hash_of went request b c (Ok t)) q s) e m in record {
-          keys_are = y.so.0 ∙ x.keys_are;
-          body_is = y.so.1 ∙ x.body_is;
-          few = y.so.2;
-          sent = failed_on y.so.3.1 x.sent (failed_as keys body request y.so.3.0 x.keys_are x.body_is
-              (record { entries = y.entries; made = y.made; so = y.so.3.2 }));
+  -- a try that ends the request by an error, but for one that finds its retries spent
+  ends_try : (request : Request) (e : ClusterError) (w x : A) (a b : L) (acts : List (Act H)) → e ≢ error.RetriesSpent
+      → EndsBy hash_of went handled request.attempt.keys request.body (Err e) w x a b acts → TrySends hash_of went handled request w x a b (Err e) acts
+  ends_try request error.RetriesSpent w x a b acts unspent h = absurd (unspent refl)
+  ends_try request e w x a b acts unspent h = h
+
+  ends_sent : (request : Request) (view : Viewed H) (answer : Result Message LinkError) (now : ℕ) (e : ClusterError) (w : A) (a b : L) (acts : List (Act H))
+      → e ≢ error.RetriesSpent → acts ≡ looked (Ok view) ∷ [] → GoesToOwner hash_of went request.attempt.keys request.body view answer a b
+      → IsJudged now (record { attempt = sent request.attempt; body = request.body }) answer (Err e)
+      → TrySends hash_of went handled request w w a b (Err e) acts
+  ends_sent request view answer now e w a b acts unspent just gone judged =
+      let starved : (e ≡ error.Memory) × (answer ≡ Err link.Memory) =
+      starved_judged now (record { attempt = sent request.attempt; body = request.body }) answer e refl unspent judged in
+      ends_try request e w w a b acts unspent
+      (subst (λ (y : ClusterError). EndsBy hash_of went handled request.attempt.keys request.body (Err y) w w a b acts) (sym starved.0)
+      (EndsBy.by_owner view answer just gone starved.1))
+
+  try_sent : (request : Request) (view : Viewed H) (owner : Address) (r : Result Tried ClusterError) (w : A) (a b : L) (acts : List (Act H))
+      → acts ≡ looked (Ok view) ∷ [] → AllOwnedBy hash_of view request.attempt.keys (Some owner) → owner ≢ view.own
+      → IsSentOnce went view owner (record { attempt = sent request.attempt; body = request.body }) r a b → TrySends hash_of went handled request w w a b r acts
+  try_sent request view owner (Ok (Answered text)) w a b acts e owned other (answer, gone, judged) = EndsBy.by_owner view answer e (owner, owned, other, gone) judged.1
+  try_sent request view owner (Ok (Again back)) w a b acts e owned other (answer, gone, (now, (fails, step, same))) = (
+    refl,
+    ap (λ (x : AttemptState). x.keys) step.2,
+    same,
+    subst (λ (x : AttemptState). x.sends < most_sends) (sym step.2) step.1,
+    (
+      1,
+      sym (ap (λ (x : AttemptState). x.sends) step.2),
+      one_failed hash_of went request.attempt.keys request.body view answer a b acts e (owner, owned, other, gone) fails,
+    ),
+  )
+  try_sent request view owner (Err error.RetriesSpent) w a b acts e owned other (answer, gone, (now, judged)) =
+      let spent = spent_judged now (record { attempt = sent request.attempt; body = request.body }) answer judged in
+      (refl, spent.1, one_failed hash_of went request.attempt.keys request.body view answer a b acts e (owner, owned, other, gone) spent.0)
+  try_sent request view owner (Err x) w a b acts e owned other (answer, gone, (now, judged)) =
+      ends_sent request view answer now x w a b acts (λ is. absurd cc) e (owner, owned, other, gone) judged
+
+  -- the handler's result is that of the request, by a view in which the node owns its keys
+  ends_handled : (now : ℕ) (request : Request) (attempt : AttemptState) (view : Viewed H) (r : Result (List ℕ) ClusterError) (w x : A) (a : L) (acts : List (Act H))
+      → LooksUp hash_of now request.attempt attempt (Ok (view, Here)) acts → IsHandled (between handled w x).once attempt.keys request.body r
+      → EndsBy hash_of went handled request.attempt.keys request.body r w x a a acts
+  ends_handled now request attempt view r w x a acts looks h =
+      let l : (acts ≡ looked (Ok view) ∷ []) × ReadyStep hash_of view now request.attempt (Ok Here) attempt =
+      looked_up hash_of went now request.attempt attempt view Here acts looks in
+      let (answer, called, is) = result_handled (between handled w x).once request.attempt.keys request.body r
+      (subst (λ (y : AttemptState). IsHandled (between handled w x).once y.keys request.body r) l.1.2 h) in
+      EndsBy.by_handler answer (view, l.0, l.1.1, called) is
+
+  module _ {locked : LockedNode H} {p q : NodePass H} where
+    -- a try that ended the request by the handler's text
+    pub try_answers : (now : ℕ) (request : Request) (attempt : AttemptState) (view : Viewed H) (step : Step) (text : List ℕ) (w x : A) (a : L)
+        → Does locked (LooksUp hash_of now request.attempt attempt) (Ok (view, step)) p q → step ≡ Here
+        → IsHandled (between handled w x).once attempt.keys request.body (Ok text) → Makes locked (TrySends hash_of went handled request w x a a (Ok (Answered text))) p q
+    try_answers now request attempt view step text w x a d e h =
+        makes_as (TrySends hash_of went handled request w x a a (Ok (Answered text)))
+        (λ acts l. ends_handled now request attempt view (Ok text) w x a acts
+        (subst (λ (s : Step). LooksUp hash_of now request.attempt attempt (Ok (view, s)) acts) e l) h) d.makes
+
+    -- or by its error
+    pub try_refuses : (now : ℕ) (request : Request) (attempt : AttemptState) (view : Viewed H) (step : Step) (known : Result Tried ClusterError) (e : ClusterError) (w x : A) (a : L)
+        → Does locked (LooksUp hash_of now request.attempt attempt) (Ok (view, step)) p q → step ≡ Here → IsErrAnd known (λ y. y ≡ e)
+        → IsHandled (between handled w x).once attempt.keys request.body (Err e) → Makes locked (TrySends hash_of went handled request w x a a known) p q
+    try_refuses now request attempt view step (Ok t) e w x a d here is h = absurd is
+    try_refuses now request attempt view step (Err y) e w x a d here is h =
+        makes_as (TrySends hash_of went handled request w x a a (Err y))
+        (λ acts l.
+        ends_try request y w x a a acts (λ spent. unspent_handled (between handled w x).once attempt.keys request.body e h (sym is ∙ spent))
+        (ends_handled now request attempt view (Err y) w x a acts
+        (subst (λ (s : Step). LooksUp hash_of now request.attempt attempt (Ok (view, s)) acts) here l)
+        (subst (λ (z : ClusterError). IsHandled (between handled w x).once attempt.keys request.body (Err z)) (sym is) h))) d.makes
+
+    -- or by an error, with no call of the handler
+    pub try_fails : {B : Type 0} {P : Result B ClusterError → OfActs H} (request : Request) (r : Result B ClusterError) (known : Result Tried ClusterError) (e : ClusterError) (w : A) (a : L)
+        → IsErrAnd known (λ x. x ≡ e) → e ≢ error.RetriesSpent → Does locked P r p q → Makes locked (TrySends hash_of went handled request w w a a known) p q
+    try_fails request r (Ok t) e w a is unspent d = absurd is
+    try_fails request r (Err x) e w a is unspent d =
+        makes_as (TrySends hash_of went handled request w w a a (Err x)) (λ acts h. ends_try request x w w a a acts (λ spent. unspent (sym is ∙ spent)) (EndsBy.by_error x)) d.makes
+
+    -- one that lets the request rest
+    pub try_rests : (now : ℕ) (request : Request) (attempt : AttemptState) (view : Viewed H) (step : Step) (until : ℕ) (w : A) (a : L) → request.attempt.sends < most_sends
+        → Does locked (LooksUp hash_of now request.attempt attempt) (Ok (view, step)) p q → step ≡ Wait until
+        → Makes locked (TrySends hash_of went handled request w w a a (Ok (Again (record { attempt = attempt; body = request.body })))) p q
+    try_rests now request attempt view step until w a lt d e =
+        makes_as (TrySends hash_of went handled request w w a a (Ok (Again (record { attempt = attempt; body = request.body }))))
+        (λ acts h.
+        again_still request attempt w a acts
+        (subst (λ (s : Step). ReadyStep hash_of view now request.attempt (Ok s) attempt) e (looked_up hash_of went now request.attempt attempt view step acts h).1).3 lt)
+        d.makes
+
+    -- and one that sends it
+    pub try_sends : (now : ℕ) (request : Request) (attempt : AttemptState) (view : Viewed H) (step : Step) (owner : Address) (r : Result Tried ClusterError) (w : A) (a b : L)
+        → request.attempt.sends < most_sends → Does locked (LooksUp hash_of now request.attempt attempt) (Ok (view, step)) p q → step ≡ Send owner
+        → IsSentOnce went view owner (record { attempt = attempt; body = request.body }) r a b → Makes locked (TrySends hash_of went handled request w w a b r) p q
+    try_sends now request attempt view step owner r w a b lt d e once = makes_as (TrySends hash_of went handled request w w a b r) go d.makes
+      where
+        go : (acts : List (Act H)) → LooksUp hash_of now request.attempt attempt (Ok (view, step)) acts → TrySends hash_of went handled request w w a b r acts
+        go acts h =
+            let l : (acts ≡ looked (Ok view) ∷ []) × ReadyStep hash_of view now request.attempt (Ok step) attempt =
+            looked_up hash_of went now request.attempt attempt view step acts h in
+            let s : ReadyStep hash_of view now request.attempt (Ok (Send owner)) attempt = subst (λ (x : Step). ReadyStep hash_of view now request.attempt (Ok x) attempt) e l.1 in
+            try_sent request view owner r w a b acts l.0 s.1 s.2 (subst (λ (x : AttemptState). IsSentOnce went view owner (record { attempt = x; body = request.body }) r a b) s.3 once)
+
+  module _ {locked : LockedNode H} where
+    -- after Forwards that failed, the end
+    ends_on : {keys : List (List ℕ)} {body : List ℕ} {n : ℕ} {p q s : NodePass H} {r : Result (List ℕ) ClusterError} {w x : A} {a b c : L} → n < most_sends
+        → Makes locked (Failed hash_of went keys body n a b) p q → Makes locked (EndsBy hash_of went handled keys body r w x b c) q s
+        → Makes locked (λ acts. (m : ℕ) × (m < most_sends) × ((mid : L) × Then (Failed hash_of went keys body m a mid) (EndsBy hash_of went handled keys body r w x mid c) acts)) p s
+    ends_on {keys} {body} {n} {r = r} {w = w} {x = x} {a = a} {b = b} {c = c} lt f e =
+        makes_as (λ acts. (m : ℕ) × (m < most_sends) × ((mid : L) × Then (Failed hash_of went keys body m a mid) (EndsBy hash_of went handled keys body r w x mid c) acts))
+        (λ acts t. (n, lt, (b, t))) (makes_then f e)
+
+    ended_as : {q s : NodePass H} {r : Result (List ℕ) ClusterError} {w x : A} {b c : L} (keys : List (List ℕ)) (body : List ℕ) (request : Request)
+        → request.attempt.keys ≡ keys → request.body ≡ body
+        → Makes locked (EndsBy hash_of went handled request.attempt.keys request.body r w x b c) q s → Makes locked (EndsBy hash_of went handled keys body r w x b c) q s
+    ended_as {q} {s} {r} {w} {x} {b} {c} keys body request e f m =
+        subst (λ (ks : List (List ℕ)). Makes locked (EndsBy hash_of went handled ks body r w x b c) q s) e
+        (subst (λ (t : List ℕ). Makes locked (EndsBy hash_of went handled request.attempt.keys t r w x b c) q s) f m)
+
+    pub resent_again : {keys : List (List ℕ)} {body : List ℕ} {p q s : NodePass H} {a b c : L} (w x : A) (request back : Request) (tried : Tried) → tried ≡ Again back
+        → Resent hash_of went keys body request locked p q a b → Makes locked (TrySends hash_of went handled request w x b c (Ok tried)) q s
+        → Resent hash_of went keys body back locked p s a c
+    resent_again {keys} {body} {p} {q} {s} {a} {b} {c} w x request back tried e before m =
+        let y : Makes locked (TrySends hash_of went handled request w x b c (Ok (Again back))) q s =
+        subst (λ (t : Tried). Makes locked (TrySends hash_of went handled request w x b c (Ok t)) q s) e m in record {
+          keys_are = y.so.1 ∙ before.keys_are;
+          body_is = y.so.2 ∙ before.body_is;
+          few = y.so.3;
+          sent = failed_on hash_of went y.so.4.1 before.sent (failed_as hash_of went keys body request y.so.4.0 before.keys_are before.body_is
+              (record { entries = y.entries; made = y.made; so = y.so.4.2 }));
         }
 
-    pub resent_answered : {keys : List (List ℕ)} {body : List ℕ} {p q s : NodePass H} {a b c : L} (request : Request) (tried : Tried) (text : List ℕ) → tried ≡ Answered text
-        → Resent keys body request locked p q a b → Makes locked (TrySends hash_of went request b c (Ok tried)) q s
-        → Makes locked (SendsRequest hash_of went keys body (Ok text) a c) p s
-    resent_answered {keys} {body} {q = q} {s = s} {b = b} {c = c} request tried text e x m =
-        ends_on x.few x.sent (ended_as keys body request x.keys_are x.body_is (subst (λ (t : Tried). Makes locked (TrySends hash_of went request b c (Ok t)) q s) e m))
+    -- and the handler was not called
+    pub unhandled_again : {q s : NodePass H} (w x : A) (b c : L) (request back : Request) (tried : Tried) → tried ≡ Again back
+        → Makes locked (TrySends hash_of went handled request w x b c (Ok tried)) q s → x ≡ w
+    unhandled_again {q} {s} w x b c request back tried e m =
+        let y : Makes locked (TrySends hash_of went handled request w x b c (Ok (Again back))) q s =
+        subst (λ (t : Tried). Makes locked (TrySends hash_of went handled request w x b c (Ok t)) q s) e m in y.so.0
 
-    failed_or_ended : {keys : List (List ℕ)} {body : List ℕ} {p q s : NodePass H} {a b : L} (c : L) (request : Request) (e : ClusterError)
-        → Resent keys body request locked p q a b → Makes locked (TrySends hash_of went request b c (Err e)) q s
-        → Makes locked (SendsRequest hash_of went keys body (Err e) a c) p s
-    failed_or_ended {keys} {body} {b = b} c request error.RetriesSpent x m =
-        failed_on m.so.0 x.sent (failed_as keys body request 1 x.keys_are x.body_is
-        (makes_as (Failed hash_of went request.attempt.keys request.body 1 b c) (λ acts h. h.1) m))
-    failed_or_ended {keys} {body} c request e x m = ends_on x.few x.sent (ended_as keys body request x.keys_are x.body_is m)
+    -- a try by a handler that is as at the start
+    pub tries_from : {q s : NodePass H} {w : A} (x : A) (b c : L) (start : A) (request : Request) (r : Result Tried ClusterError) → w ≡ start
+        → Makes locked (TrySends hash_of went handled request w x b c r) q s → Makes locked (TrySends hash_of went handled request start x b c r) q s
+    tries_from {q} {s} {w} x b c start request r e m = subst (λ (y : A). Makes locked (TrySends hash_of went handled request y x b c r) q s) e m
 
-    pub resent_failed : {keys : List (List ℕ)} {body : List ℕ} {p q s : NodePass H} {a b : L} (c : L) (request : Request) (e : ClusterError)
-        (known : Result (List ℕ) ClusterError) → IsErrAnd known (λ x. x ≡ e)
-        → Resent keys body request locked p q a b → Makes locked (TrySends hash_of went request b c (Err e)) q s
-        → Makes locked (SendsRequest hash_of went keys body known a c) p s
-    resent_failed c request e (Ok text) is x m = absurd is
-    resent_failed {keys} {body} {p} {q} {s} {a} {b} c request e (Err y) is x m =
-        subst (λ (z : ClusterError). Makes locked (SendsRequest hash_of went keys body (Err z) a c) p s) (sym is) (failed_or_ended c request e x m)
+    pub resent_answered : {keys : List (List ℕ)} {body : List ℕ} {p q s : NodePass H} {a b c : L} (w x : A) (request : Request) (tried : Tried) (text : List ℕ) → tried ≡ Answered text
+        → Resent hash_of went keys body request locked p q a b → Makes locked (TrySends hash_of went handled request w x b c (Ok tried)) q s
+        → Makes locked (SendsRequest hash_of went handled keys body (Ok text) w x a c) p s
+    resent_answered {keys} {body} {q = q} {s = s} {b = b} {c = c} w x request tried text e before m =
+        ends_on before.few before.sent
+        (ended_as keys body request before.keys_are before.body_is (subst (λ (t : Tried). Makes locked (TrySends hash_of went handled request w x b c (Ok t)) q s) e m))
+
+    failed_or_ended : {keys : List (List ℕ)} {body : List ℕ} {p q s : NodePass H} {a b : L} (w x : A) (c : L) (request : Request) (e : ClusterError)
+        → Resent hash_of went keys body request locked p q a b → Makes locked (TrySends hash_of went handled request w x b c (Err e)) q s
+        → Makes locked (SendsRequest hash_of went handled keys body (Err e) w x a c) p s
+    failed_or_ended {keys} {body} {a = a} {b = b} w x c request error.RetriesSpent before m =
+        makes_as (SendsRequest hash_of went handled keys body (Err error.RetriesSpent) w x a c) (λ acts h. (m.so.0, h))
+        (failed_on hash_of went m.so.1 before.sent (failed_as hash_of went keys body request 1 before.keys_are before.body_is
+        (makes_as (Failed hash_of went request.attempt.keys request.body 1 b c) (λ acts h. h.2) m)))
+    failed_or_ended {keys} {body} w x c request e before m = ends_on before.few before.sent (ended_as keys body request before.keys_are before.body_is m)
+
+    pub resent_failed : {keys : List (List ℕ)} {body : List ℕ} {p q s : NodePass H} {a b : L} (w x : A) (c : L) (request : Request) (e : ClusterError)
+        (known : Result (List ℕ) ClusterError) → IsErrAnd known (λ y. y ≡ e)
+        → Resent hash_of went keys body request locked p q a b → Makes locked (TrySends hash_of went handled request w x b c (Err e)) q s
+        → Makes locked (SendsRequest hash_of went handled keys body known w x a c) p s
+    resent_failed w x c request e (Ok text) is before m = absurd is
+    resent_failed {keys} {body} {p} {q} {s} {a} {b} w x c request e (Err y) is before m =
+        subst (λ (z : ClusterError). Makes locked (SendsRequest hash_of went handled keys body (Err z) w x a c) p s) (sym is) (failed_or_ended w x c request e before m)
 
 all_but_more : (answer : Result Message LinkError) (answers : List (Result Message LinkError)) → IsFailure answer → AllButLastFailed answers → AllButLastFailed (answer ∷ answers)
 all_but_more answer [] h k = tt
@@ -293,15 +379,12 @@ module _ {L H : Type 0} (hash_of : H → List ℕ → ℕ) (went : Went L) (keys
         λ failed. All-cons IsFailure answer (map (λ (s : Sending H). s.1) sends) fails (all failed),
       )
 
-  none_moves : (old new : L) (acts : List (Act H)) → Failed hash_of went keys body 0 old new acts → new ≡ old
-  none_moves old new acts Failed.is_over = refl
-  none_moves old new acts (Failed.stays {acts = rest} act h) = none_moves old new rest h
-
   -- the last, if there is one
-  ends_count : (old new : L) (acts : List (Act H)) → EndsBy hash_of went keys body old new acts
-      → (last : List (Sending H)) × (length last ≤ 1) × Counted old new acts last
-  ends_count old new acts (inl none) = ([], omega arith, record { part = tt; failed = tt; over = none_moves old new acts none })
-  ends_count old new acts (inr (view, answer, e, gone)) = (
+  ends_count : {A : Type 0} (handled : Handled A) (r : Result (List ℕ) ClusterError) (was is : A) (old new : L) (acts : List (Act H))
+      → EndsBy hash_of went handled keys body r was is old new acts → (last : List (Sending H)) × (length last ≤ 1) × Counted old new acts last
+  ends_count handled r was is old new acts (EndsBy.by_error e) = ([], omega arith, record { part = tt; failed = tt; over = refl })
+  ends_count handled r was is old new acts (EndsBy.by_handler answer here same) = ([], omega arith, record { part = tt; failed = tt; over = refl })
+  ends_count handled r was is old new acts (EndsBy.by_owner view answer e gone ends) = (
     (view, answer) ∷ [],
     omega arith,
     record {
@@ -312,17 +395,17 @@ module _ {L H : Type 0} (hash_of : H → List ℕ → ℕ) (went : Went L) (keys
   )
 
   -- all of them, if the retries are not spent
-  few_count : (old new : L) (acts : List (Act H))
-      → (n : ℕ) × (n < most_sends) × ((mid : L) × Then (Failed hash_of went keys body n old mid) (EndsBy hash_of went keys body mid new) acts)
+  few_count : {A : Type 0} (handled : Handled A) (r : Result (List ℕ) ClusterError) (was is : A) (old new : L) (acts : List (Act H))
+      → (n : ℕ) × (n < most_sends) × ((mid : L) × Then (Failed hash_of went keys body n old mid) (EndsBy hash_of went handled keys body r was is mid new) acts)
       → (sends : List (Sending H)) × (length sends ≤ most_sends) × Counted old new acts sends
-  few_count old new acts (n, lt, (mid, (xs, ys, e, failed, ends))) =
-      let (last, one, done) = ends_count mid new ys ends in
+  few_count handled r was is old new acts (n, lt, (mid, (xs, ys, e, failed, ends))) =
+      let (last, one, done) = ends_count handled r was is mid new ys ends in
       let (sends, many, counted, all) = failed_count n old mid new xs ys last failed done in
       (sends, omega (arith, lt, one, many), subst (λ (zs : List (Act H)). Counted old new zs sends) (sym e) counted)
 
-pub resendings_count : {L H : Type 0} (hash_of : H → List ℕ → ℕ) (went : Went L) → ResendingsCount hash_of went
-resendings_count hash_of went keys body (Err error.RetriesSpent) old new acts h =
-    let (sends, many, counted, all) = failed_count hash_of went keys body most_sends old new new acts [] [] h (record { part = tt; failed = tt; over = refl }) in (
+pub resendings_count : {L H A : Type 0} (hash_of : H → List ℕ → ℕ) (went : Went L) (handled : Handled A) → ResendingsCount hash_of went handled
+resendings_count hash_of went handled keys body (Err error.RetriesSpent) was is old new acts h =
+    let (sends, many, counted, all) = failed_count hash_of went keys body most_sends old new new acts [] [] h.1 (record { part = tt; failed = tt; over = refl }) in (
       sends,
       omega (arith, many),
       subst (λ (zs : List (Act _)). IsPart (map (λ (s : Sending _). s.0) sends) (viewed_in zs)) (append-nil acts) counted.part,
@@ -330,6 +413,6 @@ resendings_count hash_of went keys body (Err error.RetriesSpent) old new acts h 
       counted.over,
       λ is. (omega (arith, many), all (All-nil IsFailure)),
     )
-resendings_count hash_of went keys body r old new acts h =
-    let (sends, few, counted) = few_count hash_of went keys body old new acts h in
+resendings_count hash_of went handled keys body r was is old new acts h =
+    let (sends, few, counted) = few_count hash_of went keys body handled r was is old new acts h in
     (sends, few, counted.part, counted.failed, counted.over, λ is. absurd cc)

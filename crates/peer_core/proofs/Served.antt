@@ -1,5 +1,5 @@
 -- What is served, put together from its calls.
-use Rattle.std.proofs.Common.{◌≡◌, ◌≢◌, ℕ, Bool, false, is_ok, refl, sym, subst, inr, List, Option, Result, Ok, Err}
+use Rattle.std.proofs.Common.{◌≡◌, ◌≢◌, ℕ, Bool, false, is_ok, refl, sym, subst, inl, inr, List, Option, Result, Ok, Err}
 use Rattle.change_core.specs.declared.addresses.Address.{Address}
 use Rattle.node_core.specs.declared.errors.NodeError.{NodeError}
 use Rattle.node_core.specs.declared.errors.NodeError.TheVariants as node
@@ -18,19 +18,25 @@ use Rattle.node_core.specs.Node.{Node}
 use Rattle.node_core.specs.Viewing.{Viewed}
 use Rattle.locked_node.specs.declared.node.LockedNode.{LockedNode}
 use Rattle.locked_node.specs.Passes.{NodePass, IsCalled, Refuses}
+use Rattle.forward_core.specs.declared.errors.ForwardError.{ForwardError}
+use Rattle.forward_core.specs.declared.errors.ForwardError.TheVariants as refusal
+use Rattle.forward_core.specs.declared.routes.Route.{Route}
+use Rattle.forward_core.specs.declared.routes.Route.TheVariants as route
 use Rattle.peer_core.specs.declared.errors.ClusterError.{ClusterError}
+use Rattle.peer_core.specs.declared.errors.HandlerFault.{HandlerFault}
 use Rattle.peer_core.specs.declared.hearing.Heard.{Heard}
+use Rattle.peer_core.specs.Acts.{Act}
 use Rattle.peer_core.specs.Asking.{Pinged}
 use Rattle.peer_core.specs.Errors.{error_of_lock}
-use Rattle.peer_core.specs.Handling.{MayHandle}
+use Rattle.peer_core.specs.Handling.{Handlings}
 use Rattle.peer_core.specs.Links.{MayAnswer}
-use Rattle.peer_core.specs.Parts.{Asks, Does, Next}
-use Rattle.peer_core.specs.Serving.{message_from, Decides, IsDecided, PassesOn, Reaches, Says, Seeks, GivesMade, Serves, TellsRequester, Views}
+use Rattle.peer_core.specs.Parts.{Part, Asks, Does, Next}
+use Rattle.peer_core.specs.Serving.{message_from, Decides, FailsUnhandled, Forwards, IsDecided, IsRouted, PassesOn, Reaches, Says, Seeks, GivesMade, Serves, TellsRequester, Unhandled, Views}
 use Rattle.peer_core.proofs.Acts.{makes_as, makes_one}
 use Rattle.peer_core.proofs.Parts.{does_give, does_part, locked_out}
 
 module _ {H : Type 0} where
-  -- the node refuses a view and an answer for want of memory alone
+  -- the node refuses a view and an answer only if memory ran out
   no_view : (hash_of : H → List ℕ → ℕ) (old new : Node H) (n : NodeError) → CallStep hash_of old OfView (WithView (Err n)) new → n ≡ node.Memory
   no_view hash_of old new node.Memory s = refl
   no_view hash_of old new (node.BadConfig field) s = absurd s.0
@@ -81,6 +87,20 @@ module _ {H : Type 0} where
       → (q ≡ p) × Refuses locked p l → Does locked Views (Err (error_of_lock l)) p q
   barred_view l h = locked_out Views l h (λ acts n. n)
 
+  -- the handler was not called meanwhile
+  pub does_unhandled : {A : Type 0} {locked : LockedNode H} {p q : NodePass H} {r : Result A ClusterError} (Handled : Handlings) (P : Part H A) → Handled.never
+      → Does locked P r p q → Does locked (Unhandled Handled P) r p q
+  does_unhandled Handled P never d = does_part (Unhandled Handled P) (λ acts h. (never, h)) d
+
+  pub fails_unhandled : {A : Type 0} {locked : LockedNode H} {p q : NodePass H} (Handled : Handlings) (P : Part H A) (e : ClusterError) → Handled.never
+      → Does locked P (Err e) p q → Does locked (FailsUnhandled Handled P) (Err e) p q
+  fails_unhandled Handled P e never d = record { makes = makes_as (FailsUnhandled Handled P (Err e)) (λ acts h. (never, h)) d.makes; barred = d.barred }
+
+  -- or what it came to is not known yet
+  pub may_be_handled : {A : Type 0} {locked : LockedNode H} {p q : NodePass H} (Handled : Handlings) (P : Part H A) (a : A)
+      → Does locked P (Ok a) p q → Does locked (FailsUnhandled Handled P) (Ok a) p q
+  may_be_handled Handled P a d = record { makes = d.makes; barred = tt }
+
   -- what is refused for a reason is refused for the one that it is known by
   pub refuses_as : {locked : LockedNode H} {p q : NodePass H} {r : Result Message ClusterError} (why known : Reason)
       → why ≡ known → Does locked (Says (Refused why)) r p q → Does locked (Says (Refused known)) r p q
@@ -102,7 +122,7 @@ module _ {H : Type 0} where
   reaches_other Came now target own e d = does_part (Reaches Came now target own) (λ acts h. inr (e, h)) d
 
   -- what a view decides is answered
-  pub decides_so : (hash_of : H → List ℕ → ℕ) (Handled : MayHandle) (keys : List (List ℕ)) (body : List ℕ) (known : Result (Viewed H) NodeError)
+  pub decides_so : (hash_of : H → List ℕ → ℕ) (Handled : Handlings) (keys : List (List ℕ)) (body : List ℕ) (known : Result (Viewed H) NodeError)
       (view : Viewed H) (locked : LockedNode H) (p : NodePass H) (told : Content) (answer : Message) → known ≡ Ok view
       → IsDecided hash_of Handled keys body view told → answer ≡ message_from view told
       → Does locked (Decides hash_of Handled keys body known) (Ok answer) p p
@@ -113,15 +133,52 @@ module _ {H : Type 0} where
       (subst (λ (m : Message). Does locked (Decides hash_of Handled keys body (Ok view)) (Ok m) p p) (sym made) from)
 
   -- where there was none, that is said
-  pub decides_none : (hash_of : H → List ℕ → ℕ) (Handled : MayHandle) (keys : List (List ℕ)) (body : List ℕ) (known : Result (Viewed H) NodeError)
-      {locked : LockedNode H} {p q : NodePass H} {r : Result Message ClusterError} → is_ok known ≡ false
+  pub decides_none : (hash_of : H → List ℕ → ℕ) (Handled : Handlings) (keys : List (List ℕ)) (body : List ℕ) (known : Result (Viewed H) NodeError)
+      {locked : LockedNode H} {p q : NodePass H} {r : Result Message ClusterError} → is_ok known ≡ false → Handled.never
       → Does locked (Says (Refused reason.Memory)) r p q → Does locked (Decides hash_of Handled keys body known) r p q
-  decides_none hash_of Handled keys body (Ok view) e d = cc
-  decides_none hash_of Handled keys body (Err n) e d = d
+  decides_none hash_of Handled keys body (Ok view) e never d = cc
+  decides_none hash_of Handled keys body (Err n) e never d = does_part (Decides hash_of Handled keys body (Err n)) (λ acts h. (never, h)) d
 
-  -- a PingReq is what was served
-  pub serves_ping_req : (hash_of : H → List ℕ → ℕ) (Came : MayAnswer) (Handled : MayHandle) (message : Message) (now : ℕ) (news : News) (target : Address)
-      {locked : LockedNode H} {p q : NodePass H} {r : Result Message ClusterError} → message.content ≡ content.PingReq news target
-      → Does locked (PassesOn Came message now target) r p q → Does locked (Serves hash_of Came Handled message now message.content) r p q
-  serves_ping_req hash_of Came Handled message now news target {locked = locked} {p = p} {q = q} {r = r} e d =
-      subst (λ (x : Content). Does locked (Serves hash_of Came Handled message now x) r p q) (sym e) d
+  -- a message that is no Forward was served, without a call of the handler
+  pub serves_unhandled : (hash_of : H → List ℕ → ℕ) (Came : MayAnswer) (Handled : Handlings) (message : Message) (now : ℕ) (told : Content) (P : Part H Message)
+      {locked : LockedNode H} {p q : NodePass H} {r : Result Message ClusterError} → message.content ≡ told
+      → ((acts : List (Act H)) → Unhandled Handled P r acts → Serves hash_of Came Handled message now told r acts) → Handled.never
+      → Does locked P r p q → Does locked (Serves hash_of Came Handled message now message.content) r p q
+  serves_unhandled hash_of Came Handled message now told P {locked = locked} {p = p} {q = q} {r = r} e as_served never d =
+      subst (λ (x : Content). Does locked (Serves hash_of Came Handled message now x) r p q) (sym e)
+      (does_part (Serves hash_of Came Handled message now told) as_served (does_unhandled Handled P never d))
+
+-- what is known of the calls of a handler is passed on
+module _ {H : Type 0} (hash_of : H → List ℕ → ℕ) (One Other : Handlings)
+    (calls : (keys : List (List ℕ)) (body : List ℕ) (answer : Result (List ℕ) HandlerFault) → One.once keys body answer → Other.once keys body answer)
+    (rests : One.never → Other.never) where
+  routed_as : (keys : List (List ℕ)) (body : List ℕ) (way : Result Route ForwardError) (told : Content) → IsRouted One keys body way told → IsRouted Other keys body way told
+  routed_as keys body (Ok route.Here) told h = (h.0, calls keys body h.0 h.1, h.2)
+  routed_as keys body (Ok (route.To owner)) told h = (rests h.0, h.1)
+  routed_as keys body (Ok route.Nobody) told h = (rests h.0, h.1)
+  routed_as keys body (Err refusal.Diverged) told h = (rests h.0, h.1)
+  routed_as keys body (Err refusal.Nobody) told h = absurd h
+  routed_as keys body (Err refusal.RetriesSpent) told h = absurd h
+  routed_as keys body (Err refusal.InFlight) told h = absurd h
+  routed_as keys body (Err refusal.NotInFlight) told h = absurd h
+
+  forwards_as : (keys : List (List ℕ)) (body : List ℕ) (r : Result Message ClusterError) (acts : List (Act H))
+      → Forwards hash_of One keys body r acts → Forwards hash_of Other keys body r acts
+  forwards_as keys body (Ok m) acts (inl h) = absurd h
+  forwards_as keys body (Err e) acts (inl h) = inl (rests h.0, h.1)
+  forwards_as keys body r acts (inr (Ok view, (first, next, all, looks, (told, (way, leads, routed), gives)))) =
+      inr (Ok view, (first, next, all, looks, (told, (way, leads, routed_as keys body way told routed), gives)))
+  forwards_as keys body r acts (inr (Err n, (first, next, all, looks, refuses))) = inr (Err n, (first, next, all, looks, (rests refuses.0, refuses.1)))
+
+  pub serves_as : (Came : MayAnswer) (message : Message) (now : ℕ) (told : Content) (r : Result Message ClusterError) (acts : List (Act H))
+      → Serves hash_of Came One message now told r acts → Serves hash_of Came Other message now told r acts
+  serves_as Came message now (content.Join news) r acts h = (rests h.0, h.1)
+  serves_as Came message now (content.Ping news) r acts h = (rests h.0, h.1)
+  serves_as Came message now (content.PingReq news target) r acts h = (rests h.0, h.1)
+  serves_as Came message now (content.Forward keys body) r acts h = forwards_as keys body r acts h
+  serves_as Came message now (content.Joined news) r acts h = (rests h.0, h.1)
+  serves_as Came message now (content.Ack news) r acts h = (rests h.0, h.1)
+  serves_as Came message now (content.PingReqAck news target reached) r acts h = (rests h.0, h.1)
+  serves_as Came message now (content.Reply body) r acts h = (rests h.0, h.1)
+  serves_as Came message now content.NotOwner r acts h = (rests h.0, h.1)
+  serves_as Came message now (content.Refused why) r acts h = (rests h.0, h.1)

@@ -22,7 +22,7 @@ use Rattle.peer_core.specs.declared.hearing.Heard.{Heard}
 use Rattle.peer_core.specs.declared.hearing.Heard.TheVariants as heard
 use Rattle.peer_core.specs.Acts.{Act, did, looked}
 use Rattle.peer_core.specs.Asking.{IsSent}
-use Rattle.peer_core.specs.Handling.{MayHandle}
+use Rattle.peer_core.specs.Handling.{Handlings}
 use Rattle.peer_core.specs.Links.{MayAnswer, IsAckOf}
 use Rattle.peer_core.specs.Provenance.{pinged, AnswersSo, IsDecidedSo, IsFound, IsMadeOf, IsReport, ServingsRest}
 use Rattle.peer_core.specs.Serving.{message_by, message_from, Answers, Finds, AnswersPingReq, Forwards, Gossips, IsDecided, PassesOn, Reaches, Reports, Says, Seeks, GivesMade, Serves, TellsRequester}
@@ -178,7 +178,7 @@ module _ {H : Type 0} (Came : MayAnswer) (now : ℕ) (target : Address) where
   passes_so message answer acts (inl h) = absurd h
   passes_so message answer acts (inr t) = follows_by message.source answer t.0 acts t.1.0 t.1.1 t.1.2 t.1.4
 
-module _ {H : Type 0} (hash_of : H → List ℕ → ℕ) (Handled : MayHandle) (keys : List (List ℕ)) (body : List ℕ) (answer : Message) where
+module _ {H : Type 0} (hash_of : H → List ℕ → ℕ) (Handled : Handlings) (keys : List (List ℕ)) (body : List ℕ) (answer : Message) where
   forwards_so : (acts : List (Act H)) → Forwards hash_of Handled keys body (Ok answer) acts → IsDecidedSo hash_of Handled keys body answer.content acts
   forwards_so acts (inl h) = absurd h
   forwards_so acts (inr (Ok view, (first, next, eq, seen, (told, decided, gives)))) =
@@ -187,20 +187,20 @@ module _ {H : Type 0} (hash_of : H → List ℕ → ℕ) (Handled : MayHandle) (
       inl (view, has_first (looked (Ok view)) acts first next eq seen, subst (λ (c : Content). IsDecided hash_of Handled keys body view c) content_is decided)
   forwards_so acts (inr (Err n, (first, next, eq, seen, says))) =
       let among : Contains acts (looked (Err n)) = has_first (looked (Err n)) acts first next eq seen.0 in
-      inr (subst (λ (x : NodeError). Contains acts (looked (Err x))) seen.1 among, says_so (content.Refused reason.Memory) answer next says)
+      inr (subst (λ (x : NodeError). Contains acts (looked (Err x))) seen.1 among, says_so (content.Refused reason.Memory) answer next says.1)
 
-pub servings_rest : {H : Type 0} (hash_of : H → List ℕ → ℕ) (Came : MayAnswer) (Handled : MayHandle) → ServingsRest hash_of Came Handled
+pub servings_rest : {H : Type 0} (hash_of : H → List ℕ → ℕ) (Came : MayAnswer) (Handled : Handlings) → ServingsRest hash_of Came Handled
 servings_rest {H} hash_of Came Handled message answer now acts p = by_content message.content p
   where
     by_content : (c : Content) → Serves hash_of Came Handled message now c (Ok answer) acts
         → AnswersSo hash_of Came Handled message now c answer acts
-    by_content (content.Join news) h = gossips_so message answer now acts h
-    by_content (content.Ping news) h = gossips_so message answer now acts h
-    by_content (content.PingReq news target) h = passes_so Came now target message answer acts h
+    by_content (content.Join news) h = gossips_so message answer now acts h.1
+    by_content (content.Ping news) h = gossips_so message answer now acts h.1
+    by_content (content.PingReq news target) h = passes_so Came now target message answer acts h.1
     by_content (content.Forward keys body) h = forwards_so hash_of Handled keys body answer acts h
-    by_content (content.Joined news) h = says_so _ answer acts h
-    by_content (content.Ack news) h = says_so _ answer acts h
-    by_content (content.PingReqAck news target reached) h = says_so _ answer acts h
-    by_content (content.Reply body) h = says_so _ answer acts h
-    by_content content.NotOwner h = says_so _ answer acts h
-    by_content (content.Refused why) h = says_so _ answer acts h
+    by_content (content.Joined news) h = says_so _ answer acts h.1
+    by_content (content.Ack news) h = says_so _ answer acts h.1
+    by_content (content.PingReqAck news target reached) h = says_so _ answer acts h.1
+    by_content (content.Reply body) h = says_so _ answer acts h.1
+    by_content content.NotOwner h = says_so _ answer acts h.1
+    by_content (content.Refused why) h = says_so _ answer acts h.1

@@ -1,5 +1,5 @@
 -- The calls that a pass made of a node, in their order, each with its answer.
-use Rattle.std.specs.Prelude.{◌≡◌, Result, List, [], ◌∷◌, ◌++◌, map}
+use Rattle.std.specs.Prelude.{◌≡◌, ℕ, ◌+◌, Result, List, [], ◌∷◌, ◌++◌, map}
 use Rattle.node_core.specs.declared.errors.NodeError.{NodeError}
 use Rattle.node_core.specs.declared.events.Event.{Event}
 use Rattle.node_core.specs.declared.events.Reply.{Reply}
@@ -47,3 +47,12 @@ module _ {H : Type 0} where
     pub entries : List (CallEntry H)
     pub made : Made locked old new entries
     pub so : So (acts_of entries)
+
+  -- acts of one kind this number of times, and no others, each from the state of something, as a handler, in which the one before left it
+  pub data Chain {A : Type 0} (One : A → A → OfActs H) : ℕ → A → A → List (Act H) → Type 0 where
+    none : {s : A} → Chain One 0 s s []
+    more : {n : ℕ} {r s t : A} {acts next : List (Act H)} → Chain One n r s acts → One s t next → Chain One (n + 1) r t (acts ++ next)
+
+  -- the same of acts without a state
+  abbrev pub Times : OfActs H → ℕ → OfActs H
+  Times One n acts = Chain (λ (was is : Unit {0}). One) n tt tt acts

@@ -13,6 +13,7 @@ pub mod Handling
 pub mod Serving
 pub mod Forwarding
 pub mod Resending
+pub mod Handlings
 pub mod Provenance
 pub mod HealingProvenance
 pub mod CorrectionProvenance

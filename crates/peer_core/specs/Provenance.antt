@@ -34,7 +34,7 @@ use Rattle.peer_core.specs.declared.rounds.Round.{Round}
 use Rattle.peer_core.specs.declared.rounds.Round.TheVariants.{Idle, Reached, Suspected, Inconclusive}
 use Rattle.peer_core.specs.Acts.{Act, OfActs, did, looked}
 use Rattle.peer_core.specs.Errors.{error_of_node}
-use Rattle.peer_core.specs.Handling.{MayHandle}
+use Rattle.peer_core.specs.Handling.{Handlings}
 use Rattle.peer_core.specs.Joining.{IsJoin}
 use Rattle.peer_core.specs.Links.{MayAnswer, IsAckOf, IsJoined, IsOther, TellsOf, word_on}
 use Rattle.peer_core.specs.Parts.{IsOfLock}
@@ -259,13 +259,13 @@ module _ {H : Type 0} where
       × IsFound Came now target reached prefix
 
   -- a view of the node decides this answer to a request; or out of memory for a view
-  abbrev pub IsDecidedSo : (H → List ℕ → ℕ) → MayHandle → List (List ℕ) → List ℕ → Content → OfActs H
+  abbrev pub IsDecidedSo : (H → List ℕ → ℕ) → Handlings → List (List ℕ) → List ℕ → Content → OfActs H
   IsDecidedSo hash_of Handled keys body told acts =
       ((view : Viewed H) × Contains acts (looked (Ok view)) × IsDecided hash_of Handled keys body view told)
       ⊎ (Contains acts (looked (Err refusal.Memory)) × (told ≡ content.Refused reason.Memory))
 
   -- the provenance of an answer, by the content of the message
-  abbrev pub AnswersSo : (H → List ℕ → ℕ) → MayAnswer → MayHandle → Message → ℕ → Content → Message → OfActs H
+  abbrev pub AnswersSo : (H → List ℕ → ℕ) → MayAnswer → Handlings → Message → ℕ → Content → Message → OfActs H
   AnswersSo hash_of Came Handled message now (content.Join news) answer acts = IsRefusal answer ⊎ IsMadeOf message now answer acts
   AnswersSo hash_of Came Handled message now (content.Ping news) answer acts = IsRefusal answer ⊎ IsMadeOf message now answer acts
   AnswersSo hash_of Came Handled message now (content.PingReq news target) answer acts =
@@ -288,7 +288,7 @@ JoinsRest H Came =
     → IfOk r (λ n. (0 < n) × CountedSo Came now hosts n acts) × IfErr r (λ e. IsWhyNot Came now hosts e acts)
 
 -- each answer to a message has the provenance of its kind
-abbrev pub ServingsRest : {H : Type 0} → (H → List ℕ → ℕ) → MayAnswer → MayHandle → Type 0
+abbrev pub ServingsRest : {H : Type 0} → (H → List ℕ → ℕ) → MayAnswer → Handlings → Type 0
 ServingsRest {H} hash_of Came Handled =
     (message answer : Message) (now : ℕ) (acts : List (Act H)) → Serves hash_of Came Handled message now message.content (Ok answer) acts
     → AnswersSo hash_of Came Handled message now message.content answer acts

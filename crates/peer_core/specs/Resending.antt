@@ -1,5 +1,6 @@
--- What goes over a link for a request: by a view of the node at most one Forward, to the owner of its keys in that view. Four fail and the
--- retries are spent; or fewer fail, and then at most one more goes.
+-- What goes over a link for a request, and what its handler is asked: by a view of the node at most one Forward, to the owner of its keys in
+-- that view, or one call of the handler, if that owner is the node. Four Forwards fail and the retries are spent; or fewer fail, and the request
+-- ends by an error, by the handler's result, or by the answer to one more Forward.
 use Rattle.std.specs.Prelude.{◌≡◌, ◌≢◌, ◌⊎◌, ℕ, suc, ◌+◌, ◌<◌, ◌≤◌, length, map, List, [], ◌∷◌, ◌++◌, Some, Result, Ok, Err}
 use Rattle.std.specs.List.{All}
 use Rattle.change_core.specs.declared.addresses.Address.{Address}
@@ -14,12 +15,28 @@ use Rattle.peer_core.specs.declared.errors.ClusterError.TheVariants as error
 use Rattle.peer_core.specs.declared.errors.LinkError.{LinkError}
 use Rattle.peer_core.specs.declared.forwarding.Request.{Request}
 use Rattle.peer_core.specs.declared.forwarding.Tried.{Tried}
-use Rattle.peer_core.specs.declared.forwarding.Tried.TheVariants.{Again}
+use Rattle.peer_core.specs.declared.forwarding.Tried.TheVariants.{Answered, Again}
 use Rattle.peer_core.specs.Acts.{Act, OfActs, Just, Then, looked}
 use Rattle.peer_core.specs.Exchanges.{IsPart}
+use Rattle.peer_core.specs.declared.errors.HandlerFault.{HandlerFault}
+use Rattle.peer_core.specs.declared.errors.HandlerFault.TheVariants as fault
+use Rattle.peer_core.specs.declared.errors.LinkError.TheVariants as link
 use Rattle.peer_core.specs.Forwarding.{IsFailure, IsJudged}
+use Rattle.peer_core.specs.Handling.{Handled}
 use Rattle.peer_core.specs.Links.{Went}
 use Rattle.peer_core.specs.Serving.{message_from}
+
+-- a request's result for the handler's
+abbrev pub result_of_handler : Result (List ℕ) HandlerFault → Result (List ℕ) ClusterError
+result_of_handler (Ok text) = Ok text
+result_of_handler (Err fault.Failed) = Err error.HandlerFault
+result_of_handler (Err fault.Memory) = Err error.Memory
+
+-- a request's result for an answer that came over a link and ends it: the text of a Reply, or out of memory
+abbrev pub IsResultOf : Result Message LinkError → Result (List ℕ) ClusterError → Type 0
+IsResultOf answer (Ok text) = (message : Message) × (answer ≡ Ok message) × (message.content ≡ content.Reply text)
+IsResultOf answer (Err error.Memory) = answer ≡ Err link.Memory
+IsResultOf answer (Err other) = ⊥
 
 module _ {L H : Type 0} (hash_of : H → List ℕ → ℕ) (went : Went L) (keys : List (List ℕ)) (body : List ℕ) where
   -- a Forward of the keys and the body, by the node whose view this is, went over the link to the owner of the keys in it, with this answer
@@ -35,25 +52,38 @@ module _ {L H : Type 0} (hash_of : H → List ℕ → ℕ) (went : Went L) (keys
     sent : {n : ℕ} {old mid new : L} {acts : List (Act H)} (view : Viewed H) (answer : Result Message LinkError)
         → GoesToOwner view answer old mid → IsFailure answer → Failed n mid new acts → Failed (suc n) old new (looked (Ok view) ∷ acts)
 
-  -- nothing more goes over the link, or one Forward by the last view, whatever its answer
-  abbrev pub EndsBy : L → L → OfActs H
-  EndsBy old new acts =
-      Failed 0 old new acts ⊎ ((view : Viewed H) × (answer : Result Message LinkError) × Just (looked (Ok view)) acts × GoesToOwner view answer old new)
+module _ {L H A : Type 0} (hash_of : H → List ℕ → ℕ) (went : Went L) (handled : Handled A) (keys : List (List ℕ)) (body : List ℕ) where
+  -- the handler was called, once, by a view in which the node owns all keys, and had this result
+  abbrev pub HandlesHere : Result (List ℕ) HandlerFault → A → A → OfActs H
+  HandlesHere answer was is acts =
+      (view : Viewed H) × Just (looked (Ok view)) acts × AllOwnedBy hash_of view keys (Some view.own) × handled keys body answer was is
 
-  -- what goes over a link for a request with this result
-  abbrev pub SendsRequest : Result (List ℕ) ClusterError → L → L → OfActs H
-  SendsRequest (Err error.RetriesSpent) old new acts = Failed most_sends old new acts
-  SendsRequest r old new acts = (n : ℕ) × (n < most_sends) × ((mid : L) × Then (Failed n old mid) (EndsBy mid new) acts)
+  -- The end of a request with this result, over the link and by the handler: an error, without a call of either; the handler's result, without a
+  -- Forward; or that of a Forward by the last view, without a call of the handler.
+  pub data EndsBy : Result (List ℕ) ClusterError → A → A → L → L → List (Act H) → Type 0 where
+    by_error : {was : A} {now : L} {acts : List (Act H)} (e : ClusterError) → EndsBy (Err e) was was now now acts
+    by_handler : {r : Result (List ℕ) ClusterError} {was is : A} {now : L} {acts : List (Act H)} (answer : Result (List ℕ) HandlerFault)
+        → HandlesHere answer was is acts → r ≡ result_of_handler answer → EndsBy r was is now now acts
+    by_owner : {r : Result (List ℕ) ClusterError} {was : A} {old new : L} {acts : List (Act H)} (view : Viewed H) (answer : Result Message LinkError)
+        → Just (looked (Ok view)) acts → GoesToOwner hash_of went keys body view answer old new → IsResultOf answer r → EndsBy r was was old new acts
 
-module _ {L H : Type 0} (hash_of : H → List ℕ → ℕ) (went : Went L) where
-  -- What one try sends. If the request is to be tried again, with the same keys and the same body, it was sent as often more as Forwards failed.
-  abbrev pub TrySends : Request → L → L → Result Tried ClusterError → OfActs H
-  TrySends request old new (Ok (Again back)) acts =
-      (back.attempt.keys ≡ request.attempt.keys) × (back.body ≡ request.body) × (back.attempt.sends < most_sends)
+  -- what goes over a link for a request with this result, and what its handler is asked
+  abbrev pub SendsRequest : Result (List ℕ) ClusterError → A → A → L → L → OfActs H
+  SendsRequest (Err error.RetriesSpent) was is old new acts = (is ≡ was) × Failed hash_of went keys body most_sends old new acts
+  SendsRequest r was is old new acts =
+      (n : ℕ) × (n < most_sends) × ((mid : L) × Then (Failed hash_of went keys body n old mid) (EndsBy r was is mid new) acts)
+
+module _ {L H A : Type 0} (hash_of : H → List ℕ → ℕ) (went : Went L) (handled : Handled A) where
+  -- What one try sends, and what it asks of the handler. If the request is to be tried again, with the same keys and the same body, the handler was not
+  -- called, and it was sent as often more as Forwards failed.
+  abbrev pub TrySends : Request → A → A → L → L → Result Tried ClusterError → OfActs H
+  TrySends request was is old new (Ok (Again back)) acts =
+      (is ≡ was) × (back.attempt.keys ≡ request.attempt.keys) × (back.body ≡ request.body) × (back.attempt.sends < most_sends)
       × ((n : ℕ) × (request.attempt.sends + n ≡ back.attempt.sends) × Failed hash_of went request.attempt.keys request.body n old new acts)
-  TrySends request old new (Err error.RetriesSpent) acts =
-      (request.attempt.sends + 1 ≡ most_sends) × Failed hash_of went request.attempt.keys request.body 1 old new acts
-  TrySends request old new r acts = EndsBy hash_of went request.attempt.keys request.body old new acts
+  TrySends request was is old new (Err error.RetriesSpent) acts =
+      (is ≡ was) × (request.attempt.sends + 1 ≡ most_sends) × Failed hash_of went request.attempt.keys request.body 1 old new acts
+  TrySends request was is old new (Ok (Answered text)) acts = EndsBy hash_of went handled request.attempt.keys request.body (Ok text) was is old new acts
+  TrySends request was is old new (Err e) acts = EndsBy hash_of went handled request.attempt.keys request.body (Err e) was is old new acts
 
 -- a request went over the link to the owner, once, as a Forward by the node whose view this is, and its answer was judged
 abbrev pub IsSentOnce : {L H : Type 0} → Went L → Viewed H → Address → Request → Result Tried ClusterError → L → L → Type 0
@@ -87,12 +117,13 @@ module _ {L H : Type 0} (hash_of : H → List ℕ → ℕ) (went : Went L) where
   ForwardsOver keys body [] old new = new ≡ old
   ForwardsOver keys body ((view, answer) ∷ sends) old new = (mid : L) × GoesToOwner hash_of went keys body view answer old mid × ForwardsOver keys body sends mid new
 
+module _ {L H A : Type 0} (hash_of : H → List ℕ → ℕ) (went : Went L) (handled : Handled A) where
   -- For a request at most four Forwards go over the link, each by another of the views that the node gave, and each but the last failed. If its
   -- retries are spent there were four, and all failed.
   abbrev pub ResendingsCount : Type 0
   ResendingsCount =
-      (keys : List (List ℕ)) (body : List ℕ) (r : Result (List ℕ) ClusterError) (old new : L) (acts : List (Act H))
-      → SendsRequest hash_of went keys body r old new acts
+      (keys : List (List ℕ)) (body : List ℕ) (r : Result (List ℕ) ClusterError) (was is : A) (old new : L) (acts : List (Act H))
+      → SendsRequest hash_of went handled keys body r was is old new acts
       → (sends : List (Sending H)) × (length sends ≤ most_sends) × IsPart (map (λ (s : Sending H). s.0) sends) (viewed_in acts)
-      × AllButLastFailed (map (λ (s : Sending H). s.1) sends) × ForwardsOver keys body sends old new
+      × AllButLastFailed (map (λ (s : Sending H). s.1) sends) × ForwardsOver hash_of went keys body sends old new
       × (r ≡ Err error.RetriesSpent → (length sends ≡ most_sends) × All IsFailure (map (λ (s : Sending H). s.1) sends))

@@ -27,7 +27,7 @@ use Rattle.peer_core.specs.declared.hearing.Heard.{Heard}
 use Rattle.peer_core.specs.declared.hearing.Heard.TheVariants as heard
 use Rattle.peer_core.specs.Acts.{looked, Just, Nothing}
 use Rattle.peer_core.specs.Asking.{Pinged}
-use Rattle.peer_core.specs.Handling.{MayHandle, handled_as}
+use Rattle.peer_core.specs.Handling.{Handlings, handled_as}
 use Rattle.peer_core.specs.Links.{MayAnswer}
 use Rattle.peer_core.specs.Parts.{Part, IsOfLock, Calls, Asks, Gives, Next}
 
@@ -46,22 +46,31 @@ abbrev pub message_from : {H : Type 0} → Viewed H → Content → Message
 message_from view told = record { source = view.own; source_incarnation = view.incarnation; content = told }
 
 -- the route of a request is decided by the owner of its keys that a view of the node names; if that is this node, the handler has the
--- answer
-abbrev pub IsRouted : MayHandle → List (List ℕ) → List ℕ → Result Route ForwardError → Content → Type 0
-IsRouted Handled keys body (Ok route.Here) told = (answer : Result (List ℕ) HandlerFault) × Handled keys body answer × (told ≡ handled_as answer)
-IsRouted Handled keys body (Ok (route.To owner)) told = told ≡ content.NotOwner
-IsRouted Handled keys body (Ok route.Nobody) told = told ≡ content.Refused reason.Nobody
-IsRouted Handled keys body (Err refusal.Diverged) told = told ≡ content.Refused reason.Diverged
+-- answer, and was called once; else it was not called
+abbrev pub IsRouted : Handlings → List (List ℕ) → List ℕ → Result Route ForwardError → Content → Type 0
+IsRouted Handled keys body (Ok route.Here) told = (answer : Result (List ℕ) HandlerFault) × Handled.once keys body answer × (told ≡ handled_as answer)
+IsRouted Handled keys body (Ok (route.To owner)) told = Handled.never × (told ≡ content.NotOwner)
+IsRouted Handled keys body (Ok route.Nobody) told = Handled.never × (told ≡ content.Refused reason.Nobody)
+IsRouted Handled keys body (Err refusal.Diverged) told = Handled.never × (told ≡ content.Refused reason.Diverged)
 IsRouted Handled keys body (Err other) told = ⊥
 
 -- the content of the answer to a request, by a view of the node
-abbrev pub IsDecided : {H : Type 0} → (H → List ℕ → ℕ) → MayHandle → List (List ℕ) → List ℕ → Viewed H → Content → Type 0
+abbrev pub IsDecided : {H : Type 0} → (H → List ℕ → ℕ) → Handlings → List (List ℕ) → List ℕ → Viewed H → Content → Type 0
 IsDecided hash_of Handled keys body view told = (way : Result Route ForwardError) × IsRouteOf hash_of view keys way × IsRouted Handled keys body way told
 
 module _ {H : Type 0} where
   -- no result and no acts are possible
   abbrev pub Never : {A : Type 0} → Part H A
   Never r acts = ⊥
+
+  -- a part without a call of the handler
+  abbrev pub Unhandled : {A : Type 0} → Handlings → Part H A → Part H A
+  Unhandled Handled P r acts = Handled.never × P r acts
+
+  -- a part that has none if it fails
+  abbrev pub FailsUnhandled : {A : Type 0} → Handlings → Part H A → Part H A
+  FailsUnhandled Handled P (Ok a) acts = P (Ok a) acts
+  FailsUnhandled Handled P (Err e) acts = Handled.never × P (Err e) acts
 
   -- the node says this, with itself as the source
   abbrev pub Says : Content → Part H Message
@@ -136,24 +145,24 @@ module _ {H : Type 0} where
   Views (Err e) acts = Nothing acts × IsOfLock e
 
   -- the node answers what one view decides, at the incarnation of that view; a refusal `memory` if there is no view
-  abbrev pub Decides : (H → List ℕ → ℕ) → MayHandle → List (List ℕ) → List ℕ → Result (Viewed H) NodeError → Part H Message
+  abbrev pub Decides : (H → List ℕ → ℕ) → Handlings → List (List ℕ) → List ℕ → Result (Viewed H) NodeError → Part H Message
   Decides hash_of Handled keys body (Ok view) r acts =
       (told : Content) × IsDecided hash_of Handled keys body view told × Gives (message_from view told) r acts
-  Decides hash_of Handled keys body (Err n) r acts = Refuses reason.Memory r acts
+  Decides hash_of Handled keys body (Err n) r acts = Unhandled Handled (Refuses reason.Memory) r acts
 
-  -- one view decides the answer to a request
-  abbrev pub Forwards : (H → List ℕ → ℕ) → MayHandle → List (List ℕ) → List ℕ → Part H Message
-  Forwards hash_of Handled keys body = Next Views (Decides hash_of Handled keys body)
+  -- one view decides the answer to a request, and whether the handler is called, once
+  abbrev pub Forwards : (H → List ℕ → ℕ) → Handlings → List (List ℕ) → List ℕ → Part H Message
+  Forwards hash_of Handled keys body = Next (FailsUnhandled Handled Views) (Decides hash_of Handled keys body)
 
-  -- the answer to a message received at this moment, by its content
-  abbrev pub Serves : (H → List ℕ → ℕ) → MayAnswer → MayHandle → Message → ℕ → Content → Part H Message
-  Serves hash_of Came Handled message now (content.Join news) = Gossips message now
-  Serves hash_of Came Handled message now (content.Ping news) = Gossips message now
-  Serves hash_of Came Handled message now (content.PingReq news target) = PassesOn Came message now target
+  -- the answer to a message received at this moment, by its content; the handler is called for a Forward alone
+  abbrev pub Serves : (H → List ℕ → ℕ) → MayAnswer → Handlings → Message → ℕ → Content → Part H Message
+  Serves hash_of Came Handled message now (content.Join news) = Unhandled Handled (Gossips message now)
+  Serves hash_of Came Handled message now (content.Ping news) = Unhandled Handled (Gossips message now)
+  Serves hash_of Came Handled message now (content.PingReq news target) = Unhandled Handled (PassesOn Came message now target)
   Serves hash_of Came Handled message now (content.Forward keys body) = Forwards hash_of Handled keys body
-  Serves hash_of Came Handled message now (content.Joined news) = Refuses reason.Unexpected
-  Serves hash_of Came Handled message now (content.Ack news) = Refuses reason.Unexpected
-  Serves hash_of Came Handled message now (content.PingReqAck news target reached) = Refuses reason.Unexpected
-  Serves hash_of Came Handled message now (content.Reply body) = Refuses reason.Unexpected
-  Serves hash_of Came Handled message now content.NotOwner = Refuses reason.Unexpected
-  Serves hash_of Came Handled message now (content.Refused why) = Refuses reason.Unexpected
+  Serves hash_of Came Handled message now (content.Joined news) = Unhandled Handled (Refuses reason.Unexpected)
+  Serves hash_of Came Handled message now (content.Ack news) = Unhandled Handled (Refuses reason.Unexpected)
+  Serves hash_of Came Handled message now (content.PingReqAck news target reached) = Unhandled Handled (Refuses reason.Unexpected)
+  Serves hash_of Came Handled message now (content.Reply body) = Unhandled Handled (Refuses reason.Unexpected)
+  Serves hash_of Came Handled message now content.NotOwner = Unhandled Handled (Refuses reason.Unexpected)
+  Serves hash_of Came Handled message now (content.Refused why) = Unhandled Handled (Refuses reason.Unexpected)

@@ -8,12 +8,13 @@ ghost use Rattle.message_core.specs.declared.messages.Message.{Message};
 ghost use Rattle.peer_core.specs.declared.errors.LinkError.{LinkError};
 ghost use Rattle.peer_core.specs.Acts.{Makes};
 ghost use Rattle.peer_core.specs.Forwarding.{IsFailure, IsHandled, IsJudged, IsRequest, IsRequestRefusal, IsForwarded, LooksUp, StandsFor, StaysOpen, TriesOnce};
+ghost use Rattle.peer_core.specs.Handling.{between};
 ghost use Rattle.peer_core.specs.Parts.{Does};
 ghost use Rattle.peer_core.specs.Resending.{IsSentOnce, SendsRequest, TrySends};
 
 use crate::clocks::Clock;
 use crate::errors::{ClusterError, HandlerFault, LinkError};
-use crate::handlers::Handler;
+use crate::handlers::HandlerMut;
 use crate::links::Link;
 use crate::serving::message_from;
 use change_core::{Address, Moment};
@@ -65,17 +66,17 @@ fn plan_attempt<R: Wait, H: PointHash>(
 }
 
 /// Calls the handler for a request.
-fn handle<R: Wait, A: Handler>(
+fn handle<R: Wait, A: HandlerMut>(
     rt: &R,
     alloc: Global,
-    handler: &A,
+    handler: &mut A,
     keys: &Keys,
     body: &Text,
 ) -> Result<Text, ClusterError>
-    ensures handled { IsHandled (A.may_handle handler.now) keys.now body.now result }
+    ensures handled { IsHandled (between A.handled handler.old handler.new).once keys.now body.now result }
     ensures named { IfErr result IsRequestRefusal }
 {
-    let answer = handler.handle(rt, alloc, keys, body);
+    let answer = handler.handle_mut(rt, alloc, keys, body);
     match answer {
         Ok(text) => Ok(text),
         Err(HandlerFault::Failed) => Err(ClusterError::HandlerFault),
@@ -147,21 +148,21 @@ fn send<R: Wait, H: PointHash, L: Link, C: Clock>(
 }
 
 /// Tries once: the node is looked at, and the request is handled here, sent to its owner, or let rest.
-fn try_once<R: Wait, H: PointHash, L: Link, A: Handler, C: Clock>(
+fn try_once<R: Wait, H: PointHash, L: Link, A: HandlerMut, C: Clock>(
     rt: &R,
     alloc: Global,
     node: &LockedNode<H>,
     pass: &mut NodePass<H>,
     link: &mut L,
-    handler: &A,
+    handler: &mut A,
     clock: &C,
     request: Request,
 ) -> Result<Tried, ClusterError>
     requires fits { Fits node.now pass.old }
     requires open { IsOpen request.attempt.stage }
     requires few { request.attempt.sends < most_sends }
-    ensures did { Does node.now (TriesOnce H.hash_of L.may_answer (A.may_handle handler.now) C.time request) result pass.old pass.new }
-    ensures sent { Makes node.now (TrySends H.hash_of L.went request link.old link.new result) pass.old pass.new }
+    ensures did { Does node.now (TriesOnce H.hash_of L.may_answer (between A.handled handler.old handler.new).once C.time request) result pass.old pass.new }
+    ensures sent { Makes node.now (TrySends H.hash_of L.went A.handled request handler.old handler.new link.old link.new result) pass.old pass.new }
     ensures fits { Fits node.now pass.new }
     ensures open { IfOk result StaysOpen }
     ensures named { IfErr result IsRequestRefusal }
@@ -188,7 +189,9 @@ fn try_once<R: Wait, H: PointHash, L: Link, A: Handler, C: Clock>(
 /// the node that does, which is sent a Forward. Each time the owner is looked up again in a view of the node. Any
 /// answer of the owner but a Reply is a failure of that send, and so is an error of the link other than out of memory.
 /// The request is tried again 3,000, 6,000 and 12,000 milliseconds after its first, second and third failure, measured
-/// by `clock`. No turn of the node is held while the link or the handler is called, or the clock is waited for.
+/// by `clock`. No turn of the node is held while the link or the handler is called, or the clock is waited for. The
+/// handler is called once if this node owns the keys when the request ends, after at most three sends that failed; and
+/// not at all if a Reply is the answer.
 ///
 /// # Errors
 ///
@@ -201,20 +204,20 @@ fn try_once<R: Wait, H: PointHash, L: Link, A: Handler, C: Clock>(
 /// - `Memory`: out of memory, here, in the handler or in the link.
 /// - `ForeignPass`: the pass has another node's name.
 /// - `PassSpent`: the pass has made all its calls.
-pub fn handle_or_forward<R: Wait, H: PointHash, L: Link, A: Handler, C: Clock>(
+pub fn handle_or_forward<R: Wait, H: PointHash, L: Link, A: HandlerMut, C: Clock>(
     rt: &R,
     alloc: Global,
     node: &LockedNode<H>,
     pass: &mut NodePass<H>,
     link: &mut L,
-    handler: &A,
+    handler: &mut A,
     clock: &C,
     keys: Keys,
     body: Text,
 ) -> Result<Text, ClusterError>
     requires { Fits node.now pass.old }
-    ensures request { Does node.now (IsRequest H.hash_of L.may_answer (A.may_handle handler.now) C.time keys body) result pass.old pass.new }
-    ensures sent { Makes node.now (SendsRequest H.hash_of L.went keys body result link.old link.new) pass.old pass.new }
+    ensures request { Does node.now (IsRequest H.hash_of L.may_answer (between A.handled handler.old handler.new).once C.time keys body) result pass.old pass.new }
+    ensures sent { Makes node.now (SendsRequest H.hash_of L.went A.handled keys body result handler.old handler.new link.old link.new) pass.old pass.new }
     ensures fits { Fits node.now pass.new }
     ensures named { IfErr result IsRequestRefusal }
 {

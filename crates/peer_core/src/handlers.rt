@@ -33,3 +33,44 @@ pub trait Handler {
     ) -> Result<Text, HandlerFault>
         ensures handled { may_handle self.now keys.now body.now result };
 }
+
+/// A handler that one caller uses at a time. It can tell contracts how often it is called; a `Handler` that is shared
+/// can't, and a reference to it is one of these: `&mut &handler`.
+pub trait HandlerMut {
+    ghost use Rattle.peer_core.specs.Handling.{Handled};
+
+    /// One call: the keys, the body, the result, and the state of the handler before and after. Code over any handler
+    /// can show a call only by calling, and two calls are not one.
+    ghost handled: { Handled Self };
+
+    /// Answers a request, as `Handler::handle` does.
+    ///
+    /// # Errors
+    ///
+    /// - `Failed`: the request was not done.
+    /// - `Memory`: out of memory.
+    fn handle_mut<R: Wait>(
+        &mut self,
+        rt: &R,
+        alloc: Global,
+        keys: &Keys,
+        body: &Text,
+    ) -> Result<Text, HandlerFault>
+        ensures handled { handled keys.now body.now result self.old self.new };
+}
+
+impl<'h, A: Handler> HandlerMut for &'h A {
+    ghost use Rattle.peer_core.specs.Handling.{handled_shared};
+
+    ghost handled = { handled_shared (λ handler. A.may_handle handler.now) };
+
+    fn handle_mut<R: Wait>(
+        &mut self,
+        rt: &R,
+        alloc: Global,
+        keys: &Keys,
+        body: &Text,
+    ) -> Result<Text, HandlerFault> {
+        self.handle(rt, alloc, keys, body)
+    }
+}

@@ -1,6 +1,8 @@
 //! Theorems about the definitions, each the contract of a function that does nothing.
 ghost use Rattle.peer_core.specs.CorrectionProvenance.{CorrectionsRest};
 ghost use Rattle.peer_core.specs.Exchanges.{CallsAgree, HealingsCount, SendingsCount};
+ghost use Rattle.peer_core.specs.Handling.{between};
+ghost use Rattle.peer_core.specs.Handlings.{RequestsHandled, ServingsHandled};
 ghost use Rattle.peer_core.specs.HealingProvenance.{HealsRest};
 ghost use Rattle.peer_core.specs.MemberErrors.{AnswersAgree};
 ghost use Rattle.peer_core.specs.Provenance.{JoinsRest, RoundsRest, ServingsRest};
@@ -8,7 +10,7 @@ ghost use Rattle.peer_core.specs.Requests.{RequestsRest};
 ghost use Rattle.peer_core.specs.Resending.{ResendingsCount};
 
 use crate::clocks::Clock;
-use crate::handlers::Handler;
+use crate::handlers::HandlerMut;
 use crate::links::Link;
 use hash_ring::PointHash;
 
@@ -52,8 +54,8 @@ pub fn corrections<H, L: Link>()
 /// it was not only if another answer came. To a Forward it is what one view of the node decides: the handler's answer
 /// if the node owns all keys, that another node does, that two keys have different owners or that no member serves; or
 /// out of memory for a view. Any other message is refused as unexpected.
-pub fn servings<H: PointHash, L: Link, A: Handler>()
-    ensures { (handler : A) → ServingsRest H.hash_of L.may_answer (A.may_handle handler) }
+pub fn servings<H: PointHash, L: Link, A: HandlerMut>()
+    ensures { (old new : A) → ServingsRest H.hash_of L.may_answer (between A.handled old new) }
 {}
 
 /// The text of a request is the handler's, if a view of the node shows that the node owns all its keys; or it is that
@@ -61,8 +63,8 @@ pub fn servings<H: PointHash, L: Link, A: Handler>()
 /// these keys and this body. The error of a request has its cause: the lock refused it; in a view two keys have
 /// different owners, or no member serves; an answer that is a failure came from the owner; the handler failed; or out
 /// of memory for a view, in the handler or in the link.
-pub fn requests<H: PointHash, L: Link, A: Handler, C: Clock>()
-    ensures { (handler : A) → RequestsRest H.hash_of L.may_answer (A.may_handle handler) C.time }
+pub fn requests<H: PointHash, L: Link, A: HandlerMut, C: Clock>()
+    ensures { (old new : A) → RequestsRest H.hash_of L.may_answer (between A.handled old new).once C.time }
 {}
 
 /// Messages over the link in a round, a join, a correction, healing and an answer: the link is called exactly as often as the
@@ -78,8 +80,17 @@ pub fn sendings<H, L: Link>()
 /// Forwards over the link for a request: at most four, of its keys and its body, each by another of the views that the node
 /// gave in it, to the owner of the keys in that view, and each but the last was answered by a failure; nothing else. So also
 /// if the request ends with an error; if that is `RetriesSpent`, there were four, and all failed.
-pub fn resendings<H: PointHash, L: Link>()
-    ensures { ResendingsCount H.hash_of L.went }
+pub fn resendings<H: PointHash, L: Link, A: HandlerMut>()
+    ensures { ResendingsCount H.hash_of L.went A.handled }
+{}
+
+/// Calls of the handler. For a message: one, with its keys and its body, if it is a Forward and a view of the node shows
+/// that the node owns all keys, and the answer is its result; for any other none. For a request: one at most, by a view in
+/// which the node owns all keys; then the result is the handler's, and each Forward before it failed. If there was none,
+/// a text is that of a Reply which came for a Forward. So also if the request ends with an error.
+pub fn handlings<H: PointHash, L: Link, A: HandlerMut>()
+    ensures served { ServingsHandled H.hash_of A.handled L.may_answer }
+    ensures requested { RequestsHandled H.hash_of L.went A.handled }
 {}
 
 /// The result of a member's single call of its node, with its error converted, is that of the locked node, with its

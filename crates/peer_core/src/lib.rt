@@ -27,7 +27,7 @@ pub use correcting::correcting_round;
 pub use errors::{ClusterError, HandlerFault, LinkError};
 pub use forwarding::handle_or_forward;
 pub use gossiping::gossip_round;
-pub use handlers::Handler;
+pub use handlers::{Handler, HandlerMut};
 pub use healing::{Healing, heal};
 pub use joining::join;
 pub use links::Link;

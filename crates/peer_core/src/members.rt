@@ -7,6 +7,7 @@ ghost use Rattle.locked_node.specs.Passes.{Fits};
 ghost use Rattle.peer_core.specs.Correcting.{IsCorrectingRound};
 ghost use Rattle.peer_core.specs.Exchanges.{SendsByDraws, SendsTo, SendsToPinged};
 ghost use Rattle.peer_core.specs.Forwarding.{IsRequest};
+ghost use Rattle.peer_core.specs.Handling.{between};
 ghost use Rattle.peer_core.specs.Healing.{IsHealing, after_round};
 ghost use Rattle.peer_core.specs.Joining.{IsJoin};
 ghost use Rattle.peer_core.specs.MemberErrors.{answer_of_call, answer_of_leave, answer_of_rejoin, error_of_call, error_of_join, error_of_request, error_of_round, widened};
@@ -20,7 +21,7 @@ use crate::clocks::Clock;
 use crate::correcting::correcting_round;
 use crate::forwarding::handle_or_forward;
 use crate::gossiping::gossip_round;
-use crate::handlers::Handler;
+use crate::handlers::HandlerMut;
 use crate::healing::{Healing, heal};
 use crate::joining::join;
 use crate::links::Link;
@@ -185,14 +186,14 @@ impl<'m, H: PointHash, L: Link> Member<'m, H, L> {
     /// # Errors
     ///
     /// - `ForeignPass`, `PassSpent`: the lock refused the pass.
-    pub fn serve<R: Wait, A: Handler>(
+    pub fn serve<R: Wait, A: HandlerMut>(
         &mut self,
         rt: &R,
-        handler: &A,
+        handler: &mut A,
         now: Moment,
         message: &Message,
     ) -> Result<Message, LockError>
-        ensures done { Done (Serves H.hash_of L.may_answer (A.may_handle handler.now) message.now now message.now.content) (let_in result) self.old self.new }
+        ensures done { Done (Serves H.hash_of L.may_answer (between A.handled handler.old handler.new) message.now now message.now.content) (let_in result) self.old self.new }
         ensures sent { Over (SendsTo L.went []) self.old self.new }
     {
         serve_one(
@@ -225,16 +226,16 @@ impl<'m, H: PointHash, L: Link> Member<'m, H, L> {
     /// - `HandlerFault`: the handler failed.
     /// - `Memory`: the node, the handler or the link ran out of memory.
     /// - `ForeignPass`, `PassSpent`: the lock refused the pass.
-    pub fn request<R: Wait, A: Handler, C: Clock>(
+    pub fn request<R: Wait, A: HandlerMut, C: Clock>(
         &mut self,
         rt: &R,
-        handler: &A,
+        handler: &mut A,
         clock: &C,
         keys: Keys,
         body: Text,
     ) -> Result<Text, RequestError>
-        ensures done { Done (IsRequest H.hash_of L.may_answer (A.may_handle handler.now) C.time keys body) (widened error_of_request result) self.old self.new }
-        ensures sent { Over (SendsRequest H.hash_of L.went keys body (widened error_of_request result)) self.old self.new }
+        ensures done { Done (IsRequest H.hash_of L.may_answer (between A.handled handler.old handler.new).once C.time keys body) (widened error_of_request result) self.old self.new }
+        ensures sent { Over (SendsRequest H.hash_of L.went A.handled keys body (widened error_of_request result) handler.old handler.new) self.old self.new }
     {
         let alloc = self.alloc;
         let answer = handle_or_forward(

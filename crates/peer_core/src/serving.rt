@@ -5,12 +5,13 @@ ghost use Rattle.locked_node.specs.Passes.{Fits};
 ghost use Rattle.peer_core.specs.Acts.{Makes};
 ghost use Rattle.peer_core.specs.Asking.{Pinged};
 ghost use Rattle.peer_core.specs.Exchanges.{Sent, SendsTo};
+ghost use Rattle.peer_core.specs.Handling.{between};
 ghost use Rattle.peer_core.specs.Parts.{Asks, Does, Next, let_in};
 ghost use Rattle.peer_core.specs.Serving.{message_from, Finds, Forwards, Gossips, IsDecided, IsRouted, PassesOn, Refuses, Reports, Says, Seeks, Serves, TellsRequester, reason_of};
 
 use crate::asking::{Peers, ping};
 use crate::errors::HandlerFault;
-use crate::handlers::Handler;
+use crate::handlers::HandlerMut;
 use crate::hearing::Heard;
 use crate::links::Link;
 use change_core::{Address, Moment};
@@ -239,16 +240,16 @@ fn serve_ping_req<R: Wait, H: PointHash, L: Link>(
 }
 
 /// Returns the content for a handler's answer.
-fn handler_reply<R: Wait, A: Handler>(
+fn handler_reply<R: Wait, A: HandlerMut>(
     rt: &R,
     alloc: Global,
-    handler: &A,
+    handler: &mut A,
     keys: &Keys,
     body: &Text,
 ) -> Content
-    ensures { IsRouted (A.may_handle handler.now) keys.now body.now (Ok Route.Here) result }
+    ensures { IsRouted (between A.handled handler.old handler.new) keys.now body.now (Ok Route.Here) result }
 {
-    let answer = handler.handle(rt, alloc, keys, body);
+    let answer = handler.handle_mut(rt, alloc, keys, body);
     match answer {
         Ok(text) => Content::Reply(text),
         Err(HandlerFault::Failed) => Content::Refused(Reason::Failed),
@@ -257,16 +258,16 @@ fn handler_reply<R: Wait, A: Handler>(
 }
 
 /// Returns the content of the answer to a request with this route.
-fn reply_for_route<R: Wait, A: Handler>(
+fn reply_for_route<R: Wait, A: HandlerMut>(
     rt: &R,
     alloc: Global,
-    handler: &A,
+    handler: &mut A,
     keys: &Keys,
     body: &Text,
     route: Result<Route, ForwardError>,
 ) -> Content
     requires { IfErr route (λ e. e ≡ ForwardError.Diverged) }
-    ensures { IsRouted (A.may_handle handler.now) keys.now body.now route result }
+    ensures { IsRouted (between A.handled handler.old handler.new) keys.now body.now route result }
 {
     match route {
         Ok(Route::Here) => handler_reply(rt, alloc, handler, keys, body),
@@ -277,32 +278,32 @@ fn reply_for_route<R: Wait, A: Handler>(
 }
 
 /// Returns the content of the answer to a request, by one view of the node.
-fn reply_by_view<R: Wait, H: PointHash, A: Handler>(
+fn reply_by_view<R: Wait, H: PointHash, A: HandlerMut>(
     rt: &R,
     alloc: Global,
-    handler: &A,
+    handler: &mut A,
     view: &View<H>,
     keys: &Keys,
     body: &Text,
 ) -> Content
-    ensures { IsDecided H.hash_of (A.may_handle handler.now) keys.now body.now view.now result }
+    ensures { IsDecided H.hash_of (between A.handled handler.old handler.new) keys.now body.now view.now result }
 {
     let route = route_keys(view, keys);
     reply_for_route(rt, alloc, handler, keys, body, route)
 }
 
 /// Answers a request by the handler, if one view shows that the node owns all its keys.
-fn serve_forward<R: Wait, H: PointHash, A: Handler>(
+fn serve_forward<R: Wait, H: PointHash, A: HandlerMut>(
     rt: &R,
     alloc: Global,
     node: &LockedNode<H>,
     pass: &mut NodePass<H>,
-    handler: &A,
+    handler: &mut A,
     keys: &Keys,
     body: &Text,
 ) -> Result<Message, LockError>
     requires { Fits node.now pass.old }
-    ensures did { Does node.now (Forwards H.hash_of (A.may_handle handler.now) keys.now body.now) (let_in result) pass.old pass.new }
+    ensures did { Does node.now (Forwards H.hash_of (between A.handled handler.old handler.new) keys.now body.now) (let_in result) pass.old pass.new }
     ensures fits { Fits node.now pass.new }
 {
     let view = node.view(rt, pass)?;
@@ -315,7 +316,7 @@ fn serve_forward<R: Wait, H: PointHash, A: Handler>(
 
 /// Answers a message at a moment. A Join, a Ping and a PingReq are processed, and answered by the node; for a PingReq
 /// its target is pinged over the link, if it is another node. A Forward is answered by the handler if one view of the
-/// node shows that it owns all keys. Any other kind is refused as unexpected, and ignored. No turn is held while the
+/// node shows that it owns all keys: the handler is called once then, and for no other message. Any other kind is refused as unexpected, and ignored. No turn is held while the
 /// link or the handler is called. An error of the node, out of memory among them, is an answer too: `Refused` with its
 /// reason.
 ///
@@ -325,18 +326,18 @@ fn serve_forward<R: Wait, H: PointHash, A: Handler>(
 ///
 /// - `ForeignPass`: the pass has another node's name.
 /// - `PassSpent`: the pass has made all its calls.
-pub fn serve_one<R: Wait, H: PointHash, L: Link, A: Handler>(
+pub fn serve_one<R: Wait, H: PointHash, L: Link, A: HandlerMut>(
     rt: &R,
     alloc: Global,
     node: &LockedNode<H>,
     pass: &mut NodePass<H>,
     link: &mut L,
-    handler: &A,
+    handler: &mut A,
     now: Moment,
     message: &Message,
 ) -> Result<Message, LockError>
     requires { Fits node.now pass.old }
-    ensures served { Does node.now (Serves H.hash_of L.may_answer (A.may_handle handler.now) message.now now message.now.content) (let_in result) pass.old pass.new }
+    ensures served { Does node.now (Serves H.hash_of L.may_answer (between A.handled handler.old handler.new) message.now now message.now.content) (let_in result) pass.old pass.new }
     ensures sent { Makes node.now (SendsTo L.went [] link.old link.new) pass.old pass.new }
     ensures fits { Fits node.now pass.new }
 {

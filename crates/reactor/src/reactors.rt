@@ -1,4 +1,8 @@
 //! The reactor: the part of it that its thread has.
+ghost use Rattle.std.specs.Prelude.{◌≡◌};
+ghost use Rattle.reactor.specs.Shortages.{is_short};
+ghost use Rattle.std.specs.IoError.{raw_os_error};
+
 use crate::lots::{Connection, Lot, WAKER};
 use crate::places::Places;
 use crossbeam_channel::{Receiver, Sender, bounded};
@@ -23,6 +27,18 @@ const BETWEEN_SWEEPS: u64 = 1_000;
 
 /// The milliseconds after which it accepts again where that failed.
 const BETWEEN_FAILURES: u64 = 100;
+
+/// The system's error number where it is out of memory.
+const ENOMEM: i32 = 12;
+
+/// The system's error number where it is out of descriptors.
+const ENFILE: i32 = 23;
+
+/// The system's error number where this process is out of descriptors.
+const EMFILE: i32 = 24;
+
+/// The system's error number where it is out of buffers.
+const ENOBUFS: i32 = 105;
 
 /// The time limits of connections.
 #[derive(Clone, Copy, Debug)]
@@ -54,6 +70,16 @@ pub struct Reactor<K> {
 /// Returns the error of the system for an allocation that failed.
 fn no_memory() -> io::Error {
     io::Error::from(ErrorKind::OutOfMemory)
+}
+
+/// Returns whether an error says that descriptors or memory ran out, which a connection that is closed gives back.
+fn is_short(error: &io::Error) -> bool
+    ensures { result ≡ is_short (raw_os_error error.now) }
+{
+    match error.raw_os_error() {
+        Some(code) => code == ENOMEM || code == ENFILE || code == EMFILE || code == ENOBUFS,
+        None => false,
+    }
 }
 
 impl<K: Drop> Reactor<K> {
@@ -146,22 +172,30 @@ impl<K: Drop> Reactor<K> {
         is_called
     }
 
-    /// Accepts connections that came, as far as there are places. Returns whether more may wait.
+    /// Accepts connections that came, as far as there are places. If descriptors or memory run out, the connection that has waited longest is
+    /// closed, and the turn ends with the one that is accepted for it. Returns whether more may wait.
     fn accept_some<R: Wait>(&self, rt: &R, now: u64) -> io::Result<bool> {
         let Some(listener) = &self.listener else {
             return Ok(false);
         };
+        let mut has_closed = false;
         for _ in 0..MAX_EVENTS {
             if !self.lot.has_room(rt) {
                 return Ok(false);
             }
             match listener.accept() {
-                Ok((stream, _)) => self.admit(rt, stream, now),
+                Ok((stream, _)) => {
+                    self.admit(rt, stream, now);
+                    if has_closed {
+                        return Ok(true);
+                    }
+                }
                 Err(error) => match error.kind() {
                     ErrorKind::WouldBlock => return Ok(false),
                     ErrorKind::Interrupted | ErrorKind::ConnectionAborted => {}
-                    // (one that is closed may give the descriptor or the memory that it lacks)
-                    _ if self.lot.close_longest(rt) => {}
+                    _ if !has_closed && is_short(&error) && self.lot.close_longest(rt) => {
+                        has_closed = true;
+                    }
                     _ => return Err(error),
                 },
             }

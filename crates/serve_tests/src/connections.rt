@@ -108,7 +108,14 @@ fn serve_peer<R: Net + Wait>(
     let (town, links) = (Town { rt, peer }, Town { rt, peer });
     let mut link = TcpLink::with_limits(links, Limits::standard());
     let mut member = Member::new(&server.node, pass, &mut link, alloc);
-    serve_connection(server, &mut member, &town, alloc, Wire { peer });
+    serve_connection(
+        server,
+        &mut member,
+        &mut &server.handler,
+        &town,
+        alloc,
+        Wire { peer },
+    );
     let _pass = member.into_pass();
 }
 
@@ -251,7 +258,7 @@ fn line_for<R: Wait>(rt: &R, alloc: Global, letters: usize) -> Option<Vec<u8>> {
     let input = hear(alloc, ECHO.text.as_bytes());
     let (handler, now) = (Wordy { letters }, Moment::new(0)?);
     let mut member = Member::new(&node, &mut pass, &mut link, alloc);
-    let line = respond(rt, alloc, &mut member, &handler, now, &input);
+    let line = respond(rt, alloc, &mut member, &mut &handler, now, &input);
     drop(member);
     drop(input);
     drop(node);

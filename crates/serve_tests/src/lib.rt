@@ -34,6 +34,8 @@ mod rounds;
 #[cfg(test)]
 mod runs;
 #[cfg(test)]
+mod seats;
+#[cfg(test)]
 mod servers;
 #[cfg(test)]
 mod shared;

@@ -31,7 +31,7 @@ const NEXT: u16 = 29_186;
 
 /// Starts a node with a server that echoes at a port: two workers, no rounds; it waits as long as need be. Returns it with a handle, or None
 /// if an allocation failed.
-fn start_node<R: Net<Listener = TcpListener, Stream = TcpStream> + Runtime>(
+pub(crate) fn start_node<R: Net<Listener = TcpListener, Stream = TcpStream> + Runtime>(
     rt: &R,
     alloc: Global,
     port: u16,
@@ -209,7 +209,7 @@ fn request<R: Net<Listener = TcpListener, Stream = TcpStream> + Runtime>(
         now: Cell::new(0),
         waits: Cell::new(0),
     };
-    let answer = member.request(rt, handler, &clock, keys, body);
+    let answer = member.request(rt, &mut &*handler, &clock, keys, body);
     Some((answer, clock.waits.get(), clock.now.get()))
 }
 

@@ -15,10 +15,10 @@ use Rattle.peer_core.specs.Acts.{Makes}
 use Rattle.peer_core.specs.Errors.{error_of_lock}
 use Rattle.peer_core.specs.Links.{MayAnswer}
 use Rattle.peer_core.specs.Parts.{Does, Gives, let_in}
-use Rattle.peer_core.specs.Serving.{Refuses}
+use Rattle.peer_core.specs.Serving.{Refuses, Unhandled}
 use Rattle.peer_core.proofs.Acts.{makes_as, makes_then}
 use Rattle.peer_core.proofs.Parts.{does_give, does_next, does_part, does_stop}
-use Rattle.peer_core.specs.Handling.{MayHandle}
+use Rattle.peer_core.specs.Handling.{Handlings}
 use Rattle.server.specs.Answering.{AnswersInput, AnswersMessage, IsNotAnswered, IsSentAs, IsSilent, IsTried, IsUnread, IsUnsent, Responds, SendsNothing, unread_as}
 use Rattle.server.specs.declared.inputs.Input.{Input}
 use Rattle.server.specs.declared.inputs.Input.TheVariants as input
@@ -63,7 +63,7 @@ module _ {H : Type 0} where
   unsent_refusal locked answer why (Some v) p q unsent t = tt
   unsent_refusal locked answer why None p q unsent t = sends_nothing locked answer why t.0 p q unsent t.1
 
-module _ {H : Type 0} (hash_of : H → List ℕ → ℕ) (Came : MayAnswer) (Handles : MayHandle) (now : ℕ) (locked : LockedNode H) (p q : NodePass H) where
+module _ {H : Type 0} (hash_of : H → List ℕ → ℕ) (Came : MayAnswer) (Handles : Handlings) (now : ℕ) (locked : LockedNode H) (p q : NodePass H) where
   -- an answer, and what was sent for it
   pub responded : (heard : Input) (answer : Message) (o : Option (Vec ℕ Global)) (s : NodePass H)
       → Makes locked (AnswersInput hash_of Came Handles now heard (Ok answer)) p q → IfSome o (λ v. Makes locked (IsSentAs answer v.items) q s)
@@ -74,7 +74,7 @@ module _ {H : Type 0} (hash_of : H → List ℕ → ℕ) (Came : MayAnswer) (Han
   -- no answer, and so no line
   pub silent_unanswered : (heard : Input) → IsNotAnswered hash_of Came Handles now heard locked p q → IsSilent hash_of Came Handles now heard locked p q
   silent_unanswered (input.Message message) h = (Err h.0, does_stop (AnswersMessage hash_of Came Handles now message) SendsNothing (error_of_lock h.0) h.1)
-  silent_unanswered (input.Refused why) h = (Err h.0, does_stop (Refuses why) SendsNothing (error_of_lock h.0) h.1)
+  silent_unanswered (input.Refused why) h = (Err h.0, does_stop (Unhandled Handles (Refuses why)) SendsNothing (error_of_lock h.0) h.1)
   silent_unanswered input.Nothing h = h
 
   -- an answer, and no line of it
@@ -84,5 +84,5 @@ module _ {H : Type 0} (hash_of : H → List ℕ → ℕ) (Came : MayAnswer) (Han
   silent_unsent heard answer (Some v) s a t = tt
   silent_unsent (input.Message message) answer None s a t =
       (t.0, does_next (AnswersMessage hash_of Came Handles now message) SendsNothing answer (let_in t.0) (record { makes = a; barred = tt }) t.1)
-  silent_unsent (input.Refused why) answer None s a t = (t.0, does_next (Refuses why) SendsNothing answer (let_in t.0) (record { makes = a; barred = tt }) t.1)
+  silent_unsent (input.Refused why) answer None s a t = (t.0, does_next (Unhandled Handles (Refuses why)) SendsNothing answer (let_in t.0) (record { makes = a; barred = tt }) t.1)
   silent_unsent input.Nothing answer None s a t = absurd a.so

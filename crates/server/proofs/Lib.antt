@@ -3,3 +3,4 @@ pub mod Heard
 pub mod Worked
 pub mod Crew
 pub mod Starts
+pub mod Requested

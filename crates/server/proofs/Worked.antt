@@ -1,7 +1,7 @@
 -- What a thread of a server does to the node, connection by connection and round by round.
-use Rattle.std.proofs.Common.{◌≡◌, ◌<◌, ◌≤◌, ◌+◌, ℕ, Bool, List, [], ◌∷◌, ◌++◌, Option, Some, None, IfSome, Result, Err, length, min, take, ap, ◌∙◌, refl, subst, sym, inl, inr, arith}
+use Rattle.std.proofs.Common.{◌≡◌, ◌<◌, ◌≤◌, ℕ, Bool, List, [], ◌++◌, Option, Some, None, IfNone, IfSome, Result, Ok, Err, Vec, length, min, take, ap, ◌∙◌, refl, subst, sym, inl, inr, arith}
+use Rattle.std.specs.Global.{Global}
 use Rattle.std.specs.Io.KnownBytes.{Appends}
-use Rattle.std.proofs.KnownBytes.{Appends-nil}
 use Rattle.std.proofs.Math.Nat.{min_comm}
 use Rattle.std.proofs.lemmas.List.{take_min}
 use Rattle.message_core.specs.declared.errors.WireError.TheVariants as wire
@@ -9,19 +9,21 @@ use Rattle.locked_node.specs.declared.node.LockedNode.{LockedNode}
 use Rattle.locked_node.specs.Passes.{NodePass}
 use Rattle.peer_core.specs.declared.errors.ClusterError.{ClusterError}
 use Rattle.peer_core.specs.declared.rounds.Round.{Round}
-use Rattle.peer_core.specs.Acts.{Act, OfActs, Makes}
+use Rattle.message_core.specs.declared.messages.Message.{Message}
+use Rattle.peer_core.specs.Acts.{Act, OfActs, Makes, Times}
 use Rattle.peer_core.specs.Correcting.{IsCorrectingRound}
 use Rattle.peer_core.specs.Healing.{Heals, IsHealing, after_round, heals_first}
 use Rattle.peer_core.specs.Joining.{IsJoin}
 use Rattle.peer_core.specs.Members.{Caller, Done}
-use Rattle.peer_core.specs.Parts.{Part, Does}
+use Rattle.peer_core.specs.Parts.{Part, Does, let_in}
 use Rattle.peer_core.specs.Rounds.{IsRound}
-use Rattle.peer_core.proofs.Acts.{makes_as, makes_none, makes_then}
+use Rattle.peer_core.proofs.Acts.{chain_still, makes_as, makes_none, makes_then}
+use Rattle.peer_core.proofs.HandlingCounts.{serves_shared}
 use Rattle.cluster_core.specs.Channels.{any_answer}
-use Rattle.peer_core.specs.Handling.{MayHandle}
-use Rattle.server.specs.Answering.{Hears, IsSame, IsSilent, Responds}
+use Rattle.peer_core.specs.Handling.{Handlings, MayHandle, between, handled_shared, shared}
+use Rattle.server.specs.Answering.{AnswersInput, Hears, IsSame, IsSilent, Responds, StaysSilent}
 use Rattle.change_core.specs.declared.addresses.Address.{Address}
-use Rattle.server.specs.Working.{AreRounds, HealsRounds, IsAnsweredOver, IsConnection, IsConnectionOver, IsOneCorrectingRound, IsOneHealing, IsOneRound, IsTreated, JoinsAt, JoinsIfDue, MakesRounds, RoundTimes, Times, first_join, next_join, sent_for}
+use Rattle.server.specs.Working.{AreRounds, HealsRounds, IsAnsweredOver, IsConnection, IsConnectionOver, IsOneCorrectingRound, IsOneHealing, IsOneRound, IsTreated, JoinsAt, JoinsIfDue, MakesRounds, RoundTimes, ServesEach, bytes_of, first_join, next_join, sent_for}
 use Rattle.server.specs.declared.healing.HealingPlan.{HealingPlan}
 use Rattle.server.specs.declared.inputs.Input.{Input}
 use Rattle.server.specs.declared.inputs.Input.TheVariants as input
@@ -37,16 +39,6 @@ module _ {H L : Type 0} where
   -- what is done to the node of the one is done to that of the other
   pub by_same : {a b : Caller H L} {Calls : OfActs H} {p q : NodePass H} → IsSame a b → Makes b.node Calls p q → Makes a.node Calls p q
   by_same {Calls = Calls} {p = p} {q = q} same m = subst (λ (n : LockedNode H). Makes n Calls p q) same.node m
-
-module _ {H : Type 0} (locked : LockedNode H) where
-  -- none was made yet
-  pub no_time : (One : OfActs H) (p : NodePass H) → Makes locked (Times One 0) p p
-  no_time One p = makes_as (Times One 0) (λ acts n. subst (λ (xs : List (Act H)). Times One 0 xs) (sym n) Times.none) (makes_none locked p)
-
-  -- one more was made
-  pub one_more : (One : OfActs H) (n : ℕ) (p q s : NodePass H) → Makes locked (Times One n) p q → Makes locked One q s → Makes locked (Times One (n + 1)) p s
-  one_more One n p q s before next =
-      makes_as (Times One (n + 1)) (λ acts t. subst (λ (xs : List (Act H)). Times One (n + 1) xs) (sym t.2) (Times.more t.3 t.4)) (makes_then before next)
 
 module _ {H : Type 0} (locked : LockedNode H) (Time : RoundTimes) where
   -- a round is one, whatever it came to
@@ -163,7 +155,7 @@ hears_nothing : (known : Option (List ℕ)) → Hears known input.Nothing
 hears_nothing None = inl (Err wire.Io, None, tt, refl)
 hears_nothing (Some xs) = inl (Err wire.Io, Some xs, (0, omega arith, omega arith, refl), refl)
 
-module _ {H : Type 0} (hash_of : H → List ℕ → ℕ) (Handles : MayHandle) (now : ℕ) (locked : LockedNode H) where
+module _ {H : Type 0} (hash_of : H → List ℕ → ℕ) (Handles : Handlings) (now : ℕ) (locked : LockedNode H) where
   -- how an input was treated that a line answers, or none
   abbrev IsTreatedBy : Input → Option (List ℕ) → OfActs H
   IsTreatedBy heard line = IsTreated hash_of Handles now heard line
@@ -171,29 +163,22 @@ module _ {H : Type 0} (hash_of : H → List ℕ → ℕ) (Handles : MayHandle) (
   silently : (heard : Input) (p q : NodePass H) → IsSilent hash_of any_answer Handles now heard locked p q → Makes locked (IsTreatedBy heard None) p q
   silently (input.Message message) p q t = makes_as (IsTreatedBy (input.Message message) None) (λ acts h. (t.0, h)) t.1.makes
   silently (input.Refused why) p q t = makes_as (IsTreatedBy (input.Refused why) None) (λ acts h. (t.0, h)) t.1.makes
-  silently input.Nothing p q same =
-      subst (λ (x : NodePass H). Makes locked (IsTreatedBy input.Nothing None) p x) (sym same) (makes_as (IsTreatedBy input.Nothing None) (λ acts n. n) (makes_none locked p))
-
-  quietly : (p : NodePass H) → Makes locked (IsTreatedBy input.Nothing None) p p
-  quietly p = makes_as (IsTreatedBy input.Nothing None) (λ acts n. n) (makes_none locked p)
+  silently input.Nothing p q (never, same) =
+      subst (λ (x : NodePass H). Makes locked (IsTreatedBy input.Nothing None) p x) (sym same) (makes_as (IsTreatedBy input.Nothing None) (λ acts n. (never, n)) (makes_none locked p))
 
   module _ {S : Type 0} (contents : S → Option (List ℕ)) (stream : S) (heard : Input) where
     answered_over : (line : Option (List ℕ)) (left : Option S) (p q : NodePass H) → IfSome left (λ s. Appends (contents stream) (contents s) (sent_for line))
         → Makes locked (IsTreatedBy heard line) p q → Makes locked (IsAnsweredOver contents hash_of Handles stream heard left) p q
     answered_over line left p q wrote m = makes_as (IsAnsweredOver contents hash_of Handles stream heard left) (λ acts h. record { now = now; line = line; treated = h; written = wrote }) m
 
-    -- no line was sent
-    pub over_silent : (left : S) (p q : NodePass H) → left ≡ stream → IsSilent hash_of any_answer Handles now heard locked p q
-        → Makes locked (IsAnsweredOver contents hash_of Handles stream heard (Some left)) p q
-    over_silent left p q same silent =
-        answered_over None (Some left) p q (subst (λ (s : S). Appends (contents stream) (contents s) []) (sym same) (Appends-nil (contents stream))) (silently heard p q silent)
+    -- a line was sent with a newline, or it was not sent whole; or there was none
+    pub over_answered : (line : Option (Vec ℕ Global)) (left : Option S) (p q : NodePass H) → IfSome left (λ s. Appends (contents stream) (contents s) (sent_for (bytes_of line)))
+        → IfSome line (λ v. Makes locked (Responds hash_of any_answer Handles now heard v.items) p q) → IfNone line (IsSilent hash_of any_answer Handles now heard locked p q)
+        → Makes locked (IsAnsweredOver contents hash_of Handles stream heard left) p q
+    over_answered (Some v) left p q wrote sent silent = answered_over (Some v.items) left p q wrote sent
+    over_answered None left p q wrote sent silent = answered_over None left p q wrote (silently heard p q silent)
 
-    -- a line was sent with a newline, or it was not sent whole
-    pub over_answered : (line : List ℕ) (left : Option S) (p q : NodePass H) → IfSome left (λ s. Appends (contents stream) (contents s) (line ++ 10 ∷ []))
-        → Makes locked (Responds hash_of any_answer Handles now heard line) p q → Makes locked (IsAnsweredOver contents hash_of Handles stream heard left) p q
-    over_answered line left p q wrote m = answered_over (Some line) left p q wrote m
-
-module _ {H : Type 0} (hash_of : H → List ℕ → ℕ) (Handles : MayHandle) (locked : LockedNode H) {S : Type 0} (remaining contents : S → Option (List ℕ)) (stream : S) where
+module _ {H : Type 0} (hash_of : H → List ℕ → ℕ) (Handles : Handlings) (locked : LockedNode H) {S : Type 0} (remaining contents : S → Option (List ℕ)) (stream : S) where
   -- something was heard and answered
   pub over_heard : (heard : Input) (at read : S) (left : Option S) (p q : NodePass H) → at ≡ stream → Hears (remaining at) heard
       → Makes locked (IsAnsweredOver contents hash_of Handles read heard left) p q → Makes locked (IsConnectionOver remaining contents hash_of Handles stream left) p q
@@ -201,12 +186,47 @@ module _ {H : Type 0} (hash_of : H → List ℕ → ℕ) (Handles : MayHandle) (
       makes_as (IsConnectionOver remaining contents hash_of Handles stream left) (λ acts h. (heard, subst (λ (s : S). Hears (remaining s) heard) e hears, read, h)) m
 
   -- nothing was heard
-  pub over_quiet : (p : NodePass H) → Makes locked (IsConnectionOver remaining contents hash_of Handles stream None) p p
-  over_quiet p =
-      makes_as (IsConnectionOver remaining contents hash_of Handles stream None) (λ acts h. (input.Nothing, hears_nothing (remaining stream), stream, record { now = 0; line = None; treated = h; written = tt }))
-      (quietly hash_of Handles 0 locked p)
+  pub over_quiet : (p : NodePass H) → Handles.never → Makes locked (IsConnectionOver remaining contents hash_of Handles stream None) p p
+  over_quiet p never =
+      makes_as (IsConnectionOver remaining contents hash_of Handles stream None)
+      (λ acts n. (input.Nothing, hears_nothing (remaining stream), stream, record { now = 0; line = None; treated = (never, n); written = tt })) (makes_none locked p)
 
   -- either is a connection
   pub a_connection : (left : Option S) (p q : NodePass H) → Makes locked (IsConnectionOver remaining contents hash_of Handles stream left) p q
       → Makes locked (IsConnection hash_of Handles) p q
   a_connection left p q m = makes_as (IsConnection hash_of Handles) (λ acts h. (h.3.now, h.0, h.3.line, h.3.treated)) m
+
+-- a handler that is shared is unchanged after a connection
+module _ {H A : Type 0} (hash_of : H → List ℕ → ℕ) (Handles : A → MayHandle) (start is : A) (now : ℕ) where
+  input_shared : (heard : Input) (r : Result Message ClusterError) (acts : List (Act H)) → AnswersInput hash_of any_answer (between (handled_shared Handles) start is) now heard r acts
+      → (is ≡ start) × AnswersInput hash_of any_answer (shared (Handles start)) now heard r acts
+  input_shared (input.Message message) r acts h = serves_shared hash_of any_answer Handles start is message now r acts h
+  input_shared (input.Refused why) r acts h = (h.0, (tt, h.1))
+  input_shared input.Nothing r acts h = absurd h
+
+  silent_shared : (heard : Input) (r : Result (Unit {0}) ClusterError) (acts : List (Act H)) → StaysSilent hash_of any_answer (between (handled_shared Handles) start is) now heard r acts
+      → (is ≡ start) × StaysSilent hash_of any_answer (shared (Handles start)) now heard r acts
+  silent_shared heard (Ok u) acts (inl h) = absurd h
+  silent_shared heard (Err e) acts (inl h) = let (same, made) = input_shared heard (Err e) acts h in (same, inl made)
+  silent_shared heard r acts (inr (answer, (first, next, all, h, sends))) =
+      let (same, made) = input_shared heard (Ok answer) first h in (same, inr (answer, (first, next, all, made, sends)))
+
+  treated_shared : (heard : Input) (line : Option (List ℕ)) (acts : List (Act H)) → IsTreated hash_of (between (handled_shared Handles) start is) now heard line acts
+      → (is ≡ start) × IsTreated hash_of (shared (Handles start)) now heard line acts
+  treated_shared heard (Some line) acts (answer, (first, next, all, h, sends)) =
+      let (same, made) = input_shared heard (Ok answer) first h in (same, (answer, (first, next, all, made, sends)))
+  treated_shared (input.Message message) None acts (r, h) = let (same, made) = silent_shared (input.Message message) (let_in r) acts h in (same, (r, made))
+  treated_shared (input.Refused why) None acts (r, h) = let (same, made) = silent_shared (input.Refused why) (let_in r) acts h in (same, (r, made))
+  treated_shared input.Nothing None acts (never, none) = (never, (tt, none))
+
+connection_shared : {H A : Type 0} (hash_of : H → List ℕ → ℕ) (Handles : A → MayHandle) (start is : A) (acts : List (Act H))
+    → IsConnection hash_of (between (handled_shared Handles) start is) acts → (is ≡ start) × IsConnection hash_of (shared (Handles start)) acts
+connection_shared hash_of Handles start is acts (now, heard, line, h) =
+    let (same, treated) = treated_shared hash_of Handles start is now heard line acts h in (same, (now, heard, line, treated))
+
+-- connections that were served by a shared handler
+pub served_shared : {H A : Type 0} (hash_of : H → List ℕ → ℕ) (locked : LockedNode H) (end start : A) (Handles : A → MayHandle) (n : ℕ) (p q : NodePass H)
+    → Makes locked (ServesEach hash_of (handled_shared Handles) n start end) p q → Makes locked (Times (IsConnection hash_of (shared (Handles start))) n) p q
+served_shared hash_of locked end start Handles n p q m = makes_as (Times (IsConnection hash_of (shared (Handles start))) n)
+    (λ acts h. (chain_still (λ old new. IsConnection hash_of (between (handled_shared Handles) old new)) (IsConnection hash_of (shared (Handles start))) start
+    (λ is next c. connection_shared hash_of Handles start is next c) n end acts h).1) m

@@ -19,8 +19,8 @@ use Rattle.peer_core.specs.Errors.{error_of_lock}
 use Rattle.peer_core.specs.Links.{MayAnswer}
 use Rattle.peer_core.specs.Members.{Caller}
 use Rattle.peer_core.specs.Parts.{Part, Does, Gives, Next, let_in}
-use Rattle.peer_core.specs.Serving.{Never, Refuses, Serves}
-use Rattle.peer_core.specs.Handling.{MayHandle}
+use Rattle.peer_core.specs.Serving.{Never, Refuses, Serves, Unhandled}
+use Rattle.peer_core.specs.Handling.{Handlings}
 use Rattle.server.specs.declared.inputs.Input.{Input}
 use Rattle.server.specs.declared.inputs.Input.TheVariants as input
 
@@ -90,7 +90,7 @@ module _ {H : Type 0} where
   abbrev pub SendsNothing : Message → Part H (Unit {0})
   SendsNothing answer r acts = (why : Reason) × IsUnsent answer why × Next (Refuses why) (λ refusal. Gives tt) r acts
 
-module _ {H : Type 0} (hash_of : H → List ℕ → ℕ) (Came : MayAnswer) (Handles : MayHandle) (now : ℕ) where
+module _ {H : Type 0} (hash_of : H → List ℕ → ℕ) (Came : MayAnswer) (Handles : Handlings) (now : ℕ) where
   -- the answer to a message at this moment: that of a node, requests by the handler
   abbrev pub AnswersMessage : Message → Part H Message
   AnswersMessage message = Serves hash_of Came Handles message now message.content
@@ -98,7 +98,7 @@ module _ {H : Type 0} (hash_of : H → List ℕ → ℕ) (Came : MayAnswer) (Han
   -- the answer to an input: to its message, or a refusal with the reason why it has none
   abbrev pub AnswersInput : Input → Part H Message
   AnswersInput (input.Message message) = AnswersMessage message
-  AnswersInput (input.Refused why) = Refuses why
+  AnswersInput (input.Refused why) = Unhandled Handles (Refuses why)
   AnswersInput input.Nothing = Never
 
   -- the line that goes back for an input
@@ -109,12 +109,12 @@ module _ {H : Type 0} (hash_of : H → List ℕ → ℕ) (Came : MayAnswer) (Han
   abbrev pub StaysSilent : Input → Part H (Unit {0})
   StaysSilent heard = Next (AnswersInput heard) SendsNothing
 
-  -- no answer is made to an input: no call is made, or the lock refuses one of the answer's
+  -- no answer is made to an input: no call is made, also none of the handler, or the lock refuses one of the answer's
   abbrev pub IsNotAnswered : Input → LockedNode H → NodePass H → NodePass H → Type 0
-  IsNotAnswered input.Nothing locked old new = new ≡ old
+  IsNotAnswered input.Nothing locked old new = Handles.never × (new ≡ old)
   IsNotAnswered heard locked old new = (l : LockError) × Does locked (AnswersInput heard) (Err (error_of_lock l)) old new
 
   -- the calls if no line goes back: none if the input needs no answer; else those of the silence
   abbrev pub IsSilent : Input → LockedNode H → NodePass H → NodePass H → Type 0
-  IsSilent input.Nothing locked old new = new ≡ old
+  IsSilent input.Nothing locked old new = Handles.never × (new ≡ old)
   IsSilent heard locked old new = IsTried (StaysSilent heard) locked old new

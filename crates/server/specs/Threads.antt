@@ -4,9 +4,9 @@ use Rattle.std.specs.List.{AllZip, sum_by}
 use Rattle.std.specs.declared.thread.PromisedHandle.{PromisedHandle}
 use Rattle.locked_node.specs.declared.node.LockedNode.{LockedNode}
 use Rattle.locked_node.specs.Passes.{NodePass}
-use Rattle.peer_core.specs.Handling.{MayHandle}
-use Rattle.peer_core.specs.Acts.{Makes}
-use Rattle.server.specs.Working.{AreRounds, IsConnection, RoundTimes, Times, hosts_of}
+use Rattle.peer_core.specs.Handling.{MayHandle, shared}
+use Rattle.peer_core.specs.Acts.{Makes, Times}
+use Rattle.server.specs.Working.{AreRounds, IsConnection, RoundTimes, hosts_of}
 use Rattle.server.specs.declared.servers.Server.{Server}
 use Rattle.server.specs.declared.promises.WorkerBack.{WorkerBack}
 use Rattle.server.specs.declared.promises.WorkerPromise.{WorkerPromise}
@@ -24,7 +24,7 @@ module _ {H : Type 0} where
 
   -- by the pass that a worker gave back as many connections were served as it says, and nothing else was done, since it was as given
   abbrev pub CountsServed : (H → List ℕ → ℕ) → MayHandle → LockedNode H → NodePass H → WorkerBack H → Type 0
-  CountsServed hash_of Handles node given back = Makes node (Times (IsConnection hash_of Handles) back.connections) given back.pass
+  CountsServed hash_of Handles node given back = Makes node (Times (IsConnection hash_of (shared Handles)) back.connections) given back.pass
 
   -- by these passes, as they came back, the given number of connections was served in all, and nothing else was done, since they were as in the first list
   abbrev pub ServeTogether : (H → List ℕ → ℕ) → MayHandle → LockedNode H → List (NodePass H) → List (NodePass H) → ℕ → Type 0

@@ -6,18 +6,23 @@ use Rattle.change_core.specs.declared.addresses.Address.{Address}
 use Rattle.turn_lock.specs.declared.errors.LockError.{LockError}
 use Rattle.peer_core.specs.declared.errors.ClusterError.{ClusterError}
 use Rattle.peer_core.specs.declared.rounds.Round.{Round}
-use Rattle.peer_core.specs.Acts.{Act, OfActs, Nothing}
+use Rattle.peer_core.specs.Acts.{Act, OfActs, Chain, Nothing}
 use Rattle.peer_core.specs.Correcting.{IsCorrectingRound}
 use Rattle.peer_core.specs.Healing.{Heals, IsHealing, after_round, heals_first}
 use Rattle.peer_core.specs.Joining.{IsJoin}
 use Rattle.peer_core.specs.Parts.{let_in}
 use Rattle.peer_core.specs.Rounds.{IsRound}
-use Rattle.peer_core.specs.Handling.{MayHandle}
+use Rattle.peer_core.specs.Handling.{Handled, Handlings, between}
 use Rattle.cluster_core.specs.Channels.{any_answer}
 use Rattle.server.specs.Answering.{Hears, Responds, StaysSilent}
 use Rattle.server.specs.declared.healing.HealingPlan.{HealingPlan}
 use Rattle.server.specs.declared.inputs.Input.{Input}
 use Rattle.server.specs.declared.inputs.Input.TheVariants as input
+
+-- the bytes of an answer's line
+abbrev pub bytes_of : Option (Vec ℕ Global) → Option (List ℕ)
+bytes_of None = None
+bytes_of (Some line) = Some line.items
 
 -- the bytes that are sent for an answer's line, or for none
 abbrev pub sent_for : Option (List ℕ) → List ℕ
@@ -100,30 +105,29 @@ module _ {H : Type 0} (Time : RoundTimes) where
       (h : Heals) × (last : ℕ) × (due : Option ℕ) × HealsRounds period hosts (heals_first plan.own plan.hosts.items) (first_join hosts) h last due acts
 
 module _ {H : Type 0} where
-  -- this kind of acts the given number of times, and no others
-  pub data Times (One : OfActs H) : ℕ → List (Act H) → Type 0 where
-    none : Times One 0 []
-    more : {n : ℕ} {acts next : List (Act H)} → Times One n acts → One next → Times One (n + 1) (acts ++ next)
-
   -- the answer to an input is this line, or none; if the input needs no answer, no call is made
-  abbrev pub IsTreated : (H → List ℕ → ℕ) → MayHandle → ℕ → Input → Option (List ℕ) → OfActs H
+  abbrev pub IsTreated : (H → List ℕ → ℕ) → Handlings → ℕ → Input → Option (List ℕ) → OfActs H
   IsTreated hash_of Handles now heard (Some line) acts = Responds hash_of any_answer Handles now heard line acts
-  IsTreated hash_of Handles now input.Nothing None acts = Nothing acts
+  IsTreated hash_of Handles now input.Nothing None acts = Handles.never × Nothing acts
   IsTreated hash_of Handles now heard None acts = (r : Result (Unit {0}) LockError) × StaysSilent hash_of any_answer Handles now heard (let_in r) acts
 
   -- something came over a connection, and was treated so at some moment
-  abbrev pub IsConnection : (H → List ℕ → ℕ) → MayHandle → OfActs H
+  abbrev pub IsConnection : (H → List ℕ → ℕ) → Handlings → OfActs H
   IsConnection hash_of Handles acts = (now : ℕ) × (heard : Input) × (line : Option (List ℕ)) × IsTreated hash_of Handles now heard line acts
+
+  -- as many connections, each by the handler as the one before left it
+  abbrev pub ServesEach : {A : Type 0} → (H → List ℕ → ℕ) → Handled A → ℕ → A → A → OfActs H
+  ServesEach hash_of handled = Chain (λ old new. IsConnection hash_of (between handled old new))
 
   -- An input was treated so at some moment. If the stream over which it was heard is given back, what was written to it since is the answer's line
   -- and a newline, or nothing.
-  pub record IsAnsweredOver {S : Type 0} (contents : S → Option (List ℕ)) (hash_of : H → List ℕ → ℕ) (Handles : MayHandle) (stream : S) (heard : Input) (left : Option S) (acts : List (Act H)) : Type 0 where
+  pub record IsAnsweredOver {S : Type 0} (contents : S → Option (List ℕ)) (hash_of : H → List ℕ → ℕ) (Handles : Handlings) (stream : S) (heard : Input) (left : Option S) (acts : List (Act H)) : Type 0 where
     pub now : ℕ
     pub line : Option (List ℕ)
     pub treated : IsTreated hash_of Handles now heard line acts
     pub written : IfSome left (λ s. Appends (contents stream) (contents s) (sent_for line))
 
   -- the first line of what the stream had left was heard, and answered over the stream as reading it left it
-  abbrev pub IsConnectionOver : {S : Type 0} → (S → Option (List ℕ)) → (S → Option (List ℕ)) → (H → List ℕ → ℕ) → MayHandle → S → Option S → OfActs H
+  abbrev pub IsConnectionOver : {S : Type 0} → (S → Option (List ℕ)) → (S → Option (List ℕ)) → (H → List ℕ → ℕ) → Handlings → S → Option S → OfActs H
   IsConnectionOver {S} remaining contents hash_of Handles stream left acts =
       (heard : Input) × Hears (remaining stream) heard × (read : S) × IsAnsweredOver contents hash_of Handles read heard left acts

@@ -2,6 +2,7 @@
 ghost use Rattle.std.specs.Prelude.{◌≡◌, ◌≤◌, ◌<◌, Ok, IfOk, IfErr, IfNone, IfSome, length, vec_capacity, vec_len};
 ghost use Rattle.wire_json.specs.Lines.{max_line};
 ghost use Rattle.peer_core.specs.Acts.{Makes};
+ghost use Rattle.peer_core.specs.Handling.{between};
 ghost use Rattle.peer_core.specs.Serving.{Refuses};
 ghost use Rattle.server.specs.Answering.{AnswersInput, IsNotAnswered, IsRefusalLine, IsSame, IsSentAs, IsSilent, IsTried, IsUnsent, Responds, SendsNothing, line_text};
 
@@ -9,21 +10,21 @@ use crate::inputs::Input;
 use change_core::Moment;
 use hash_ring::PointHash;
 use message_core::{Message, Reason, WireError};
-use peer_core::{Handler, Link, Member};
+use peer_core::{HandlerMut, Link, Member};
 use std::alloc::Global;
 use std::sync::Wait;
 use wire_json::encode;
 
 /// Returns the answer to an input; None if it needs none, or the lock refused a call of the answer.
-fn answer<R: Wait, H: PointHash, L: Link, A: Handler>(
+fn answer<R: Wait, H: PointHash, L: Link, A: HandlerMut>(
     rt: &R,
     member: &mut Member<'_, H, L>,
-    handler: &A,
+    handler: &mut A,
     now: Moment,
     input: &Input,
 ) -> Option<Message>
-    ensures answered { IfSome result (λ m. Makes member.old.node (AnswersInput H.hash_of L.may_answer (A.may_handle handler.now) now input.now (Ok m)) member.old.pass.now member.new.pass.now) }
-    ensures unanswered { IfNone result (IsNotAnswered H.hash_of L.may_answer (A.may_handle handler.now) now input.now member.old.node member.old.pass.now member.new.pass.now) }
+    ensures answered { IfSome result (λ m. Makes member.old.node (AnswersInput H.hash_of L.may_answer (between A.handled handler.old handler.new) now input.now (Ok m)) member.old.pass.now member.new.pass.now) }
+    ensures unanswered { IfNone result (IsNotAnswered H.hash_of L.may_answer (between A.handled handler.old handler.new) now input.now member.old.node member.old.pass.now member.new.pass.now) }
     ensures same { IsSame member.old member.new }
 {
     match input {
@@ -107,23 +108,24 @@ fn line_of<R: Wait, H: PointHash, L: Link>(
 }
 
 /// Returns the line that goes back for an input at a moment, without its newline but with room for it. To a message it is
-/// that of the answer of `serve_one`, requests by the handler; to any other input but none a refusal for its reason. If the
+/// that of the answer of `serve_one`, requests by the handler, which is called once for a Forward that the node owns and else
+/// never; to any other input but none a refusal for its reason. If the
 /// answer's line would have more than 1,048,576 bytes it is that of a refusal `failed`, if out of memory for it that of a
 /// refusal `memory`, by another call of the node.
 ///
 /// None if the connection has to be closed without an answer: if the input needs none, if the lock refused a call, and
 /// if out of memory even for a refusal.
-pub fn respond<R: Wait, H: PointHash, L: Link, A: Handler>(
+pub fn respond<R: Wait, H: PointHash, L: Link, A: HandlerMut>(
     rt: &R,
     alloc: Global,
     member: &mut Member<'_, H, L>,
-    handler: &A,
+    handler: &mut A,
     now: Moment,
     input: &Input,
 ) -> Option<Vec<u8>>
-    ensures sent { IfSome result (λ v. Makes member.old.node (Responds H.hash_of L.may_answer (A.may_handle handler.now) now input.now v.items) member.old.pass.now member.new.pass.now) }
+    ensures sent { IfSome result (λ v. Makes member.old.node (Responds H.hash_of L.may_answer (between A.handled handler.old handler.new) now input.now v.items) member.old.pass.now member.new.pass.now) }
     ensures room { IfSome result (λ v. vec_len v < vec_capacity v) }
-    ensures silent { IfNone result (IsSilent H.hash_of L.may_answer (A.may_handle handler.now) now input.now member.old.node member.old.pass.now member.new.pass.now) }
+    ensures silent { IfNone result (IsSilent H.hash_of L.may_answer (between A.handled handler.old handler.new) now input.now member.old.node member.old.pass.now member.new.pass.now) }
     ensures same { IsSame member.old member.new }
 {
     let answer = answer(rt, member, handler, now, input)?;

@@ -1,33 +1,37 @@
 //! One connection of a server: one line in and one line out.
-ghost use Rattle.std.specs.Prelude.{◌++◌, ◌∷◌, [], IfSome};
+ghost use Rattle.std.specs.Prelude.{IfSome};
 ghost use Rattle.std.specs.Io.KnownBytes.{Appends};
 ghost use Rattle.cluster_core.specs.Deadlines.{stream_of};
 ghost use Rattle.peer_core.specs.Acts.{Makes};
+ghost use Rattle.peer_core.specs.Handling.{between};
 ghost use Rattle.server.specs.Answering.{IsSame};
-ghost use Rattle.server.specs.Working.{IsAnsweredOver, IsConnection, IsConnectionOver};
+ghost use Rattle.server.specs.Working.{IsConnection, IsConnectionOver, bytes_of, sent_for};
 
 use crate::answering::respond;
-use crate::inputs::{Input, hear};
+use crate::inputs::hear;
 use crate::servers::Server;
 use cluster_core::{Deadline, TcpLink, Timed, send_owned_line};
 use hash_ring::PointHash;
-use peer_core::{Handler, Member};
+use peer_core::{HandlerMut, Member};
 use std::alloc::Global;
 use std::io::{Read, Write};
 use std::net::{Net, OpenStream};
 use std::sync::Wait;
 use std::time::{Clock, Duration};
 
-/// Sends a line and a newline, which have to be taken within the limit from now on, and returns the stream. None if they were
-/// not taken whole, and if the clock failed.
+/// Sends a line, if there is one, and a newline, which have to be taken within the limit from now on, and returns the stream.
+/// Without a line nothing is written. None if they were not taken whole, and if the clock failed.
 fn send_back<R: Clock, S: Write + OpenStream + Drop>(
     rt: &R,
     limit: Duration,
     stream: Timed<'_, S, R>,
-    line: Vec<u8>,
+    line: Option<Vec<u8>>,
 ) -> Option<S>
-    ensures { IfSome result (λ s. Appends (S.contents (stream_of stream.entry)) (S.contents s) (line.items ++ 10 ∷ [])) }
+    ensures { IfSome result (λ s. Appends (S.contents (stream_of stream.entry)) (S.contents s) (sent_for (bytes_of line))) }
 {
+    let Some(line) = line else {
+        return Some(stream.into_inner());
+    };
     let Ok(deadline) = Deadline::after(rt, limit) else {
         return None;
     };
@@ -37,44 +41,26 @@ fn send_back<R: Clock, S: Write + OpenStream + Drop>(
     }
 }
 
-/// Answers an input that was heard over a stream, and returns the stream: the answer's line and a newline are all that is
-/// written to it, and nothing where no answer is due. None if the line was not taken whole within the limit, and if the clock
-/// failed.
-fn answer_over<R: Net + Wait + Clock, H: PointHash, A: Handler, S: Write + OpenStream + Drop>(
-    server: &Server<H, A>,
-    member: &mut Member<'_, H, TcpLink<R>>,
-    rt: &R,
-    alloc: Global,
-    stream: Timed<'_, S, R>,
-    input: &Input,
-) -> Option<S>
-    ensures over { Makes member.old.node (IsAnsweredOver S.contents H.hash_of (A.may_handle server.now.handler) (stream_of stream.entry) input.now result) member.old.pass.now member.new.pass.now }
-    ensures same { IsSame member.old member.new }
-{
-    let now = server.stopwatch.moment(rt);
-    match respond(rt, alloc, member, &server.handler, now, input) {
-        Some(line) => send_back(rt, server.timeouts.line, stream, line),
-        None => Some(stream.into_inner()),
-    }
-}
-
 /// Serves one connection by a member, and returns it: its line has to arrive within the limit, and its answer's line has to be taken
-/// within it, from the start of each. Nothing is written but the answer's line and a newline; nothing at all where no
-/// answer is due. None if the answer was not taken whole, and if the clock failed.
+/// within it, from the start of each. The handler is called once if the line is a Forward that the node owns, and else never. Nothing
+/// is written but the answer's line and a newline; nothing at all where no answer is due. None if the answer was not taken whole, and
+/// if the clock failed.
 pub fn serve_connection<
     R: Net + Wait + Clock,
     H: PointHash,
-    A: Handler,
+    T,
+    A: HandlerMut,
     S: Read + Write + OpenStream + Drop,
 >(
-    server: &Server<H, A>,
+    server: &Server<H, T>,
     member: &mut Member<'_, H, TcpLink<R>>,
+    handler: &mut A,
     rt: &R,
     alloc: Global,
     stream: S,
 ) -> Option<S>
-    ensures made { Makes member.old.node (IsConnection H.hash_of (A.may_handle server.now.handler)) member.old.pass.now member.new.pass.now }
-    ensures over { Makes member.old.node (IsConnectionOver S.remaining S.contents H.hash_of (A.may_handle server.now.handler) stream result) member.old.pass.now member.new.pass.now }
+    ensures made { Makes member.old.node (IsConnection H.hash_of (between A.handled handler.old handler.new)) member.old.pass.now member.new.pass.now }
+    ensures over { Makes member.old.node (IsConnectionOver S.remaining S.contents H.hash_of (between A.handled handler.old handler.new) stream result) member.old.pass.now member.new.pass.now }
     ensures same { IsSame member.old member.new }
 {
     let Ok(deadline) = Deadline::after(rt, server.timeouts.line) else {
@@ -82,5 +68,7 @@ pub fn serve_connection<
     };
     let mut stream = Timed::new(stream, deadline);
     let input = hear(alloc, &mut stream);
-    answer_over(server, member, rt, alloc, stream, &input)
+    let now = server.stopwatch.moment(rt);
+    let line = respond(rt, alloc, member, handler, now, &input);
+    send_back(rt, server.timeouts.line, stream, line)
 }

@@ -25,10 +25,11 @@ pub(crate) struct WorkerPromise<H: PointHash, A> {
 }
 
 impl<H: PointHash, A: Handler> Promise<WorkerBack<H>> for WorkerPromise<H, A> {
-    ghost use Rattle.peer_core.specs.Acts.{Makes};
-    ghost use Rattle.server.specs.Working.{IsConnection, Times};
+    ghost use Rattle.peer_core.specs.Acts.{Makes, Times};
+    ghost use Rattle.peer_core.specs.Handling.{shared};
+    ghost use Rattle.server.specs.Working.{IsConnection};
 
-    ghost kept_by = { λ p back. Makes p.server.value.node (Times (IsConnection H.hash_of (A.may_handle p.server.value.handler)) back.connections) p.pass.value back.pass };
+    ghost kept_by = { λ p back. Makes p.server.value.node (Times (IsConnection H.hash_of (shared (A.may_handle p.server.value.handler))) back.connections) p.pass.value back.pass };
 }
 
 /// A thread that serves connections.

@@ -64,7 +64,7 @@ pub struct Ended<H: PointHash, A> {
     pub rounds: NodePass<H>,
     /// The passes of its workers, in the order given.
     pub workers: Vec<NodePass<H>>,
-    /// The number of connections that were served by them, also those by which `stop` wakes a worker.
+    /// The number of connections that were served by them.
     pub connections: u128,
 }
 
@@ -264,7 +264,6 @@ impl<
         ensures space { vec_len result.workers < vec_capacity result.workers }
     {
         self.server.end();
-        self.server.wake_workers(rt);
         self.wait(rt)
     }
 }

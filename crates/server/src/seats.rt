@@ -6,6 +6,7 @@ ghost use Rattle.node_core.specs.declared.events.Event.TheVariants as event;
 ghost use Rattle.node_core.specs.declared.events.Reply.TheVariants as reply;
 ghost use Rattle.locked_node.specs.Passes.{Fits, IsBarred, IsCalled};
 ghost use Rattle.peer_core.specs.MemberErrors.{answer_of_call, answer_of_leave, answer_of_rejoin, error_of_join, error_of_request, widened};
+ghost use Rattle.peer_core.specs.Members.{Done};
 ghost use Rattle.peer_core.specs.Parts.{Does};
 ghost use Rattle.server.specs.Seats.{Did, JoinsHosts, Replied, Requests};
 
@@ -27,7 +28,7 @@ use turn_lock::LockError;
 
 /// A seat at a server's node: the server, and a handle that fits its node, by which one thread of the service makes its calls.
 ///
-/// A call that is refused by `ForeignPass` or `PassSpent` is refused by the node's lock: the handle has made as many calls as it may.
+/// The node's lock refuses a call by `ForeignPass` if the handle is of another node, and by `PassSpent` if it has made as many calls as it may.
 #[derive(Drop)]
 pub struct Seat<R, H: PointHash, A> {
     rt: R,
@@ -99,6 +100,20 @@ fn join_by<R: Net + Wait + Clock + Copy, H: PointHash, A>(
     joined
 }
 
+/// Answers a request by a member, with a handler that others may call at the same time.
+fn request_over<R: Net + Wait + Clock + Copy, H: PointHash, A: Handler>(
+    rt: &R,
+    member: &mut Member<'_, H, TcpLink<R>>,
+    handler: &A,
+    clock: &ServerClock<R>,
+    keys: Keys,
+    body: Text,
+) -> Result<Text, RequestError>
+    ensures { Done (Requests H.hash_of (A.may_handle handler.now) keys body) (widened error_of_request result) member.old member.new }
+{
+    member.request(rt, &mut &*handler, clock, keys, body)
+}
+
 /// Answers a request by a handle, over a new link.
 fn request_by<R: Net + Wait + Clock + Copy, H: PointHash, A: Handler>(
     rt: &R,
@@ -115,7 +130,7 @@ fn request_by<R: Net + Wait + Clock + Copy, H: PointHash, A: Handler>(
     let mut link = TcpLink::with_limits(*rt, server.timeouts.links);
     let clock = ServerClock::new(*rt, server.stopwatch);
     let mut member = Member::new(&server.node, handle, &mut link, alloc);
-    let answer = member.request(rt, &server.handler, &clock, keys, body);
+    let answer = request_over(rt, &mut member, &server.handler, &clock, keys, body);
     let _handle = member.into_pass();
     answer
 }

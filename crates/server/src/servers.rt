@@ -5,20 +5,21 @@ ghost use Rattle.cluster_core.specs.Sockets.{limits_of};
 ghost use Rattle.peer_core.specs.Acts.{Makes};
 ghost use Rattle.server.specs.Answering.{IsSame};
 ghost use Rattle.server.specs.Timeouts.{AreStandardTimeouts};
-ghost use Rattle.server.specs.Working.{IsConnection, Times, hosts_of};
+ghost use Rattle.server.specs.Working.{ServesEach, hosts_of};
 
 use crate::connections::serve_connection;
 use crate::healing::HealingPlan;
-use crate::runtimes::Runtime;
 use crate::stopwatches::Stopwatch;
 use crate::timeouts::Timeouts;
 use change_core::Address;
 use cluster_core::{Deadline, TcpLink};
 use hash_ring::PointHash;
+use libc::net::{SHUT_RDWR, shutdown};
 use locked_node::{LockedNode, NodePass};
-use peer_core::{Handler, Member};
+use peer_core::{HandlerMut, Member};
 use std::alloc::Global;
-use std::net::{IpAddr, Ipv4Addr, Net, SocketAddr, TcpListener, TcpStream};
+use std::net::{Net, TcpListener, TcpStream};
+use std::os::fd::AsRawFd;
 use std::sync::atomic::{AtomicBool, AtomicU64, Ordering};
 use std::sync::{Mutex, MutexGuard, Wait};
 use std::thread;
@@ -48,8 +49,6 @@ pub struct Server<H: PointHash, A> {
     listener: TcpListener,
     /// The number of connections that are left to be served.
     connections_left: AtomicU64,
-    /// The number of workers that wait for a connection, or are about to.
-    waiting: AtomicU64,
     /// Held while threads are started; no worker serves before.
     starting: Mutex<()>,
     is_ending: AtomicBool,
@@ -84,7 +83,6 @@ impl<H: PointHash, A> Server<H, A> {
             connections,
             listener,
             connections_left: AtomicU64::new(connections),
-            waiting: AtomicU64::new(0),
             starting: Mutex::new(()),
             is_ending: AtomicBool::new(false),
             wake: Parker::new(),
@@ -127,11 +125,13 @@ impl<H: PointHash, A> Server<H, A> {
         drop(self.starting.lock(rt));
     }
 
-    /// Ends the server: no further connection is accepted, and no further round made.
+    /// Ends the server: no further connection is accepted, and no further round made. Connections that wait to be accepted are closed.
     pub fn end(&self) {
         let order = Ordering::SeqCst;
         self.connections_left.store(0, order);
         self.is_ending.store(true, order);
+        // (an accept that waits returns with an error, and none waits from now on)
+        let _shut = shutdown(self.listener.as_raw_fd(), SHUT_RDWR);
         self.wake.unpark();
     }
 
@@ -160,43 +160,11 @@ impl<H: PointHash, A> Server<H, A> {
 
     /// Returns the next connection to serve; None if none is left, or the server ends.
     fn next_connection<R: Wait + Clock>(&self, rt: &R) -> Option<TcpStream> {
-        self.waiting.fetch_add(1, Ordering::SeqCst);
-        let stream = if self.take_turn() {
+        if self.take_turn() {
             self.accept(rt)
         } else {
             None
-        };
-        self.waiting.fetch_sub(1, Ordering::SeqCst);
-        stream
-    }
-
-    /// Connects to the server itself, so that a worker that waits for a connection looks whether the server ends.
-    fn knock<R: Net>(&self, rt: &R) {
-        let Ok(address) = self.listener.local_addr() else {
-            return;
-        };
-        let ip = if address.ip().is_unspecified() {
-            IpAddr::V4(Ipv4Addr::LOCALHOST)
-        } else {
-            address.ip()
-        };
-        let address = SocketAddr::new(ip, address.port());
-        let _stream = TcpStream::connect_timeout(rt, &address, Duration::from_millis(REST));
-    }
-
-    /// Waits until no worker waits for a connection any more. The server has to have ended.
-    pub(crate) fn wake_workers<R: Net<Listener = TcpListener, Stream = TcpStream> + Runtime>(
-        &self,
-        rt: &R,
-    ) {
-        for _ in rt.forever() {
-            if self.waiting.load(Ordering::SeqCst) == 0 {
-                return;
-            }
-            self.knock(rt);
-            thread::sleep(rt, Duration::from_millis(REST));
         }
-        unreachable!()
     }
 
     /// Rests for this time at most; whether rounds are still made.
@@ -227,14 +195,15 @@ impl<H: PointHash, A> Server<H, A> {
 
 /// Serves connections by a member until none is left, once the threads may start, and returns how many. PingReqs are
 /// relayed over its link, which has the server's timeouts.
-fn work_over<R: Net + Wait + Clock, H: PointHash, A: Handler>(
-    server: &Server<H, A>,
+fn work_over<R: Net + Wait + Clock, H: PointHash, T, A: HandlerMut>(
+    server: &Server<H, T>,
     member: &mut Member<'_, H, TcpLink<R>>,
+    handler: &mut A,
     rt: &R,
     alloc: Global,
 ) -> u64
     requires { limits_of member.old.link.now ≡ server.now.timeouts.links }
-    ensures made { Makes member.old.node (Times (IsConnection H.hash_of (A.may_handle server.now.handler)) result) member.old.pass.now member.new.pass.now }
+    ensures made { Makes member.old.node (ServesEach H.hash_of A.handled result handler.old handler.new) member.old.pass.now member.new.pass.now }
     ensures same { IsSame member.old member.new }
 {
     server.wait_for_start(rt);
@@ -242,25 +211,27 @@ fn work_over<R: Net + Wait + Clock, H: PointHash, A: Handler>(
         let Some(stream) = server.next_connection(rt) else {
             return served;
         };
-        serve_connection(server, member, rt, alloc, stream);
+        serve_connection(server, member, handler, rt, alloc, stream);
     }
     server.connections
 }
 
-/// Serves connections until none is left, once the threads may start, and returns how many.
-pub fn work<R: Net + Wait + Clock + Copy, H: PointHash, A: Handler>(
-    server: &Server<H, A>,
+/// Serves connections until none is left, once the threads may start, and returns how many. The handler is called once for
+/// each Forward that the node owns, and else never.
+pub fn work<R: Net + Wait + Clock + Copy, H: PointHash, T, A: HandlerMut>(
+    server: &Server<H, T>,
     pass: &mut NodePass<H>,
+    handler: &mut A,
     rt: &R,
     alloc: Global,
 ) -> u64
     requires { Fits server.now.node pass.old }
-    ensures made { Makes server.now.node (Times (IsConnection H.hash_of (A.may_handle server.now.handler)) result) pass.old pass.new }
+    ensures made { Makes server.now.node (ServesEach H.hash_of A.handled result handler.old handler.new) pass.old pass.new }
     ensures fits { Fits server.now.node pass.new }
 {
     let mut link = TcpLink::with_limits(*rt, server.timeouts.links);
     let mut member = Member::new(&server.node, pass, &mut link, alloc);
-    let connections = work_over(server, &mut member, rt, alloc);
+    let connections = work_over(server, &mut member, handler, rt, alloc);
     let _pass = member.into_pass();
     connections
 }

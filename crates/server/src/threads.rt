@@ -4,9 +4,10 @@ ghost use Rattle.std.specs.List.{All, AllZip};
 ghost use Rattle.std.specs.Arc.{arc_value};
 ghost use Rattle.std.specs.Vec.{vec_capacity};
 ghost use Rattle.locked_node.specs.Passes.{Fits};
-ghost use Rattle.peer_core.specs.Acts.{Makes};
+ghost use Rattle.peer_core.specs.Acts.{Makes, Times};
+ghost use Rattle.peer_core.specs.Handling.{shared};
 ghost use Rattle.server.specs.Threads.{AreBack, IsTimer, IsTimerBack, IsWorker};
-ghost use Rattle.server.specs.Working.{AreRounds, IsConnection, Times, hosts_of};
+ghost use Rattle.server.specs.Working.{AreRounds, IsConnection, hosts_of};
 
 use crate::errors::ServerError;
 use crate::promises::{RoundsPromise, Timer, Worker, WorkerBack, WorkerPromise};
@@ -34,9 +35,10 @@ fn work_by<R: Net + Wait + Clock + Copy, H: PointHash, A: Handler + Drop>(
     mut pass: NodePass<H>,
 ) -> WorkerBack<H>
     requires { Fits (arc_value server).node pass }
-    ensures { Makes (arc_value server).node (Times (IsConnection H.hash_of (A.may_handle (arc_value server).handler)) result.connections) pass result.pass }
+    ensures { Makes (arc_value server).node (Times (IsConnection H.hash_of (shared (A.may_handle (arc_value server).handler))) result.connections) pass result.pass }
 {
-    let connections = work(&*server, &mut pass, &rt, alloc);
+    let server = &*server;
+    let connections = work(server, &mut pass, &mut &server.handler, &rt, alloc);
     WorkerBack { pass, connections }
 }
 

@@ -3,3 +3,5 @@ mod Reading
 mod Closing
 mod Completing
 mod Scripting
+mod Owning
+mod Ending

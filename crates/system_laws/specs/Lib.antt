@@ -3,3 +3,5 @@ pub mod Reading
 pub mod Closing
 pub mod Completeness
 pub mod Scripts
+pub mod Owning
+pub mod Ending

@@ -2,12 +2,14 @@
 ghost use Rattle.system_laws.specs.Closing.{ClosedNodesAreShared, PassesReadForward};
 ghost use Rattle.std.specs.Prelude.{ℕ, List};
 ghost use Rattle.system_laws.specs.Completeness.{MembersAreProbed, PassesProbe};
+ghost use Rattle.system_laws.specs.Ending.{RepliesAreHandled, RequestsEnd, TextsAreDone};
+ghost use Rattle.system_laws.specs.Owning.{HandlersDiffer, OneHandles, OthersDoNot};
 ghost use Rattle.system_laws.specs.Reading.{HistoriesReadForward};
 ghost use Rattle.system_laws.specs.Scripts.{RunsArePlays, ScriptsAgree};
 ghost use Rattle.system_laws.specs.Sharing.{SharedNodesAreWorlds};
 
 use hash_ring::PointHash;
-use peer_core::Link;
+use peer_core::{HandlerMut, Link};
 
 /// The world of shared nodes. Nodes at different addresses are each shared by threads, and then closed. Take one order of all their
 /// calls that has the history of each node, and in which each message is received after one of the nodes made it. That order is a run
@@ -47,4 +49,31 @@ pub fn completeness<H: PointHash, L: Link>()
 pub fn script_agreement<H>()
     ensures runs { (hash_of : H → List ℕ → ℕ) → RunsArePlays hash_of }
     ensures agree { (hash_of : H → List ℕ → ℕ) → ScriptsAgree hash_of }
+{}
+
+/// One owner, whichever node a request enters at. A node that is given a request, by a Forward or by its own service, leaves its
+/// handler unchanged unless it owns each of the keys among the servers that its views name. So of all nodes whose views name owners
+/// by the same hash, number of points and servers, at most one calls its handler for a key, however often each is asked. And two
+/// nodes that both do know different things of one of the two: the first has less weight in the other's list than in its own, or
+/// the second in the first's.
+///
+/// That a handler was not called is seen by its state, as of each `HandlerMut`.
+pub fn one_owner<H: PointHash, L: Link, A: HandlerMut>()
+    ensures others { OthersDoNot H.hash_of L.may_answer L.went A.handled }
+    ensures one { OneHandles H.hash_of L.may_answer L.went A.handled }
+    ensures differ { HandlersDiffer H.hash_of L.may_answer L.went A.handled }
+{}
+
+/// The end of a request, whichever node it enters at. First at most four Forwards of it fail. Then it ends in one of three ways: the
+/// node owns the keys by a view, and its handler is called once, with that result; one more Forward goes to the owner of the keys by
+/// a view, and its Reply is the answer, or memory ran out; or it ends by an error, and nothing else is sent. In the last two the
+/// node's own handler is not called.
+///
+/// A node that answers a Forward by a Reply owns its keys, and called its handler once, which gave that text. So a text was given by
+/// one call of one handler, of the node that the request entered at or of the owner, if each answer that comes over the link was
+/// made by a node that served the message. If no Forward failed, no other was sent: the request was done exactly once.
+pub fn done_once<H: PointHash, L: Link, A: HandlerMut>()
+    ensures ends { RequestsEnd H.hash_of L.may_answer L.went A.handled }
+    ensures replies { RepliesAreHandled H.hash_of L.may_answer L.went A.handled }
+    ensures texts { TextsAreDone H.hash_of L.may_answer L.went A.handled }
 {}

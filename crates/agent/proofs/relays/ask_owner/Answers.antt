@@ -14,5 +14,5 @@ returns-then-not-has_time-clause-passed g c =
 
 pub returns-clause-passed : goal.returns-clause-passed
 returns-clause-passed g c =
-    passes_on g.L.Link.may_answer g.L.Link.went c.args.request.now c.pass_on.result c.in-Some.owner c.in-Ok.own c.args.link.now _ _ c.args.caller.now _ _
-    c.in-Some.ensures.chosen c.in-Ok.ensures.node c.in-Ok.ensures.did.makes c.pass_on.ensures.relayed
+    passes_on g.L.Link.may_answer g.L.Link.went c.args.request.now c.pass_on-relayed.result c.in-Some.owner c.in-Ok.own c.args.link.now _ _ c.args.caller.now _ _
+    c.in-Some.ensures.chosen c.in-Ok.ensures.node c.in-Ok.ensures.did.makes c.pass_on-relayed.ensures.relayed

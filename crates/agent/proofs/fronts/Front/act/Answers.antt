@@ -1,8 +1,9 @@
-use Rattle.std.proofs.Common.{refl, subst, sym}
+use Rattle.std.proofs.Common.{Ok, refl, subst, sym}
 use Rattle.agent_core.specs.declared.actions.Action.{Action}
 use Rattle.agent_core.specs.declared.actions.Action.TheVariants as action
 use Rattle.agent.specs.Calling.{HasMade}
 use Rattle.agent.specs.Performing.{Performs}
+use Rattle.agent.specs.declared.replies.Reply.TheVariants.{Page}
 use Rattle.agent.proofs.Performed.{made_none}
 use Rattle.agent.proofs.fronts.Front.act.Goals as goal
 
@@ -12,3 +13,17 @@ returns-in-Health-clause-performed g c =
     let caller = c.args.self.now.caller.now in
     subst (λ (it : Action). HasMade (Performs agent.own agent.replicas it c.health.result) caller caller) (sym c.in-Health.is)
     (made_none (Performs agent.own agent.replicas action.Health c.health.result) caller caller refl (refl, c.health.ensures))
+
+pub returns-in-Live-clause-performed : goal.returns-in-Live-clause-performed
+returns-in-Live-clause-performed g c =
+    let agent = c.args.self.now.agent.now in
+    let caller = c.args.self.now.caller.now in
+    subst (λ (it : Action). HasMade (Performs agent.own agent.replicas it c.liveness.result) caller caller) (sym c.in-Live.is)
+    (made_none (Performs agent.own agent.replicas action.Live c.liveness.result) caller caller refl (refl, c.liveness.ensures))
+
+pub returns-in-Page-clause-performed : goal.returns-in-Page-clause-performed
+returns-in-Page-clause-performed g c =
+    let agent = c.args.self.now.agent.now in
+    let caller = c.args.self.now.caller.now in
+    subst (λ (it : Action). HasMade (Performs agent.own agent.replicas it (Ok Page)) caller caller) (sym c.in-Page.is)
+    (made_none (Performs agent.own agent.replicas action.Page (Ok Page)) caller caller refl (refl, refl))

@@ -1,0 +1,181 @@
+//! The answers to questions about the ring: the owners of many keys by one view, and the ring with its digest.
+ghost use Rattle.std.specs.Prelude.{◌≡◌, ◌++◌, Bool, IfErr, IfOk, OnOk, map, option_copied, string_bytes};
+ghost use Rattle.node_core.specs.declared.events.Event.TheVariants as call;
+ghost use Rattle.node_core.specs.declared.events.Reply.TheVariants as reply;
+ghost use Rattle.agent_core.specs.Texts.{all_owners_text};
+ghost use Rattle.agent_core.specs.declared.actions.Action.TheVariants as action;
+ghost use Rattle.agent_core.specs.declared.answers.Kind.{Kind as Content};
+ghost use Rattle.agent.specs.Calling.{HasMade};
+ghost use Rattle.agent.specs.Performing.{Performs, ShowsAllOwners, ShowsRing, hidden_of, is_known, key_text, ring_digest};
+
+use crate::fronts::{Front, digest_of, refusal_of};
+use crate::replies::{Reply, out_of_memory};
+use crate::systems::Host;
+use agent_core::{KeyList, Refusal, on_ring, push_owners, ring_text};
+use change_core::{Address, Change, Digest, DigestText};
+use hash_ring::Sha256Hash;
+use message_core::Text;
+use node_core::View;
+use std::alloc::{AllocError, Global};
+
+/// Appends the first owners of a key by a view; `null` if the first of them is `hidden`.
+fn push_key(
+    text: &mut String,
+    view: &View<Sha256Hash>,
+    key: &Text,
+    count: usize,
+    hidden: &Option<Address>,
+) -> Result<(), AllocError>
+    ensures { OnOk result (string_bytes text.new ≡ string_bytes text.old ++ key_text view.now count hidden.now key.now) }
+{
+    let Ok(owners) = view.owners(key.as_str().as_bytes(), count) else {
+        return Err(AllocError);
+    };
+    push_owners(text, owners.as_slice(), *hidden)
+}
+
+/// Returns the text with the first owners of keys by a view, in the order of the keys.
+fn text_by(
+    alloc: Global,
+    view: &View<Sha256Hash>,
+    keys: &[Text],
+    count: usize,
+    hidden: &Option<Address>,
+) -> Result<String, AllocError>
+    ensures { IfOk result (λ text. string_bytes text ≡ all_owners_text (map (key_text view.now count hidden.now) keys.now)) }
+{
+    let mut text = String::from_str(alloc, "{\"owners\":[")?;
+    for (i, key) in keys.iter().enumerate() {
+        if i > 0 {
+            text.push_str(",")?;
+        }
+        push_key(&mut text, view, key, count, hidden)?;
+    }
+    text.push_str("]}\n")?;
+    Ok(text)
+}
+
+/// Makes the reply with the first owners of keys by a view.
+fn all_owners_by(
+    alloc: Global,
+    view: &View<Sha256Hash>,
+    keys: &[Text],
+    count: usize,
+    hidden: Option<Address>,
+) -> Result<Reply, Refusal>
+    ensures { ShowsAllOwners hidden keys.now count view.now result }
+{
+    let text = text_by(alloc, view, keys, count, &hidden).map_err(out_of_memory)?;
+    Ok(Reply::Json(text))
+}
+
+/// Returns this address, if the keys of the node that has it are left out.
+fn hidden_of(own: Address, only_others: bool) -> Option<Address>
+    ensures { result ≡ hidden_of own only_others }
+{
+    if only_others { Some(own) } else { None }
+}
+
+/// Returns whether a text is the one of a digest.
+fn is_known(after: Option<&Text>, digest: &Digest) -> bool
+    ensures { result ≡ is_known (option_copied after.entry) digest.now.bytes }
+{
+    match after {
+        Some(after) => after.as_str() == DigestText::of(digest).as_str(),
+        None => false,
+    }
+}
+
+/// Returns the digest of the ring of a node that holds these members.
+///
+/// # Errors
+///
+/// - `Memory`: out of memory.
+pub fn ring_digest(alloc: Global, members: &[Change]) -> Result<Digest, Refusal>
+    ensures digest { IfOk result (λ digest. digest.bytes ≡ ring_digest members.now) }
+    ensures refused { IfErr result (λ e. e ≡ Refusal.Memory) }
+{
+    let servers = on_ring(alloc, members).map_err(out_of_memory)?;
+    digest_of(alloc, servers.as_slice())
+}
+
+/// Makes the reply with the ring of a node that holds these members, unless `after` is the text of the ring's digest.
+fn ring_by(
+    alloc: Global,
+    own: Address,
+    replicas: u32,
+    members: &[Change],
+    after: Option<&Text>,
+) -> Result<Reply, Refusal>
+    ensures { ShowsRing own replicas (option_copied after.entry) members.now result }
+{
+    let servers = on_ring(alloc, members).map_err(out_of_memory)?;
+    let digest = digest_of(alloc, servers.as_slice())?;
+    if is_known(after, &digest) {
+        return Ok(Reply::Unchanged { digest });
+    }
+    let text = ring_text(alloc, own, &digest, replicas, servers.as_slice()).map_err(out_of_memory)?;
+    Ok(Reply::Ring { digest, text })
+}
+
+impl<'f, 'a, R: Host> Front<'f, 'a, R> {
+    /// Returns the first owners of keys by one view.
+    ///
+    /// # Errors
+    ///
+    /// - `NotJoined`: the hosts are still being asked.
+    /// - `Spent`: the node takes no more calls.
+    /// - `Memory`: out of memory.
+    pub fn all_owners(
+        &mut self,
+        keys: &KeyList,
+        count: usize,
+        only_others: bool,
+    ) -> Result<Reply, Refusal>
+        ensures performed { HasMade (Performs self.old.agent.now.own self.old.agent.now.replicas (action.AllOwners keys.now count only_others) result) self.old.caller.now self.new.caller.now }
+        ensures agent { self.new.agent ≡ self.old.agent }
+    {
+        if self.agent.is_starting.get() {
+            return Err(Refusal::NotJoined);
+        }
+        let hidden = hidden_of(self.agent.own, only_others);
+        match self.caller.view(&self.agent.rt) {
+            Ok(view) => all_owners_by(self.alloc, &view, keys.as_slice(), count, hidden),
+            Err(error) => Err(refusal_of(error)),
+        }
+    }
+
+    /// Returns the ring, or that its digest is the one with the text `after`.
+    ///
+    /// # Errors
+    ///
+    /// - `NotJoined`: the hosts are still being asked.
+    /// - `ManyQuestions`: the request was to wait, and as many wait as may.
+    /// - `Spent`: the node takes no more calls.
+    /// - `Memory`: out of memory.
+    pub fn ring(&mut self, after: Option<&Text>) -> Result<Reply, Refusal>
+        ensures performed { HasMade (Performs self.old.agent.now.own self.old.agent.now.replicas (action.Ring (option_copied after.entry)) result) self.old.caller.now self.new.caller.now }
+        ensures agent { self.new.agent ≡ self.old.agent }
+    {
+        if self.agent.is_starting.get() {
+            return Err(Refusal::NotJoined);
+        }
+        if self.is_turned_away.get() {
+            self.is_turned_away.set(false);
+            return Err(Refusal::ManyQuestions);
+        }
+        let agent = self.agent;
+        match self.caller.members(&agent.rt) {
+            Ok(members) => {
+                ring_by(
+                    self.alloc,
+                    agent.own,
+                    agent.replicas,
+                    members.as_slice(),
+                    after,
+                )
+            }
+            Err(error) => Err(refusal_of(error)),
+        }
+    }
+}

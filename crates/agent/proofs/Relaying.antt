@@ -24,7 +24,7 @@ use Rattle.agent.specs.Relays.{Chooses, Keeps, NamesNobody, IsNotReturned, IsPas
 use Rattle.agent.specs.declared.relays.Relayed.{Relayed}
 use Rattle.agent.specs.declared.relays.Relayed.TheVariants.{NotDone}
 use Rattle.agent.proofs.Performed.{made_as, made_none, made_then}
-use Rattle.server.specs.declared.inputs.Input.{Input}
+use Rattle.line_service.specs.declared.inputs.Input.{Input}
 
 -- what holds anyway
 pub if_none : {T P : Type 0} (found : Option T) → P → IfNone found P

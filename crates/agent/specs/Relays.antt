@@ -21,9 +21,9 @@ use Rattle.peer_core.specs.Serving.{message_by}
 use Rattle.peer_core.specs.declared.errors.ClusterError.{ClusterError}
 use Rattle.peer_core.specs.declared.errors.LinkError.{LinkError}
 use Rattle.peer_core.specs.declared.errors.LinkError.TheVariants as link
-use Rattle.server.specs.Answering.{line_text}
-use Rattle.server.specs.declared.inputs.Input.{Input}
-use Rattle.server.specs.declared.inputs.Input.TheVariants as input
+use Rattle.line_service.specs.Answering.{line_text}
+use Rattle.line_service.specs.declared.inputs.Input.{Input}
+use Rattle.line_service.specs.declared.inputs.Input.TheVariants as input
 use Rattle.agent.specs.Calling.{Calling, HasMade, Looks, hash_number}
 use Rattle.agent.specs.declared.relays.Relayed.{Relayed}
 use Rattle.agent.specs.declared.relays.Relayed.TheVariants.{Lost, Reply, NoReply, NotDone}

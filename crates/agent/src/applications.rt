@@ -13,10 +13,10 @@ use agent_core::{Failure, MAX_BODY_BYTES, MAX_STATUS, MIN_STATUS, Refusal, pack}
 use change_core::Address;
 use cluster_core::{Deadline, Timed, socket_address};
 use http1::{Client, Limits};
+use line_service::Stopwatch;
 use log::{Logged, info, warn};
 use message_core::{Keys, Text, WireError};
 use peer_core::{Handler, HandlerFault};
-use server::Stopwatch;
 use std::alloc::Global;
 use std::io;
 use std::net::TcpStream;

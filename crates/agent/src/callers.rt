@@ -10,7 +10,7 @@ ghost use Rattle.peer_core.specs.Exchanges.{SendsByDraws, SendsTo, SendsToPinged
 ghost use Rattle.peer_core.specs.Joining.{IsJoin};
 ghost use Rattle.peer_core.specs.Parts.{Calls, Does, Tries, allowed, let_in};
 ghost use Rattle.agent.specs.Calling.{Looks, hash_of};
-ghost use Rattle.server.specs.Answering.{IsSilent, Responds};
+ghost use Rattle.line_service.specs.Answering.{IsSilent, Responds};
 ghost use Rattle.peer_core.specs.Correcting.{IsCorrectingRound};
 ghost use Rattle.peer_core.specs.Forwarding.{IsRequest};
 ghost use Rattle.peer_core.specs.Handling.{between};
@@ -21,6 +21,7 @@ ghost use Rattle.turn_lock.specs.Passes.{left_of};
 
 use change_core::{Address, Change, Digest, Entry, Moment};
 use hash_ring::Sha256Hash;
+use line_service::{Input, respond};
 use locked_node::{LockedNode, NodePass};
 use message_core::{Keys, Text};
 use node_core::{ChangeList, View};
@@ -28,7 +29,6 @@ use peer_core::{
     Clock, ClusterError, HandlerMut, Healing, Link, Member, Round, correcting_round, gossip_round,
     handle_or_forward, heal, join,
 };
-use server::{Input, respond};
 use std::alloc::Global;
 use std::marker::Model;
 use std::sync::{Arc, Wait};

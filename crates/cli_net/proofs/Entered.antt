@@ -20,7 +20,7 @@ use Rattle.cli_net.specs.declared.faults.ServeError.TheVariants as serve
 use Rattle.server.specs.declared.errors.EndError.{EndError}
 use Rattle.server.specs.declared.errors.EndError.TheVariants as end
 use Rattle.server.specs.declared.servers.Server.{Server}
-use Rattle.server.specs.declared.timeouts.Timeouts.{Timeouts}
+use Rattle.line_service.specs.declared.timeouts.Timeouts.{Timeouts}
 use Rattle.cli_core.specs.declared.words.ServeWords.{ServeWords}
 
 -- the errors of a server whose node joined

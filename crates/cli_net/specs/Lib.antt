@@ -1,11 +1,8 @@
-pub mod Agents
 pub mod Asking
 pub mod Commands
 pub mod Dialled
 pub mod Echoes
 pub mod Membership
 pub mod Owning
-pub mod Runs
 pub mod Service
-pub mod Status
 pub mod Telling

@@ -23,7 +23,7 @@ use Rattle.peer_core.specs.Parts.{Does}
 use Rattle.cluster_core.specs.Channels.{any_answer}
 use Rattle.cluster_core.specs.Clusters.{AreAll, AreFresh}
 use Rattle.server.specs.Starting.{IsHealedAs}
-use Rattle.server.specs.Timeouts.{AreStandardTimeouts}
+use Rattle.line_service.specs.Timeouts.{AreStandardTimeouts}
 use Rattle.cli_core.specs.Owner.{hash_by}
 use Rattle.cli_net.specs.declared.faults.ServeError.{ServeError}
 use Rattle.cli_net.specs.declared.faults.ServeError.TheVariants as serve
@@ -36,7 +36,7 @@ use Rattle.cli_net.specs.declared.echoes.Echo.{Echo}
 use Rattle.cli_net.specs.declared.serving.ServedNode.{ServedNode}
 use Rattle.cli_net.specs.declared.serving.ServedNode.TheVariants as served
 use Rattle.cli_net.specs.Echoes.{MayEcho}
-use Rattle.server.specs.declared.timeouts.Timeouts.{Timeouts}
+use Rattle.line_service.specs.declared.timeouts.Timeouts.{Timeouts}
 use Rattle.cli_core.specs.declared.words.ServeWords.{ServeWords}
 
 -- the standard configuration with the points, the weight and the limits of gossip of the words

@@ -1,8 +1,6 @@
-//! The program's commands over any reader, writer and network: `serve`, `ask`, `members` and `tell`, and the run of what the
-//! command line asks for.
+//! The program's commands that speak to nodes, over any reader, writer and network: `serve`, `ask`, `members` and `tell`.
 #![tactic(auto)]
 
-mod agents;
 mod asking;
 mod commands;
 mod dialled;
@@ -12,13 +10,10 @@ mod hints;
 mod looks;
 mod nodes;
 mod owners;
-mod program_errors;
 mod questions;
-mod runs;
 mod serving;
 mod telling;
 
-pub use agents::agent_run;
 pub use asking::{ask_over, ask_run};
 pub use cli_core::{
     AskAnyWords, AskWords, ClusterCommand, MAX_REQUESTS, MembersForm, MembersWords, ServeWords,
@@ -26,11 +21,9 @@ pub use cli_core::{
 pub use commands::{ClusterCommandError, cluster_command_run};
 pub use echoes::Echo;
 pub use faults::{AskError, ServeError, TellError};
-pub use hints::explain;
+pub use hints::explain_command;
 pub use looks::{members_over, members_run};
 pub use owners::{ask_any_over, ask_any_run};
-pub use program_errors::Fault;
-pub use runs::words_run;
 pub use server::Runtime;
 pub use serving::{ServedNode, serve_run, serve_within};
 pub use telling::{tell_over, tell_run};

@@ -3,7 +3,7 @@
 
 use clap::error::ErrorKind as Refused;
 use cli_core::ClusterCommand;
-use cli_net::{Fault, explain, words_run};
+use cli_run::{Fault, explain, words_run};
 use cli_words::{Words, WordsError, bad_argument, read_words, words_not_text};
 use std::alloc::{Alloc, Global};
 use std::env::Env;

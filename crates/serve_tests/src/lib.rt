@@ -1,4 +1,4 @@
-//! The tests of `server` and `cli_net`.
+//! The tests of `line_service`, `server` and `cli_net`.
 #![tactic(auto)]
 
 /// The rows of a table, each on a line and ended by a semicolon.
@@ -16,8 +16,6 @@ mod clocks;
 #[cfg(test)]
 mod connections;
 #[cfg(test)]
-mod faults;
-#[cfg(test)]
 mod library;
 #[cfg(test)]
 mod limits;
@@ -31,8 +29,6 @@ mod peers;
 mod plans;
 #[cfg(test)]
 mod rounds;
-#[cfg(test)]
-mod runs;
 #[cfg(test)]
 mod seats;
 #[cfg(test)]

@@ -1,5 +1,3 @@
-pub mod Answered
-pub mod Heard
 pub mod Worked
 pub mod Crew
 pub mod Starts

@@ -21,12 +21,12 @@ use Rattle.peer_core.proofs.Acts.{chain_still, makes_as, makes_none, makes_then}
 use Rattle.peer_core.proofs.HandlingCounts.{serves_shared}
 use Rattle.cluster_core.specs.Channels.{any_answer}
 use Rattle.peer_core.specs.Handling.{Handlings, MayHandle, between, handled_shared, shared}
-use Rattle.server.specs.Answering.{AnswersInput, Hears, IsSame, IsSilent, Responds, StaysSilent}
+use Rattle.line_service.specs.Answering.{AnswersInput, Hears, IsSame, IsSilent, Responds, StaysSilent}
 use Rattle.change_core.specs.declared.addresses.Address.{Address}
 use Rattle.server.specs.Working.{AreRounds, HealsRounds, IsAnsweredOver, IsConnection, IsConnectionOver, IsOneCorrectingRound, IsOneHealing, IsOneRound, IsTreated, JoinsAt, JoinsIfDue, MakesRounds, RoundTimes, ServesEach, bytes_of, first_join, next_join, sent_for}
 use Rattle.server.specs.declared.healing.HealingPlan.{HealingPlan}
-use Rattle.server.specs.declared.inputs.Input.{Input}
-use Rattle.server.specs.declared.inputs.Input.TheVariants as input
+use Rattle.line_service.specs.declared.inputs.Input.{Input}
+use Rattle.line_service.specs.declared.inputs.Input.TheVariants as input
 
 module _ {H L : Type 0} where
   -- one call after another leaves the same node, pass and link

@@ -1,7 +1,5 @@
-pub mod Answering
 pub mod Running
 pub mod Seats
 pub mod Starting
 pub mod Threads
-pub mod Timeouts
 pub mod Working

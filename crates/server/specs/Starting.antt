@@ -12,7 +12,7 @@ use Rattle.node_core.specs.declared.errors.NodeError.TheVariants as node
 use Rattle.locked_node.specs.Passes.{NodePass, Fits, opening_of}
 use Rattle.cluster_core.specs.Clusters.{AreAll}
 use Rattle.server.specs.Running.{Started}
-use Rattle.server.specs.Timeouts.{AreStandardTimeouts}
+use Rattle.line_service.specs.Timeouts.{AreStandardTimeouts}
 use Rattle.server.specs.Working.{hosts_of}
 use Rattle.server.specs.declared.errors.ServerError.{ServerError}
 use Rattle.server.specs.declared.errors.ServerError.TheVariants as server

@@ -14,10 +14,10 @@ use Rattle.peer_core.specs.Parts.{let_in}
 use Rattle.peer_core.specs.Rounds.{IsRound}
 use Rattle.peer_core.specs.Handling.{Handled, Handlings, between}
 use Rattle.cluster_core.specs.Channels.{any_answer}
-use Rattle.server.specs.Answering.{Hears, Responds, StaysSilent}
+use Rattle.line_service.specs.Answering.{Hears, Responds, StaysSilent}
 use Rattle.server.specs.declared.healing.HealingPlan.{HealingPlan}
-use Rattle.server.specs.declared.inputs.Input.{Input}
-use Rattle.server.specs.declared.inputs.Input.TheVariants as input
+use Rattle.line_service.specs.declared.inputs.Input.{Input}
+use Rattle.line_service.specs.declared.inputs.Input.TheVariants as input
 
 -- the bytes of an answer's line
 abbrev pub bytes_of : Option (Vec ℕ Global) → Option (List ℕ)

@@ -4,14 +4,13 @@ ghost use Rattle.std.specs.Io.KnownBytes.{Appends};
 ghost use Rattle.cluster_core.specs.Deadlines.{stream_of};
 ghost use Rattle.peer_core.specs.Acts.{Makes};
 ghost use Rattle.peer_core.specs.Handling.{between};
-ghost use Rattle.server.specs.Answering.{IsSame};
+ghost use Rattle.line_service.specs.Answering.{IsSame};
 ghost use Rattle.server.specs.Working.{IsConnection, IsConnectionOver, bytes_of, sent_for};
 
-use crate::answering::respond;
-use crate::inputs::hear;
 use crate::servers::Server;
 use cluster_core::{Deadline, TcpLink, Timed, send_owned_line};
 use hash_ring::PointHash;
+use line_service::{hear, respond};
 use peer_core::{HandlerMut, Member};
 use std::alloc::Global;
 use std::io::{Read, Write};

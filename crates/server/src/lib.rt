@@ -2,12 +2,9 @@
 //! `stop`.
 #![tactic(auto)]
 
-mod answering;
-mod clocks;
 mod connections;
 mod errors;
 mod healing;
-mod inputs;
 mod promises;
 mod round_clocks;
 mod rounds;
@@ -16,16 +13,12 @@ mod runtimes;
 mod seats;
 mod servers;
 mod starting;
-mod stopwatches;
 mod threads;
-mod timeouts;
 
-pub use answering::respond;
-pub use clocks::ServerClock;
 pub use connections::serve_connection;
 pub use errors::{EndError, ServerError};
 pub use healing::HealingPlan;
-pub use inputs::{Input, hear};
+pub use line_service::{Input, ServerClock, Stopwatch, Timeouts, hear, respond};
 pub use round_clocks::RoundClock;
 pub use rounds::make_rounds;
 pub use running::{Ended, Running};
@@ -33,5 +26,3 @@ pub use runtimes::Runtime;
 pub use seats::Seat;
 pub use servers::{Server, work};
 pub use starting::{MAX_HANDLES, Settings, StartError, start};
-pub use stopwatches::Stopwatch;
-pub use timeouts::Timeouts;

@@ -2,9 +2,9 @@
 ghost use Rattle.std.specs.Prelude.{IsTrue};
 
 use crate::servers::Server;
-use crate::stopwatches::Stopwatch;
 use change_core::Moment;
 use hash_ring::PointHash;
+use line_service::Stopwatch;
 use std::sync::Wait;
 use std::time::{Clock, Duration};
 

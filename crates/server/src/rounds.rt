@@ -3,7 +3,7 @@ ghost use Rattle.std.specs.Prelude.{◌≡◌, None, Some};
 ghost use Rattle.locked_node.specs.Passes.{Fits};
 ghost use Rattle.cluster_core.specs.Sockets.{limits_of};
 ghost use Rattle.peer_core.specs.Acts.{Makes};
-ghost use Rattle.server.specs.Answering.{IsSame};
+ghost use Rattle.line_service.specs.Answering.{IsSame};
 ghost use Rattle.server.specs.Working.{AreRounds, JoinsAt, JoinsIfDue, first_join, hosts_of};
 
 use crate::healing::HealingPlan;

@@ -10,11 +10,11 @@ ghost use Rattle.peer_core.specs.Members.{Done};
 ghost use Rattle.peer_core.specs.Parts.{Does};
 ghost use Rattle.server.specs.Seats.{Did, JoinsHosts, Replied, Requests};
 
-use crate::clocks::ServerClock;
 use crate::servers::Server;
 use change_core::{Address, Change};
 use cluster_core::TcpLink;
 use hash_ring::PointHash;
+use line_service::ServerClock;
 use locked_node::NodePass;
 use message_core::{Keys, Text};
 use node_core::ChangeList;

@@ -1,6 +1,6 @@
 use Rattle.peer_core.specs.Acts.{Makes}
 use Rattle.peer_core.specs.Healing.{heals_first}
-use Rattle.server.specs.Answering.{IsSame}
+use Rattle.line_service.specs.Answering.{IsSame}
 use Rattle.server.specs.Working.{HealsRounds, first_join, hosts_of}
 use Rattle.server.proofs.rounds.make_healing_rounds_over.Given as goal
 

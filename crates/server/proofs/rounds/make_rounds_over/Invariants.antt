@@ -1,5 +1,5 @@
 use Rattle.peer_core.specs.Acts.{Makes}
-use Rattle.server.specs.Answering.{IsSame}
+use Rattle.line_service.specs.Answering.{IsSame}
 use Rattle.server.specs.Working.{MakesRounds, first_join, hosts_of}
 use Rattle.server.proofs.rounds.make_rounds_over.Given as goal
 

@@ -1,5 +1,5 @@
 use Rattle.peer_core.specs.Acts.{Makes}
-use Rattle.server.specs.Answering.{IsSame}
+use Rattle.line_service.specs.Answering.{IsSame}
 use Rattle.server.specs.Working.{ServesEach}
 use Rattle.server.proofs.servers.work_over.Given as goal
 

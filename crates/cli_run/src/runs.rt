@@ -1,0 +1,46 @@
+//! The command of the arguments, run over any reader and writer.
+ghost use Rattle.std.specs.Prelude.{IfErr, OnOk};
+ghost use Rattle.cli_net.specs.Dialled.{dialled};
+ghost use Rattle.cli_run.specs.Runs.{WordsFail, WordsFinish, WordsRead};
+
+use crate::agents::agent_run;
+use crate::program_errors::Fault;
+use agent::System;
+use cli_core::subcommand_run;
+use cli_net::cluster_command_run;
+use cli_words::Words;
+use cluster_core::Dial;
+use std::alloc::Global;
+use std::io::{Read, Write};
+use std::sync::Wait;
+use std::time::Clock;
+
+/// Runs the command of the arguments over sockets, the reader and the writer, as `subcommand_run` or
+/// `cluster_command_run` does. Questions to nodes go over this network.
+///
+/// # Errors
+///
+/// - The error of that function.
+pub fn words_run<R: System, D: Dial + Clock + Wait + Copy, I: Read, W: Write>(
+    rt: &R,
+    network: &D,
+    alloc: Global,
+    words: &Words<'_>,
+    reader: &mut I,
+    writer: &mut W,
+) -> Result<(), Fault>
+    ensures output { OnOk result (WordsFinish (dialled D.leads D.Stream.contents D.Stream.remaining) words.now
+        (I.remaining reader.old) (W.contents writer.old) (W.contents writer.new)) }
+    ensures fault { IfErr result (λ e. WordsFail (dialled D.leads D.Stream.contents D.Stream.remaining) words.now e
+        (I.remaining reader.old) (W.contents writer.old) (W.contents writer.new)) }
+    ensures unread { WordsRead words.now (I.remaining reader.old) (I.remaining reader.new) }
+{
+    match words {
+        Words::Lines(subcommand) => subcommand_run(alloc, subcommand, reader, writer)?,
+        Words::Cluster(command) => cluster_command_run(
+            rt, network, alloc, command, reader, writer,
+        )?,
+        Words::Agent(words) => agent_run(rt, alloc, words, writer)?,
+    }
+    Ok(())
+}

@@ -1,0 +1,38 @@
+//! A writer that takes what a test wants, and what may go wrong if memory is refused.
+use std::env::Env;
+use std::io;
+use std::io::{ErrorKind, Write};
+use std::process::Abort;
+
+/// Checks that an allocation is to fail, as the environment says if `scripts/fail-alloc` runs a test: else something went wrong though
+/// there was enough memory. It takes no memory.
+pub(crate) fn check_refused(rt: &(impl Env + Abort)) {
+    let mut number = [0u8; 32];
+    assert!(rt; rt.var("FAIL_ALLOC", &mut number).is_ok());
+}
+
+/// A writer that takes this text, and nothing else.
+#[derive(Drop)]
+pub(crate) struct Page<'a> {
+    /// What was not written yet.
+    pub(crate) left: &'a [u8],
+}
+
+impl<'a> Write for Page<'a> {
+    fn write(&mut self, buf: &[u8]) -> io::Result<usize> {
+        let Some(&byte) = buf.first() else {
+            return Ok(0);
+        };
+        match self.left.split_first() {
+            Some((&next, behind)) if next == byte => {
+                self.left = behind;
+                Ok(1)
+            }
+            _ => Err(io::Error::from(ErrorKind::WriteZero)),
+        }
+    }
+
+    fn flush(&mut self) -> io::Result<()> {
+        Ok(())
+    }
+}

@@ -1,5 +1,0 @@
-use Rattle.server.proofs.Answered.{unread_by}
-use Rattle.server.proofs.inputs.decoded.Goals as goal
-
-pub returns-in-Err : goal.returns-in-Err
-returns-in-Err c = rw c.reason_of.ensures (unread_by c.args.line.now c.in-Err.fault c.in-Err.ensures.fault)

@@ -34,6 +34,8 @@ complete -c ringpop -n '__ringpop_in agent' -l bind -x -d 'where the node listen
 complete -c ringpop -n '__ringpop_in agent' -l http -x -d 'where HTTP is answered'
 complete -c ringpop -n '__ringpop_in agent' -l http-any -d 'allow --http outside 127.0.0.0/8'
 complete -c ringpop -n '__ringpop_in agent' -l app -x -d 'where the application takes requests'
+complete -c ringpop -n '__ringpop_in agent' -l no-wait-app -d 'join without waiting for --app'
+complete -c ringpop -n '__ringpop_in agent' -l leave-after -x -d 'seconds without --app after which the node leaves; 0: never'
 complete -c ringpop -n '__ringpop_in agent' -l hands -x -d 'threads for requests of other nodes, 1 to 256'
 complete -c ringpop -n '__ringpop_in agent' -l http-connections -x -d 'HTTP connections at a time, 1 to 65536'
 complete -c ringpop -n '__ringpop_in agent' -l incarnation -x -d 'first incarnation'

@@ -29,6 +29,7 @@ fits asks refusal.ApplicationFailed is = asked_for asks refusal.ApplicationFaile
 fits asks refusal.ApplicationDown is = asked_for asks refusal.ApplicationDown (is (λ same. absurd cc))
 fits asks refusal.NotJoined is = asked_for asks refusal.NotJoined (is (λ same. absurd cc))
 fits asks refusal.HasLeft is = asked_for asks refusal.HasLeft (is (λ same. absurd cc))
+fits asks refusal.ApplicationAwaited is = asked_for asks refusal.ApplicationAwaited (is (λ same. absurd cc))
 fits asks refusal.CannotAccept is = asked_for asks refusal.CannotAccept (is (λ same. absurd cc))
 fits asks refusal.NoRounds is = asked_for asks refusal.NoRounds (is (λ same. absurd cc))
 fits asks refusal.Nobody is = asked_for asks refusal.Nobody (is (λ same. absurd cc))

@@ -168,7 +168,7 @@ Stops (Err e) outcome = outcome ≡ Err (refusal_of e)
 abbrev pub IsHealth : Outcome → Type 0
 IsHealth (Ok shown) = IsText kind.Text (codes "ok" ++ 10 ∷ []) shown
 IsHealth (Err why) =
-    (why ≡ refusal.NotJoined) ⊎ ((why ≡ refusal.HasLeft) ⊎ ((why ≡ refusal.CannotAccept) ⊎ (why ≡ refusal.ApplicationDown)))
+    (why ≡ refusal.NotJoined) ⊎ ((why ≡ refusal.HasLeft) ⊎ ((why ≡ refusal.ApplicationAwaited) ⊎ ((why ≡ refusal.CannotAccept) ⊎ (why ≡ refusal.ApplicationDown))))
 
 -- the agent makes rounds, or it does not
 abbrev pub IsLiveness : Outcome → Type 0

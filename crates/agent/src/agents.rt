@@ -7,7 +7,7 @@ use crate::notices::Notices;
 use crate::systems::Host;
 use crate::waiting::Waiting;
 use crate::watchers::{MAX_QUESTIONS, Watchers};
-use agent_core::{Counts, PortCounts};
+use agent_core::{Counts, PortCounts, Watch};
 use change_core::{Address, Moment};
 use line_service::{ServerClock, Stopwatch, Timeouts};
 use log::{LevelFilter, Logged};
@@ -26,6 +26,8 @@ pub enum Phase {
     Serving,
     /// Its node has left the ring.
     Left,
+    /// Its node is out of the ring until its application accepts connections.
+    Awaiting,
 }
 
 /// A flag that threads set and read.
@@ -88,8 +90,10 @@ pub struct Agent<R> {
     pub is_starting: Flag,
     pub has_joined: Flag,
     pub has_left: Flag,
-    /// Held while the node leaves or comes back.
-    pub moving: Mutex<()>,
+    /// The watch over the service, held while the node leaves or comes back.
+    pub moving: Mutex<Watch>,
+    /// Whether the service took a connection when it was looked at last.
+    pub is_service_up: Flag,
     /// The moment at which the last round ended, and what heals after it, or that of the start.
     pub last_round: Count,
     /// Whether the node left or came back since the log last looked at its members. Set and read while `moving` is held.
@@ -123,12 +127,33 @@ impl<R: Host> Agent<R> {
     /// Returns the phase of the agent.
     pub fn phase(&self) -> Phase {
         if self.has_left.get() {
-            Phase::Left
+            if self.moving.lock(&self.rt).is_out {
+                Phase::Awaiting
+            } else {
+                Phase::Left
+            }
         } else if self.has_joined.get() {
             Phase::Serving
         } else {
             Phase::Joining
         }
+    }
+
+    /// Notes that the node has left. The caller holds `moving`.
+    pub fn set_left(&self) {
+        self.has_left.set(true);
+        self.has_moved.set(true);
+    }
+
+    /// Notes that the node is back. The caller holds `moving`.
+    pub fn set_back(&self) {
+        self.has_left.set(false);
+        self.has_moved.set(true);
+    }
+
+    /// Has requests of keys wait until the hosts are asked, if none has answered yet. The caller holds `moving`.
+    pub fn await_hosts(&self) {
+        self.is_starting.set(!self.has_joined.get());
     }
 
     /// Returns the counts.
@@ -149,6 +174,7 @@ impl<R: Host> Agent<R> {
             workers_max: self.workers.get(),
             questions_used: self.watchers.count.get(),
             questions_max: self.max_questions(),
+            service_up: u64::from(self.is_service_up.get()),
             ..self.counters.counts()
         }
     }

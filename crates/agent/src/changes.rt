@@ -21,9 +21,9 @@ fn log_own<R: Log>(rt: &R, before: &Change, after: &Change, has_moved: bool) {
     let incarnation = after.incarnation.number();
     match after.status {
         Status::Leave if has_moved => info!(rt; "this node has left, incarnation {incarnation}"),
-        _ if has_moved => info!(rt; "this node is back, incarnation {incarnation}"),
         _ if incarnation.saturating_sub(before.incarnation.number()) > MAX_RAISE =>
             warn!(rt; "another node has this address, or the clock went back: others hold incarnation {incarnation}"),
+        _ if has_moved => info!(rt; "this node is back, incarnation {incarnation}"),
         _ =>
             warn!(rt; "refuted: others held this node as suspect or faulty; incarnation {incarnation}"),
     }

@@ -156,6 +156,7 @@ impl Counters {
             workers_max: 0,
             questions_used: 0,
             questions_max: 0,
+            service_up: 0,
         }
     }
 }

@@ -261,8 +261,7 @@ impl<'f, 'a, R: Host> Front<'f, 'a, R> {
     {
         let left = self.caller.leave(&self.agent.rt);
         if left.is_ok() {
-            self.agent.has_left.set(true);
-            self.agent.has_moved.set(true);
+            self.agent.set_left();
         }
         left
     }
@@ -273,7 +272,8 @@ impl<'f, 'a, R: Host> Front<'f, 'a, R> {
         ensures agent { self.new.agent ≡ self.old.agent }
     {
         let agent = self.agent;
-        let _moving = agent.moving.lock(&agent.rt);
+        let mut watch = agent.moving.lock(&agent.rt);
+        watch.hold();
         match self.depart() {
             Ok(_) => Ok(Reply::Line("left\n")),
             Err(error) => Err(refusal_of(error)),
@@ -307,10 +307,10 @@ impl<'f, 'a, R: Host> Front<'f, 'a, R> {
         if agent.is_stopping.get() {
             return Err(Refusal::HasLeft);
         }
+        agent.await_hosts();
         match self.caller.rejoin(&agent.rt) {
             Ok(_) => {
-                agent.has_left.set(false);
-                agent.has_moved.set(true);
+                agent.set_back();
                 Ok(Reply::Line("back\n"))
             }
             Err(error) => Err(refusal_of(error)),
@@ -324,6 +324,7 @@ impl<'f, 'a, R: Host> Front<'f, 'a, R> {
         match self.agent.phase() {
             Phase::Joining => Err(Refusal::NotJoined),
             Phase::Left => Err(Refusal::HasLeft),
+            Phase::Awaiting => Err(Refusal::ApplicationAwaited),
             Phase::Serving if self.agent.http.is_failing() => Err(Refusal::CannotAccept),
             Phase::Serving if !self.agent.application.is_up() => Err(Refusal::ApplicationDown),
             Phase::Serving => Ok(Reply::Line("ok\n")),

@@ -21,6 +21,9 @@ const MAX_WAIT: u64 = 5_000;
 /// The milliseconds from when all hosts were asked until they are asked again.
 const BETWEEN_JOINS: u64 = 1_000;
 
+/// The milliseconds after which a node that is out of the ring looks whether it is back.
+const WHILE_OUT: u64 = 100;
+
 /// Makes a link of this agent that awaits the answer to a Join for this many milliseconds at most.
 pub fn link_of<R: Host>(agent: &Agent<R>, wait: u64) -> NotedLink<'_, R> {
     let limits = Limits {
@@ -73,6 +76,16 @@ fn join_by<R: Host>(
     false
 }
 
+/// Returns whether the node is out of the ring, so that it asks no host. Requests of keys are answered by what it knows then.
+fn is_out<R: Host>(agent: &Agent<R>) -> bool {
+    let _moving = agent.moving.lock(&agent.rt);
+    let has_left = agent.has_left.get();
+    if has_left {
+        agent.is_starting.set(false);
+    }
+    has_left
+}
+
 /// Logs that the node serves alone, if it has asked the hosts for the first time.
 fn note_alone<R: Host>(agent: &Agent<R>) {
     if agent.is_starting.get() && !agent.has_left.get() {
@@ -92,6 +105,10 @@ pub fn join_hosts<R: Host>(
     let hosts = hosts.as_slice();
     let mut wait = MAX_FIRST_WAIT;
     for _ in agent.rt.forever() {
+        if is_out(agent) && !agent.is_stopping.get() {
+            thread::sleep(&agent.rt, Duration::from_millis(WHILE_OUT));
+            continue;
+        }
         let mut link = link_of(agent, wait);
         let is_met = !agent.has_left.get() && join_by(agent, alloc, &mut caller, &mut link, hosts);
         if is_met {

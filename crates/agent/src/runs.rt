@@ -17,10 +17,12 @@ use crate::journals::Journal;
 use crate::notices::Notices;
 use crate::peers::{Job, serve_peers};
 use crate::rounds::make_rounds;
+use crate::services::{await_service, watch_service};
 use crate::settings::Settings;
 use crate::systems::System;
 use crate::waiting::Waiting;
 use crate::watchers::Watchers;
+use agent_core::Watch;
 use change_core::{Address, Change, Incarnation, MAX_NUMBER, Moment};
 use cluster_core::{share, socket_address};
 use crossbeam_channel::{Receiver, Sender, bounded};
@@ -41,9 +43,9 @@ use wire_json::write_line;
 /// The number of threads that read the lines of other nodes.
 const PEERS: u32 = 4;
 
-/// The greatest number of threads of an agent for other nodes: those that read lines, the one that makes rounds, and the one that
-/// asks the hosts.
-pub const NODE_THREADS: u32 = PEERS + 2;
+/// The greatest number of threads of an agent for other nodes: those that read lines, the one that makes rounds, the one that
+/// asks the hosts, and the one that looks after the service.
+pub const NODE_THREADS: u32 = PEERS + 3;
 
 /// The number of passes for threads, each for 4,294,967,295 calls.
 const PASSES: u32 = 1_023;
@@ -152,7 +154,8 @@ fn agent_of<R: System>(
         is_starting: Flag::new(!settings.hosts.is_empty()),
         has_joined: Flag::new(settings.hosts.is_empty()),
         has_left: Flag::new(false),
-        moving: Mutex::new(()),
+        moving: Mutex::new(Watch::new(settings.following.leave_after.saturating_mul(1_000))),
+        is_service_up: Flag::new(true),
         last_round: Count::new(),
         has_moved: Flag::new(false),
         is_stopping: Flag::new(false),
@@ -252,6 +255,22 @@ fn start_joins<R: System>(
     Ok(())
 }
 
+/// Starts the thread that looks after the service, if there is one.
+fn start_watch<R: System>(
+    rt: &R,
+    agent: &Arc<Agent<R>, Global>,
+    app: Option<Address>,
+) -> Result<(), AgentError> {
+    let Some(at) = app else {
+        return Ok(());
+    };
+    let caller = caller_of(agent)?;
+    let agent = Arc::try_clone(agent)?;
+    let started = thread::spawn(rt, move || watch_service(agent, caller, at));
+    let _thread = started.map_err(|_| AgentError::NoThread)?;
+    Ok(())
+}
+
 /// Writes a line and flushes.
 fn say<W: Write>(writer: &mut W, text: &str) -> Result<(), AgentError>
     ensures said { OnOk result (Appends (W.contents writer.old) (W.contents writer.new) (text.now ++ 10 ∷ [])) }
@@ -306,8 +325,12 @@ fn start<R: System>(
         None => None,
     };
     let mut first = caller_of(agent)?;
+    if !settings.following.no_wait {
+        await_service(agent, &mut first)?;
+    }
     let initial = first.own(rt).ok();
     let (hands, jobs) = bounded(alloc, MAX_QUEUED_REQUESTS)?;
+    start_watch(rt, agent, settings.app)?;
     start_peers(rt, alloc, agent, &listener, &hands)?;
     start_hands(rt, alloc, agent, &jobs, settings.hands)?;
     let lot = match front {

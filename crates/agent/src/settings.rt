@@ -2,6 +2,15 @@
 use change_core::{Address, Incarnation, Weight};
 use log::LevelFilter;
 
+/// How an agent follows its application into the ring and out of it.
+#[derive(Clone, Copy, Debug, PartialEq, Eq)]
+pub struct Following {
+    /// Whether the node joins without waiting for its application.
+    pub no_wait: bool,
+    /// The seconds after which the node leaves if its application accepts no connection; 0 if it never does.
+    pub leave_after: u64,
+}
+
 /// The settings with which an agent starts.
 #[derive(Debug, Drop)]
 pub struct Settings {
@@ -15,6 +24,8 @@ pub struct Settings {
     pub http_any: bool,
     /// The address of the application; without one the agent answers requests by an echo.
     pub app: Option<Address>,
+    /// How the node follows that application.
+    pub following: Following,
     /// The most requests of other nodes that the application is given at a time.
     pub hands: u32,
     /// The most HTTP connections that are open at a time.

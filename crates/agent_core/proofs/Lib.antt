@@ -6,3 +6,4 @@ pub mod Growing
 pub mod Listing
 pub mod Ringing
 pub mod Sharing
+pub mod Watching

@@ -4,5 +4,6 @@ pub mod Packs
 pub mod Parts
 pub mod Texts
 pub mod Metrics
+pub mod Services
 pub mod Shares
 pub mod Warnings

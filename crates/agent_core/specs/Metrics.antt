@@ -155,8 +155,14 @@ question_samples counts =
     ++ line (codes "# TYPE ringpop_questions_max gauge")
     ++ sample (codes "ringpop_questions_max") counts.questions_max
 
+-- whether the service took a connection when it was looked at last
+abbrev pub service_samples : Counts → List ℕ
+service_samples counts =
+    line (codes "# TYPE ringpop_service_up gauge")
+    ++ sample (codes "ringpop_service_up") counts.service_up
+
 -- the whole text
 abbrev pub metrics_text : Counts → List Change → List ℕ
 metrics_text counts members =
     status_samples members ++ address_samples (length members) ++ request_samples counts ++ time_samples counts ++ round_samples counts ++ other_samples counts
-    ++ waiting_samples counts.waiting ++ connection_samples counts.http ++ worker_samples counts ++ question_samples counts
+    ++ waiting_samples counts.waiting ++ connection_samples counts.http ++ worker_samples counts ++ question_samples counts ++ service_samples counts

@@ -1,4 +1,5 @@
-//! Theorems of packed answers, over all statuses and bodies, of parts, and of rings and the texts of their digests.
+//! Theorems of packed answers, over all statuses and bodies, of parts, of rings and the texts of their digests, and
+//! of the watch over a service.
 ghost use Rattle.std.specs.Prelude.{◌≡◌, ◌≢◌, ◌<◌, ◌≤◌, ◌^◌, ℕ, List, [], ◌∷◌, Bool, length};
 ghost use Rattle.std.specs.List.{All};
 ghost use Rattle.agent_core.specs.Packs.{packed, unpacked};
@@ -7,6 +8,7 @@ ghost use Rattle.change_core.specs.Members.{digest_text, members};
 ghost use Rattle.change_core.specs.declared.changes.Change.{Change};
 ghost use Rattle.hash_ring.specs.Points.{owners};
 ghost use Rattle.hash_ring.specs.Serving.{servers_of};
+ghost use Rattle.agent_core.specs.Services.{LeavesLate, StaysOut};
 ghost use Rattle.agent_core.specs.Texts.{on_ring};
 ghost use Rattle.base64.specs.GeneralPurpose.{IsBytes};
 
@@ -34,4 +36,11 @@ pub fn rings()
     ensures servers { (a : List Change) (b : List Change) → on_ring (members a) ≡ on_ring (members b) → servers_of a ≡ servers_of b }
     ensures owners { (hash : List ℕ → ℕ) (replicas : ℕ) (key : List ℕ) (a : List Change) (b : List Change)
         → digest_text (on_ring (members a)) ≡ digest_text (on_ring (members b)) → owners hash replicas (servers_of a) key ≡ owners hash replicas (servers_of b) key }
+{}
+
+/// A node that leaves because its service takes no connection does so no sooner than the milliseconds of its watch after each moment at which the
+/// service took one or the node was out of the ring; and what somebody had leave stays out, whatever its service does.
+pub fn absences()
+    ensures late { LeavesLate }
+    ensures held { StaysOut }
 {}

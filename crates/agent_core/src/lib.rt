@@ -14,6 +14,7 @@ mod parts;
 mod questions;
 mod refusals;
 mod routes;
+mod services;
 mod shares;
 mod texts;
 mod verbs;
@@ -29,6 +30,7 @@ pub use parts::{MAX_REQUEST_BYTES, pack_body, pack_bytes, parts_in, push_part, u
 pub use questions::{MAX_SECONDS, question_at};
 pub use refusals::{Failure, Part, Refusal};
 pub use routes::{MAX_KEY_BYTES, MAX_OWNERS, key_of, key_text, route};
+pub use services::{Move, Sight, Watch};
 pub use shares::{MAX_OWN, MAX_WAITING, OWNER_SHARE, Shares};
 pub use texts::{digest_line, members_text, on_ring, owners_text, push_owners, ring_text};
 pub use verbs::Verb;

@@ -1,7 +1,7 @@
 //! The counts of an agent, in the text format of Prometheus (version 0.0.4).
 ghost use Rattle.std.specs.Prelude.{◌≡◌, ◌<◌, ◌++◌, IfOk, OnOk, count_by, length, string_bytes};
 ghost use Rattle.change_core.specs.Status.{rank};
-ghost use Rattle.agent_core.specs.Metrics.{address_samples, bucket_of, bucket_sample, bucket_samples, connection_samples, holds, metrics_text, other_samples, question_samples, request_samples, round_samples, sample, status_sample, status_samples, time_samples, waiting_samples, within, worker_samples};
+ghost use Rattle.agent_core.specs.Metrics.{address_samples, bucket_of, bucket_sample, bucket_samples, connection_samples, holds, metrics_text, other_samples, question_samples, request_samples, round_samples, sample, service_samples, status_sample, status_samples, time_samples, waiting_samples, within, worker_samples};
 
 use crate::shares::{MAX_OWN, MAX_WAITING, OWNER_SHARE};
 use change_core::{Change, MAX_MEMBERS, Status};
@@ -83,6 +83,8 @@ pub struct Counts {
     pub questions_used: u64,
     /// The most that may.
     pub questions_max: u64,
+    /// 1 if the service took a connection when it was looked at last, else 0.
+    pub service_up: u64,
 }
 
 /// Returns the bucket of a time in microseconds, from 0 to 9.
@@ -364,6 +366,15 @@ fn push_questions(text: &mut String, counts: &Counts) -> Result<(), AllocError>
     Ok(())
 }
 
+/// Appends whether the service took a connection when it was looked at last.
+fn push_service(text: &mut String, counts: &Counts) -> Result<(), AllocError>
+    ensures { OnOk result (string_bytes text.new ≡ string_bytes text.old ++ service_samples counts.now) }
+{
+    text.push_str("# TYPE ringpop_service_up gauge\n")?;
+    push_sample(text, "ringpop_service_up", counts.service_up)?;
+    Ok(())
+}
+
 /// Returns the counts, and the number of members with each status, in the text format of Prometheus.
 ///
 /// # Errors
@@ -387,5 +398,6 @@ pub fn metrics_text(
     push_connections(&mut text, &counts.http)?;
     push_workers(&mut text, counts)?;
     push_questions(&mut text, counts)?;
+    push_service(&mut text, counts)?;
     Ok(text)
 }

@@ -67,6 +67,8 @@ pub enum Refusal {
     NotJoined,
     /// The node has left the ring.
     HasLeft,
+    /// The node is out of the ring until its application accepts connections.
+    ApplicationAwaited,
     /// The system lets no HTTP connection be accepted.
     CannotAccept,
     /// No round of gossip ended in the last ten seconds.
@@ -136,6 +138,7 @@ impl Refusal {
             Refusal::ApplicationDown
             | Refusal::NotJoined
             | Refusal::HasLeft
+            | Refusal::ApplicationAwaited
             | Refusal::CannotAccept
             | Refusal::NoRounds
             | Refusal::Nobody
@@ -174,6 +177,9 @@ impl Refusal {
             Refusal::ApplicationDown => "the application does not answer\n",
             Refusal::NotJoined => "no host has answered\n",
             Refusal::HasLeft => "the node has left\n",
+            Refusal::ApplicationAwaited => {
+                "the node is not in the ring, since its application accepts no connection\n"
+            }
             Refusal::CannotAccept => "no HTTP connection can be accepted\n",
             Refusal::NoRounds => "no round of gossip ended in the last ten seconds\n",
             Refusal::Nobody => "nobody serves\n",

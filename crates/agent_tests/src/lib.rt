@@ -37,6 +37,8 @@ mod refused;
 #[cfg(test)]
 mod route_tests;
 #[cfg(test)]
+mod service_tests;
+#[cfg(test)]
 mod share_tests;
 #[cfg(test)]
 mod text_tests;

@@ -191,6 +191,8 @@ ringpop_workers_max 256
 ringpop_questions_used 16
 # TYPE ringpop_questions_max gauge
 ringpop_questions_max 1000
+# TYPE ringpop_service_up gauge
+ringpop_service_up 1
 ";
 
 const COUNTS: Counts = Counts {
@@ -225,6 +227,7 @@ const COUNTS: Counts = Counts {
     workers_max: 256,
     questions_used: 16,
     questions_max: 1_000,
+    service_up: 1,
 };
 
 #[test]

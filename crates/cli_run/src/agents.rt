@@ -6,7 +6,7 @@ ghost use Rattle.agent.specs.Texts.{agent_text};
 ghost use Rattle.cli_run.specs.Agents.{filter_of, other_hosts};
 ghost use Rattle.wire_json.specs.Input.{AppendsPrefix};
 
-use agent::{AgentError, Settings, System, run};
+use agent::{AgentError, Following, Settings, System, run};
 use change_core::Address;
 use cli_words::{AgentWords, LogLevel};
 use log::LevelFilter;
@@ -42,6 +42,8 @@ fn settings_of(alloc: Global, words: &AgentWords) -> Result<Settings, AgentError
     ensures http { IfOk result (λ s. s.http ≡ words.now.http) }
     ensures http_any { IfOk result (λ s. s.http_any ≡ words.now.http_any) }
     ensures app { IfOk result (λ s. s.app ≡ words.now.app) }
+    ensures no_wait { IfOk result (λ s. s.following.no_wait ≡ words.now.following.no_wait) }
+    ensures leave_after { IfOk result (λ s. s.following.leave_after ≡ words.now.following.leave_after) }
     ensures hands { IfOk result (λ s. s.hands ≡ words.now.hands) }
     ensures http_connections { IfOk result (λ s. s.http_connections ≡ words.now.http_connections) }
     ensures period { IfOk result (λ s. s.period ≡ words.now.period) }
@@ -58,6 +60,10 @@ fn settings_of(alloc: Global, words: &AgentWords) -> Result<Settings, AgentError
         http: words.http,
         http_any: words.http_any,
         app: words.app,
+        following: Following {
+            no_wait: words.following.no_wait,
+            leave_after: words.following.leave_after,
+        },
         hands: words.hands,
         http_connections: words.http_connections,
         period: words.period,

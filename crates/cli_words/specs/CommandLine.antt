@@ -154,11 +154,15 @@ incarnation_option = record (new_rule (codes "incarnation")) {
   parser = Some (Unsigned 0 greatest_number);
 }
 
+-- `--leave-after`: the seconds after which the node leaves if its application accepts no connection, up to 86,400; 10 by default
+abbrev pub leave_after : Rule
+leave_after = option (codes "leave-after") (codes "10") 0 86400
+
 -- `agent`: where it listens, and answers HTTP, and the application's address; its numbers, and the log; its own address and the hosts to join
 abbrev pub agent_words : Shape
 agent_words = subcommand (codes "agent")
     (address_option (codes "bind") ∷ address_option (codes "http") ∷ flag (codes "http-any") ∷ address_option (codes "app")
-    ∷ hands ∷ http_connections ∷ agent_period ∷ agent_per_message ∷ replicas ∷ weight ∷ incarnation_option ∷ log ∷ word (codes "address") ∷ hosts ∷ [])
+    ∷ flag (codes "no-wait-app") ∷ leave_after ∷ hands ∷ http_connections ∷ agent_period ∷ agent_per_message ∷ replicas ∷ weight ∷ incarnation_option ∷ log ∷ word (codes "address") ∷ hosts ∷ [])
 
 -- a command with no subcommand
 abbrev pub leaf : Shape → App

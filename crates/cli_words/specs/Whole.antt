@@ -43,6 +43,10 @@ pub record HasServed (rows : List Row) : Type 0 where
 abbrev pub HasLevel : List Row → Type 0
 HasLevel rows = (level : LogLevel) × (first_of (codes "log") rows ≡ Some (level_name level))
 
+-- the seconds after which a node leaves are there, and in their range
+abbrev pub HasLeaveAfter : List Row → Type 0
+HasLeaveAfter rows = HasNumber rows (codes "leave-after") (λ n. n ≤ 86400)
+
 -- each number of `agent` but its incarnation is there and in its range, and the level of its log is there
 pub record HasAgentNumbers (rows : List Row) : Type 0 where
   pub hands : HasNumber rows (codes "hands") (λ n. (1 ≤ n) × (n ≤ 256))
@@ -52,6 +56,7 @@ pub record HasAgentNumbers (rows : List Row) : Type 0 where
   pub replicas : HasNumber rows (codes "replicas") IsReplicas
   pub weight : HasNumber rows (codes "weight") IsWeight
   pub level : HasLevel rows
+  pub leave_after : HasLeaveAfter rows
 
 -- and its address is there
 pub record HasAgent (rows : List Row) : Type 0 where

@@ -20,6 +20,7 @@ use Rattle.cli_core.specs.declared.words.ServeWords.{ServeWords}
 use Rattle.cli_words.specs.declared.words.Words.{Words}
 use Rattle.cli_words.specs.declared.words.Words.TheVariants.{Lines, Cluster, Agent}
 use Rattle.cli_words.specs.declared.agent_words.AgentWords.{AgentWords}
+use Rattle.cli_words.specs.declared.agent_words.FollowingWords.{FollowingWords}
 use Rattle.cli_words.specs.declared.agent_words.LogLevel.{LogLevel}
 use Rattle.cli_words.specs.declared.agent_words.LogLevel.TheVariants.{Off, Error, Warn, Info, Debug}
 
@@ -120,6 +121,11 @@ abbrev pub IsNumberIfAt : List Row → Text → (ℕ → Type 0) → Option ℕ 
 IsNumberIfAt rows name IsIn None = ((n : ℕ) × IsNumberAt rows name n × IsIn n) → ⊥
 IsNumberIfAt rows name IsIn (Some n) = IsNumberAt rows name n
 
+-- how an agent follows its application is what the arguments of these names say
+pub record IsFollowingAt (rows : List Row) (words : FollowingWords) : Type 0 where
+  pub no_wait : IsFlagAt rows (codes "no-wait-app") words.no_wait
+  pub leave_after : IsNumberAt rows (codes "leave-after") words.leave_after
+
 -- the numbers and flags of an agent, and the level of its log, are those of the arguments of their names
 pub record AreAgentNumbersAt (rows : List Row) (words : AgentWords) : Type 0 where
   pub hands : IsNumberAt rows (codes "hands") words.hands
@@ -130,6 +136,7 @@ pub record AreAgentNumbersAt (rows : List Row) (words : AgentWords) : Type 0 whe
   pub weight : IsNumberAt rows (codes "weight") words.weight
   pub incarnation : IsNumberIfAt rows (codes "incarnation") (λ n. n ≤ greatest_number) words.incarnation
   pub http_any : IsFlagAt rows (codes "http-any") words.http_any
+  pub following : IsFollowingAt rows words.following
   pub level : first_of (codes "log") rows ≡ Some (level_name words.level)
 
 -- and its addresses are, too

@@ -3,14 +3,17 @@ ghost use Rattle.std.specs.Prelude.{◌≡◌, ◌≤◌, Ok, Some, codes, IfErr
 ghost use Rattle.clap.specs.Words.{first_of};
 ghost use Rattle.change_core.specs.Numbers.{greatest_number};
 ghost use Rattle.cli_words.specs.Faults.{IsRefusalOf, IsUsageFault, fault_at};
-ghost use Rattle.cli_words.specs.Whole.{HasAgent, HasAgentNumbers, HasLevel, HasNumber, IsAgentRefusal, IsNoAddressAt};
-ghost use Rattle.cli_words.specs.Words.{AreAddressesAt, AreAgentNumbersAt, IsAddressAt, IsAgentAt, IsNumberAt, IsNumberIfAt, IsOptionAt, level_name, rows_in};
+ghost use Rattle.cli_words.specs.Whole.{HasAgent, HasAgentNumbers, HasLeaveAfter, HasLevel, HasNumber, IsAgentRefusal, IsNoAddressAt};
+ghost use Rattle.cli_words.specs.Words.{AreAddressesAt, AreAgentNumbersAt, IsAddressAt, IsAgentAt, IsFollowingAt, IsNumberAt, IsNumberIfAt, IsOptionAt, level_name, rows_in};
 
-use crate::agent_words::{AgentWords, LogLevel, MAX_HANDS, MAX_HTTP_CONNECTIONS, MAX_PERIOD};
+use crate::agent_words::{
+    AgentWords, FollowingWords, LogLevel, MAX_HANDS, MAX_HTTP_CONNECTIONS, MAX_LEAVE_AFTER,
+    MAX_PERIOD,
+};
 use crate::cluster_words::{address_at, address_of, hosts_at, incarnation, weight};
 use crate::commands::{
-    ADDRESS, APP, BIND, HANDS, HTTP, HTTP_ANY, HTTP_CONNECTIONS, LOG, PER_MESSAGE, PERIOD,
-    agent_alone,
+    ADDRESS, APP, BIND, HANDS, HTTP, HTTP_ANY, HTTP_CONNECTIONS, LEAVE_AFTER, LOG, NO_WAIT_APP,
+    PER_MESSAGE, PERIOD, agent_alone,
 };
 use crate::faults::WordsError;
 use crate::words::{absent, flag, number, refusal, replicas};
@@ -114,6 +117,18 @@ fn count(matches: &ArgMatches<'_>, id: &str, most: u64) -> Option<u64>
     number(matches, id, 1, most)
 }
 
+/// Returns how the node follows its application, if and only if the number of seconds is there and in its range.
+fn following(matches: &ArgMatches<'_>) -> Option<FollowingWords>
+    ensures given { IfSome result (IsFollowingAt (rows_in matches.now)) }
+    ensures taken { HasLeaveAfter (rows_in matches.now) → IsSome result }
+{
+    let leave_after = number(matches, LEAVE_AFTER, 0, MAX_LEAVE_AFTER)?;
+    Some(FollowingWords {
+        no_wait: flag(matches, NO_WAIT_APP),
+        leave_after,
+    })
+}
+
 /// Returns the arguments of `agent` with these addresses, if and only if each number is there and in its range, and the
 /// level of the log is there.
 fn words_with(matches: &ArgMatches<'_>, addresses: Addresses) -> Option<AgentWords>
@@ -132,6 +147,7 @@ fn words_with(matches: &ArgMatches<'_>, addresses: Addresses) -> Option<AgentWor
     let replicas = replicas(matches)?;
     let weight = weight(matches)?;
     let level = level(matches)?;
+    let following = following(matches)?;
     let Addresses {
         address,
         bind,
@@ -145,6 +161,7 @@ fn words_with(matches: &ArgMatches<'_>, addresses: Addresses) -> Option<AgentWor
         http,
         http_any: flag(matches, HTTP_ANY),
         app,
+        following,
         hands: hands as u32,
         http_connections: http_connections as u32,
         period,

@@ -28,6 +28,19 @@ pub enum LogLevel {
     Debug,
 }
 
+/// The greatest number of seconds after which a node leaves if its application accepts no connection.
+pub const MAX_LEAVE_AFTER: u64 = 86_400;
+
+/// How an agent follows its application into the ring and out of it.
+#[derive(Clone, Copy, Debug, PartialEq, Eq)]
+pub struct FollowingWords {
+    /// Whether the node joins without waiting for its application.
+    pub no_wait: bool,
+    /// The seconds after which the node leaves if its application accepts no connection, at most 86,400; 0 if it never does.
+    pub leave_after: u64,
+    pub ghost leave_after_range: { leave_after ≤ 86400 },
+}
+
 /// The arguments of `agent`.
 #[derive(Debug, PartialEq, Drop)]
 pub struct AgentWords {
@@ -41,6 +54,8 @@ pub struct AgentWords {
     pub http_any: bool,
     /// The address of the application, if there is one.
     pub app: Option<Address>,
+    /// How the node follows that application.
+    pub following: FollowingWords,
     /// The most requests of other nodes that the application is given at a time, 1 to 256.
     pub hands: u32,
     /// The most HTTP connections that are open at a time, 1 to 65,536.

@@ -5,7 +5,7 @@ ghost use Rattle.clap.specs.declared.builder.command.Command.{Command as BuiltCo
 ghost use Rattle.cli_words.specs.CommandLine as line;
 ghost use Rattle.cli_words.specs.CommandLine.{leaf, ringpop_app};
 
-use crate::agent_words::{MAX_HANDS, MAX_HTTP_CONNECTIONS, MAX_PERIOD};
+use crate::agent_words::{MAX_HANDS, MAX_HTTP_CONNECTIONS, MAX_LEAVE_AFTER, MAX_PERIOD};
 use crate::help::{
     BELOW, BELOW_AGENT, BELOW_ASK, BELOW_FOLD, BELOW_MEMBERS, BELOW_OWNER, BELOW_SERVE, BELOW_SIM,
     BELOW_TELL,
@@ -84,6 +84,12 @@ pub const HTTP_ANY: &str = "http-any";
 
 /// The argument for the address of the application.
 pub const APP: &str = "app";
+
+/// The argument for joining without waiting for the application.
+pub const NO_WAIT_APP: &str = "no-wait-app";
+
+/// The argument for the seconds after which a node leaves if its application accepts no connection.
+pub const LEAVE_AFTER: &str = "leave-after";
 
 /// The argument for the most requests of other nodes that the application is given at a time.
 pub const HANDS: &str = "hands";
@@ -530,6 +536,30 @@ fn http_any_flag<'a>(alloc: Global) -> Arg<'a>
         )
 }
 
+/// The flag for joining without waiting for the application.
+fn no_wait_app_flag<'a>(alloc: Global) -> Arg<'a>
+    ensures { rule_of result ≡ line.flag (codes "no-wait-app") }
+{
+    Arg::new(alloc, NO_WAIT_APP)
+        .long(NO_WAIT_APP)
+        .action(ArgAction::SetTrue)
+        .help(
+            "Join at once. Without this option the node joins when --app first\n\
+             accepts a connection",
+        )
+}
+
+/// The option for the seconds after which a node leaves if its application accepts no connection.
+fn leave_after_option<'a>(alloc: Global) -> Arg<'a>
+    ensures { rule_of result ≡ line.leave_after }
+{
+    option(alloc, LEAVE_AFTER, "SECONDS", "10", 0, MAX_LEAVE_AFTER).help(
+        "After how many seconds in which --app accepts no connection the node\n\
+         leaves the ring, from 1 to 86400; it comes back when --app accepts\n\
+         one. With 0 it stays",
+    )
+}
+
 /// The option for the most requests of other nodes that the application is given at a time.
 fn hands_option<'a>(alloc: Global) -> Arg<'a>
     ensures { rule_of result ≡ line.hands }
@@ -620,6 +650,8 @@ fn agent_command<'a>(alloc: Global) -> Result<Command<'a>, AllocError>
         http_option(alloc),
         http_any_flag(alloc),
         app_option(alloc),
+        no_wait_app_flag(alloc),
+        leave_after_option(alloc),
         hands_option(alloc),
         http_connections_option(alloc),
         agent_period_option(alloc),

@@ -10,7 +10,7 @@ mod faults;
 mod help;
 mod words;
 
-pub use agent_words::{AgentWords, LogLevel};
+pub use agent_words::{AgentWords, FollowingWords, LogLevel};
 pub use bad_arguments::{BadArgument, bad_argument};
 pub use faults::WordsError;
 pub use words::{Words, read_words, words_not_text};

@@ -1,0 +1,138 @@
+//! The thread that looks after the service, the application of an agent: the node is in the ring only while the service takes
+//! connections.
+use crate::agents::Agent;
+use crate::callers::Caller;
+use crate::errors::AgentError;
+use crate::systems::Host;
+use agent_core::{Move, Notice, Sight};
+use change_core::Address;
+use log::{info, warn};
+use std::alloc::Global;
+use std::sync::Arc;
+use std::thread;
+use std::time::Duration;
+
+/// The milliseconds between two looks at the service.
+const BETWEEN_LOOKS: u64 = 500;
+
+/// The milliseconds between two looks while the node is out of the ring.
+const BETWEEN_LOOKS_OUT: u64 = 200;
+
+/// Has the node leave before any other node hears of it, unless its service takes connections: it comes into the ring when that
+/// does.
+///
+/// # Errors
+///
+/// - `Memory`: out of memory.
+pub fn await_service<R: Host>(agent: &Agent<R>, caller: &mut Caller) -> Result<(), AgentError> {
+    if agent.application.is_up() {
+        return Ok(());
+    }
+    agent.is_service_up.set(false);
+    let mut watch = agent.moving.lock(&agent.rt);
+    caller.leave(&agent.rt).map_err(|_| AgentError::Memory)?;
+    watch.set_out();
+    agent.set_left();
+    agent.is_starting.set(false);
+    warn!(agent.log(); "the application accepts no connection: this node joins once it does");
+    Ok(())
+}
+
+/// What the thread that looks after the service keeps from one look to the next.
+#[derive(Drop)]
+struct Lookout<'a, R> {
+    agent: &'a Agent<R>,
+    caller: Caller,
+    /// The service's address.
+    at: Address,
+    /// What the log said last of the service, and of moves of the node that fail.
+    service_notice: Notice,
+    move_notice: Notice,
+}
+
+impl<'a, R: Host> Lookout<'a, R> {
+    /// Logs whether the service takes connections, unless the log said so last.
+    fn log_service(&mut self, takes: bool) {
+        let (agent, at) = (self.agent, self.at);
+        if !self.service_notice.note(!takes, agent.now()) {
+            return;
+        }
+        if takes {
+            info!(agent.log(); "{at} accepts connections: the application is up");
+        } else {
+            warn!(agent.log(); "{at} accepts no connection: the application is down");
+        }
+    }
+
+    /// Makes a move of the node. The caller holds `moving`. Returns whether the node made it.
+    fn make(&mut self, step: Move) -> bool {
+        let agent = self.agent;
+        match step {
+            Move::Stay => true,
+            Move::Leave => {
+                let is_made = self.caller.leave(&agent.rt).is_ok();
+                if is_made {
+                    agent.set_left();
+                    warn!(agent.log(); "this node leaves the ring, since its application accepts no connection");
+                }
+                is_made
+            }
+            Move::Rejoin => {
+                agent.await_hosts();
+                let is_made = self.caller.rejoin(&agent.rt).is_ok();
+                if is_made {
+                    agent.set_back();
+                    info!(agent.log(); "this node comes into the ring, since its application accepts connections");
+                }
+                is_made
+            }
+        }
+    }
+
+    /// Looks whether the service takes a connection, and has the node leave or come back for that.
+    fn look(&mut self) {
+        let agent = self.agent;
+        let takes = agent.application.is_up();
+        agent.is_service_up.set(takes);
+        self.log_service(takes);
+        let mut watch = agent.moving.lock(&agent.rt);
+        if agent.is_stopping.get() {
+            return;
+        }
+        let now = agent.now();
+        let step = watch.note(Sight {
+            now: now.number(),
+            takes,
+            has_left: agent.has_left.get(),
+        });
+        let is_made = self.make(step);
+        if self.move_notice.note(!is_made, now) && !is_made {
+            warn!(agent.log(); "this node can't leave the ring or come back: it tries again");
+        }
+        agent.renew(&mut self.caller);
+    }
+}
+
+/// Looks after the service at an address until the agent is to end.
+pub fn watch_service<R: Host>(agent: Arc<Agent<R>, Global>, caller: Caller, at: Address) {
+    let agent = &*agent;
+    let mut lookout = Lookout {
+        agent,
+        caller,
+        at,
+        service_notice: Notice::new(),
+        move_notice: Notice::new(),
+    };
+    for _ in agent.rt.forever() {
+        lookout.look();
+        if agent.is_stopping.get() {
+            return;
+        }
+        let rest = if agent.has_left.get() {
+            BETWEEN_LOOKS_OUT
+        } else {
+            BETWEEN_LOOKS
+        };
+        thread::sleep(&agent.rt, Duration::from_millis(rest));
+    }
+}

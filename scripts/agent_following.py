@@ -1,0 +1,153 @@
+"""Agents that follow their services into the ring and out of it, for `scripts/agent following`."""
+import contextlib
+import tempfile
+import time
+from urllib.parse import quote
+
+from agents import Agent, Load, agree, counted, said, wait_until
+from nodes import Wrong
+
+KEYS = [f"order {number}" for number in range(500)]
+# the seconds after which an agent of these trials leaves, and by when a ring of three has heard of it on a busy machine
+AFTER, HEARD = 2, 4
+OUT = "the node is not in the ring, since its application accepts no connection\n"
+
+
+class Follower(Agent):
+    """An agent whose service is started apart from it."""
+
+    def start_application(self):
+        self.application = None
+
+    def serve(self):
+        Agent.start_application(self)
+
+    def stop_serving(self):
+        self.application.kill()
+        self.application.wait()
+        self.application = None
+
+    def end(self):
+        if self.application is None:
+            self.serve()
+        Agent.end(self)
+
+
+def is_up(agent):
+    with contextlib.suppress(OSError):
+        return agent.ask("GET", "/livez")[0] == 200
+    return False
+
+
+def owns(agents, owner):
+    """How many of the first keys an agent owns, as the first agent names it."""
+    return sum(owner.own in agents[0].ask("GET", "/owner/" + quote(key))[1] for key in KEYS[:40])
+
+
+def check_health(agent, status, line):
+    told = agent.ask("GET", "/healthz")
+    if told != (status, line):
+        raise Wrong(f"{agent.own} says {told} of its health, and not {status} {line!r}")
+
+
+def check_join(agents, late, log):
+    """A node whose service starts two seconds later joins under requests, and none fails."""
+    load = Load(agents, KEYS, threads=16)
+    time.sleep(2)
+    check_health(late, 503, OUT)
+    if owns(agents, late) or counted([late], "ringpop_service_up") != 0 or late.ask("GET", "/livez")[0] != 200:
+        raise Wrong("a node whose service is not up has joined, or counts its service as up, or its agent as hung")
+    begun = time.monotonic()
+    late.serve()
+    wait_until("joined with its service", 10, lambda: owns(agents, late) > 0 and late.is_well())
+    spent = time.monotonic() - begun
+    time.sleep(2)
+    load.end()
+    if load.failed or load.lost or counted([late], "ringpop_service_up") != 1:
+        raise Wrong(f"a node joined with its service: {load}")
+    if "this node joins once it does" not in said(log) or "this node comes into the ring" not in said(log):
+        raise Wrong(f"the log does not say that the node waits for its service, or that it joins: {said(log)}")
+    print(f"a node joined {spent:.1f} s after its service was started: {load}")
+
+
+def check_loss(agents, late, log):
+    """A node whose service was killed leaves after some seconds and comes back with it."""
+    begun = time.monotonic()
+    late.stop_serving()
+    wait_until("out of the ring", AFTER + HEARD, lambda: owns(agents, late) == 0)
+    spent = time.monotonic() - begun
+    check_health(late, 503, OUT)
+    if spent < AFTER or "this node leaves the ring, since its application accepts no connection" not in said(log):
+        raise Wrong(f"a node whose service was killed left after {spent:.1f} s: {said(log)}")
+    load = Load([*agents, late], KEYS, threads=16)
+    time.sleep(2)
+    late.serve()
+    back = time.monotonic()
+    wait_until("back with its service", 10, lambda: owns(agents, late) > 0 and late.is_well())
+    back = time.monotonic() - back
+    time.sleep(1)
+    load.end()
+    if load.failed or load.lost:
+        raise Wrong(f"a node came back with its service: {load}")
+    print(f"a node left {spent:.1f} s after its service was killed, and was back {back:.1f} s after it was started: {load}")
+
+
+def check_told(agents, late):
+    """A node that was told to leave stays away whatever its service does, until it is told to rejoin."""
+    if late.ask("POST", "/leave")[0] != 200:
+        raise Wrong("no leave")
+    late.stop_serving()
+    time.sleep(1)
+    late.serve()
+    time.sleep(3)
+    check_health(late, 503, "the node has left\n")
+    if late.ask("POST", "/rejoin")[0] != 200:
+        raise Wrong("no return")
+    wait_until("back", 10, lambda: agree([*agents, late]) and owns(agents, late) > 0)
+    # one that is out because of its service, too, once it is told to leave
+    late.stop_serving()
+    wait_until("out of the ring", AFTER + HEARD, lambda: late.ask("GET", "/healthz") == (503, OUT))
+    if late.ask("POST", "/leave") != (409, "the node has left already\n"):
+        raise Wrong("a node that is out because of its service leaves")
+    late.serve()
+    time.sleep(3)
+    check_health(late, 503, "the node has left\n")
+    # and one that is told to rejoin while its service is down leaves again, not at once
+    late.stop_serving()
+    begun = time.monotonic()
+    if late.ask("POST", "/rejoin")[0] != 200:
+        raise Wrong("no return")
+    check_health(late, 503, "the application does not answer\n")
+    wait_until("out of the ring again", AFTER + HEARD, lambda: late.ask("GET", "/healthz") == (503, OUT))
+    if time.monotonic() - begun < AFTER - 0.5:
+        raise Wrong("a node that came back by hand left at once")
+
+
+def check_without(program, port, hosts):
+    """An agent that does not wait, and never leaves, is in the ring without its service."""
+    bold = Follower(program, port, hosts, more=("--no-wait-app", "--leave-after", "0"))
+    try:
+        wait_until("answered over HTTP", 10, lambda: is_up(bold))
+        wait_until("joined", 10, lambda: bold.ask("GET", "/healthz") == (503, "the application does not answer\n"))
+        time.sleep(AFTER + 1)
+        if bold.members()[bold.own] != "alive":
+            raise Wrong("an agent with --leave-after 0 left")
+    finally:
+        bold.end()
+
+
+def check(program, agents, port):
+    ports = [port, port + 1, port + 2]
+    late_port = port + 3
+    with tempfile.NamedTemporaryFile() as log:
+        late = Follower(program, late_port, ports, log=log, more=("--leave-after", str(AFTER)))
+        agents.append(late)
+        others = agents[:3]
+        wait_until("answered over HTTP", 10, lambda: is_up(late))
+        check_join(others, late, log)
+        check_loss(others, late, log)
+        check_told(others, late)
+        begun = time.monotonic()
+        if late.ask("POST", "/stop")[0] != 200 or late.process.wait(10) != 0 or time.monotonic() - begun > 8:
+            raise Wrong("a node that is out of the ring is not stopped")
+    check_without(program, port + 4, ports)

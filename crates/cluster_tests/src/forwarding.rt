@@ -17,8 +17,17 @@ use wire_json::{Content, Message, Text};
 
 /// A clock that moves only while a call waits for it.
 #[derive(Drop)]
-struct Still {
+pub(crate) struct Still {
     now: AtomicU64,
+}
+
+impl Still {
+    /// At moment 0.
+    pub(crate) fn new() -> Still {
+        Still {
+            now: AtomicU64::new(0),
+        }
+    }
 }
 
 impl Clock for Still {
@@ -205,9 +214,7 @@ pub(crate) fn try_request<R: Wait + Env + Abort>(
     requires { Fits shared.now pass.old }
     ensures { Fits shared.now pass.new }
 {
-    let clock = Still {
-        now: AtomicU64::new(0),
-    };
+    let clock = Still::new();
     let mut link = Noted {
         clock: &clock,
         asked,

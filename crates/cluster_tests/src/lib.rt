@@ -26,6 +26,8 @@ mod messages;
 #[cfg(test)]
 mod nodes;
 #[cfg(test)]
+mod owners;
+#[cfg(test)]
 mod posts;
 #[cfg(test)]
 mod refusals;

@@ -16,8 +16,14 @@ use wire_json::{Content, Keys, Text};
 
 /// A handler that answers the body, and counts its calls.
 #[derive(Drop)]
-struct Tally {
+pub(crate) struct Tally {
     calls: Arc<AtomicU64, Global>,
+}
+
+impl Tally {
+    pub(crate) fn new(calls: Arc<AtomicU64, Global>) -> Tally {
+        Tally { calls }
+    }
 }
 
 impl Handler for Tally {
@@ -45,7 +51,7 @@ fn start<R: Threads + Wait + Env + Abort + Copy + Send + 'static>(
     let mut nodes = Vec::new(alloc);
     let node = state(rt, alloc, 1, 4096);
     nodes.push(node).ok()?;
-    match Cluster::start(rt, alloc, nodes, 2, Tally { calls }) {
+    match Cluster::start(rt, alloc, nodes, 2, Tally::new(calls)) {
         Ok(cluster) => Some(cluster),
         Err(_) => None,
     }

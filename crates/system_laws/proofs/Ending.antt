@@ -129,18 +129,24 @@ texts_are_done {L} {H} {A} hash_of Came went handled brought keys body text was 
     there : (view : Viewed H) (answer : Result Message LinkError) (mid : L) → Contains acts (looked (Ok view)) → GoesToOwner hash_of went keys body view answer mid new
         → IsResultOf answer (Ok text)
         → (view : Viewed H) × Contains acts (looked (Ok view))
-        × ((message : Message) × GoesToOwner hash_of went keys body view (Ok message) mid new × (message.content ≡ content.Reply text)
-        × ((before after : A) × handled keys body (Ok text) before after))
+        × ((message : Message) × ((gone : GoesToOwner hash_of went keys body view (Ok message) mid new) × (message.content ≡ content.Reply text)
+        × ((its : Viewed H) × (its.own ≡ gone.0) × AllOwnedBy hash_of its keys (Some gone.0)
+        × ((before after : A) × handled keys body (Ok text) before after))))
     there view answer mid has gone (message, is, told) =
         let (owner, owned, other, over) = subst (λ (x : Result Message LinkError). GoesToOwner hash_of went keys body view x mid new) is gone in
-        let (now, (before, after, (more, served))) = brought owner (message_from view (content.Forward keys body)) message mid new over in (
+        let (now, (before, after, (more, at_owner, served))) = brought owner (message_from view (content.Forward keys body)) message mid new over in
+        let ((its, seen, owns), called) =
+        replies_are_handled hash_of Came went handled keys body text (message_from view (content.Forward keys body)) message now before after more refl told served in
+        let own_is = at_owner its seen in (
           view,
           has,
           (
             message,
-            (owner, owned, other, over),
-            told,
-            (before, after, (replies_are_handled hash_of Came went handled keys body text (message_from view (content.Forward keys body)) message now before after more refl told served).1),
+            (
+              (owner, owned, other, over),
+              told,
+              (its, own_is, subst (λ (a : Address). AllOwnedBy hash_of its keys (Some a)) own_is owns, (before, after, called)),
+            ),
           ),
         )
 

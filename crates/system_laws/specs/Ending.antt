@@ -1,11 +1,12 @@
 -- How a request ends: at the handler of the node that it entered at, at that of the owner to which it went, or by an error.
-use Rattle.std.specs.Prelude.{◌≡◌, ◌⊎◌, ℕ, ◌≤◌, length, map, List, Contains, Result, Ok, Err}
+use Rattle.std.specs.Prelude.{◌≡◌, ◌⊎◌, ℕ, ◌≤◌, length, map, List, Contains, Some, Result, Ok, Err}
 use Rattle.std.specs.List.{All}
 use Rattle.change_core.specs.declared.addresses.Address.{Address}
 use Rattle.message_core.specs.declared.messages.Content.TheVariants.{Forward, Reply}
 use Rattle.message_core.specs.declared.messages.Message.{Message}
 use Rattle.node_core.specs.Viewing.{Viewed}
 use Rattle.forward_core.specs.Attempts.{most_sends}
+use Rattle.forward_core.specs.Routes.{AllOwnedBy}
 use Rattle.peer_core.specs.declared.errors.ClusterError.{ClusterError}
 use Rattle.peer_core.specs.declared.errors.HandlerFault.{HandlerFault}
 use Rattle.peer_core.specs.declared.errors.LinkError.{LinkError}
@@ -16,6 +17,10 @@ use Rattle.peer_core.specs.Handlings.{OwnsAll}
 use Rattle.peer_core.specs.Links.{MayAnswer, Went}
 use Rattle.peer_core.specs.Resending.{ForwardsOver, GoesToOwner, IsResultOf, Sending, SendsRequest, result_of_handler}
 use Rattle.peer_core.specs.Serving.{Serves}
+
+-- each view among these acts is of the node at this address
+abbrev pub IsNodeAt : {H : Type 0} → Address → OfActs H
+IsNodeAt {H} a acts = (view : Viewed H) → Contains acts (looked (Ok view)) → view.own ≡ a
 
 module _ {L H A : Type 0} (hash_of : H → List ℕ → ℕ) (went : Went L) (handled : Handled A) (keys : List (List ℕ)) (body : List ℕ) where
   -- the request ends here: the node owns the keys by a view, and its handler is called once, with this result
@@ -37,7 +42,8 @@ module _ {L H A : Type 0} (hash_of : H → List ℕ → ℕ) (went : Went L) (ha
       × ((mid : L) × ForwardsOver hash_of went keys body failed old mid
       × ((EndsHere r was is acts × (new ≡ mid)) ⊎ ((is ≡ was) × (EndsThere r mid new acts ⊎ ((new ≡ mid) × ((e : ClusterError) × (r ≡ Err e)))))))
 
-  -- the same of a request that has this text: it was given by one call of a handler, here or at the owner, whose state was this before and is that after
+  -- the same of a request that has this text: it was given by one call of a handler, that of this node, or that of the owner to which the last Forward
+  -- went, and which owned the keys by a view of its own
   abbrev pub IsDone : List ℕ → A → A → L → L → OfActs H
   IsDone text was is old new acts =
       (failed : List (Sending H)) × (length failed ≤ most_sends) × All IsFailure (map (λ (s : Sending H). s.1) failed)
@@ -45,8 +51,9 @@ module _ {L H A : Type 0} (hash_of : H → List ℕ → ℕ) (went : Went L) (ha
       × ((OwnsAll hash_of keys acts × handled keys body (Ok text) was is × (new ≡ mid))
       ⊎ ((is ≡ was)
       × ((view : Viewed H) × Contains acts (looked (Ok view))
-      × ((message : Message) × GoesToOwner hash_of went keys body view (Ok message) mid new × (message.content ≡ Reply text)
-      × ((before after : A) × handled keys body (Ok text) before after))))))
+      × ((message : Message) × ((gone : GoesToOwner hash_of went keys body view (Ok message) mid new) × (message.content ≡ Reply text)
+      × ((its : Viewed H) × (its.own ≡ gone.0) × AllOwnedBy hash_of its keys (Some gone.0)
+      × ((before after : A) × handled keys body (Ok text) before after))))))))
 
 module _ {L H A : Type 0} (hash_of : H → List ℕ → ℕ) (Came : MayAnswer) (went : Went L) (handled : Handled A) where
   -- so ends a request, whatever its result
@@ -62,11 +69,12 @@ module _ {L H A : Type 0} (hash_of : H → List ℕ → ℕ) (Came : MayAnswer) 
       → message.content ≡ Forward keys body → answer.content ≡ Reply text
       → Serves hash_of Came (between handled was is) message now message.content (Ok answer) acts → OwnsAll hash_of keys acts × handled keys body (Ok text) was is
 
-  -- each answer that comes over the link for a message was made by a node that served that message
+  -- each answer that comes over the link for a message was made by the node that was called, which served that message
   abbrev pub AreServed : Type 0
   AreServed =
       (to : Address) (message answer : Message) (old new : L) → went to message (Ok answer) old new
-      → (now : ℕ) × ((before after : A) × ((acts : List (Act H)) × Serves hash_of Came (between handled before after) message now message.content (Ok answer) acts))
+      → (now : ℕ) × ((before after : A) × ((acts : List (Act H)) × IsNodeAt to acts
+      × Serves hash_of Came (between handled before after) message now message.content (Ok answer) acts))
 
   -- so a request that has a text was done so
   abbrev pub TextsAreDone : Type 0

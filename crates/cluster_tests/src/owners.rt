@@ -1,0 +1,153 @@
+//! Three nodes of one process that hold one another as serving, and a fourth that has left and holds the same: a request is
+//! handled by one of them, whichever it enters at.
+
+use crate::fakes::{Counting, Mood};
+use crate::forwarding::Still;
+use crate::messages::{keys, member, moment, news, number_of, request, text};
+use crate::nodes::state;
+use crate::posts::Tally;
+use crate::shared::{ALONE, Start, again, let_go, met};
+use change_core::{Address, Status};
+use cluster_core::{Cluster, handle_or_forward};
+use hash_ring::SumHash;
+use node_core::NodeState;
+use std::alloc::Global;
+use std::env::Env;
+use std::process::Abort;
+use std::sync::atomic::{AtomicU64, Ordering};
+use std::sync::{Arc, Wait};
+use std::thread::Threads;
+use wire_json::{Content, Message};
+
+/// The nodes that serve: 10.0.0.2:1, 10.0.0.3:1 and 10.0.0.4:1.
+static SERVING: [u8; 3] = [2, 3, 4];
+
+const KEY: (&str, &str) = ("zzzz1", "zzzz1");
+
+/// 10.0.0.1:1, which has left, and holds these three as serving.
+const OUTSIDE: Start = Start {
+    others: 3,
+    has_left: true,
+    ..ALONE
+};
+
+/// The three nodes, each of which holds all as serving; None if an allocation failed.
+fn agreed(rt: &(impl Env + Abort), alloc: Global) -> Option<Vec<NodeState<SumHash>>> {
+    let mut nodes = Vec::new(alloc);
+    for number in &SERVING {
+        let mut node = state(rt, alloc, *number, 4096);
+        for other in &SERVING {
+            let told = [news(rt, *other, 7, Status::Alive)];
+            node.take(&told, moment(rt, 0)).ok()?;
+        }
+        nodes.push(node).ok()?;
+    }
+    Some(nodes)
+}
+
+/// The owner of the key by each of these nodes; None if two name different ones, or one names none.
+fn owner_by_all(nodes: &[NodeState<SumHash>]) -> Option<Address> {
+    let (key, _) = KEY;
+    let named = nodes.first()?.owner(key.as_bytes())?;
+    for node in nodes {
+        if node.owner(key.as_bytes()) != Some(named) {
+            return None;
+        }
+    }
+    Some(named)
+}
+
+/// Whether a node answered a request for the key by the owner's Reply, if it is the owner, and else that it is not.
+fn is_due(rt: &impl Abort, answer: &Message, asked: Address, owner: Address) -> bool {
+    assert!(rt; answer.source == asked);
+    match &answer.content {
+        Content::Reply(text) => asked == owner && text.as_str() == "x",
+        Content::NotOwner => asked != owner,
+        _ => false,
+    }
+}
+
+/// Whether each node that is sent a request answers as is due.
+fn all_are_due<R: Wait + Env + Abort>(
+    rt: &R,
+    alloc: Global,
+    cluster: &Cluster<SumHash>,
+    owner: Address,
+) -> bool {
+    for number in &SERVING {
+        let asked = member(rt, *number);
+        let sent = request(rt, alloc, KEY, "x");
+        let Ok(answer) = cluster.ask(rt, alloc, asked, &sent) else {
+            return false;
+        };
+        if !is_due(rt, &answer, asked, owner) {
+            return false;
+        }
+    }
+    true
+}
+
+/// Whether a request that enters at the node that has left has the owner's text. The handler of that node is not called.
+fn is_done_from_outside<R: Wait + Env + Abort>(
+    rt: &R,
+    alloc: Global,
+    cluster: &Cluster<SumHash>,
+) -> bool {
+    let Ok(mut link) = cluster.link() else {
+        return false;
+    };
+    let (shared, mut pass) = met(rt, alloc, &OUTSIDE);
+    let handler = Counting::new(Mood::Willing);
+    let (asked, body) = (keys(rt, alloc, KEY), text(rt, alloc, "x"));
+    let clock = Still::new();
+    let answer = handle_or_forward(
+        rt,
+        alloc,
+        &shared,
+        &mut pass,
+        &mut link,
+        &mut &handler,
+        &clock,
+        asked,
+        body,
+    );
+    let_go(shared, pass);
+    assert!(rt; handler.calls() == 0);
+    match &answer {
+        Ok(text) => text.as_str() == "x",
+        Err(_) => false,
+    }
+}
+
+/// Whether the key has one owner by all three nodes; each that is sent a request answers as is due, by one call of a handler in all; and so
+/// does a request from outside, by one more.
+fn one_handles<R: Threads + Wait + Env + Abort + Copy + Send + 'static>(
+    rt: &R,
+    alloc: Global,
+) -> Option<bool> {
+    let calls = Arc::new(alloc, AtomicU64::new(0)).ok()?;
+    let tally = Tally::new(Arc::try_clone(&calls).ok()?);
+    let nodes = agreed(rt, alloc)?;
+    let owner = owner_by_all(nodes.as_slice());
+    let cluster = Cluster::start(rt, alloc, nodes, 1, tally).ok()?;
+    let is_so = match owner {
+        Some(owner) => {
+            all_are_due(rt, alloc, &cluster, owner)
+                && calls.load(Ordering::SeqCst) == 1
+                && is_done_from_outside(rt, alloc, &cluster)
+                && calls.load(Ordering::SeqCst) == 2
+        }
+        None => false,
+    };
+    let is_ended = cluster.stop(rt, alloc).is_ok();
+    Some(is_so && is_ended)
+}
+
+/// B, C and D, which hold one another as alive, are each sent a request: the owner by all three replies, by one call of a handler, and the others
+/// answer that they are not. A, which has left and holds the three as alive, is given the request: it has the owner's text, by one call more, and
+/// A's own handler is not called.
+#[test]
+fn one_of_three_nodes_handles_a_request(rt: HostRuntime) {
+    let alloc: Global = rt.alloc();
+    assert!(&rt; again!(&rt, one_handles(&rt, alloc) == Some(true)));
+}

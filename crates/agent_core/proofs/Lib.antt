@@ -1,6 +1,7 @@
 pub mod Requesting
 pub mod Packing
 pub mod Parting
+pub mod Passed
 pub mod Joining
 pub mod Growing
 pub mod Listing

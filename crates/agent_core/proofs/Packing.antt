@@ -5,14 +5,14 @@ use Rattle.std.proofs.lemmas.Fmt.{decimal_digit, decimal_step}
 use Rattle.agent_core.specs.Packs.{Unpacked, behind, header_of, is_marked, is_within, marked, packed, unpacked}
 
 -- the decimal digits of a number from 100 to 999
-decimal_three : (n : ℕ) → 100 ≤ n → n ≤ 999 → decimal n ≡ (48 + n / 100) ∷ (48 + n / 10 % 10) ∷ (48 + n % 10) ∷ []
+pub decimal_three : (n : ℕ) → 100 ≤ n → n ≤ 999 → decimal n ≡ (48 + n / 100) ∷ (48 + n / 10 % 10) ∷ (48 + n % 10) ∷ []
 decimal_three n low high =
     let tens : n / 10 / 10 ≡ n / 100 = omega arith in
     decimal_step n (omega arith) (omega arith)
     ∙ ap (λ z. z ++ (48 + n % 10) ∷ []) (decimal_step (n / 10) (omega arith) (omega arith)
     ∙ ap (λ z. z ++ (48 + n / 10 % 10) ∷ []) (decimal_digit (n / 10 / 10) (omega arith) ∙ ap (λ k. (48 + k) ∷ []) tens))
 
-is_within-true : (least greatest x : ℕ) → least ≤ x → x ≤ greatest → is_within least greatest x ≡ true
+pub is_within-true : (least greatest x : ℕ) → least ≤ x → x ≤ greatest → is_within least greatest x ≡ true
 is_within-true least greatest x low high = rw (le-leb least x low, le-leb x greatest high) refl
 
 -- the header of a marked text
@@ -61,7 +61,7 @@ header_of-unmarked (a ∷ []) h = refl
 header_of-unmarked (a ∷ b ∷ []) h = refl
 header_of-unmarked (a ∷ b ∷ c ∷ []) h = refl
 header_of-unmarked (a ∷ b ∷ c ∷ d ∷ []) h = refl
-header_of-unmarked (mark ∷ b ∷ c ∷ d ∷ e ∷ rest) h = cond-false _ _ _ (and_left _ _ (false_from_ne_true _ (λ within. not_within mark within h)))
+header_of-unmarked (mark ∷ b ∷ c ∷ d ∷ e ∷ rest) h = cond-false _ _ _ (and_left _ _ (false_from_ne_true _ (λ within. not_within mark within (or_parts _ _ h).0)))
 
 -- the answer of these parts
 abbrev answer : List ℕ → ℕ → Bool → Unpacked

@@ -2,6 +2,7 @@ pub mod Requests
 pub mod Refusals
 pub mod Packs
 pub mod Parts
+pub mod Passing
 pub mod Texts
 pub mod Metrics
 pub mod Services

@@ -1,10 +1,10 @@
 -- An application's answer as one text, and back.
 use Rattle.std.specs.Prelude.{◌&&◌, ◌||◌, ◌==◌, ◌+◌, ◌*◌, ◌-◌, not, Bool, false, cond, ℕ, nat_le, List, [], ◌∷◌, ◌++◌, Option, Some, None, drop, decimal}
 
--- whether a body starts with a mark: 1 for text, 2 for JSON
+-- whether a body starts with a mark: 1 for text, 2 for JSON, 3 for parts
 abbrev pub is_marked : List ℕ → Bool
 is_marked [] = false
-is_marked (x ∷ xs) = (x == 1) || (x == 2)
+is_marked (x ∷ xs) = ((x == 1) || (x == 2)) || (x == 3)
 
 -- the mark, the status, a space and the body
 abbrev pub marked : ℕ → Bool → List ℕ → List ℕ

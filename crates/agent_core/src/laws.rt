@@ -3,7 +3,8 @@
 ghost use Rattle.std.specs.Prelude.{◌≡◌, ◌≢◌, ◌<◌, ◌≤◌, ◌^◌, ℕ, List, [], ◌∷◌, Bool, length};
 ghost use Rattle.std.specs.List.{All};
 ghost use Rattle.agent_core.specs.Packs.{packed, unpacked};
-ghost use Rattle.agent_core.specs.Parts.{joined, packed_bytes, text_of_body, text_of_parts};
+ghost use Rattle.agent_core.specs.Parts.{joined, packed_bytes, text_of_body};
+ghost use Rattle.agent_core.specs.Passing.{AreParts, answer_parts, answer_text, request_parts, request_text};
 ghost use Rattle.change_core.specs.Members.{digest_text, members};
 ghost use Rattle.change_core.specs.declared.changes.Change.{Change};
 ghost use Rattle.hash_ring.specs.Points.{owners};
@@ -27,6 +28,23 @@ pub fn packs()
 pub fn parts()
     ensures joined { (a : List (List ℕ)) (b : List (List ℕ)) → All (λ p. length p < 2 ^ 64) a → All (λ p. length p < 2 ^ 64) b → joined a ≡ joined b → a ≡ b }
     ensures packed { (a : List ℕ) (b : List ℕ) → IsBytes a → IsBytes b → packed_bytes a ≡ packed_bytes b → a ≡ b }
+{}
+
+/// A request and an answer that are passed on whole come out whole: no two have the same text. The text of a request that is a
+/// body alone is no such request's, whatever the body, and the text of an answer to one is no such answer's.
+pub fn passing()
+    ensures requests { (method : List ℕ) (target : List ℕ) (body : List ℕ) (fields : List (List ℕ × List ℕ)) (method2 : List ℕ) (target2 : List ℕ) (body2 : List ℕ) (fields2 : List (List ℕ × List ℕ))
+        → AreParts (request_parts method target body fields) → AreParts (request_parts method2 target2 body2 fields2)
+        → request_text method target body fields ≡ request_text method2 target2 body2 fields2
+        → (method ≡ method2) × (target ≡ target2) × (body ≡ body2) × (fields ≡ fields2) }
+    ensures answers { (status : ℕ) (body : List ℕ) (fields : List (List ℕ × List ℕ)) (status2 : ℕ) (body2 : List ℕ) (fields2 : List (List ℕ × List ℕ))
+        → status ≤ 599 → status2 ≤ 599 → AreParts (answer_parts status body fields) → AreParts (answer_parts status2 body2 fields2)
+        → answer_text status body fields ≡ answer_text status2 body2 fields2
+        → (status ≡ status2) × (body ≡ body2) × (fields ≡ fields2) }
+    ensures bodies { (text : List ℕ) (method : List ℕ) (target : List ℕ) (body : List ℕ) (fields : List (List ℕ × List ℕ))
+        → AreParts (text ∷ []) → AreParts (request_parts method target body fields) → text_of_body text ≢ request_text method target body fields }
+    ensures packs { (status : ℕ) (is_json : Bool) (body : List ℕ) (status2 : ℕ) (body2 : List ℕ) (fields : List (List ℕ × List ℕ))
+        → packed status is_json body ≢ answer_text status2 body2 fields }
 {}
 
 /// Rings whose digests are of one text have the same members that serve, with the same weights, and so the same owners of each key, by the same

@@ -11,6 +11,7 @@ mod metrics;
 mod packs;
 mod pages;
 mod parts;
+mod passing;
 mod questions;
 mod refusals;
 mod routes;
@@ -27,6 +28,10 @@ pub use metrics::{BUCKETS, Counts, PortCounts, WaitingCounts, bucket_of, metrics
 pub use packs::{MAX_BODY_BYTES, MAX_STATUS, MIN_STATUS, Packed, pack, unpack};
 pub use pages::PAGE;
 pub use parts::{MAX_REQUEST_BYTES, pack_body, pack_bytes, parts_in, push_part, unpack_bytes};
+pub use passing::{
+    Field, PassedAnswer, PassedRequest, answer_of, is_of_connection, is_repeatable, pack_answer,
+    pack_request, push_field, request_of,
+};
 pub use questions::{MAX_SECONDS, question_at};
 pub use refusals::{Failure, Part, Refusal};
 pub use routes::{MAX_KEY_BYTES, MAX_OWNERS, key_of, key_text, route};

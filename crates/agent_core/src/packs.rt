@@ -23,12 +23,12 @@ pub struct Packed<'a> {
     pub body: &'a str,
 }
 
-/// Returns whether a body starts with a mark: U+0001 for text, U+0002 for JSON.
+/// Returns whether a body starts with a mark: U+0001 for text, U+0002 for JSON, U+0003 for parts.
 fn is_marked(body: &[u8]) -> bool
     ensures { result ≡ is_marked body.now }
 {
     match body {
-        [first, ..] => *first == 1 || *first == 2,
+        [first, ..] => *first == 1 || *first == 2 || *first == 3,
         [] => false,
     }
 }

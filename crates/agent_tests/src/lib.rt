@@ -31,6 +31,8 @@ mod page_tests;
 #[cfg(test)]
 mod parts_tests;
 #[cfg(test)]
+mod passing_tests;
+#[cfg(test)]
 mod refusal_tests;
 #[cfg(test)]
 mod refused;

@@ -3,12 +3,13 @@ use agent_core::*;
 use message_core::WireError;
 
 /// A status, whether the body is JSON, the body, and the text that represents them.
-const ROWS: [(u16, bool, &str, &str); 11] = rows! {
+const ROWS: [(u16, bool, &str, &str); 12] = rows! {
     200, false, "hello", "hello";
     200, false, "", "";
     200, true, "{}", "\u{2}200 {}";
     200, false, "\u{1}404 no", "\u{1}200 \u{1}404 no";
     200, false, "\u{2}", "\u{1}200 \u{2}";
+    200, false, "\u{3}AAAA", "\u{1}200 \u{3}AAAA";
     404, false, "no such key\n", "\u{1}404 no such key\n";
     422, true, "{\"a\":\"\u{fc}\"}", "\u{2}422 {\"a\":\"\u{fc}\"}";
     201, false, "", "\u{1}201 ";

@@ -5,3 +5,4 @@ pub mod Performed
 pub mod Refused
 pub mod Relaying
 pub mod Written
+pub mod Worded

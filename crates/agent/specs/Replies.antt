@@ -1,12 +1,12 @@
 -- The response that shows a reply, or a refusal: its status, its fields in their order, and its body.
-use Rattle.std.specs.Prelude.{◌≡◌, ℕ, Bool, cond, List, [], ◌∷◌, ◌++◌, string_bytes, codes}
+use Rattle.std.specs.Prelude.{◌≡◌, ◌==◌, ℕ, Bool, cond, Option, Some, None, List, [], ◌∷◌, ◌++◌, string_bytes, codes}
 use Rattle.change_core.specs.Address.{address_text}
 use Rattle.change_core.specs.Digest.{digest_digits}
 use Rattle.http1.specs.Fields.{Header}
 use Rattle.http_server.specs.declared.response.Response.{Response}
 use Rattle.http_server.specs.Response.{IsResponse}
 use Rattle.agent_core.specs.Packs.{unpacked}
-use Rattle.agent_core.specs.Refusals.{kind_name, line_of, status_of}
+use Rattle.agent_core.specs.Refusals.{kind_name, line_of, sent, status_of, word_of}
 use Rattle.agent_core.specs.declared.answers.Kind.{Kind}
 use Rattle.agent_core.specs.declared.answers.Kind.TheVariants as kind
 use Rattle.agent_core.specs.declared.pages.TheConstants.{PAGE}
@@ -91,10 +91,30 @@ refusal_field (BadMethod verb) = (codes "allow", allowed_methods verb) ∷ []
 refusal_field (OwnerBusy owner) = named_owner owner
 refusal_field _ = []
 
+-- the field of a refusal alone, with its word
+abbrev pub word_field : Refusal → List Header
+word_field refusal = (codes "x-ringpop-error", word_of refusal) ∷ []
+
+-- that field, if there is a refusal
+abbrev pub word_if : Option Refusal → List Header
+word_if None = []
+word_if (Some refusal) = word_field refusal
+
+-- that field, if the reply is one that the owner's agent sent in place of its application's
+abbrev pub sent_field : Reply → List Header
+sent_field (Handled owner text) = word_if (sent (unpacked text).status (unpacked text).body)
+sent_field _ = []
+
+-- the field of a 503: after how many seconds the client may ask again
+abbrev pub retry_field : ℕ → List Header
+retry_field status = cond (status == 503) ((codes "retry-after", codes "1") ∷ []) []
+
 -- a response shows a reply, and says whether the connection is closed
 abbrev pub ShowsReply : Reply → Bool → Response → Type 0
-ShowsReply reply closes response = IsResponse (reply_status reply) (fields_for closes (reply_kind reply) ++ owner_field reply) (reply_body reply) response
+ShowsReply reply closes response =
+    IsResponse (reply_status reply) ((fields_for closes (reply_kind reply) ++ owner_field reply) ++ sent_field reply) (reply_body reply) response
 
 -- a response shows a refusal, and says whether the connection is closed
 abbrev pub ShowsRefusal : Refusal → Bool → Response → Type 0
-ShowsRefusal refusal closes response = IsResponse (status_of refusal) (fields_for closes kind.Text ++ refusal_field refusal) (line_of refusal) response
+ShowsRefusal refusal closes response =
+    IsResponse (status_of refusal) (((fields_for closes kind.Text ++ word_field refusal) ++ retry_field (status_of refusal)) ++ refusal_field refusal) (line_of refusal) response

@@ -5,8 +5,8 @@ ghost use Rattle.http.specs.StatusCode.{IsStatusCode};
 ghost use Rattle.http_header.specs.FieldValue.{plain_value};
 ghost use Rattle.http_server.specs.Response.{IsBlank, IsResponse, fields_of};
 ghost use Rattle.agent_core.specs.Packs.{unpacked};
-ghost use Rattle.agent_core.specs.Refusals.{kind_name};
-ghost use Rattle.agent.specs.Replies.{ShowsRefusal, ShowsReply, allowed_methods, answered_kind, closing, fields_for, named_owner, owner_field, reply_body, reply_kind, reply_status, tag_field, tag_text};
+ghost use Rattle.agent_core.specs.Refusals.{kind_name, sent};
+ghost use Rattle.agent.specs.Replies.{ShowsRefusal, ShowsReply, allowed_methods, answered_kind, closing, fields_for, named_owner, owner_field, reply_body, reply_kind, reply_status, retry_field, tag_field, tag_text, word_field, word_if};
 
 use crate::replies::Reply;
 use agent_core::{Answer, Kind, Refusal, Verb, unpack};
@@ -70,6 +70,28 @@ fn kind_of(is_json: bool) -> Kind
     if is_json { Kind::Json } else { Kind::Text }
 }
 
+/// Adds the field with a refusal's word, by which a client tells it from an answer of the application.
+fn put_word(response: &mut Response, refusal: &Refusal) -> Result<(), AllocError>
+    ensures status { response.new.status ≡ response.old.status }
+    ensures body { response.new.body ≡ response.old.body }
+    ensures fields { OnOk result (fields_of response.new ≡ fields_of response.old ++ word_field refusal.now) }
+{
+    let word = HeaderValue::from_static(refusal.word());
+    response.add_header(HeaderName::from_static("x-ringpop-error"), word)
+}
+
+/// Adds the field with the word of a refusal that the owner's agent sent in place of its application's answer, if this is one.
+fn put_sent(response: &mut Response, status: u16, body: &str) -> Result<(), AllocError>
+    ensures status { response.new.status ≡ response.old.status }
+    ensures body { response.new.body ≡ response.old.body }
+    ensures fields { OnOk result (fields_of response.new ≡ fields_of response.old ++ word_if (sent status body.now)) }
+{
+    match Refusal::sent(status, body) {
+        Some(refusal) => put_word(response, &refusal),
+        None => Ok(()),
+    }
+}
+
 /// Writes the answer of an application into a blank response, with a header that names the owner.
 fn put_handled(
     alloc: Global,
@@ -88,7 +110,8 @@ fn put_handled(
         body: packed.body,
     };
     put(response, answer, closes)?;
-    put_owner(alloc, response, owner)
+    put_owner(alloc, response, owner)?;
+    put_sent(response, packed.status, packed.body)
 }
 
 /// Writes a text with status 200 into a blank response.
@@ -194,8 +217,21 @@ fn allowed(verb: Verb) -> HeaderValue
     }
 }
 
-/// Writes a refusal into a blank response: its status, its line of text and, for `BadMethod`, the methods that the path
-/// takes, for `OwnerBusy` the owner. If `closes`, a header tells the client that the connection is closed after it.
+/// Adds the field that says after how many seconds a client may ask again, if the status is 503.
+fn put_retry(response: &mut Response, status: u16) -> Result<(), AllocError>
+    ensures status { response.new.status ≡ response.old.status }
+    ensures body { response.new.body ≡ response.old.body }
+    ensures fields { OnOk result (fields_of response.new ≡ fields_of response.old ++ retry_field status) }
+{
+    if status != 503 {
+        return Ok(());
+    }
+    let seconds = HeaderValue::from_static("1");
+    response.add_header(HeaderName::from_static("retry-after"), seconds)
+}
+
+/// Writes a refusal into a blank response: its status, its line of text, its word, for a 503 when a client may ask again, for
+/// `BadMethod` the methods that the path takes, and for `OwnerBusy` the owner. If `closes`, a header tells the client that the connection is closed after it.
 ///
 /// # Errors
 ///
@@ -210,6 +246,8 @@ pub fn put_refusal(
     ensures { OnOk result (ShowsRefusal refusal.now closes response.new) }
 {
     put(response, Answer::refused(refusal), closes)?;
+    put_word(response, refusal)?;
+    put_retry(response, refusal.status())?;
     match refusal {
         Refusal::BadMethod(verb) => {
             response.add_header(HeaderName::from_static("allow"), allowed(*verb))

@@ -1,5 +1,5 @@
 -- The status and the line of text of each refusal, and the content types.
-use Rattle.std.specs.Prelude.{ℕ, List, [], ◌∷◌, ◌++◌, codes}
+use Rattle.std.specs.Prelude.{ℕ, ◌==◌, ◌&&◌, Bool, cond, Option, Some, None, List, [], ◌∷◌, ◌++◌, codes, bytes_eq}
 use Rattle.agent_core.specs.declared.verbs.Verb.TheVariants.{Get, Post}
 use Rattle.agent_core.specs.declared.refusals.Failure.{Failure}
 use Rattle.agent_core.specs.declared.refusals.Failure.TheVariants as failure
@@ -79,6 +79,53 @@ text_of refusal.OwnerSilent = codes "the owner does not answer"
 -- that text as a line
 abbrev pub line_of : Refusal → List ℕ
 line_of refused = text_of refused ++ 10 ∷ []
+
+-- the word of a refusal, another for each
+abbrev pub word_of : Refusal → List ℕ
+word_of (refusal.Malformed Key) = codes "bad-key"
+word_of (refusal.Malformed Count) = codes "bad-count"
+word_of (refusal.Malformed Body) = codes "bad-body"
+word_of (refusal.Malformed Keys) = codes "bad-keys"
+word_of (refusal.Malformed After) = codes "bad-query"
+word_of refusal.CrossSite = codes "cross-site"
+word_of refusal.NotFound = codes "not-found"
+word_of (refusal.BadMethod verb) = codes "bad-method"
+word_of refusal.AlreadyLeft = codes "already-left"
+word_of refusal.NotLeft = codes "not-left"
+word_of refusal.Exhausted = codes "no-incarnation"
+word_of refusal.LongBody = codes "long-body"
+word_of refusal.ManyKeys = codes "many-keys"
+word_of refusal.ApplicationFailed = codes "application-failed"
+word_of (refusal.Unanswered failure.NotAccepted) = codes "application-not-accepting"
+word_of (refusal.Unanswered failure.HungUp) = codes "application-hung-up"
+word_of (refusal.Unanswered failure.NoAnswer) = codes "application-silent"
+word_of (refusal.Unanswered failure.BadAnswer) = codes "application-bad-answer"
+word_of refusal.ApplicationDown = codes "application-down"
+word_of refusal.NotJoined = codes "not-joined"
+word_of refusal.HasLeft = codes "has-left"
+word_of refusal.ApplicationAwaited = codes "application-awaited"
+word_of refusal.CannotAccept = codes "cannot-accept"
+word_of refusal.NoRounds = codes "no-rounds"
+word_of refusal.Nobody = codes "nobody-serves"
+word_of refusal.Busy = codes "busy"
+word_of refusal.ManyQuestions = codes "many-questions"
+word_of (refusal.OwnerBusy owner) = codes "owner-busy"
+word_of refusal.Spent = codes "no-calls"
+word_of refusal.Memory = codes "memory"
+word_of refusal.OwnerSilent = codes "owner-silent"
+
+-- whether an answer with this status and this body is a refusal's
+abbrev pub is_answer : ℕ → List ℕ → Refusal → Bool
+is_answer status body refused = (status == status_of refused) && bytes_eq body (line_of refused)
+
+-- the refusal that an agent sends in place of an answer of its application, if an answer with this status and this body is one
+abbrev pub sent : ℕ → List ℕ → Option Refusal
+sent status body =
+    cond (is_answer status body (refusal.Unanswered failure.NotAccepted)) (Some (refusal.Unanswered failure.NotAccepted))
+    (cond (is_answer status body (refusal.Unanswered failure.HungUp)) (Some (refusal.Unanswered failure.HungUp))
+    (cond (is_answer status body (refusal.Unanswered failure.NoAnswer)) (Some (refusal.Unanswered failure.NoAnswer))
+    (cond (is_answer status body (refusal.Unanswered failure.BadAnswer)) (Some (refusal.Unanswered failure.BadAnswer))
+    (cond (is_answer status body refusal.Busy) (Some refusal.Busy) None))))
 
 -- the content type (RFC 9110, section 8.3)
 abbrev pub kind_name : Kind → List ℕ

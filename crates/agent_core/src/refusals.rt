@@ -1,6 +1,6 @@
 //! The refusals of requests, and the status and the text of each.
 ghost use Rattle.std.specs.Prelude.{◌≡◌, ◌≤◌, ◌∷◌, ◌++◌, []};
-ghost use Rattle.agent_core.specs.Refusals.{failure_text, line_of, status_of};
+ghost use Rattle.agent_core.specs.Refusals.{failure_text, is_answer, line_of, sent, status_of, word_of};
 ghost use Rattle.agent_core.specs.declared.refusals.Refusal.TheVariants.{Memory as no_memory};
 
 use crate::verbs::Verb;
@@ -149,6 +149,78 @@ impl Refusal {
             | Refusal::Memory => 503,
             Refusal::OwnerSilent => 504,
         }
+    }
+
+    /// Returns the refusal's word, another for each, by which a program tells it.
+    pub fn word(&self) -> &'static str
+        ensures { result.now ≡ word_of self.now }
+    {
+        match self {
+            Refusal::Malformed(Part::Key) => "bad-key",
+            Refusal::Malformed(Part::Count) => "bad-count",
+            Refusal::Malformed(Part::Body) => "bad-body",
+            Refusal::Malformed(Part::Keys) => "bad-keys",
+            Refusal::Malformed(Part::After) => "bad-query",
+            Refusal::CrossSite => "cross-site",
+            Refusal::NotFound => "not-found",
+            Refusal::BadMethod(_) => "bad-method",
+            Refusal::AlreadyLeft => "already-left",
+            Refusal::NotLeft => "not-left",
+            Refusal::Exhausted => "no-incarnation",
+            Refusal::LongBody => "long-body",
+            Refusal::ManyKeys => "many-keys",
+            Refusal::ApplicationFailed => "application-failed",
+            Refusal::Unanswered(Failure::NotAccepted) => "application-not-accepting",
+            Refusal::Unanswered(Failure::HungUp) => "application-hung-up",
+            Refusal::Unanswered(Failure::NoAnswer) => "application-silent",
+            Refusal::Unanswered(Failure::BadAnswer) => "application-bad-answer",
+            Refusal::ApplicationDown => "application-down",
+            Refusal::NotJoined => "not-joined",
+            Refusal::HasLeft => "has-left",
+            Refusal::ApplicationAwaited => "application-awaited",
+            Refusal::CannotAccept => "cannot-accept",
+            Refusal::NoRounds => "no-rounds",
+            Refusal::Nobody => "nobody-serves",
+            Refusal::Busy => "busy",
+            Refusal::ManyQuestions => "many-questions",
+            Refusal::OwnerBusy(_) => "owner-busy",
+            Refusal::Spent => "no-calls",
+            Refusal::Memory => "memory",
+            Refusal::OwnerSilent => "owner-silent",
+        }
+    }
+
+    /// Returns whether an answer with this status and this body is the refusal's.
+    fn is_answer(self, status: u16, body: &str) -> bool
+        ensures { result ≡ is_answer status body.now self }
+    {
+        status == self.status() && body == self.line()
+    }
+
+    /// Returns the refusal that an agent sends in place of an answer of its application, if an answer with this status and this
+    /// body is one.
+    pub fn sent(status: u16, body: &str) -> Option<Refusal>
+        ensures { result ≡ sent status body.now }
+    {
+        let failed = Refusal::Unanswered(Failure::NotAccepted);
+        if failed.is_answer(status, body) {
+            return Some(failed);
+        }
+        let failed = Refusal::Unanswered(Failure::HungUp);
+        if failed.is_answer(status, body) {
+            return Some(failed);
+        }
+        let failed = Refusal::Unanswered(Failure::NoAnswer);
+        if failed.is_answer(status, body) {
+            return Some(failed);
+        }
+        let failed = Refusal::Unanswered(Failure::BadAnswer);
+        if failed.is_answer(status, body) {
+            return Some(failed);
+        }
+        Refusal::Busy
+            .is_answer(status, body)
+            .then_some(Refusal::Busy)
     }
 
     /// Returns the refusal's text, one line with its newline.

@@ -1,7 +1,7 @@
 use agent_core::*;
 
 /// A refusal, its status and the start of its line.
-const ROWS: [(Refusal, u16, &str); 29] = rows! {
+const ROWS: [(Refusal, u16, &str); 30] = rows! {
     Refusal::Malformed(Part::Key), 400, "bad key";
     Refusal::Malformed(Part::Count), 400, "bad count";
     Refusal::Malformed(Part::Body), 400, "bad body";
@@ -24,6 +24,7 @@ const ROWS: [(Refusal, u16, &str); 29] = rows! {
     Refusal::ApplicationDown, 503, "the application does not answer";
     Refusal::NotJoined, 503, "no host";
     Refusal::HasLeft, 503, "the node has left";
+    Refusal::ApplicationAwaited, 503, "the node is not in the ring, since";
     Refusal::NoRounds, 503, "no round of gossip";
     Refusal::Nobody, 503, "nobody serves";
     Refusal::Busy, 503, "too many requests";
@@ -53,4 +54,28 @@ fn answers_each_refusal_with_its_status_and_a_line(rt: HostRuntime) {
     }
     assert!(rt; Verb::Get.name() == "GET" && Verb::Post.name() == "POST");
     assert!(rt; Answer::line("ok\n").status == 200 && Answer::line("ok\n").body == "ok\n");
+}
+
+#[test]
+fn tells_refusals_apart(rt: HostRuntime) {
+    let silent = Refusal::Unanswered(Failure::NoAnswer);
+    for (refusal, word) in &[
+        (Refusal::Malformed(Part::Key), "bad-key"),
+        (Refusal::Busy, "busy"),
+        (silent, "application-silent"),
+        (Refusal::OwnerSilent, "owner-silent"),
+    ] {
+        assert!(rt; refusal.word() == *word, "{word}");
+    }
+    assert!(rt; Refusal::sent(502, silent.line()) == Some(silent));
+    assert!(rt; Refusal::sent(503, Refusal::Busy.line()) == Some(Refusal::Busy));
+    for (status, body) in &[
+        (200u16, silent.line()),
+        (503, silent.line()),
+        (502, Refusal::Busy.line()),
+        (502, "no whole answer of the owner's application came"),
+        (502, ""),
+    ] {
+        assert!(rt; Refusal::sent(*status, body).is_none(), "{status} {body}");
+    }
 }

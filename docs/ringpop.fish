@@ -33,6 +33,7 @@ complete -c ringpop -n '__ringpop_in serve' -l heal -d 'find members again that 
 complete -c ringpop -n '__ringpop_in agent' -l bind -x -d 'where the node listens, if not at ADDRESS'
 complete -c ringpop -n '__ringpop_in agent' -l http -x -d 'where HTTP is answered'
 complete -c ringpop -n '__ringpop_in agent' -l http-any -d 'allow --http outside 127.0.0.0/8'
+complete -c ringpop -n '__ringpop_in agent' -l tell-app -d 'tell the application of the ring'
 complete -c ringpop -n '__ringpop_in agent' -l app -x -d 'where the application takes requests'
 complete -c ringpop -n '__ringpop_in agent' -l no-wait-app -d 'join without waiting for --app'
 complete -c ringpop -n '__ringpop_in agent' -l leave-after -x -d 'seconds without --app after which the node leaves; 0: never'

@@ -5,6 +5,7 @@ use crate::counters::{Count, Counters};
 use crate::journals::Journal;
 use crate::notices::Notices;
 use crate::systems::Host;
+use crate::tellers::Teller;
 use crate::waiting::Waiting;
 use crate::watchers::{MAX_QUESTIONS, Watchers};
 use agent_core::{Counts, PortCounts, Watch};
@@ -82,6 +83,8 @@ pub struct Agent<R> {
     pub http: Arc<Places, Global>,
     /// The questions about the ring that wait until it changes.
     pub watchers: Watchers,
+    /// The ring of which the application is told.
+    pub teller: Teller,
     /// What the log said last of other nodes and, at its own address, of messages to them.
     pub notices: Notices,
     /// What the log said last of nodes that disown what this node's members give them.
@@ -175,6 +178,9 @@ impl<R: Host> Agent<R> {
             questions_used: self.watchers.count.get(),
             questions_max: self.max_questions(),
             service_up: u64::from(self.is_service_up.get()),
+            notices_taken: self.teller.taken.get(),
+            notices_failed: self.teller.failed.get(),
+            notices_untold: self.teller.untold.get(),
             ..self.counters.counts()
         }
     }

@@ -157,6 +157,9 @@ impl Counters {
             questions_used: 0,
             questions_max: 0,
             service_up: 0,
+            notices_taken: 0,
+            notices_failed: 0,
+            notices_untold: 0,
         }
     }
 }

@@ -173,7 +173,13 @@ fn end(client: &mut Client, answer: Answer, has_begun: bool) -> Result<Answer, F
 }
 
 /// Reads an answer.
-fn read_answer<S: Read>(
+///
+/// # Errors
+///
+/// - `HungUp`: the application ended or reset the connection before a byte of the answer came.
+/// - `NoAnswer`: no whole answer came, for another reason.
+/// - `BadAnswer`: the answer is not HTTP/1, or has more than 1,048,576 bytes.
+pub fn read_answer<S: Read>(
     alloc: Global,
     client: &mut Client,
     stream: &mut S,

@@ -30,6 +30,7 @@ mod runs;
 mod services;
 mod settings;
 mod systems;
+mod tellers;
 mod waiting;
 mod watchers;
 mod workers;

@@ -4,7 +4,6 @@ use crate::callers::Caller;
 use crate::changes::{is_refuted, log_changes, log_since_start};
 use crate::hosts::{MAX_FIRST_WAIT, link_of};
 use crate::links::NotedLink;
-use crate::questions::ring_digest;
 use crate::systems::Host;
 use agent_core::{Notice, Refutations, are_many_addresses};
 use change_core::{Address, Change, Digest, MAX_MEMBERS, Moment};
@@ -95,7 +94,7 @@ impl<'a, R: Host> Rounds<'a, R> {
         is_own
     }
 
-    /// Notes the digest of the ring for the questions that wait until it changes; none if memory runs out for it, so that they are answered.
+    /// Notes the ring for the application, and its digest for the questions that wait until it changes; none if memory runs out for it, so that they are answered.
     /// The next round tries again then.
     fn note_ring(&mut self) {
         let agent = self.agent;
@@ -109,7 +108,7 @@ impl<'a, R: Host> Rounds<'a, R> {
             return;
         }
         let ring = match self.caller.members(&agent.rt) {
-            Ok(members) => ring_digest(self.alloc, members.as_slice()).ok(),
+            Ok(members) => agent.teller.note(&agent.rt, self.alloc, members.as_slice()),
             Err(_) => None,
         };
         self.noted = if ring.is_some() { Some(digest) } else { None };

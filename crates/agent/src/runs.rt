@@ -20,6 +20,7 @@ use crate::rounds::make_rounds;
 use crate::services::{await_service, watch_service};
 use crate::settings::Settings;
 use crate::systems::System;
+use crate::tellers::{Teller, start_notices};
 use crate::waiting::Waiting;
 use crate::watchers::Watchers;
 use agent_core::Watch;
@@ -149,6 +150,7 @@ fn agent_of<R: System>(
         serving: Count::new(),
         http: Arc::new(alloc, Places::new())?,
         watchers: Watchers::new(alloc),
+        teller: Teller::new(settings.told_app().is_some()),
         notices: Notices::new(alloc),
         disowners: Notices::new(alloc),
         is_starting: Flag::new(!settings.hosts.is_empty()),
@@ -337,6 +339,7 @@ fn start<R: System>(
         Some(front) => Some(start_http(rt, alloc, agent, front)?),
         None => None,
     };
+    start_notices(rt, alloc, agent, &settings)?;
     let Settings { hosts, period, .. } = settings;
     start_rounds(rt, alloc, agent, initial, hosts.clone()?, period)?;
     start_joins(rt, alloc, agent, hosts)?;

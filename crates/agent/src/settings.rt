@@ -26,6 +26,8 @@ pub struct Settings {
     pub app: Option<Address>,
     /// How the node follows that application.
     pub following: Following,
+    /// Whether the application is told of the ring.
+    pub tell_app: bool,
     /// The most requests of other nodes that the application is given at a time.
     pub hands: u32,
     /// The most HTTP connections that are open at a time.
@@ -53,5 +55,10 @@ impl Settings {
             Some(address) => address.ip() >> 24 == 127,
             None => true,
         }
+    }
+
+    /// Returns the address of the application, if it is told of the ring.
+    pub fn told_app(&self) -> Option<Address> {
+        if self.tell_app { self.app } else { None }
     }
 }

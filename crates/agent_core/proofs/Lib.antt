@@ -8,3 +8,4 @@ pub mod Listing
 pub mod Ringing
 pub mod Sharing
 pub mod Watching
+pub mod Noting

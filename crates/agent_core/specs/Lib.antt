@@ -4,6 +4,7 @@ pub mod Packs
 pub mod Parts
 pub mod Passing
 pub mod Texts
+pub mod Tellings
 pub mod Metrics
 pub mod Services
 pub mod Shares

@@ -161,8 +161,18 @@ service_samples counts =
     line (codes "# TYPE ringpop_service_up gauge")
     ++ sample (codes "ringpop_service_up") counts.service_up
 
+-- the notices of the ring that the application took, those that it did not take, and whether one is still to be taken
+abbrev pub notice_samples : Counts → List ℕ
+notice_samples counts =
+    line (codes "# TYPE ringpop_notices_total counter")
+    ++ sample (codes "ringpop_notices_total{outcome=\"taken\"}") counts.notices_taken
+    ++ sample (codes "ringpop_notices_total{outcome=\"failed\"}") counts.notices_failed
+    ++ line (codes "# TYPE ringpop_notices_untold gauge")
+    ++ sample (codes "ringpop_notices_untold") counts.notices_untold
+
 -- the whole text
 abbrev pub metrics_text : Counts → List Change → List ℕ
 metrics_text counts members =
     status_samples members ++ address_samples (length members) ++ request_samples counts ++ time_samples counts ++ round_samples counts ++ other_samples counts
     ++ waiting_samples counts.waiting ++ connection_samples counts.http ++ worker_samples counts ++ question_samples counts ++ service_samples counts
+    ++ notice_samples counts

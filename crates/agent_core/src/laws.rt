@@ -1,6 +1,6 @@
-//! Theorems of packed answers, over all statuses and bodies, of parts, of rings and the texts of their digests, and
-//! of the watch over a service.
-ghost use Rattle.std.specs.Prelude.{◌≡◌, ◌≢◌, ◌<◌, ◌≤◌, ◌^◌, ℕ, List, [], ◌∷◌, Bool, length};
+//! Theorems of packed answers, over all statuses and bodies, of parts, of rings and the texts of their digests, of the watch over a
+//! service, and of what the application is told.
+ghost use Rattle.std.specs.Prelude.{◌≡◌, ◌≢◌, ◌<◌, ◌≤◌, ◌^◌, ℕ, List, [], ◌∷◌, Bool, None, length};
 ghost use Rattle.std.specs.List.{All};
 ghost use Rattle.agent_core.specs.Packs.{packed, unpacked};
 ghost use Rattle.agent_core.specs.Parts.{joined, packed_bytes, text_of_body};
@@ -10,6 +10,7 @@ ghost use Rattle.change_core.specs.declared.changes.Change.{Change};
 ghost use Rattle.hash_ring.specs.Points.{owners};
 ghost use Rattle.hash_ring.specs.Serving.{servers_of};
 ghost use Rattle.agent_core.specs.Services.{LeavesLate, StaysOut};
+ghost use Rattle.agent_core.specs.Tellings.{Event, after_all, digest_in, last_noted, last_taken, latest, new_telling};
 ghost use Rattle.agent_core.specs.Texts.{on_ring};
 ghost use Rattle.base64.specs.GeneralPurpose.{IsBytes};
 
@@ -61,4 +62,13 @@ pub fn rings()
 pub fn absences()
     ensures late { LeavesLate }
     ensures held { StaysOut }
+{}
+
+/// Whatever events come, the application was told the ring that was noted last, or is still to be told it: of the ring to be told or, if there is none,
+/// of the one told last, the digest is that of the ring that was noted last. The one told last is the one noted last before the last notice that it
+/// took. No failure puts a notice off by more than eight seconds.
+pub fn tellings()
+    ensures latest { (events : List Event) → digest_in (latest (after_all new_telling events)) ≡ last_noted None events }
+    ensures told { (events : List Event) → digest_in (after_all new_telling events).told ≡ last_taken None None events }
+    ensures pause { (events : List Event) → (after_all new_telling events).pause ≤ 8000 }
 {}

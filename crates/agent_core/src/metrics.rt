@@ -1,7 +1,7 @@
 //! The counts of an agent, in the text format of Prometheus (version 0.0.4).
 ghost use Rattle.std.specs.Prelude.{◌≡◌, ◌<◌, ◌++◌, IfOk, OnOk, count_by, length, string_bytes};
 ghost use Rattle.change_core.specs.Status.{rank};
-ghost use Rattle.agent_core.specs.Metrics.{address_samples, bucket_of, bucket_sample, bucket_samples, connection_samples, holds, metrics_text, other_samples, question_samples, request_samples, round_samples, sample, service_samples, status_sample, status_samples, time_samples, waiting_samples, within, worker_samples};
+ghost use Rattle.agent_core.specs.Metrics.{address_samples, bucket_of, bucket_sample, bucket_samples, connection_samples, holds, metrics_text, notice_samples, other_samples, question_samples, request_samples, round_samples, sample, service_samples, status_sample, status_samples, time_samples, waiting_samples, within, worker_samples};
 
 use crate::shares::{MAX_OWN, MAX_WAITING, OWNER_SHARE};
 use change_core::{Change, MAX_MEMBERS, Status};
@@ -85,6 +85,12 @@ pub struct Counts {
     pub questions_max: u64,
     /// 1 if the service took a connection when it was looked at last, else 0.
     pub service_up: u64,
+    /// Notices of the ring that the application took.
+    pub notices_taken: u64,
+    /// Notices that it did not take, each time that one was sent.
+    pub notices_failed: u64,
+    /// 1 while it is still to be told of the ring, else 0.
+    pub notices_untold: u64,
 }
 
 /// Returns the bucket of a time in microseconds, from 0 to 9.
@@ -375,6 +381,26 @@ fn push_service(text: &mut String, counts: &Counts) -> Result<(), AllocError>
     Ok(())
 }
 
+/// Appends the numbers of notices of the ring: by outcome, and whether one is still to be taken.
+fn push_notices(text: &mut String, counts: &Counts) -> Result<(), AllocError>
+    ensures { OnOk result (string_bytes text.new ≡ string_bytes text.old ++ notice_samples counts.now) }
+{
+    text.push_str("# TYPE ringpop_notices_total counter\n")?;
+    push_sample(
+        text,
+        "ringpop_notices_total{outcome=\"taken\"}",
+        counts.notices_taken,
+    )?;
+    push_sample(
+        text,
+        "ringpop_notices_total{outcome=\"failed\"}",
+        counts.notices_failed,
+    )?;
+    text.push_str("# TYPE ringpop_notices_untold gauge\n")?;
+    push_sample(text, "ringpop_notices_untold", counts.notices_untold)?;
+    Ok(())
+}
+
 /// Returns the counts, and the number of members with each status, in the text format of Prometheus.
 ///
 /// # Errors
@@ -399,5 +425,6 @@ pub fn metrics_text(
     push_workers(&mut text, counts)?;
     push_questions(&mut text, counts)?;
     push_service(&mut text, counts)?;
+    push_notices(&mut text, counts)?;
     Ok(text)
 }

@@ -155,7 +155,7 @@ fn push_server(text: &mut String, server: &Change) -> Result<(), AllocError>
 }
 
 /// Appends the members that serve, with commas between them.
-fn push_servers(text: &mut String, servers: &[Change]) -> Result<(), AllocError>
+pub(crate) fn push_servers(text: &mut String, servers: &[Change]) -> Result<(), AllocError>
     ensures { OnOk result (string_bytes text.new ≡ string_bytes text.old ++ servers_list servers.now) }
 {
     for (i, server) in servers.iter().enumerate() {

@@ -43,6 +43,8 @@ mod service_tests;
 #[cfg(test)]
 mod share_tests;
 #[cfg(test)]
+mod telling_tests;
+#[cfg(test)]
 mod text_tests;
 #[cfg(test)]
 mod warning_tests;

@@ -193,6 +193,11 @@ ringpop_questions_used 16
 ringpop_questions_max 1000
 # TYPE ringpop_service_up gauge
 ringpop_service_up 1
+# TYPE ringpop_notices_total counter
+ringpop_notices_total{outcome=\"taken\"} 19
+ringpop_notices_total{outcome=\"failed\"} 20
+# TYPE ringpop_notices_untold gauge
+ringpop_notices_untold 1
 ";
 
 const COUNTS: Counts = Counts {
@@ -228,6 +233,9 @@ const COUNTS: Counts = Counts {
     questions_used: 16,
     questions_max: 1_000,
     service_up: 1,
+    notices_taken: 19,
+    notices_failed: 20,
+    notices_untold: 1,
 };
 
 #[test]

@@ -44,6 +44,7 @@ fn settings_of(alloc: Global, words: &AgentWords) -> Result<Settings, AgentError
     ensures app { IfOk result (λ s. s.app ≡ words.now.app) }
     ensures no_wait { IfOk result (λ s. s.following.no_wait ≡ words.now.following.no_wait) }
     ensures leave_after { IfOk result (λ s. s.following.leave_after ≡ words.now.following.leave_after) }
+    ensures tell_app { IfOk result (λ s. s.tell_app ≡ words.now.tell_app) }
     ensures hands { IfOk result (λ s. s.hands ≡ words.now.hands) }
     ensures http_connections { IfOk result (λ s. s.http_connections ≡ words.now.http_connections) }
     ensures period { IfOk result (λ s. s.period ≡ words.now.period) }
@@ -64,6 +65,7 @@ fn settings_of(alloc: Global, words: &AgentWords) -> Result<Settings, AgentError
             no_wait: words.following.no_wait,
             leave_after: words.following.leave_after,
         },
+        tell_app: words.tell_app,
         hands: words.hands,
         http_connections: words.http_connections,
         period: words.period,

@@ -138,6 +138,10 @@ hands = option (codes "hands") (codes "32") 1 256
 abbrev pub http_connections : Rule
 http_connections = option (codes "http-connections") (codes "10000") 1 65536
 
+-- `--tell-app`: whether the application is told of the ring; it needs `--app`
+abbrev pub tell_app : Rule
+tell_app = with_another (flag (codes "tell-app"))
+
 -- `--period` of an agent: the milliseconds between two rounds of gossip, from 1 to 60,000; 200 by default
 abbrev pub agent_period : Rule
 agent_period = option (codes "period") (codes "200") 1 60000
@@ -158,11 +162,11 @@ incarnation_option = record (new_rule (codes "incarnation")) {
 abbrev pub leave_after : Rule
 leave_after = option (codes "leave-after") (codes "10") 0 86400
 
--- `agent`: where it listens, and answers HTTP, and the application's address; its numbers, and the log; its own address and the hosts to join
+-- `agent`: where it listens, and answers HTTP, and the application's address; whether that is told of the ring; its numbers, and the log; its own address and the hosts to join
 abbrev pub agent_words : Shape
 agent_words = subcommand (codes "agent")
     (address_option (codes "bind") ∷ address_option (codes "http") ∷ flag (codes "http-any") ∷ address_option (codes "app")
-    ∷ flag (codes "no-wait-app") ∷ leave_after ∷ hands ∷ http_connections ∷ agent_period ∷ agent_per_message ∷ replicas ∷ weight ∷ incarnation_option ∷ log ∷ word (codes "address") ∷ hosts ∷ [])
+    ∷ flag (codes "no-wait-app") ∷ leave_after ∷ tell_app ∷ hands ∷ http_connections ∷ agent_period ∷ agent_per_message ∷ replicas ∷ weight ∷ incarnation_option ∷ log ∷ word (codes "address") ∷ hosts ∷ [])
 
 -- a command with no subcommand
 abbrev pub leaf : Shape → App

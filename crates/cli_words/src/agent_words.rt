@@ -56,6 +56,8 @@ pub struct AgentWords {
     pub app: Option<Address>,
     /// How the node follows that application.
     pub following: FollowingWords,
+    /// Whether the application is told of the ring.
+    pub tell_app: bool,
     /// The most requests of other nodes that the application is given at a time, 1 to 256.
     pub hands: u32,
     /// The most HTTP connections that are open at a time, 1 to 65,536.

@@ -91,6 +91,9 @@ pub const NO_WAIT_APP: &str = "no-wait-app";
 /// The argument for the seconds after which a node leaves if its application accepts no connection.
 pub const LEAVE_AFTER: &str = "leave-after";
 
+/// The argument for telling the application of the ring.
+pub const TELL_APP: &str = "tell-app";
+
 /// The argument for the most requests of other nodes that the application is given at a time.
 pub const HANDS: &str = "hands";
 
@@ -560,6 +563,19 @@ fn leave_after_option<'a>(alloc: Global) -> Arg<'a>
     )
 }
 
+/// The flag for telling the application of the ring, before the application is required.
+fn tell_flag<'a>(alloc: Global) -> Arg<'a>
+    ensures { rule_of result ≡ line.flag (codes "tell-app") }
+{
+    Arg::new(alloc, TELL_APP)
+        .long(TELL_APP)
+        .action(ArgAction::SetTrue)
+        .help(
+            "Send the application POST /moved with the ring at the start and after\n\
+             each change, again until it answers 200 to 299; it needs --app",
+        )
+}
+
 /// The option for the most requests of other nodes that the application is given at a time.
 fn hands_option<'a>(alloc: Global) -> Arg<'a>
     ensures { rule_of result ≡ line.hands }
@@ -640,7 +656,9 @@ fn agent_address<'a>(alloc: Global) -> Arg<'a>
     )
 }
 
-fn agent_command<'a>(alloc: Global) -> Result<Command<'a>, AllocError>
+/// The subcommand `agent` with this flag for telling the application of the ring.
+fn agent_command_with<'a>(alloc: Global, tell: Arg<'a>) -> Result<Command<'a>, AllocError>
+    requires { rule_of tell ≡ line.tell_app }
     ensures { IfOk result (λ c. app_of c ≡ leaf line.agent_words) }
 {
     let hosts = "Nodes that are asked to admit this one: the same list for all\n\
@@ -652,6 +670,7 @@ fn agent_command<'a>(alloc: Global) -> Result<Command<'a>, AllocError>
         app_option(alloc),
         no_wait_app_flag(alloc),
         leave_after_option(alloc),
+        tell,
         hands_option(alloc),
         http_connections_option(alloc),
         agent_period_option(alloc),
@@ -670,6 +689,13 @@ fn agent_command<'a>(alloc: Global) -> Result<Command<'a>, AllocError>
         BELOW_AGENT,
         words,
     )
+}
+
+fn agent_command<'a>(alloc: Global) -> Result<Command<'a>, AllocError>
+    ensures { IfOk result (λ c. app_of c ≡ leaf line.agent_words) }
+{
+    let tell = tell_flag(alloc).requires_arg(APP)?;
+    agent_command_with(alloc, tell)
 }
 
 /// Returns `agent` as it stands in the usage line of its refusals.

@@ -2,7 +2,7 @@
 use change_core::{Address, Incarnation, Weight};
 use log::LevelFilter;
 
-/// How an agent follows its application into the ring and out of it.
+/// The way in which an agent follows its application into the ring and out of it.
 #[derive(Clone, Copy, Debug, PartialEq, Eq)]
 pub struct Following {
     /// Whether the node joins without waiting for its application.

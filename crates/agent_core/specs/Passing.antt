@@ -41,7 +41,7 @@ status_in (hundreds ∷ tens ∷ ones ∷ []) =
     cond (is_within 50 53 hundreds && (is_within 48 57 tens && is_within 48 57 ones)) (Some (100 * (hundreds - 48) + 10 * (tens - 48) + (ones - 48))) None
 status_in other = None
 
--- whether a name is that of a field for one connection alone (RFC 9110, section 7.6.1), or of one that an agent makes anew
+-- whether a name is that of a field for one connection alone (RFC 9110, section 7.6.1), or of one that an agent makes itself
 abbrev pub is_of_connection : List ℕ → Bool
 is_of_connection name =
     bytes_eq name (codes "connection") || (bytes_eq name (codes "proxy-connection") || (bytes_eq name (codes "keep-alive")

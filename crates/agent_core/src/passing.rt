@@ -169,7 +169,7 @@ fn status_in(digits: &[u8]) -> Option<u16>
     number_in(digits)
 }
 
-/// Returns the answer whose parts these are; None if they are no answer's.
+/// Returns the answer whose parts these are; None if they are not those of an answer.
 ///
 /// # Errors
 ///
@@ -199,7 +199,7 @@ pub fn answer_of<'a>(
 }
 
 /// Returns whether a field of this name, in lower case, is not passed on: it is for one connection alone (RFC 9110, section
-/// 7.6.1), or the agent makes it anew.
+/// 7.6.1), or the agent makes it itself.
 pub fn is_of_connection(name: &str) -> bool
     ensures { result ≡ is_of_connection name.now }
 {

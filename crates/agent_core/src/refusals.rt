@@ -172,7 +172,7 @@ impl Refusal {
             Refusal::ApplicationFailed => "application-failed",
             Refusal::Unanswered(Failure::NotAccepted) => "application-not-accepting",
             Refusal::Unanswered(Failure::HungUp) => "application-hung-up",
-            Refusal::Unanswered(Failure::NoAnswer) => "application-silent",
+            Refusal::Unanswered(Failure::NoAnswer) => "application-unresponsive",
             Refusal::Unanswered(Failure::BadAnswer) => "application-bad-answer",
             Refusal::ApplicationDown => "application-down",
             Refusal::NotJoined => "not-joined",
@@ -180,13 +180,13 @@ impl Refusal {
             Refusal::ApplicationAwaited => "application-awaited",
             Refusal::CannotAccept => "cannot-accept",
             Refusal::NoRounds => "no-rounds",
-            Refusal::Nobody => "nobody-serves",
+            Refusal::Nobody => "no-member-serves",
             Refusal::Busy => "busy",
             Refusal::ManyQuestions => "many-questions",
             Refusal::OwnerBusy(_) => "owner-busy",
             Refusal::Spent => "no-calls",
             Refusal::Memory => "memory",
-            Refusal::OwnerSilent => "owner-silent",
+            Refusal::OwnerSilent => "owner-unresponsive",
         }
     }
 

@@ -3,7 +3,7 @@
 ghost use Rattle.std.specs.Prelude.{◌≡◌, true, false};
 ghost use Rattle.agent_core.specs.Services.{move_of, watched};
 
-/// What a node does once its service was observed.
+/// The move of a node once its service was observed.
 #[derive(Clone, Copy, Debug, PartialEq, Eq)]
 pub enum Move {
     /// It stays where it is, in the ring or out of it.

@@ -52,7 +52,7 @@ fn reads_request(alloc: Global, text: &str, is_cut: bool) -> Result<bool, AllocE
     )
 }
 
-/// Returns the status of the answer with these digits for its status; None if it is no answer.
+/// Returns the status of the answer with these digits for its status; None if it is not that of an answer.
 fn status_of(alloc: Global, digits: &[u8]) -> Result<Option<u16>, AllocError> {
     let mut bytes = Vec::new(alloc);
     push_part(&mut bytes, digits)?;

@@ -62,8 +62,8 @@ fn tells_refusals_apart(rt: HostRuntime) {
     for (refusal, word) in &[
         (Refusal::Malformed(Part::Key), "bad-key"),
         (Refusal::Busy, "busy"),
-        (silent, "application-silent"),
-        (Refusal::OwnerSilent, "owner-silent"),
+        (silent, "application-unresponsive"),
+        (Refusal::OwnerSilent, "owner-unresponsive"),
     ] {
         assert!(rt; refusal.word() == *word, "{word}");
     }

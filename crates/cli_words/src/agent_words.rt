@@ -31,7 +31,7 @@ pub enum LogLevel {
 /// The greatest number of seconds after which a node leaves if its application accepts no connection.
 pub const MAX_LEAVE_AFTER: u64 = 86_400;
 
-/// How an agent follows its application into the ring and out of it.
+/// The way in which an agent follows its application into the ring and out of it.
 #[derive(Clone, Copy, Debug, PartialEq, Eq)]
 pub struct FollowingWords {
     /// Whether the node joins without waiting for its application.

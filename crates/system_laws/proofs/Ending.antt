@@ -123,21 +123,20 @@ replies_are_handled hash_of Came went handled keys body text message answer now 
     (subst (λ (c : Content). Serves hash_of Came (between handled was is) message now c (Ok answer) acts) asked served)
 
 pub texts_are_done : {L H A : Type 0} (hash_of : H → List ℕ → ℕ) (Came : MayAnswer) (went : Went L) (handled : Handled A) → TextsAreDone hash_of Came went handled
-texts_are_done {L} {H} {A} hash_of Came went handled brought keys body text was is old new acts sent =
+texts_are_done {L} {H} {A} hash_of Came went handled reaches brought keys body text was is old new acts sent =
     go (requests_end hash_of Came went handled keys body (Ok text) was is old new acts sent)
   where
     there : (view : Viewed H) (answer : Result Message LinkError) (mid : L) → Contains acts (looked (Ok view)) → GoesToOwner hash_of went keys body view answer mid new
         → IsResultOf answer (Ok text)
         → (view : Viewed H) × Contains acts (looked (Ok view))
         × ((message : Message) × ((gone : GoesToOwner hash_of went keys body view (Ok message) mid new) × (message.content ≡ content.Reply text)
-        × ((its : Viewed H) × (its.own ≡ gone.0) × AllOwnedBy hash_of its keys (Some gone.0)
+        × ((its : Viewed H) × (reaches gone.0 its.own ≡ true) × AllOwnedBy hash_of its keys (Some its.own)
         × ((before after : A) × handled keys body (Ok text) before after))))
     there view answer mid has gone (message, is, told) =
         let (owner, owned, other, over) = subst (λ (x : Result Message LinkError). GoesToOwner hash_of went keys body view x mid new) is gone in
-        let (now, (before, after, (more, at_owner, served))) = brought owner (message_from view (content.Forward keys body)) message mid new over in
-        let ((its, seen, owns), called) =
-        replies_are_handled hash_of Came went handled keys body text (message_from view (content.Forward keys body)) message now before after more refl told served in
-        let own_is = at_owner its seen in (
+        let (at, reached, (asked, same, (now, (before, after, (more, is_at, served))))) =
+        brought owner (message_from view (content.Forward keys body)) message mid new over in
+        let ((its, seen, owns), called) = replies_are_handled hash_of Came went handled keys body text asked message now before after more same told served in (
           view,
           has,
           (
@@ -145,12 +144,12 @@ texts_are_done {L} {H} {A} hash_of Came went handled brought keys body text was 
             (
               (owner, owned, other, over),
               told,
-              (its, own_is, subst (λ (a : Address). AllOwnedBy hash_of its keys (Some a)) own_is owns, (before, after, called)),
+              (its, subst (λ (a : Address). reaches owner a ≡ true) (sym (is_at its seen)) reached, owns, (before, after, called)),
             ),
           ),
         )
 
-    go : Ends hash_of went handled keys body (Ok text) was is old new acts → IsDone hash_of went handled keys body text was is old new acts
+    go : Ends hash_of went handled keys body (Ok text) was is old new acts → IsDone hash_of went handled keys body reaches text was is old new acts
     go (failed, few, all, (mid, over, inl ((owns, (answer, called, same)), stays))) =
         (failed, few, all, (mid, over, inl (owns, subst (λ (x : Result (List ℕ) HandlerFault). handled keys body x was is) (given_by answer text same) called, stays)))
     go (failed, few, all, (mid, over, inr (unmoved, inl (view, has, (answer, gone, is_so))))) =

@@ -1,5 +1,5 @@
 -- How a request ends: at the handler of the node that it entered at, at that of the owner to which it went, or by an error.
-use Rattle.std.specs.Prelude.{◌≡◌, ◌⊎◌, ℕ, ◌≤◌, length, map, List, Contains, Some, Result, Ok, Err}
+use Rattle.std.specs.Prelude.{◌≡◌, ◌⊎◌, ℕ, ◌≤◌, Bool, true, length, map, List, Contains, Some, Result, Ok, Err}
 use Rattle.std.specs.List.{All}
 use Rattle.change_core.specs.declared.addresses.Address.{Address}
 use Rattle.message_core.specs.declared.messages.Content.TheVariants.{Forward, Reply}
@@ -42,17 +42,17 @@ module _ {L H A : Type 0} (hash_of : H → List ℕ → ℕ) (went : Went L) (ha
       × ((mid : L) × ForwardsOver hash_of went keys body failed old mid
       × ((EndsHere r was is acts × (new ≡ mid)) ⊎ ((is ≡ was) × (EndsThere r mid new acts ⊎ ((new ≡ mid) × ((e : ClusterError) × (r ≡ Err e)))))))
 
-  -- the same of a request that has this text: it was given by one call of a handler, that of this node, or that of the owner to which the last Forward
-  -- went, and which owned the keys by a view of its own
-  abbrev pub IsDone : List ℕ → A → A → L → L → OfActs H
-  IsDone text was is old new acts =
+  -- the same of a request that has this text: it was given by one call of a handler, that of this node, or that of a node which the one called, the owner
+  -- by a view of this node, reaches, and which owned the keys by a view of its own
+  abbrev pub IsDone : (Address → Address → Bool) → List ℕ → A → A → L → L → OfActs H
+  IsDone reaches text was is old new acts =
       (failed : List (Sending H)) × (length failed ≤ most_sends) × All IsFailure (map (λ (s : Sending H). s.1) failed)
       × ((mid : L) × ForwardsOver hash_of went keys body failed old mid
       × ((OwnsAll hash_of keys acts × handled keys body (Ok text) was is × (new ≡ mid))
       ⊎ ((is ≡ was)
       × ((view : Viewed H) × Contains acts (looked (Ok view))
       × ((message : Message) × ((gone : GoesToOwner hash_of went keys body view (Ok message) mid new) × (message.content ≡ Reply text)
-      × ((its : Viewed H) × (its.own ≡ gone.0) × AllOwnedBy hash_of its keys (Some gone.0)
+      × ((its : Viewed H) × (reaches gone.0 its.own ≡ true) × AllOwnedBy hash_of its keys (Some its.own)
       × ((before after : A) × handled keys body (Ok text) before after))))))))
 
 module _ {L H A : Type 0} (hash_of : H → List ℕ → ℕ) (Came : MayAnswer) (went : Went L) (handled : Handled A) where
@@ -69,15 +69,18 @@ module _ {L H A : Type 0} (hash_of : H → List ℕ → ℕ) (Came : MayAnswer) 
       → message.content ≡ Forward keys body → answer.content ≡ Reply text
       → Serves hash_of Came (between handled was is) message now message.content (Ok answer) acts → OwnsAll hash_of keys acts × handled keys body (Ok text) was is
 
-  -- each answer that comes over the link for a message was made by the node that was called, which served that message
-  abbrev pub AreServed : Type 0
-  AreServed =
+  -- each answer that comes over the link for a message was made by a node that the one called reaches: itself, or one to which it passes messages on as
+  -- its own. That node served a message of the same content.
+  abbrev pub AreServed : (Address → Address → Bool) → Type 0
+  AreServed reaches =
       (to : Address) (message answer : Message) (old new : L) → went to message (Ok answer) old new
-      → (now : ℕ) × ((before after : A) × ((acts : List (Act H)) × IsNodeAt to acts
-      × Serves hash_of Came (between handled before after) message now message.content (Ok answer) acts))
+      → (at : Address) × (reaches to at ≡ true) × ((served : Message) × (served.content ≡ message.content)
+      × ((now : ℕ) × ((before after : A) × ((acts : List (Act H)) × IsNodeAt at acts
+      × Serves hash_of Came (between handled before after) served now served.content (Ok answer) acts))))
 
-  -- so a request that has a text was done so
+  -- so a request that has a text was done so, whichever nodes a node reaches
   abbrev pub TextsAreDone : Type 0
   TextsAreDone =
-      AreServed → (keys : List (List ℕ)) (body text : List ℕ) (was is : A) (old new : L) (acts : List (Act H))
-      → SendsRequest hash_of went handled keys body (Ok text) was is old new acts → IsDone hash_of went handled keys body text was is old new acts
+      (reaches : Address → Address → Bool) → AreServed reaches
+      → (keys : List (List ℕ)) (body text : List ℕ) (was is : A) (old new : L) (acts : List (Act H))
+      → SendsRequest hash_of went handled keys body (Ok text) was is old new acts → IsDone hash_of went handled keys body reaches text was is old new acts

@@ -70,9 +70,9 @@ pub fn one_owner<H: PointHash, L: Link, A: HandlerMut>()
 /// node's own handler is not called.
 ///
 /// A node that answers a Forward by a Reply owns its keys, and called its handler once, which gave that text. So a text was given by
-/// one call of one handler, of the node that the request entered at or of the owner to which the Forward went, and which owned the keys
-/// by a view of its own: if each answer that comes over the link was made by the node that was called, which served the message. If no
-/// Forward failed, no other was sent: the request was done exactly once.
+/// one call of one handler: of the node that the request entered at, or of one that owned the keys by a view of its own, and that the owner
+/// to which the Forward went reaches, which is itself if it passes nothing on. That is if each answer that comes over the link was made
+/// by such a node, which served a message of that content. If no Forward failed, no other was sent: the request was done exactly once.
 pub fn done_once<H: PointHash, L: Link, A: HandlerMut>()
     ensures ends { RequestsEnd H.hash_of L.may_answer L.went A.handled }
     ensures replies { RepliesAreHandled H.hash_of L.may_answer L.went A.handled }

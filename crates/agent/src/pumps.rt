@@ -1,5 +1,5 @@
 //! A step of a connection, over a reader and a writer that give up after a time: it goes on until one of them does.
-ghost use Rattle.std.specs.Prelude.{◌≡◌, ℕ, List, ◌++◌, [], Ok};
+ghost use Rattle.std.specs.Prelude.{◌≡◌, ◌<◌, ℕ, List, length, ◌++◌, [], Ok};
 ghost use Rattle.std.specs.Io.KnownBytes.{Appends, Consumes};
 ghost use Rattle.http_server.specs.Connection.{config_of, history};
 ghost use Rattle.http_server.specs.History.{IsDone, Rests};
@@ -22,7 +22,7 @@ pub enum Pause {
 }
 
 /// Reads, answers and writes until the connection is done, or its reader or its writer would block. Where it waits for input, each whole
-/// request that was received is answered, and each answer is written.
+/// request that was received is answered, and each answer is written. Where it waits for room, a part of an answer is not written.
 ///
 /// # Errors
 ///
@@ -36,6 +36,7 @@ pub fn pump<S: Service, R: Read, W: Write>(
 ) -> io::Result<Pause>
     ensures done { result ≡ Ok pause.Done → IsDone (history connection.new) }
     ensures input { result ≡ Ok pause.Input → Rests (config_of connection.new) (history connection.new) }
+    ensures room { result ≡ Ok pause.Room → 0 < length (history connection.new).pending }
     ensures flushed { result ≡ Ok pause.Input → (history connection.new).pending ≡ [] }
     ensures read { (more : List ℕ)
         × Consumes (R.remaining reader.old) (R.remaining reader.new) more

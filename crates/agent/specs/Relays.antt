@@ -1,5 +1,6 @@
 -- A request of another node that is passed on to its owner.
-use Rattle.std.specs.Prelude.{◌≡◌, ◌≢◌, ◌⊎◌, ◌≤◌, ℕ, List, [], ◌∷◌, length, slice_get, Some, IfOk, Result, Ok, Err}
+use Rattle.std.specs.Prelude.{◌≡◌, ◌≢◌, ◌⊎◌, ◌≤◌, ℕ, List, [], ◌∷◌, length, slice_get, Option, Some, None, IfOk, Result, Ok, Err, Vec}
+use Rattle.std.specs.Global.{Global}
 use Rattle.change_core.specs.Status.{IsServing}
 use Rattle.change_core.specs.declared.addresses.Address.{Address}
 use Rattle.change_core.specs.declared.changes.Change.{Change}
@@ -76,6 +77,11 @@ IsRelayedAs answer Lost = IsReply answer
 IsRelayedAs answer NoReply = ¬ (IsNotDone answer) × ¬ (IsReply answer)
 IsRelayedAs answer NotDone = IsNotDone answer
 
+-- what goes back where this node does not answer a request itself: the line of the Reply, or nothing
+abbrev pub sent_back : Relayed → Option (Vec ℕ Global)
+sent_back (Reply line) = Some line
+sent_back other = None
+
 module _ {L : Type 0} (Came : MayAnswer) (went : Went L) where
   -- the sender of the request was sent a Join, and its Joined came
   abbrev pub Meets : Message → L → L → OfActs Sha256Hash
@@ -100,7 +106,7 @@ module _ {L : Type 0} (Came : MayAnswer) (went : Went L) where
       (owner : Address) × (own : Change) × (mid : L) × Then (Chooses request owner old mid) (Just (did call.Own (reply.Own own))) acts
       × IsRelayed owner (message_by own request.content) relayed mid new
 
-  -- no request goes over the link: of messages that the node made, at most a Join to one node
+  -- no request goes over the link, only messages that the node made, of which one at most is a Join
   abbrev pub Withholds : L → L → Calling → Calling → Type 0
   Withholds before after old new = (hosts : List Address) × (length hosts ≤ 1) × HasMade (SendsTo went hosts before after) old new
 

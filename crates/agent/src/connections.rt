@@ -1,5 +1,5 @@
 //! HTTP connections of clients: what comes over one while a worker serves it, what goes, and what is kept of it until the next visit.
-ghost use Rattle.std.specs.Prelude.{◌≡◌, Ok, false, IfSome, box_value};
+ghost use Rattle.std.specs.Prelude.{◌≡◌, ◌≢◌, ◌<◌, Ok, cond, false, length, true, IfNone, IfSome, box_value};
 ghost use Rattle.std.specs.Io.{ReadsAtMost, WritesAtMost};
 ghost use Rattle.http_server.specs.Connection.{config_of, history};
 ghost use Rattle.http_server.specs.History.{IsDone, new_history};
@@ -42,7 +42,8 @@ pub struct Came {
     pub unread: Vec<u8>,
 }
 
-/// A connection between two visits. Each whole request that came is answered, and each answer is written, unless it waits for room.
+/// A connection between two visits. Each whole request that its HTTP has read is answered, and each answer is written, unless it waits for room: then a
+/// part of an answer is not.
 #[derive(Drop)]
 pub struct Kept {
     pub connection: Box<Connection>,
@@ -52,6 +53,7 @@ pub struct Kept {
     pub came: Came,
     ghost limits: { config_of (box_value connection) ≡ connection_limits },
     ghost settled: { is_full ≡ false → IsSettled (history (box_value connection)) },
+    ghost owing: { is_full ≡ true → 0 < length (history (box_value connection)).pending },
 }
 
 /// The requests of a visit, each of which has to come in its time.
@@ -228,7 +230,7 @@ pub fn new_connection(alloc: Global, keys: RandomState) -> Connection
 }
 
 /// Serves a connection over its reader and its writer until it is done, or one of them would block. Where it waits for its client, each whole
-/// request that came is answered, and each answer is written.
+/// request that came is answered, and each answer is written. Where it waits for room, a part of an answer is not written.
 ///
 /// # Errors
 ///
@@ -242,17 +244,21 @@ pub fn serve_over<R: Host, I: Read, O: Write>(
     requires { config_of connection.old ≡ connection_limits }
     ensures answers { SendsAnswers front.old.agent.now.own front.old.agent.now.replicas (history connection.old) (history connection.new) (I.remaining reader.old) (I.remaining reader.new) (O.contents writer.old) (O.contents writer.new) front.old.caller.now front.new.caller.now }
     ensures settled { result ≡ Ok pause.Input → IsSettled (history connection.new) }
+    ensures owing { result ≡ Ok pause.Room → 0 < length (history connection.new).pending }
     ensures done { result ≡ Ok pause.Done → IsDone (history connection.new) }
     ensures limits { config_of connection.new ≡ connection_limits }
 {
     pump(connection, front, reader, writer)
 }
 
-/// Returns a connection as it is kept, by what it waits for and what came; None if it is done, or failed.
+/// Returns a connection as it is kept, by what it waits for and what came; None if and only if it is done, or failed.
 pub fn kept_of(waits: io::Result<Pause>, connection: Box<Connection>, came: Came) -> Option<Kept>
     requires limits { config_of (box_value connection) ≡ connection_limits }
     requires settled { waits ≡ Ok pause.Input → IsSettled (history (box_value connection)) }
-    ensures same { IfSome result (λ kept. kept.connection ≡ connection) }
+    requires owing { waits ≡ Ok pause.Room → 0 < length (history (box_value connection)).pending }
+    ensures same { IfSome result (λ kept. (kept.connection ≡ connection) × (kept.came ≡ came)) }
+    ensures room { IfSome result (λ kept. waits ≡ Ok (cond kept.is_full pause.Room pause.Input)) }
+    ensures ended { IfNone result ((waits ≢ Ok pause.Input) × (waits ≢ Ok pause.Room)) }
 {
     match waits {
         Ok(Pause::Input) => Some(Kept {

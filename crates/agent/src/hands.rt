@@ -4,7 +4,7 @@ use crate::applications::Limited;
 use crate::callers::Caller;
 use crate::links::NotedHandler;
 use crate::peers::{Job, line_for, send_back};
-use crate::relays::{Relayed, millis_left, relay, relay_link};
+use crate::relays::{line_after, millis_left, relay, relay_link};
 use crate::systems::Host;
 use cluster_core::TcpLink;
 use crossbeam_channel::Receiver;
@@ -44,10 +44,10 @@ fn serve_request<R: Host>(
     let (mut line, was_asked) = own_answer(agent, alloc, caller, link, &job);
     if !was_asked {
         let mut relay_link = relay_link(agent);
-        line = match relay(agent, alloc, caller, &mut relay_link, &mut job) {
-            Relayed::Reply(reply) => Some(reply),
-            Relayed::Lost | Relayed::NoReply => None,
-            Relayed::NotDone => own_answer(agent, alloc, caller, link, &job).0,
+        let relayed = relay(agent, alloc, caller, &mut relay_link, &mut job);
+        line = match line_after(relayed) {
+            Some(line) => line,
+            None => own_answer(agent, alloc, caller, link, &job).0,
         };
         agent.renew(caller);
     }

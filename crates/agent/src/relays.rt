@@ -1,11 +1,11 @@
 //! Requests that other nodes sent to this one though it does not own them: they are passed on to the owner, and its reply
 //! goes back.
-ghost use Rattle.std.specs.Prelude.{◌≡◌, ◌≤◌, ◌∷◌, ◌/◌, [], cond, IfNone, IfSome, IsTrue};
+ghost use Rattle.std.specs.Prelude.{◌≡◌, ◌≢◌, ◌≤◌, ◌↔◌, ◌∷◌, ◌/◌, [], cond, IfNone, IfSome, IsTrue};
 ghost use Rattle.peer_core.specs.Acts.{Then};
 ghost use Rattle.peer_core.specs.Exchanges.{SendsTo};
 ghost use Rattle.peer_core.specs.Serving.{message_by};
 ghost use Rattle.agent.specs.Calling.{HasMade};
-ghost use Rattle.agent.specs.Relays.{Chooses, HasNoOwnerBy, IsOwnerBy, IsNotReturned, IsPassedOn, IsRelayOf, IsRelayed, IsRelayedAs, Keeps, MakesNone, Meets, Names, NamesNobody};
+ghost use Rattle.agent.specs.Relays.{Chooses, HasNoOwnerBy, IsOwnerBy, IsNotReturned, IsPassedOn, IsRelayOf, IsRelayed, IsRelayedAs, Keeps, MakesNone, Meets, Names, NamesNobody, sent_back};
 
 use crate::agents::Agent;
 use crate::callers::Caller;
@@ -46,6 +46,19 @@ pub enum Relayed {
     NotDone,
 }
 
+/// Returns what goes back for a request by what came of passing it on: the line of the Reply that came, or nothing, since the owner may have performed it.
+/// None if and only if no other node performed it: then this one answers.
+pub fn line_after(relayed: Relayed) -> Option<Option<Vec<u8>>>
+    ensures again { IfNone result (relayed ≡ Relayed.NotDone) }
+    ensures sent { IfSome result (λ line. (relayed ≢ Relayed.NotDone) × (line ≡ sent_back relayed)) }
+{
+    match relayed {
+        Relayed::Reply(line) => Some(Some(line)),
+        Relayed::Lost | Relayed::NoReply => Some(None),
+        Relayed::NotDone => None,
+    }
+}
+
 /// Returns how many milliseconds a request that came at this moment has left.
 pub fn millis_left<R: Host>(agent: &Agent<R>, since: Moment) -> u64
     ensures { result ≤ MAX_WAIT }
@@ -54,9 +67,11 @@ pub fn millis_left<R: Host>(agent: &Agent<R>, since: Moment) -> u64
     MAX_WAIT.saturating_sub(waited)
 }
 
-/// Returns whether enough time is left to pass on a request that came at this moment.
-fn has_time<R: Host>(agent: &Agent<R>, since: Moment) -> bool {
-    millis_left(agent, since) >= MAX_RELAY
+/// Returns whether these milliseconds are enough to pass a request on.
+fn has_time(left: u64) -> bool
+    ensures { IsTrue result ↔ MAX_RELAY ≤ left }
+{
+    left >= MAX_RELAY
 }
 
 /// Makes a link by which a request is passed on: it waits for an answer as long as an owner may take.
@@ -112,7 +127,7 @@ fn meet_sender<R: Host, L: Link>(
     ensures met { IsTrue result → HasMade (Meets L.may_answer L.went request.now link.old link.new) caller.old caller.new }
     ensures sent { HasMade (SendsTo L.went (request.now.source ∷ []) link.old link.new) caller.old caller.new }
 {
-    if !has_time(agent, since) {
+    if !has_time(millis_left(agent, since)) {
         return false;
     }
     let joined = caller.join(&agent.rt, alloc, link, request.source, agent.now());
@@ -231,7 +246,7 @@ fn ask_owner<R: Host, L: Link>(
     let Ok(own) = caller.own(&agent.rt) else {
         return Relayed::NotDone;
     };
-    if !has_time(agent, since) {
+    if !has_time(millis_left(agent, since)) {
         return Relayed::NotDone;
     }
     agent.counters.passed_on.add(1);

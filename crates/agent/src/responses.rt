@@ -71,6 +71,7 @@ fn kind_of(is_json: bool) -> Kind
 }
 
 /// Adds the field with a refusal's word, by which a client tells it from an answer of the application.
+#[tactic(auto, using(crate::proofs::Worded::word_visible))]
 fn put_word(response: &mut Response, refusal: &Refusal) -> Result<(), AllocError>
     ensures status { response.new.status ≡ response.old.status }
     ensures body { response.new.body ≡ response.old.body }

@@ -202,21 +202,17 @@ impl Refusal {
     pub fn sent(status: u16, body: &str) -> Option<Refusal>
         ensures { result ≡ sent status body.now }
     {
-        let failed = Refusal::Unanswered(Failure::NotAccepted);
-        if failed.is_answer(status, body) {
-            return Some(failed);
+        if Refusal::Unanswered(Failure::NotAccepted).is_answer(status, body) {
+            return Some(Refusal::Unanswered(Failure::NotAccepted));
         }
-        let failed = Refusal::Unanswered(Failure::HungUp);
-        if failed.is_answer(status, body) {
-            return Some(failed);
+        if Refusal::Unanswered(Failure::HungUp).is_answer(status, body) {
+            return Some(Refusal::Unanswered(Failure::HungUp));
         }
-        let failed = Refusal::Unanswered(Failure::NoAnswer);
-        if failed.is_answer(status, body) {
-            return Some(failed);
+        if Refusal::Unanswered(Failure::NoAnswer).is_answer(status, body) {
+            return Some(Refusal::Unanswered(Failure::NoAnswer));
         }
-        let failed = Refusal::Unanswered(Failure::BadAnswer);
-        if failed.is_answer(status, body) {
-            return Some(failed);
+        if Refusal::Unanswered(Failure::BadAnswer).is_answer(status, body) {
+            return Some(Refusal::Unanswered(Failure::BadAnswer));
         }
         Refusal::Busy
             .is_answer(status, body)

@@ -1,7 +1,12 @@
 -- The conditions of the log's warnings.
-use Rattle.std.specs.Prelude.{◌+◌, ◌==◌, ◌&&◌, nat_le, min, Bool, not, cond, ℕ}
+use Rattle.std.specs.Prelude.{◌+◌, ◌/◌, ◌==◌, ◌&&◌, ◌||◌, nat_le, nat_lt, min, Bool, not, cond, ℕ}
+use Rattle.change_core.specs.Numbers.{most_members}
 use Rattle.agent_core.specs.declared.warnings.Refutations.{Refutations}
 use Rattle.agent_core.specs.declared.warnings.Notice.{Notice}
+
+-- whether a number of addresses, which was less before, is reason for a warning: 3,000 or more, and another hundred, or the most that there may be
+abbrev pub are_many : ℕ → ℕ → Bool
+are_many before now = nat_le 3000 now && (nat_lt (before / 100) (now / 100) || ((now == most_members) && nat_lt before now))
 
 -- the window to which the next round belongs: after 50 rounds another begins
 abbrev pub window : Refutations → Refutations

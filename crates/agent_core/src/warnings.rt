@@ -1,8 +1,8 @@
 //! The conditions of the log's warnings.
 ghost use Rattle.std.specs.Prelude.{◌≡◌, ◌+◌, ◌≤◌, ◌<◌, ◌/◌, ◌↔◌, IsTrue, false};
-ghost use Rattle.agent_core.specs.Warnings.{is_news, is_often, is_over, noted, told};
+ghost use Rattle.agent_core.specs.Warnings.{are_many, is_news, is_often, is_over, noted, told};
 
-use change_core::Moment;
+use change_core::{MAX_MEMBERS, Moment};
 
 /// The number of addresses from which on a node warns that they may run out.
 pub const MANY_ADDRESSES: usize = 3_000;
@@ -28,11 +28,11 @@ pub fn is_live(last: u64, now: u64) -> bool
 }
 
 /// Returns whether the number of addresses used, which was `before` and is `now`, is reason for a warning: it is 3,000 or
-/// more, and has reached another hundred.
+/// more, and has reached another hundred, or 4,096, the most that there may be.
 pub fn are_many_addresses(before: usize, now: usize) -> bool
-    ensures { IsTrue result ↔ ((3000 ≤ now) × (before / 100 < now / 100)) }
+    ensures { result ≡ are_many before now }
 {
-    now >= MANY_ADDRESSES && before / 100 < now / 100
+    now >= MANY_ADDRESSES && (before / 100 < now / 100 || (now == MAX_MEMBERS && before < now))
 }
 
 /// The rounds of the present window, 50 at most, and how many of them were refuted: the node's own entry changed in them

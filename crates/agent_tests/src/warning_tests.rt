@@ -2,13 +2,15 @@ use agent_core::{Notice, Refutations, are_many_addresses, is_live};
 use change_core::Moment;
 
 /// A number of addresses, a later one, and whether the later one is reason for a warning.
-const ADDRESSES: [(usize, usize, bool); 6] = [
+const ADDRESSES: [(usize, usize, bool); 8] = [
     (0, 2_999, false),
     (2_999, 3_000, true),
     (3_000, 3_099, false),
     (3_099, 3_100, true),
     (3_100, 3_100, false),
     (0, 4_096, true),
+    (4_095, 4_096, true),
+    (4_096, 4_096, false),
 ];
 
 #[test]

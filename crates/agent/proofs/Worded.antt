@@ -28,6 +28,7 @@ word_visible (refusal.Unanswered failure.NoAnswer) = refl
 word_visible (refusal.Unanswered failure.BadAnswer) = refl
 word_visible refusal.ApplicationDown = refl
 word_visible refusal.NotJoined = refl
+word_visible (refusal.JoinRefused why) = refl
 word_visible refusal.HasLeft = refl
 word_visible refusal.ApplicationAwaited = refl
 word_visible refusal.CannotAccept = refl

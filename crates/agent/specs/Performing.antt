@@ -164,11 +164,16 @@ Stops (Ok left) outcome = Says (codes "stopping") outcome
 Stops (Err error.AlreadyLeft) outcome = Says (codes "stopping") outcome
 Stops (Err e) outcome = outcome ≡ Err (refusal_of e)
 
+-- no host has admitted the node: none has answered, or one has refused it
+abbrev pub IsUnjoined : Refusal → Type 0
+IsUnjoined (refusal.JoinRefused reason) = Unit {0}
+IsUnjoined why = why ≡ refusal.NotJoined
+
 -- the agent handles requests, or why it does not
 abbrev pub IsHealth : Outcome → Type 0
 IsHealth (Ok shown) = IsText kind.Text (codes "ok" ++ 10 ∷ []) shown
 IsHealth (Err why) =
-    (why ≡ refusal.NotJoined) ⊎ ((why ≡ refusal.HasLeft) ⊎ ((why ≡ refusal.ApplicationAwaited) ⊎ ((why ≡ refusal.CannotAccept) ⊎ (why ≡ refusal.ApplicationDown))))
+    IsUnjoined why ⊎ ((why ≡ refusal.HasLeft) ⊎ ((why ≡ refusal.ApplicationAwaited) ⊎ ((why ≡ refusal.CannotAccept) ⊎ (why ≡ refusal.ApplicationDown))))
 
 -- the agent makes rounds, or it does not
 abbrev pub IsLiveness : Outcome → Type 0

@@ -4,6 +4,7 @@ use crate::callers::{Caller, Passes};
 use crate::counters::{Count, Counters};
 use crate::journals::Journal;
 use crate::notices::Notices;
+use crate::rejections::Refused;
 use crate::systems::Host;
 use crate::tellers::Teller;
 use crate::waiting::Waiting;
@@ -89,6 +90,7 @@ pub struct Agent<R> {
     pub notices: Notices,
     /// What the log said last of nodes that disown what this node's members give them.
     pub disowners: Notices,
+    pub refused: Refused,
     /// Whether hosts are given, and not all were asked yet, nor has one answered: no request of a key is answered.
     pub is_starting: Flag,
     pub has_joined: Flag,
@@ -181,6 +183,7 @@ impl<R: Host> Agent<R> {
             notices_taken: self.teller.taken.get(),
             notices_failed: self.teller.failed.get(),
             notices_untold: self.teller.untold.get(),
+            refusals: self.refused.counts(),
             ..self.counters.counts()
         }
     }

@@ -1,5 +1,5 @@
 //! The counters of an agent.
-use agent_core::{BUCKETS, Counts, PortCounts, WaitingCounts, bucket_of};
+use agent_core::{BUCKETS, Counts, PortCounts, RefusalCounts, WaitingCounts, bucket_of};
 use peer_core::{ClusterError, Round};
 use std::sync::atomic::{AtomicU64, Ordering};
 
@@ -160,6 +160,7 @@ impl Counters {
             notices_taken: 0,
             notices_failed: 0,
             notices_untold: 0,
+            refusals: RefusalCounts::default(),
         }
     }
 }

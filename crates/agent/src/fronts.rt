@@ -7,7 +7,7 @@ ghost use Rattle.peer_core.specs.Parts.{Does, Tries};
 ghost use Rattle.agent_core.specs.declared.actions.Action.TheVariants as action;
 ghost use Rattle.agent.specs.Answers.{IsAnswered, Settles, ShowsOutcome};
 ghost use Rattle.agent.specs.Calling.{HasMade};
-ghost use Rattle.agent.specs.Performing.{AsksIfPlaced, AsksOwner, Finds, IsFound, IsHealth, IsLiveness, Outcome, Performs, ShowsCounts, ShowsMembers, ShowsOwners, crowded, digest_by, refusal_of};
+ghost use Rattle.agent.specs.Performing.{AsksIfPlaced, AsksOwner, Finds, IsFound, IsHealth, IsLiveness, IsUnjoined, Outcome, Performs, ShowsCounts, ShowsMembers, ShowsOwners, crowded, digest_by, refusal_of};
 
 use crate::agents::{Agent, Flag, Phase};
 use crate::callers::Caller;
@@ -23,7 +23,7 @@ use hash_ring::Sha256Hash;
 use http::{Request, StatusCode};
 use http_server::{Response, Service};
 use member_core::MemberTable;
-use message_core::{Keys, Text};
+use message_core::{Keys, Reason, Text};
 use node_core::View;
 use peer_core::ClusterError;
 use std::alloc::{AllocError, Global};
@@ -83,6 +83,16 @@ fn crowded(own: Address, owner: Address) -> Refusal
         Refusal::Busy
     } else {
         Refusal::OwnerBusy(owner)
+    }
+}
+
+/// Returns the refusal of a node that no host has admitted, which a host refused for a reason if there is one.
+fn unjoined(reason: Option<Reason>) -> Refusal
+    ensures { IsUnjoined result }
+{
+    match reason {
+        Some(reason) => Refusal::JoinRefused(reason),
+        None => Refusal::NotJoined,
     }
 }
 
@@ -322,7 +332,7 @@ impl<'f, 'a, R: Host> Front<'f, 'a, R> {
         ensures { IsHealth result }
     {
         match self.agent.phase() {
-            Phase::Joining => Err(Refusal::NotJoined),
+            Phase::Joining => Err(unjoined(self.agent.refused.join(&self.agent.rt))),
             Phase::Left => Err(Refusal::HasLeft),
             Phase::Awaiting => Err(Refusal::ApplicationAwaited),
             Phase::Serving if self.agent.http.is_failing() => Err(Refusal::CannotAccept),

@@ -21,6 +21,7 @@ mod notices;
 mod peers;
 mod pumps;
 mod questions;
+mod rejections;
 mod relays;
 mod replies;
 mod requests;

@@ -3,6 +3,7 @@
 ghost use Rattle.std.specs.Prelude.{◌≡◌, ◌↔◌, ◌⊎◌, IsTrue};
 
 use crate::agents::Agent;
+use crate::rejections::note_answer;
 use crate::systems::Host;
 use change_core::Address;
 use cluster_core::{Limits, TcpLink};
@@ -137,6 +138,7 @@ impl<'a, R: Host> Link for NotedLink<'a, R> {
             self.disowned = self.disowned_with(to, &answer);
         }
         self.note(to, &answer);
+        note_answer(self.agent, to, message, &answer);
         answer
     }
 }

@@ -3,6 +3,7 @@
 use crate::agents::Agent;
 use crate::applications::Overloaded;
 use crate::callers::Caller;
+use crate::rejections::note_input;
 use crate::systems::Host;
 use change_core::Moment;
 use cluster_core::{Deadline, TcpLink, Timed, send_owned_line};
@@ -99,6 +100,7 @@ fn serve_connection<R: Host>(
 ) {
     let since = agent.now();
     let input = listen_to(agent, alloc, &stream);
+    note_input(agent, &input);
     let is_request = is_request(&input);
     let job = Job {
         input,

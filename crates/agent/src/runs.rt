@@ -16,6 +16,7 @@ use crate::hosts::join_hosts;
 use crate::journals::Journal;
 use crate::notices::Notices;
 use crate::peers::{Job, serve_peers};
+use crate::rejections::Refused;
 use crate::rounds::make_rounds;
 use crate::services::{await_service, watch_service};
 use crate::settings::Settings;
@@ -153,6 +154,7 @@ fn agent_of<R: System>(
         teller: Teller::new(settings.told_app().is_some()),
         notices: Notices::new(alloc),
         disowners: Notices::new(alloc),
+        refused: Refused::new(alloc),
         is_starting: Flag::new(!settings.hosts.is_empty()),
         has_joined: Flag::new(settings.hosts.is_empty()),
         has_left: Flag::new(false),

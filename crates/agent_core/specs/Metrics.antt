@@ -7,6 +7,7 @@ use Rattle.change_core.specs.Status.{rank, status_word}
 use Rattle.change_core.specs.Numbers.{most_members}
 use Rattle.agent_core.specs.declared.metrics.Counts.{Counts}
 use Rattle.agent_core.specs.declared.metrics.PortCounts.{PortCounts}
+use Rattle.agent_core.specs.declared.metrics.RefusalCounts.{RefusalCounts}
 use Rattle.agent_core.specs.declared.metrics.WaitingCounts.{WaitingCounts}
 
 -- the bucket of a time in microseconds
@@ -170,9 +171,22 @@ notice_samples counts =
     ++ line (codes "# TYPE ringpop_notices_untold gauge")
     ++ sample (codes "ringpop_notices_untold") counts.notices_untold
 
+-- joins by outcome, messages that other nodes refused, and lines that were refused here by reason
+abbrev pub refusal_samples : RefusalCounts → List ℕ
+refusal_samples refusals =
+    line (codes "# TYPE ringpop_joins_total counter")
+    ++ sample (codes "ringpop_joins_total{outcome=\"joined\"}") refusals.joined
+    ++ sample (codes "ringpop_joins_total{outcome=\"refused\"}") refusals.join_refused
+    ++ sample (codes "ringpop_joins_total{outcome=\"failed\"}") refusals.join_failed
+    ++ line (codes "# TYPE ringpop_messages_refused_total counter")
+    ++ sample (codes "ringpop_messages_refused_total") refusals.messages
+    ++ line (codes "# TYPE ringpop_lines_refused_total counter")
+    ++ sample (codes "ringpop_lines_refused_total{reason=\"malformed\"}") refusals.malformed
+    ++ sample (codes "ringpop_lines_refused_total{reason=\"memory\"}") refusals.memory
+
 -- the whole text
 abbrev pub metrics_text : Counts → List Change → List ℕ
 metrics_text counts members =
     status_samples members ++ address_samples (length members) ++ request_samples counts ++ time_samples counts ++ round_samples counts ++ other_samples counts
-    ++ waiting_samples counts.waiting ++ connection_samples counts.http ++ worker_samples counts ++ question_samples counts ++ service_samples counts
+    ++ waiting_samples counts.waiting ++ connection_samples counts.http ++ worker_samples counts ++ question_samples counts ++ service_samples counts ++ refusal_samples counts.refusals
     ++ notice_samples counts

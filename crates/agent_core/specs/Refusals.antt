@@ -6,6 +6,8 @@ use Rattle.agent_core.specs.declared.refusals.Failure.TheVariants as failure
 use Rattle.agent_core.specs.declared.refusals.Part.TheVariants.{Key, Count, Body, Keys, After}
 use Rattle.agent_core.specs.declared.refusals.Refusal.{Refusal}
 use Rattle.agent_core.specs.declared.refusals.Refusal.TheVariants as refusal
+use Rattle.message_core.specs.declared.kinds.Reason.{Reason}
+use Rattle.message_core.specs.declared.kinds.Reason.TheVariants as reason
 use Rattle.agent_core.specs.declared.answers.Kind.{Kind}
 use Rattle.agent_core.specs.declared.answers.Kind.TheVariants.{Text, Json, Html}
 
@@ -24,6 +26,7 @@ status_of refusal.ApplicationFailed = 502
 status_of (refusal.Unanswered why) = 502
 status_of refusal.ApplicationDown = 503
 status_of refusal.NotJoined = 503
+status_of (refusal.JoinRefused why) = 503
 status_of refusal.HasLeft = 503
 status_of refusal.ApplicationAwaited = 503
 status_of refusal.CannotAccept = 503
@@ -42,6 +45,17 @@ failure_text failure.NotAccepted = codes "the owner's application accepts no con
 failure_text failure.HungUp = codes "the owner's application hung up before it answered"
 failure_text failure.NoAnswer = codes "no whole answer of the owner's application came"
 failure_text failure.BadAnswer = codes "bad answer of the owner's application: not HTTP/1, not UTF-8, too long or of a status not 200 to 599"
+
+-- the text of a refused join
+abbrev pub join_text : Reason → List ℕ
+join_text reason.Memory = codes "a host refused this node: memory"
+join_text reason.Full = codes "a host refused this node: full"
+join_text reason.Exhausted = codes "a host refused this node: exhausted"
+join_text reason.Diverged = codes "a host refused this node"
+join_text reason.Nobody = codes "a host refused this node"
+join_text reason.Failed = codes "a host refused this node"
+join_text reason.Unexpected = codes "a host refused this node"
+join_text reason.Malformed = codes "a host refused this node: malformed"
 
 -- the text of a refusal
 abbrev pub text_of : Refusal → List ℕ
@@ -63,6 +77,7 @@ text_of refusal.ApplicationFailed = codes "the application failed"
 text_of (refusal.Unanswered why) = failure_text why
 text_of refusal.ApplicationDown = codes "the application does not answer"
 text_of refusal.NotJoined = codes "no host has answered"
+text_of (refusal.JoinRefused why) = join_text why
 text_of refusal.HasLeft = codes "the node has left"
 text_of refusal.ApplicationAwaited = codes "the node is not in the ring, since its application accepts no connection"
 text_of refusal.CannotAccept = codes "no HTTP connection can be accepted"
@@ -102,6 +117,7 @@ word_of (refusal.Unanswered failure.NoAnswer) = codes "application-unresponsive"
 word_of (refusal.Unanswered failure.BadAnswer) = codes "application-bad-answer"
 word_of refusal.ApplicationDown = codes "application-down"
 word_of refusal.NotJoined = codes "not-joined"
+word_of (refusal.JoinRefused why) = codes "join-refused"
 word_of refusal.HasLeft = codes "has-left"
 word_of refusal.ApplicationAwaited = codes "application-awaited"
 word_of refusal.CannotAccept = codes "cannot-accept"

@@ -25,7 +25,9 @@ mod warnings;
 pub use actions::Action;
 pub use answers::{Answer, Kind};
 pub use key_lists::{KeyList, MAX_LISTED};
-pub use metrics::{BUCKETS, Counts, PortCounts, WaitingCounts, bucket_of, metrics_text};
+pub use metrics::{
+    BUCKETS, Counts, PortCounts, RefusalCounts, WaitingCounts, bucket_of, metrics_text,
+};
 pub use packs::{MAX_BODY_BYTES, MAX_STATUS, MIN_STATUS, Packed, pack, unpack};
 pub use pages::PAGE;
 pub use parts::{MAX_REQUEST_BYTES, pack_body, pack_bytes, parts_in, push_part, unpack_bytes};

@@ -1,7 +1,7 @@
 //! The counts of an agent, in the text format of Prometheus (version 0.0.4).
 ghost use Rattle.std.specs.Prelude.{◌≡◌, ◌<◌, ◌++◌, IfOk, OnOk, count_by, length, string_bytes};
 ghost use Rattle.change_core.specs.Status.{rank};
-ghost use Rattle.agent_core.specs.Metrics.{address_samples, bucket_of, bucket_sample, bucket_samples, connection_samples, holds, metrics_text, notice_samples, other_samples, question_samples, request_samples, round_samples, sample, service_samples, status_sample, status_samples, time_samples, waiting_samples, within, worker_samples};
+ghost use Rattle.agent_core.specs.Metrics.{address_samples, bucket_of, bucket_sample, bucket_samples, connection_samples, holds, metrics_text, notice_samples, other_samples, question_samples, refusal_samples, request_samples, round_samples, sample, service_samples, status_sample, status_samples, time_samples, waiting_samples, within, worker_samples};
 
 use crate::shares::{MAX_OWN, MAX_WAITING, OWNER_SHARE};
 use change_core::{Change, MAX_MEMBERS, Status};
@@ -23,6 +23,23 @@ pub struct PortCounts {
     pub evicted: u64,
     /// How often the system let none be accepted.
     pub failures: u64,
+}
+
+/// The numbers of what was refused at an agent.
+#[derive(Clone, Copy, Debug, Default, PartialEq, Eq)]
+pub struct RefusalCounts {
+    /// Joins that a host answered by letting the node join.
+    pub joined: u64,
+    /// Joins that a host refused.
+    pub join_refused: u64,
+    /// Joins that no answer came to.
+    pub join_failed: u64,
+    /// Messages of this node that another node refused.
+    pub messages: u64,
+    /// Lines at the node's port that were refused since they were no message.
+    pub malformed: u64,
+    /// Lines at the node's port that were refused since memory ran out.
+    pub memory: u64,
 }
 
 /// The requests of keys that wait at an agent for the application of the key's owner.
@@ -91,6 +108,7 @@ pub struct Counts {
     pub notices_failed: u64,
     /// 1 while it is still to be told of the ring, else 0.
     pub notices_untold: u64,
+    pub refusals: RefusalCounts,
 }
 
 /// Returns the bucket of a time in microseconds, from 0 to 9.
@@ -401,6 +419,42 @@ fn push_notices(text: &mut String, counts: &Counts) -> Result<(), AllocError>
     Ok(())
 }
 
+/// Appends the numbers of joins by outcome, of messages that other nodes refused, and of lines that were refused here.
+fn push_refusals(text: &mut String, refusals: &RefusalCounts) -> Result<(), AllocError>
+    ensures { OnOk result (string_bytes text.new ≡ string_bytes text.old ++ refusal_samples refusals.now) }
+{
+    text.push_str("# TYPE ringpop_joins_total counter\n")?;
+    push_sample(
+        text,
+        "ringpop_joins_total{outcome=\"joined\"}",
+        refusals.joined,
+    )?;
+    push_sample(
+        text,
+        "ringpop_joins_total{outcome=\"refused\"}",
+        refusals.join_refused,
+    )?;
+    push_sample(
+        text,
+        "ringpop_joins_total{outcome=\"failed\"}",
+        refusals.join_failed,
+    )?;
+    text.push_str("# TYPE ringpop_messages_refused_total counter\n")?;
+    push_sample(text, "ringpop_messages_refused_total", refusals.messages)?;
+    text.push_str("# TYPE ringpop_lines_refused_total counter\n")?;
+    push_sample(
+        text,
+        "ringpop_lines_refused_total{reason=\"malformed\"}",
+        refusals.malformed,
+    )?;
+    push_sample(
+        text,
+        "ringpop_lines_refused_total{reason=\"memory\"}",
+        refusals.memory,
+    )?;
+    Ok(())
+}
+
 /// Returns the counts, and the number of members with each status, in the text format of Prometheus.
 ///
 /// # Errors
@@ -426,5 +480,6 @@ pub fn metrics_text(
     push_questions(&mut text, counts)?;
     push_service(&mut text, counts)?;
     push_notices(&mut text, counts)?;
+    push_refusals(&mut text, &counts.refusals)?;
     Ok(text)
 }

@@ -1,10 +1,11 @@
 //! The refusals of requests, and the status and the text of each.
 ghost use Rattle.std.specs.Prelude.{◌≡◌, ◌≤◌, ◌∷◌, ◌++◌, []};
-ghost use Rattle.agent_core.specs.Refusals.{failure_text, is_answer, line_of, sent, status_of, word_of};
+ghost use Rattle.agent_core.specs.Refusals.{failure_text, is_answer, join_text, line_of, sent, status_of, word_of};
 ghost use Rattle.agent_core.specs.declared.refusals.Refusal.TheVariants.{Memory as no_memory};
 
 use crate::verbs::Verb;
 use change_core::Address;
+use message_core::Reason;
 use std::alloc::{AllocError, AllocFailed};
 
 /// A part of a request that is malformed.
@@ -65,6 +66,8 @@ pub enum Refusal {
     ApplicationDown,
     /// No host has answered a join yet, so the node is alone.
     NotJoined,
+    /// A host answered a join, and refused it for this reason.
+    JoinRefused(Reason),
     /// The node has left the ring.
     HasLeft,
     /// The node is out of the ring until its application accepts connections.
@@ -87,6 +90,21 @@ pub enum Refusal {
     Memory,
     /// The owner of the key answered none of the sends.
     OwnerSilent,
+}
+
+/// Returns the text of a refused join, one line with its newline.
+fn refused_line(reason: Reason) -> &'static str
+    ensures { result.now ≡ join_text reason ++ 10 ∷ [] }
+{
+    match reason {
+        Reason::Memory => "a host refused this node: memory\n",
+        Reason::Full => "a host refused this node: full\n",
+        Reason::Exhausted => "a host refused this node: exhausted\n",
+        Reason::Malformed => "a host refused this node: malformed\n",
+        Reason::Diverged | Reason::Nobody | Reason::Failed | Reason::Unexpected => {
+            "a host refused this node\n"
+        }
+    }
 }
 
 impl Failure {
@@ -137,6 +155,7 @@ impl Refusal {
             Refusal::ApplicationFailed | Refusal::Unanswered(_) => 502,
             Refusal::ApplicationDown
             | Refusal::NotJoined
+            | Refusal::JoinRefused(_)
             | Refusal::HasLeft
             | Refusal::ApplicationAwaited
             | Refusal::CannotAccept
@@ -176,6 +195,7 @@ impl Refusal {
             Refusal::Unanswered(Failure::BadAnswer) => "application-bad-answer",
             Refusal::ApplicationDown => "application-down",
             Refusal::NotJoined => "not-joined",
+            Refusal::JoinRefused(_) => "join-refused",
             Refusal::HasLeft => "has-left",
             Refusal::ApplicationAwaited => "application-awaited",
             Refusal::CannotAccept => "cannot-accept",
@@ -244,6 +264,7 @@ impl Refusal {
             Refusal::Unanswered(failure) => failure.line(),
             Refusal::ApplicationDown => "the application does not answer\n",
             Refusal::NotJoined => "no host has answered\n",
+            Refusal::JoinRefused(reason) => refused_line(*reason),
             Refusal::HasLeft => "the node has left\n",
             Refusal::ApplicationAwaited => {
                 "the node is not in the ring, since its application accepts no connection\n"

@@ -198,6 +198,15 @@ ringpop_notices_total{outcome=\"taken\"} 19
 ringpop_notices_total{outcome=\"failed\"} 20
 # TYPE ringpop_notices_untold gauge
 ringpop_notices_untold 1
+# TYPE ringpop_joins_total counter
+ringpop_joins_total{outcome=\"joined\"} 1
+ringpop_joins_total{outcome=\"refused\"} 2
+ringpop_joins_total{outcome=\"failed\"} 3
+# TYPE ringpop_messages_refused_total counter
+ringpop_messages_refused_total 4
+# TYPE ringpop_lines_refused_total counter
+ringpop_lines_refused_total{reason=\"malformed\"} 5
+ringpop_lines_refused_total{reason=\"memory\"} 6
 ";
 
 const COUNTS: Counts = Counts {
@@ -236,6 +245,14 @@ const COUNTS: Counts = Counts {
     notices_taken: 19,
     notices_failed: 20,
     notices_untold: 1,
+    refusals: RefusalCounts {
+        joined: 1,
+        join_refused: 2,
+        join_failed: 3,
+        messages: 4,
+        malformed: 5,
+        memory: 6,
+    },
 };
 
 #[test]

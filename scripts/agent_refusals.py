@@ -1,0 +1,109 @@
+"""What agents say of what they and others refuse, for `scripts/agent refusals`."""
+import contextlib
+import http.client
+import json
+import tempfile
+from urllib.parse import quote
+
+from agents import Agent, agree, counted, said, wait_until
+from nodes import NOBODY, Wrong, address, call, connect, message, rest
+
+# the most addresses that a node holds
+MOST = 4_096
+
+
+def told_apart(agent, method, path, body=None):
+    """The status of an answer, the word by which it is told from a service's, and after how many seconds to ask again."""
+    with contextlib.closing(http.client.HTTPConnection(agent.http, timeout=60)) as link:
+        link.request(method, path, body)
+        answer = link.getresponse()
+        answer.read()
+        return answer.status, answer.headers.get("x-ringpop-error"), answer.headers.get("retry-after")
+
+
+def key_of(agents, owner):
+    """A key that an agent owns, as the first agent names it."""
+    keys = (f"key {number}" for number in range(100_000))
+    return next(key for key in keys if json.loads(agents[0].ask("GET", "/owner/" + quote(key))[1])["owners"] == [owner.own])
+
+
+def check_words(agents):
+    """An agent's own answers have a word, those of services have none, whatever their status is."""
+    keys = [key_of(agents, owner) for owner in agents]
+    for key in keys:
+        for status in (200, 404, 502, 503):
+            told = told_apart(agents[0], "POST", f"/keys/{quote(key)}", f"status {status}".encode())
+            if told != (status, None, None):
+                raise Wrong(f"a service's answer {status} is told as {told}")
+    wanted = {("GET", "/nothing"): (404, "not-found", None), ("GET", "/keys/k"): (405, "bad-method", None),
+              ("POST", "/rejoin"): (409, "not-left", None), ("GET", "/owner/"): (400, "bad-key", None)}
+    for (method, path), told in wanted.items():
+        if told_apart(agents[0], method, path) != told:
+            raise Wrong(f"{method} {path} is told as {told_apart(agents[0], method, path)}, and not {told}")
+    agents[1].application.kill()
+    agents[1].application.wait()
+    if told_apart(agents[1], "GET", "/healthz") != (503, "application-down", "1"):
+        raise Wrong("a refusal of the agent's health has no word, or no time to ask again")
+    for agent in agents:
+        told = told_apart(agent, "POST", f"/keys/{quote(keys[1])}", b"x")
+        if told != (502, "application-not-accepting", None):
+            raise Wrong(f"a 502 of the owner's agent is told as {told}")
+
+
+def check_full(program, first, second):
+    """A node that becomes full says so, and a newcomer that it refuses, too."""
+    with tempfile.NamedTemporaryFile() as log, tempfile.NamedTemporaryFile() as late_log:
+        full = Agent(program, first, (), log=log)
+        try:
+            wait_until("well", 10, full.is_well)
+            wait_until("in its third round", 10, lambda: counted([full], 'ringpop_rounds_total{outcome="idle"}') > 1)
+            fill(full)
+            wait_until("full", 10, lambda: counted([full], "ringpop_addresses_used") == MOST)
+            wait_until("said to be full", 10, lambda: f"{MOST} of {MOST} addresses are used" in said(log))
+            check_newcomer(program, second, first, late_log)
+            check_line(full, log)
+        finally:
+            full.end()
+
+
+def fill(agent):
+    """Tells a node of members that left, until it holds as many as it can."""
+    members = [f"10.0.{number // 250}.{number % 250 + 1}:1" for number in range(MOST - 1)]
+    for start in range(0, len(members), 500):
+        changes = [{"address": it, "incarnationNumber": 1, "source": it, "sourceIncarnationNumber": 0, "status": "leave"} for it in members[start : start + 500]]
+        answer = call(agent.port, message("ping", checksum=NOBODY, changes=changes))
+        if not answer or answer["kind"] == "refused":
+            raise Wrong(f"a node that is told of members answers {answer}")
+
+
+def check_newcomer(program, port, host, log):
+    newcomer = Agent(program, port, (host,), log=log)
+    try:
+        refused = 503, "a host refused this node: full\n"
+        wait_until("said to be refused", 20, lambda: is_up(newcomer) and newcomer.ask("GET", "/healthz") == refused)
+        if f"{address(host)} refused a message of this node: full" not in said(log):
+            raise Wrong(f"the log of a node that is refused: {said(log)}")
+        if not counted([newcomer], 'ringpop_joins_total{outcome="refused"}') or not counted([newcomer], "ringpop_messages_refused_total"):
+            raise Wrong("the metrics of a node that is refused do not count it")
+    finally:
+        newcomer.end()
+
+
+def check_line(agent, log):
+    """A line at the port of the node that is not a message is refused, counted and logged."""
+    with contextlib.closing(connect(agent.port)) as link:
+        link.sendall(b"hello\n")
+        rest(link)
+    wait_until("counted", 5, lambda: counted([agent], 'ringpop_lines_refused_total{reason="malformed"}') == 1)
+    wait_until("logged", 5, lambda: "a line at this node's port was refused: malformed" in said(log))
+
+
+def is_up(agent):
+    with contextlib.suppress(OSError):
+        return agent.ask("GET", "/livez")[0] == 200
+    return False
+
+
+def check(program, agents, first, second):
+    check_full(program, first, second)
+    check_words(agents)

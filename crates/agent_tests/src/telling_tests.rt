@@ -1,6 +1,7 @@
 use agent_core::{Ring, Telling};
 use change_core::{Address, Change, Digest, Incarnation, Moment, Status, Weight};
 use std::alloc::{AllocError, Global};
+use std::env::Env;
 use std::process::Abort;
 
 /// Returns the ring of one server at 10.0.0.1, with this port.
@@ -18,13 +19,13 @@ fn ring(rt: &impl Abort, alloc: Global, port: u16) -> Result<Ring, AllocError> {
 }
 
 /// Notes the ring of one server with this port.
-fn note(rt: &impl Abort, alloc: Global, telling: &mut Telling, port: u16) {
+fn note(rt: &(impl Abort + Env), alloc: Global, telling: &mut Telling, port: u16) {
     let made = again!(rt, AllocError, ring(rt, alloc, port));
     telling.note(made.ok().expect(rt, "a ring"));
 }
 
 /// Returns whether the notice is of a server with this port, and after it of one with that port.
-fn tells(rt: &impl Abort, alloc: Global, telling: &Telling, now: u16, before: u16) -> bool {
+fn tells(rt: &(impl Abort + Env), alloc: Global, telling: &Telling, now: u16, before: u16) -> bool {
     let own = Address::new(0x0a00_0001, 7).expect(rt, "an address");
     let text = again!(rt, AllocError, telling.notice(alloc, own, 100));
     let Some(text) = text.ok().expect(rt, "a notice") else {

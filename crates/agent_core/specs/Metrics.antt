@@ -188,5 +188,5 @@ refusal_samples refusals =
 abbrev pub metrics_text : Counts → List Change → List ℕ
 metrics_text counts members =
     status_samples members ++ address_samples (length members) ++ request_samples counts ++ time_samples counts ++ round_samples counts ++ other_samples counts
-    ++ waiting_samples counts.waiting ++ connection_samples counts.http ++ worker_samples counts ++ question_samples counts ++ service_samples counts ++ refusal_samples counts.refusals
-    ++ notice_samples counts
+    ++ waiting_samples counts.waiting ++ connection_samples counts.http ++ worker_samples counts ++ question_samples counts ++ service_samples counts
+    ++ notice_samples counts ++ refusal_samples counts.refusals

@@ -2,7 +2,7 @@
 _ringpop() {
     local word=${COMP_WORDS[COMP_CWORD]} before=${COMP_WORDS[COMP_CWORD - 1]} words
     case $before in
-        --n | --replicas | --workers | --period | --weight | --bind | --http | --app | --hands | --http-connections | --per-message | --piggyback | --incarnation) return ;;
+        --n | --replicas | --workers | --period | --weight | --bind | --http | --app | --hands | --http-connections | --leave-after | --per-message | --piggyback | --incarnation) return ;;
         --log)
             mapfile -t COMPREPLY < <(compgen -W 'off error warn info debug' -- "$word")
             return

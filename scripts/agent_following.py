@@ -10,6 +10,8 @@ from nodes import Wrong
 KEYS = [f"order {number}" for number in range(500)]
 # the seconds after which an agent of these trials leaves, and by when a ring of three has heard of it on a busy machine
 AFTER, HEARD = 2, 4
+# the seconds between two looks at a service, and what a busy machine adds
+BETWEEN_LOOKS = 0.6
 OUT = "the node is not in the ring, since its application accepts no connection\n"
 
 
@@ -71,13 +73,13 @@ def check_join(agents, late, log):
 
 
 def check_loss(agents, late, log):
-    """A node whose service was killed leaves after some seconds and comes back with it."""
+    """A node whose service was killed leaves some seconds after the last look at which that took a connection, and comes back with it."""
     begun = time.monotonic()
     late.stop_serving()
     wait_until("out of the ring", AFTER + HEARD, lambda: owns(agents, late) == 0)
     spent = time.monotonic() - begun
     check_health(late, 503, OUT)
-    if spent < AFTER or "this node leaves the ring, since its application accepts no connection" not in said(log):
+    if spent < AFTER - BETWEEN_LOOKS or "this node leaves the ring, since its application accepts no connection" not in said(log):
         raise Wrong(f"a node whose service was killed left after {spent:.1f} s: {said(log)}")
     load = Load([*agents, late], KEYS, threads=16)
     time.sleep(2)

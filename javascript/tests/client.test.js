@@ -34,7 +34,7 @@ test('watch sees a node leave and return', { skip }, async () => {
   const first = (await rings.next()).value;
   await other.leave();
   assert.deepStrictEqual((await rings.next()).value.serving.length, first.serving.length - 1);
-  await assert.rejects(other.leave(), new AgentError(409, 'the node has left already'));
+  await assert.rejects(other.leave(), new AgentError(409, 'the node has left already', 'already-left'));
   await other.rejoin();
   assert.ok((await rings.next()).value.equals(first));
   ending.abort();

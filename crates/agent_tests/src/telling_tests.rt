@@ -5,27 +5,27 @@ use std::env::Env;
 use std::process::Abort;
 
 /// Returns the ring of one server at 10.0.0.1, with this port.
-fn ring(rt: &impl Abort, alloc: Global, port: u16) -> Result<Ring, AllocError> {
+fn ring(rt: &impl Abort, alloc: Global, port: u8) -> Result<Ring, AllocError> {
     let server = Change {
-        address: Address::new(0x0a00_0001, port).expect(rt, "an address"),
+        address: Address::new(0x0a00_0001, u16::from(port)).expect(rt, "an address"),
         incarnation: Incarnation::new(0).expect(rt, "an incarnation"),
         status: Status::Alive,
         weight: Weight::new(1).expect(rt, "a weight"),
     };
     Ok(Ring {
-        digest: Digest::new([port as u8; 32]),
+        digest: Digest::new([port; 32]),
         servers: Vec::from_slice(alloc, &[server])?,
     })
 }
 
 /// Notes the ring of one server with this port.
-fn note(rt: &(impl Abort + Env), alloc: Global, telling: &mut Telling, port: u16) {
+fn note(rt: &(impl Abort + Env), alloc: Global, telling: &mut Telling, port: u8) {
     let made = again!(rt, AllocError, ring(rt, alloc, port));
     telling.note(made.ok().expect(rt, "a ring"));
 }
 
 /// Returns whether the notice is of a server with this port, and after it of one with that port.
-fn tells(rt: &(impl Abort + Env), alloc: Global, telling: &Telling, now: u16, before: u16) -> bool {
+fn tells(rt: &(impl Abort + Env), alloc: Global, telling: &Telling, now: u8, before: u8) -> bool {
     let own = Address::new(0x0a00_0001, 7).expect(rt, "an address");
     let text = again!(rt, AllocError, telling.notice(alloc, own, 100));
     let Some(text) = text.ok().expect(rt, "a notice") else {
@@ -44,7 +44,7 @@ fn tells(rt: &(impl Abort + Env), alloc: Global, telling: &Telling, now: u16, be
 }
 
 /// Returns the digits of the digest of the ring with this port, 1 to 3.
-fn digits(rt: &impl Abort, port: u16) -> &'static str {
+fn digits(rt: &impl Abort, port: u8) -> &'static str {
     match port {
         1 => "0101010101010101010101010101010101010101010101010101010101010101",
         2 => "0202020202020202020202020202020202020202020202020202020202020202",
@@ -64,6 +64,8 @@ const FAILURES: [(u64, u64); 7] = [
     (7_000, 8_000),
 ];
 
+/// A ring is told once it is noted, and not again if the next one has its digest. After failures the next try comes 0.25, 0.5, 1, 2, 4, 8 and 8 seconds
+/// later. A newer ring replaces one that was not told; one that comes back is told again.
 #[test]
 fn tells_the_last_change(rt: HostRuntime) {
     let alloc = rt.alloc();

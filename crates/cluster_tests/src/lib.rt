@@ -20,6 +20,8 @@ mod healing;
 #[cfg(test)]
 mod interrupted;
 #[cfg(test)]
+mod kept;
+#[cfg(test)]
 mod members;
 #[cfg(test)]
 mod messages;

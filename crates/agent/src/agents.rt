@@ -1,6 +1,4 @@
 //! The state that the threads of an agent share.
-ghost use Rattle.std.specs.Prelude.{◌≡◌, ◌*◌, ◌/◌};
-
 use crate::applications::Application;
 use crate::callers::{Caller, Passes};
 use crate::counters::{Count, Counters};
@@ -11,13 +9,12 @@ use crate::systems::Host;
 use crate::tellers::Teller;
 use crate::waiting::Waiting;
 use crate::watchers::{MAX_QUESTIONS, Watchers};
-use agent_core::{Counts, KeptCounts, PortCounts};
+use agent_core::{Counts, PortCounts, Watch};
 use change_core::{Address, Moment};
-use kept_links::Pool;
+use line_service::{ServerClock, Stopwatch, Timeouts};
 use log::{LevelFilter, Logged};
 use reactor::Places;
 use std::alloc::Global;
-use std::net::TcpStream;
 use std::sync::atomic::{AtomicBool, Ordering};
 use std::sync::{Arc, Mutex};
 use std::thread::Parker;
@@ -75,14 +72,10 @@ pub struct Agent<R> {
     /// The passes that no thread has.
     pub passes: Mutex<Passes>,
     pub counters: Counters,
-    /// The connections to other nodes that rest between two requests.
-    pub spares: Pool<TcpStream>,
     /// The HTTP requests that wait for a key's owner.
     pub waiting: Waiting,
     /// The number of requests that are being relayed.
     pub relaying: Count,
-    /// The number of hands that keep a connection of another node.
-    pub keeping: Count,
     /// The number of workers that answer HTTP.
     pub workers: Count,
     /// The number of them that serve a connection.
@@ -181,7 +174,6 @@ impl<R: Host> Agent<R> {
             handled: self.application.handled.get(),
             application_failures: self.application.failures.get(),
             waiting: self.waiting.counts(&self.rt),
-            kept: self.kept_counts(),
             http: port,
             workers_used: self.serving.get(),
             workers_max: self.workers.get(),
@@ -194,25 +186,6 @@ impl<R: Host> Agent<R> {
             refusals: self.refused.counts(),
             ..self.counters.counts()
         }
-    }
-
-    /// Returns the counts of the connections of nodes that are kept.
-    fn kept_counts(&self) -> KeptCounts {
-        KeptCounts {
-            resting: self.spares.resting(&self.rt) as u64,
-            max_resting: self.spares.most() as u64,
-            hands: self.keeping.get(),
-            max_hands: self.max_keeping(),
-            reused: self.spares.reused(),
-            closed: self.spares.closed(),
-        }
-    }
-
-    /// Returns how many hands may keep a connection at a time: three of four, so that the others answer what comes over new ones.
-    pub fn max_keeping(&self) -> u64
-        ensures { result ≡ self.now.hands * 3 / 4 }
-    {
-        u64::from(self.hands) * 3 / 4
     }
 
     /// Returns how many questions about the ring may wait: 1,000, or as many as half of the HTTP connections that may be open.

@@ -1,5 +1,5 @@
 //! The counters of an agent.
-use agent_core::{BUCKETS, Counts, KeptCounts, PortCounts, WaitingCounts, bucket_of};
+use agent_core::{BUCKETS, Counts, PortCounts, RefusalCounts, WaitingCounts, bucket_of};
 use peer_core::{ClusterError, Round};
 use std::sync::atomic::{AtomicU64, Ordering};
 
@@ -151,7 +151,6 @@ impl Counters {
             micros: self.micros.get(),
             buckets,
             waiting: WaitingCounts::default(),
-            kept: KeptCounts::default(),
             http: PortCounts::default(),
             workers_used: 0,
             workers_max: 0,

@@ -6,14 +6,12 @@ use crate::agents::Agent;
 use crate::rejections::note_answer;
 use crate::systems::Host;
 use change_core::Address;
-use cluster_core::Limits;
+use cluster_core::{Limits, TcpLink};
 use forward_core::MAX_SENDS;
-use kept_links::KeptLink;
 use log::{info, warn};
 use message_core::{Content, Keys, Message, Text};
 use peer_core::{Handler, HandlerFault, HandlerMut, Link, LinkError};
 use std::alloc::Global;
-use std::net::TcpStream;
 use std::sync::Wait;
 
 /// Returns whether a call failed by this node's own link, which says nothing of the other node.
@@ -28,7 +26,7 @@ fn is_own(error: LinkError) -> bool
 #[derive(Drop)]
 pub struct NotedLink<'a, R> {
     agent: &'a Agent<R>,
-    link: KeptLink<'a, R, R, TcpStream>,
+    link: TcpLink<R>,
     /// The node that gave the answer to the last call; None if there was none. A reply may be another node's than the one
     /// called, which relayed the request.
     pub last: Option<Address>,
@@ -46,7 +44,7 @@ impl<'a, R: Host> NotedLink<'a, R> {
     pub fn with_limits(agent: &'a Agent<R>, limits: Limits) -> Self {
         NotedLink {
             agent,
-            link: KeptLink::new(agent.rt, &agent.rt, &agent.spares, limits),
+            link: TcpLink::with_limits(agent.rt, limits),
             last: None,
             disowned: 0,
         }
@@ -110,7 +108,7 @@ impl<'a, R: Host> NotedLink<'a, R> {
 }
 
 impl<'a, R: Host> Link for NotedLink<'a, R> {
-    ghost use Rattle.kept_links.specs.Exchanges.{failures_over};
+    ghost use Rattle.cluster_core.specs.Sockets.{failures_over};
     ghost use Rattle.agent.specs.Calling.{AnyAnswer};
 
     ghost may_answer = { AnyAnswer };

@@ -1,5 +1,5 @@
-//! Connections of other nodes: one line in and one line out, and then the next for those that are kept. Gossip is answered immediately, by
-//! threads that never wait for the application.
+//! Connections of other nodes: one line in and one line out. Gossip is answered immediately, by threads that never wait
+//! for the application.
 use crate::agents::Agent;
 use crate::applications::Overloaded;
 use crate::callers::Caller;
@@ -8,7 +8,7 @@ use crate::systems::Host;
 use change_core::Moment;
 use cluster_core::{Deadline, TcpLink, Timed, send_owned_line};
 use crossbeam_channel::{Sender, TrySendError};
-use kept_links::Marked;
+use line_service::{Input, hear};
 use message_core::{Content, Message};
 use peer_core::HandlerMut;
 use std::alloc::Global;
@@ -26,8 +26,6 @@ pub struct Job {
     pub input: Input,
     pub stream: TcpStream,
     pub since: Moment,
-    /// Whether the other node asks to keep the connection.
-    pub is_marked: bool,
 }
 
 /// Returns the line that answers an input, with room for its newline; None if it needs no answer, or none could be made.
@@ -45,11 +43,11 @@ pub fn line_for<R: Host, A: HandlerMut>(
     line
 }
 
-/// Sends a line over a connection, and returns the connection; None if that fails: the line is lost.
-pub fn send_back<R: Host>(agent: &Agent<R>, stream: TcpStream, line: Vec<u8>) -> Option<TcpStream> {
-    let deadline = Deadline::after(&agent.rt, agent.timeouts.line).ok()?;
-    let stream = send_owned_line(Timed::new(stream, deadline), line).ok()?;
-    Some(stream.into_inner())
+/// Sends a line over a connection. If that fails, the line is lost.
+pub fn send_back<R: Host>(agent: &Agent<R>, stream: TcpStream, line: Vec<u8>) {
+    if let Ok(deadline) = Deadline::after(&agent.rt, agent.timeouts.line) {
+        let _sent = send_owned_line(Timed::new(stream, deadline), line);
+    }
 }
 
 /// Answers an input over its connection.
@@ -63,12 +61,12 @@ fn answer<R: Host, A: HandlerMut>(
 ) {
     let line = line_for(agent, alloc, caller, link, handler, &job.input);
     if let Some(line) = line {
-        let _sent = send_back(agent, job.stream, line);
+        send_back(agent, job.stream, line);
     }
 }
 
 /// Returns whether an input is a request of a key.
-pub fn is_request(input: &Input) -> bool {
+fn is_request(input: &Input) -> bool {
     matches!(
         input,
         Input::Message(Message {
@@ -78,18 +76,16 @@ pub fn is_request(input: &Input) -> bool {
     )
 }
 
-/// Returns the input that comes over a connection within the time limit, with the connection; None if the clock failed.
-pub fn listen_to<R: Host>(agent: &Agent<R>, alloc: Global, stream: TcpStream) -> Option<Job> {
-    let since = agent.now();
-    let deadline = Deadline::after(&agent.rt, agent.timeouts.line).ok()?;
-    let mut reader = Marked::new(Timed::new(stream, deadline));
-    let input = hear(alloc, &mut reader);
-    Some(Job {
-        input,
-        is_marked: reader.is_marked(),
-        stream: reader.into_inner().into_inner(),
-        since,
-    })
+/// Returns the input that comes over a connection within the time limit.
+fn listen_to<R: Host>(agent: &Agent<R>, alloc: Global, stream: &TcpStream) -> Input {
+    let Ok(deadline) = Deadline::after(&agent.rt, agent.timeouts.line) else {
+        return Input::Nothing;
+    };
+    // (a second handle of the socket: the reader is dropped with what it read ahead)
+    match stream.try_clone() {
+        Ok(reader) => hear(alloc, Timed::new(reader, deadline)),
+        Err(_) => Input::Nothing,
+    }
 }
 
 /// Serves one connection. Gossip is answered immediately. A request goes to the queue of the hands, the threads that
@@ -102,10 +98,16 @@ fn serve_connection<R: Host>(
     hands: &Sender<Job>,
     stream: TcpStream,
 ) {
-    let Some(job) = listen_to(agent, alloc, stream) else {
-        return;
+    let since = agent.now();
+    let input = listen_to(agent, alloc, &stream);
+    note_input(agent, &input);
+    let is_request = is_request(&input);
+    let job = Job {
+        input,
+        stream,
+        since,
     };
-    if !is_request(&job.input) {
+    if !is_request {
         return answer(agent, alloc, caller, link, &mut &agent.application, job);
     }
     if let Err(TrySendError::Full(job)) = hands.try_send(&agent.rt, job) {

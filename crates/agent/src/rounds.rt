@@ -154,7 +154,7 @@ impl<'a, R: Host> Rounds<'a, R> {
     }
 
     /// Makes one round of gossip, counts it, and logs its error and how the members changed. Questions are answered before it and after it, since it may
-    /// take some seconds. Last it closes the connections to other nodes that have rested for long.
+    /// take some seconds.
     fn make(&mut self) {
         let agent = self.agent;
         self.answer_questions();
@@ -168,7 +168,6 @@ impl<'a, R: Host> Rounds<'a, R> {
         agent.renew(&mut self.caller);
         self.heal(now);
         agent.last_round.set(agent.now().number());
-        agent.spares.close_rested(&agent.rt, &agent.rt);
     }
 
     /// Heals after a round, unless the node has left: members that parted find one another again.

@@ -1,5 +1,5 @@
 //! The run of an agent, from its settings to its end.
-ghost use Rattle.std.specs.Prelude.{◌≡◌, ◌/◌, ◌++◌, ◌∷◌, [], IfOk, OnOk, min};
+ghost use Rattle.std.specs.Prelude.{◌++◌, ◌∷◌, [], IfOk, OnOk};
 ghost use Rattle.std.specs.Io.KnownBytes.{Appends};
 ghost use Rattle.agent.specs.Texts.{agent_text, serving_line};
 ghost use Rattle.wire_json.specs.Input.{AppendsPrefix};
@@ -29,11 +29,10 @@ use change_core::{Address, Change, Incarnation, MAX_NUMBER, Moment};
 use cluster_core::{share, socket_address};
 use crossbeam_channel::{Receiver, Sender, bounded};
 use hash_ring::Sha256Hash;
-use kept_links::Pool;
+use line_service::{Stopwatch, Timeouts};
 use log::warn;
 use node_core::{Config, NodeError, NodeState};
-use reactor::{Lot, Places, max_descriptors};
-use server::{Stopwatch, Timeouts};
+use reactor::{Lot, Places};
 use std::alloc::Global;
 use std::io::Write;
 use std::net::TcpListener;
@@ -55,9 +54,6 @@ const PASSES: u32 = 1_023;
 
 /// The most requests of other nodes that wait for the application.
 const MAX_QUEUED_REQUESTS: usize = 256;
-
-/// The most connections to other nodes that rest.
-const MAX_SPARES: u64 = 128;
 
 /// The most milliseconds that the end waits for the rounds that spread that the node left.
 const MAX_SPREADING: u64 = 5_000;
@@ -129,13 +125,6 @@ fn application_of<R: System>(
     Application::new(*rt, alloc, log, stopwatch, settings.address, settings.app)
 }
 
-/// Returns how many connections to other nodes rest at most where there are these descriptors: an eighth of them, and at most 128.
-fn spares_with(descriptors: u64) -> u64
-    ensures { result ≡ min (descriptors / 8) MAX_SPARES }
-{
-    (descriptors / 8).min(MAX_SPARES)
-}
-
 /// Makes the state that the threads of an agent share.
 fn agent_of<R: System>(
     rt: &R,
@@ -144,7 +133,6 @@ fn agent_of<R: System>(
 ) -> Result<Arc<Agent<R>, Global>, AgentError> {
     let passes = passes_of(rt, alloc, settings)?;
     let stopwatch = Stopwatch::start(rt);
-    let spares = spares_with(max_descriptors().unwrap_or(u64::MAX));
     let agent = Agent {
         rt: *rt,
         level: settings.level,
@@ -157,10 +145,8 @@ fn agent_of<R: System>(
         application: application_of(rt, alloc, stopwatch, settings),
         passes: Mutex::new(passes),
         counters: Counters::new(),
-        spares: Pool::new(alloc, spares as usize),
         waiting: Waiting::new(alloc)?,
         relaying: Count::new(),
-        keeping: Count::new(),
         workers: Count::new(),
         serving: Count::new(),
         http: Arc::new(alloc, Places::new())?,

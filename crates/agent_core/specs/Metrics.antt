@@ -6,7 +6,6 @@ use Rattle.change_core.specs.declared.statuses.Status.TheVariants.{Alive, Suspec
 use Rattle.change_core.specs.Status.{rank, status_word}
 use Rattle.change_core.specs.Numbers.{most_members}
 use Rattle.agent_core.specs.declared.metrics.Counts.{Counts}
-use Rattle.agent_core.specs.declared.metrics.KeptCounts.{KeptCounts}
 use Rattle.agent_core.specs.declared.metrics.PortCounts.{PortCounts}
 use Rattle.agent_core.specs.declared.metrics.RefusalCounts.{RefusalCounts}
 use Rattle.agent_core.specs.declared.metrics.WaitingCounts.{WaitingCounts}
@@ -129,21 +128,6 @@ waiting_samples waiting =
     ++ line (codes "# TYPE ringpop_waiting_refused_total counter")
     ++ sample (codes "ringpop_waiting_refused_total") waiting.refused
 
--- The connections of nodes that are kept: how many rest to be asked over, and how many threads keep one over which they answer; how many may;
--- how often one was used again, and how many were closed.
-abbrev pub kept_samples : KeptCounts → List ℕ
-kept_samples kept =
-    line (codes "# TYPE ringpop_kept_connections_used gauge")
-    ++ sample (codes "ringpop_kept_connections_used{end=\"asking\"}") kept.resting
-    ++ sample (codes "ringpop_kept_connections_used{end=\"answering\"}") kept.hands
-    ++ line (codes "# TYPE ringpop_kept_connections_max gauge")
-    ++ sample (codes "ringpop_kept_connections_max{end=\"asking\"}") kept.max_resting
-    ++ sample (codes "ringpop_kept_connections_max{end=\"answering\"}") kept.max_hands
-    ++ line (codes "# TYPE ringpop_kept_connections_reused_total counter")
-    ++ sample (codes "ringpop_kept_connections_reused_total") kept.reused
-    ++ line (codes "# TYPE ringpop_kept_connections_closed_total counter")
-    ++ sample (codes "ringpop_kept_connections_closed_total") kept.closed
-
 -- the connections of clients over HTTP: how many are open, how many may be, how many were closed for others, and how often none was accepted
 abbrev pub connection_samples : PortCounts → List ℕ
 connection_samples http =
@@ -204,4 +188,5 @@ refusal_samples refusals =
 abbrev pub metrics_text : Counts → List Change → List ℕ
 metrics_text counts members =
     status_samples members ++ address_samples (length members) ++ request_samples counts ++ time_samples counts ++ round_samples counts ++ other_samples counts
-    ++ waiting_samples counts.waiting ++ kept_samples counts.kept ++ connection_samples counts.http ++ worker_samples counts ++ question_samples counts
+    ++ waiting_samples counts.waiting ++ connection_samples counts.http ++ worker_samples counts ++ question_samples counts ++ service_samples counts
+    ++ notice_samples counts ++ refusal_samples counts.refusals

@@ -26,7 +26,7 @@ pub use actions::Action;
 pub use answers::{Answer, Kind};
 pub use key_lists::{KeyList, MAX_LISTED};
 pub use metrics::{
-    BUCKETS, Counts, KeptCounts, PortCounts, WaitingCounts, bucket_of, metrics_text,
+    BUCKETS, Counts, PortCounts, RefusalCounts, WaitingCounts, bucket_of, metrics_text,
 };
 pub use packs::{MAX_BODY_BYTES, MAX_STATUS, MIN_STATUS, Packed, pack, unpack};
 pub use pages::PAGE;

@@ -1,7 +1,7 @@
 //! The counts of an agent, in the text format of Prometheus (version 0.0.4).
 ghost use Rattle.std.specs.Prelude.{◌≡◌, ◌<◌, ◌++◌, IfOk, OnOk, count_by, length, string_bytes};
 ghost use Rattle.change_core.specs.Status.{rank};
-ghost use Rattle.agent_core.specs.Metrics.{address_samples, bucket_of, bucket_sample, bucket_samples, connection_samples, holds, kept_samples, metrics_text, other_samples, question_samples, request_samples, round_samples, sample, status_sample, status_samples, time_samples, waiting_samples, within, worker_samples};
+ghost use Rattle.agent_core.specs.Metrics.{address_samples, bucket_of, bucket_sample, bucket_samples, connection_samples, holds, metrics_text, notice_samples, other_samples, question_samples, refusal_samples, request_samples, round_samples, sample, service_samples, status_sample, status_samples, time_samples, waiting_samples, within, worker_samples};
 
 use crate::shares::{MAX_OWN, MAX_WAITING, OWNER_SHARE};
 use change_core::{Change, MAX_MEMBERS, Status};
@@ -53,23 +53,6 @@ pub struct WaitingCounts {
     pub refused: u64,
 }
 
-/// The connections between an agent and other nodes that are kept for the next request.
-#[derive(Clone, Copy, Debug, Default, PartialEq, Eq)]
-pub struct KeptCounts {
-    /// Those to other nodes that rest between two requests.
-    pub resting: u64,
-    /// The most that rest at a time.
-    pub max_resting: u64,
-    /// The threads that answer other nodes and keep such a connection.
-    pub hands: u64,
-    /// The most that keep one at a time.
-    pub max_hands: u64,
-    /// Requests that went over a connection that had rested.
-    pub reused: u64,
-    /// Connections that rested, or were to, and were closed.
-    pub closed: u64,
-}
-
 /// The counts of an agent since it started.
 #[derive(Clone, Copy, Debug, PartialEq, Eq)]
 pub struct Counts {
@@ -107,8 +90,6 @@ pub struct Counts {
     pub allocation_failures: u64,
     /// The requests of keys that wait.
     pub waiting: WaitingCounts,
-    /// The connections of nodes that are kept.
-    pub kept: KeptCounts,
     /// The connections of clients over HTTP.
     pub http: PortCounts,
     /// The workers that serve one of them.
@@ -364,39 +345,6 @@ fn push_waiting(text: &mut String, waiting: &WaitingCounts) -> Result<(), AllocE
     Ok(())
 }
 
-/// Appends the numbers of connections of nodes that are kept, the most that may be, how often they were used again, and how many were closed.
-fn push_kept(text: &mut String, kept: &KeptCounts) -> Result<(), AllocError>
-    ensures { OnOk result (string_bytes text.new ≡ string_bytes text.old ++ kept_samples kept.now) }
-{
-    text.push_str("# TYPE ringpop_kept_connections_used gauge\n")?;
-    push_sample(
-        text,
-        "ringpop_kept_connections_used{end=\"asking\"}",
-        kept.resting,
-    )?;
-    push_sample(
-        text,
-        "ringpop_kept_connections_used{end=\"answering\"}",
-        kept.hands,
-    )?;
-    text.push_str("# TYPE ringpop_kept_connections_max gauge\n")?;
-    push_sample(
-        text,
-        "ringpop_kept_connections_max{end=\"asking\"}",
-        kept.max_resting,
-    )?;
-    push_sample(
-        text,
-        "ringpop_kept_connections_max{end=\"answering\"}",
-        kept.max_hands,
-    )?;
-    text.push_str("# TYPE ringpop_kept_connections_reused_total counter\n")?;
-    push_sample(text, "ringpop_kept_connections_reused_total", kept.reused)?;
-    text.push_str("# TYPE ringpop_kept_connections_closed_total counter\n")?;
-    push_sample(text, "ringpop_kept_connections_closed_total", kept.closed)?;
-    Ok(())
-}
-
 /// Appends the numbers of connections, the most that there may be, and those that found no place.
 fn push_connections(text: &mut String, http: &PortCounts) -> Result<(), AllocError>
     ensures { OnOk result (string_bytes text.new ≡ string_bytes text.old ++ connection_samples http.now) }
@@ -527,7 +475,6 @@ pub fn metrics_text(
     push_rounds(&mut text, counts)?;
     push_others(&mut text, counts)?;
     push_waiting(&mut text, &counts.waiting)?;
-    push_kept(&mut text, &counts.kept)?;
     push_connections(&mut text, &counts.http)?;
     push_workers(&mut text, counts)?;
     push_questions(&mut text, counts)?;

@@ -175,16 +175,6 @@ ringpop_waiting_max{owner=\"others\"} 128
 ringpop_waiting_share 32
 # TYPE ringpop_waiting_refused_total counter
 ringpop_waiting_refused_total 18
-# TYPE ringpop_kept_connections_used gauge
-ringpop_kept_connections_used{end=\"asking\"} 19
-ringpop_kept_connections_used{end=\"answering\"} 20
-# TYPE ringpop_kept_connections_max gauge
-ringpop_kept_connections_max{end=\"asking\"} 128
-ringpop_kept_connections_max{end=\"answering\"} 24
-# TYPE ringpop_kept_connections_reused_total counter
-ringpop_kept_connections_reused_total 21
-# TYPE ringpop_kept_connections_closed_total counter
-ringpop_kept_connections_closed_total 22
 # TYPE ringpop_connections_used gauge
 ringpop_connections_used{port=\"http\"} 12
 # TYPE ringpop_connections_max gauge
@@ -240,14 +230,6 @@ const COUNTS: Counts = Counts {
         own: 16,
         others: 17,
         refused: 18,
-    },
-    kept: KeptCounts {
-        resting: 19,
-        max_resting: 128,
-        hands: 20,
-        max_hands: 24,
-        reused: 21,
-        closed: 22,
     },
     http: PortCounts {
         used: 12,

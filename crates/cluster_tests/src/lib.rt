@@ -20,8 +20,6 @@ mod healing;
 #[cfg(test)]
 mod interrupted;
 #[cfg(test)]
-mod kept;
-#[cfg(test)]
 mod members;
 #[cfg(test)]
 mod messages;

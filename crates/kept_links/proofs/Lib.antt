@@ -1,2 +1,0 @@
-mod Exchanged
-mod Endings

@@ -20,7 +20,8 @@ use crate::rejections::Refused;
 use crate::rounds::make_rounds;
 use crate::services::{await_service, watch_service};
 use crate::settings::Settings;
-use crate::systems::{Host, System};
+use crate::systems::System;
+use crate::tellers::{Teller, start_notices};
 use crate::waiting::Waiting;
 use crate::watchers::Watchers;
 use agent_core::Watch;
@@ -59,7 +60,7 @@ const MAX_SPREADING: u64 = 5_000;
 
 /// Returns the incarnation at which the node starts. If none is given, it is the milliseconds since 1970, so that each
 /// start has a greater one.
-fn incarnation_of<R: Host>(rt: &R, settings: &Settings) -> Result<Incarnation, AgentError> {
+fn incarnation_of<R: System>(rt: &R, settings: &Settings) -> Result<Incarnation, AgentError> {
     if let Some(incarnation) = settings.incarnation {
         return Ok(incarnation);
     }
@@ -78,7 +79,7 @@ fn seed_of(address: Address, incarnation: Incarnation) -> u64 {
 }
 
 /// Makes the node of the settings.
-fn node_of<R: Host>(
+fn node_of<R: System>(
     rt: &R,
     alloc: Global,
     settings: &Settings,
@@ -107,14 +108,14 @@ fn node_of<R: Host>(
 }
 
 /// Makes the node of the settings and its passes.
-fn passes_of<R: Host>(rt: &R, alloc: Global, settings: &Settings) -> Result<Passes, AgentError> {
+fn passes_of<R: System>(rt: &R, alloc: Global, settings: &Settings) -> Result<Passes, AgentError> {
     let node = node_of(rt, alloc, settings)?;
     let (node, _pass, passes) = share(alloc, node, PASSES)?;
     Ok(Passes::new(Arc::new(alloc, node)?, passes))
 }
 
 /// Makes the application of the settings.
-fn application_of<R: Host>(
+fn application_of<R: System>(
     rt: &R,
     alloc: Global,
     stopwatch: Stopwatch,
@@ -125,13 +126,7 @@ fn application_of<R: Host>(
 }
 
 /// Makes the state that the threads of an agent share.
-///
-/// # Errors
-///
-/// - `NoClock`: no incarnation is given, and the system has no clock, or its clock gives no time since 1970.
-/// - `BadConfig`: a field of the node's configuration is out of its range.
-/// - `Memory`: out of memory.
-pub fn agent_of<R: Host>(
+fn agent_of<R: System>(
     rt: &R,
     alloc: Global,
     settings: &Settings,

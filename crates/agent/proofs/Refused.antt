@@ -26,8 +26,6 @@ fits asks refusal.NotLeft is = asked_for asks refusal.NotLeft (is (λ same. absu
 fits asks refusal.Exhausted is = asked_for asks refusal.Exhausted (is (λ same. absurd cc))
 fits asks refusal.LongBody is = asked_for asks refusal.LongBody (is (λ same. absurd cc))
 fits asks refusal.ManyKeys is = asked_for asks refusal.ManyKeys (is (λ same. absurd cc))
-fits asks refusal.LongRequest is = asked_for asks refusal.LongRequest (is (λ same. absurd cc))
-fits asks refusal.NotPassed is = asked_for asks refusal.NotPassed (is (λ same. absurd cc))
 fits asks refusal.ApplicationFailed is = asked_for asks refusal.ApplicationFailed (is (λ same. absurd cc))
 fits asks refusal.ApplicationDown is = asked_for asks refusal.ApplicationDown (is (λ same. absurd cc))
 fits asks refusal.NotJoined is = asked_for asks refusal.NotJoined (is (λ same. absurd cc))
@@ -40,7 +38,6 @@ fits asks refusal.Busy is = asked_for asks refusal.Busy (is (λ same. absurd cc)
 fits asks refusal.ManyQuestions is = asked_for asks refusal.ManyQuestions (is (λ same. absurd cc))
 fits asks refusal.Spent is = asked_for asks refusal.Spent (is (λ same. absurd cc))
 fits asks refusal.OwnerSilent is = asked_for asks refusal.OwnerSilent (is (λ same. absurd cc))
-fits asks refusal.AnswerLost is = asked_for asks refusal.AnswerLost (is (λ same. absurd cc))
 
 pub refuses : (asks result : Result Action Refusal) → IfErr result (λ why. why ≢ refusal.Memory → asks ≡ Err why) → IfErr result (Refuses asks)
 refuses asks (Ok action) said = tt

@@ -2,8 +2,6 @@ pub mod Answers
 pub mod Calling
 pub mod Connections
 pub mod Exchanges
-pub mod Onces
-pub mod Passing
 pub mod Performing
 pub mod Relays
 pub mod Replies

@@ -15,7 +15,6 @@ use Rattle.peer_core.specs.Parts.{Part, Tries}
 use Rattle.peer_core.specs.declared.errors.ClusterError.{ClusterError}
 use Rattle.peer_core.specs.declared.errors.ClusterError.TheVariants as error
 use Rattle.agent_core.specs.Metrics.{metrics_text}
-use Rattle.agent_core.specs.Parts.{text_of_body}
 use Rattle.agent_core.specs.Texts.{all_owners_text, digest_line, members_text, on_ring, owners_text, ring_text, shown_owners}
 use Rattle.agent_core.specs.declared.actions.Action.{Action}
 use Rattle.agent_core.specs.declared.actions.Action.TheVariants as action
@@ -132,16 +131,9 @@ ShowsAnswer text (Err why) = ⊥
 abbrev pub IsAsked : List ℕ → List ℕ → Part Sha256Hash (List ℕ)
 IsAsked key body = IsRequest hash_of AnyAnswer AnyHandling AnyTimes (key ∷ []) body
 
--- What comes of a request: the text that answered it, or the refusal for its error. One that may not be performed twice can end early, at a node
--- that may have performed it and gave no reply.
-abbrev pub Settled : Bool → Result (List ℕ) ClusterError → Outcome → Type 0
-Settled is_repeatable result outcome =
-    ComesOf ShowsAnswer result outcome ⊎ ((is_repeatable ≡ false) × (result ≡ Err error.Memory) × (outcome ≡ Err refusal.AnswerLost))
-
--- a request of one key is made, which this text has; it is not if memory runs out for it
-abbrev pub AsksOwner : List ℕ → List ℕ → Bool → Outcome → OfActs Sha256Hash
-AsksOwner key request is_repeatable outcome acts =
-    Declines refusal.Memory outcome acts ⊎ After (IsAsked key request) (Settled is_repeatable) outcome acts
+-- a request of one key is made; it is not if memory runs out for its key
+abbrev pub AsksOwner : List ℕ → List ℕ → Outcome → OfActs Sha256Hash
+AsksOwner key body outcome acts = Declines refusal.Memory outcome acts ⊎ After (IsAsked key body) (ComesOf ShowsAnswer) outcome acts
 
 -- what is found of the owner of a key by the result of a call for a view: the owner, or why there is none
 abbrev pub IsFound : List ℕ → Result (Viewed Sha256Hash) ClusterError → Result ℕ Refusal → Type 0
@@ -158,15 +150,13 @@ abbrev pub crowded : ℕ → ℕ → Refusal
 crowded own found = cond (found == own) refusal.Busy (refusal.OwnerBusy found)
 
 -- a request of a key is made if its owner was found and there is a place for it
-abbrev pub AsksIfPlaced : ℕ → List ℕ → List ℕ → Bool → Outcome → Result ℕ Refusal → OfActs Sha256Hash
-AsksIfPlaced own key request is_repeatable outcome (Ok found) acts =
-    Declines (crowded own found) outcome acts ⊎ AsksOwner key request is_repeatable outcome acts
-AsksIfPlaced own key request is_repeatable outcome (Err why) acts = Declines why outcome acts
+abbrev pub AsksIfPlaced : ℕ → List ℕ → List ℕ → Outcome → Result ℕ Refusal → OfActs Sha256Hash
+AsksIfPlaced own key body outcome (Ok found) acts = Declines (crowded own found) outcome acts ⊎ AsksOwner key body outcome acts
+AsksIfPlaced own key body outcome (Err why) acts = Declines why outcome acts
 
--- the owner of a key is found first, and then a request of it is made, which this text has
-abbrev pub Handles : ℕ → List ℕ → List ℕ → Bool → Outcome → OfActs Sha256Hash
-Handles own key request is_repeatable outcome acts =
-    (found : Result ℕ Refusal) × Then (Finds key found) (AsksIfPlaced own key request is_repeatable outcome found) acts
+-- the owner of a key is found first, and then a request of it is made
+abbrev pub Handles : ℕ → List ℕ → List ℕ → Outcome → OfActs Sha256Hash
+Handles own key body outcome acts = (found : Result ℕ Refusal) × Then (Finds key found) (AsksIfPlaced own key body outcome found) acts
 
 -- the node left, or had left already, and the agent stops; or it is refused as a leave is
 abbrev pub Stops : Result Change ClusterError → Outcome → Type 0
@@ -192,10 +182,7 @@ IsLiveness (Err why) = why ≡ refusal.NoRounds
 
 -- An action of the agent whose node has this address and this many replicas, its outcome, and all calls of the node that were made for it.
 abbrev pub Performs : ℕ → ℕ → Action → Outcome → OfActs Sha256Hash
-Performs own replicas (action.Handle key body) outcome acts =
-    (Declines refusal.NotJoined outcome acts ⊎ Declines refusal.Memory outcome acts) ⊎ Handles own key (text_of_body body) true outcome acts
-Performs own replicas (action.Pass key request is_repeatable) outcome acts =
-    Declines refusal.NotJoined outcome acts ⊎ Handles own key request is_repeatable outcome acts
+Performs own replicas (action.Handle key body) outcome acts = Declines refusal.NotJoined outcome acts ⊎ Handles own key body outcome acts
 Performs own replicas (action.Owners key count) outcome acts =
     Declines refusal.NotJoined outcome acts ⊎ After Looks (ComesOf (ShowsOwners key count)) outcome acts
 Performs own replicas (action.AllOwners keys count only_others) outcome acts =

@@ -1,24 +1,17 @@
 -- The response that shows a reply, or a refusal: its status, its fields in their order, and its body.
-use Rattle.std.specs.Prelude.{◌≡◌, ◌⊎◌, ◌≤◌, ℕ, Bool, cond, List, [], ◌∷◌, ◌++◌, map, string_bytes, codes}
-use Rattle.std.specs.List.{All}
+use Rattle.std.specs.Prelude.{◌≡◌, ◌==◌, ℕ, Bool, cond, Option, Some, None, List, [], ◌∷◌, ◌++◌, string_bytes, codes}
 use Rattle.change_core.specs.Address.{address_text}
 use Rattle.change_core.specs.Digest.{digest_digits}
 use Rattle.http1.specs.Fields.{Header}
 use Rattle.http_server.specs.declared.response.Response.{Response}
 use Rattle.http_server.specs.Response.{IsResponse}
-use Rattle.http_header.specs.FieldName.{IsFieldName}
-use Rattle.http_header.specs.FieldValue.{IsFieldValue}
-use Rattle.http_header.specs.Token.{lowercase}
-use Rattle.base64.specs.GeneralPurpose.{IsBytes}
 use Rattle.agent_core.specs.Packs.{unpacked}
-use Rattle.agent_core.specs.Parts.{joined}
-use Rattle.agent_core.specs.Passing.{answer_parts, answer_text}
-use Rattle.agent_core.specs.Refusals.{kind_name, line_of, status_of}
+use Rattle.agent_core.specs.Refusals.{kind_name, line_of, sent, status_of, word_of}
 use Rattle.agent_core.specs.declared.answers.Kind.{Kind}
 use Rattle.agent_core.specs.declared.answers.Kind.TheVariants as kind
 use Rattle.agent_core.specs.declared.pages.TheConstants.{PAGE}
 use Rattle.agent_core.specs.declared.refusals.Refusal.{Refusal}
-use Rattle.agent_core.specs.declared.refusals.Refusal.TheVariants.{AnswerLost, BadMethod, OwnerBusy}
+use Rattle.agent_core.specs.declared.refusals.Refusal.TheVariants.{BadMethod, OwnerBusy}
 use Rattle.agent_core.specs.declared.verbs.Verb.{Verb}
 use Rattle.agent_core.specs.declared.verbs.Verb.TheVariants.{Get, Post}
 use Rattle.agent.specs.declared.replies.Reply.{Reply}
@@ -92,52 +85,34 @@ abbrev pub allowed_methods : Verb → List ℕ
 allowed_methods Get = codes "GET, HEAD"
 allowed_methods Post = codes "POST"
 
--- the field that says why the answer of a request that is not sent again did not come
-abbrev pub lost_field : List Header
-lost_field = (codes "x-ringpop-error", codes "the answer was lost: the owner may have done the request") ∷ []
-
--- the field that names the methods of the path, if the refused request had another, or the owner, if too many requests wait for it, or why no answer came
+-- the field that names the methods of the path, if the refused request had another, or the owner, if too many requests wait for it
 abbrev pub refusal_field : Refusal → List Header
 refusal_field (BadMethod verb) = (codes "allow", allowed_methods verb) ∷ []
 refusal_field (OwnerBusy owner) = named_owner owner
-refusal_field AnswerLost = lost_field
 refusal_field _ = []
 
--- a field of HTTP
-abbrev pub IsField : Header → Type 0
-IsField field = IsFieldName field.0 × IsFieldValue field.1
+-- the field of a refusal alone, with its word
+abbrev pub word_field : Refusal → List Header
+word_field refusal = (codes "x-ringpop-error", word_of refusal) ∷ []
 
--- a field as a response has it, with its name in lower case
-abbrev pub lower : Header → Header
-lower field = (lowercase field.0, field.1)
+-- that field, if there is a refusal
+abbrev pub word_if : Option Refusal → List Header
+word_if None = []
+word_if (Some refusal) = word_field refusal
 
--- An answer that a text has: its status, its body and its fields.
-pub record HasAnswer (text : List ℕ) (status : ℕ) (body : List ℕ) (fields : List Header) : Type 0 where
-  pub packed : text ≡ answer_text status body fields
-  pub bytes : IsBytes (joined (answer_parts status body fields))
-  pub least : 200 ≤ status
-  pub greatest : status ≤ 599
-  pub names : All IsField fields
+-- that field, if the reply is one that the owner's agent sent in place of its application's
+abbrev pub sent_field : Reply → List Header
+sent_field (Handled owner text) = word_if (sent (unpacked text).status (unpacked text).body)
+sent_field _ = []
 
--- a response shows the answer that a text has, and these fields after its own
-abbrev pub ShowsAnswer : List ℕ → Bool → List Header → Response → Type 0
-ShowsAnswer text closes more response =
-    (status : ℕ) × (body : List ℕ) × (fields : List Header) × HasAnswer text status body fields
-    × IsResponse status (closing closes ++ map lower fields ++ more) body response
-
--- a text has no answer
-abbrev pub HasNoAnswer : List ℕ → Type 0
-HasNoAnswer text = (status : ℕ) (body : List ℕ) (fields : List Header) → ¬ (HasAnswer text status body fields)
-
--- a response shows a reply that is a text of this node, or the answer to a request that was a body alone
-abbrev pub ShowsText : Reply → Bool → Response → Type 0
-ShowsText reply closes response = IsResponse (reply_status reply) (fields_for closes (reply_kind reply) ++ owner_field reply) (reply_body reply) response
+-- the field of a 503: after how many seconds the client may ask again
+abbrev pub retry_field : ℕ → List Header
+retry_field status = cond (status == 503) ((codes "retry-after", codes "1") ∷ []) []
 
 -- a response shows a reply, and says whether the connection is closed
 abbrev pub ShowsReply : Reply → Bool → Response → Type 0
-ShowsReply (Handled owner text) closes response =
-    ShowsAnswer text closes (named_owner owner) response ⊎ (HasNoAnswer text × ShowsText (Handled owner text) closes response)
-ShowsReply reply closes response = ShowsText reply closes response
+ShowsReply reply closes response =
+    IsResponse (reply_status reply) ((fields_for closes (reply_kind reply) ++ owner_field reply) ++ sent_field reply) (reply_body reply) response
 
 -- a response shows a refusal, and says whether the connection is closed
 abbrev pub ShowsRefusal : Refusal → Bool → Response → Type 0

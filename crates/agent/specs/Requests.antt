@@ -1,5 +1,5 @@
 -- What a request over HTTP asks for, and the refusals that fit it.
-use Rattle.std.specs.Prelude.{◌≡◌, ◌≢◌, ◌⊎◌, cond, List, ℕ, bytes_eq, codes, Option, Some, None, Result, Ok, Err}
+use Rattle.std.specs.Prelude.{◌≡◌, ◌≢◌, ◌⊎◌, cond, List, ℕ, bytes_eq, codes, Result, Ok, Err}
 use Rattle.http.specs.Request.{body_of, head_of}
 use Rattle.http.specs.declared.request.Request.{Request}
 use Rattle.http_header.specs.HeaderMap.{ContainsKey}
@@ -8,7 +8,6 @@ use Rattle.agent_core.specs.Requests.{asked}
 use Rattle.agent_core.specs.declared.actions.Action.{Action}
 use Rattle.agent_core.specs.declared.refusals.Refusal.{Refusal}
 use Rattle.agent_core.specs.declared.refusals.Refusal.TheVariants.{CrossSite, Memory}
-use Rattle.agent.specs.Passing.{IsKeyText, IsKeyed, IsNotPassed, IsPassed}
 
 -- the method by which a request is answered: a HEAD as a GET (RFC 9110, section 9.3.2)
 abbrev pub answered_as : List ℕ → List ℕ
@@ -27,21 +26,10 @@ abbrev pub Refuses : Result Action Refusal → Refusal → Type 0
 Refuses (Err wrong) refusal = (refusal ≡ wrong) ⊎ (refusal ≡ Memory)
 Refuses (Ok action) refusal = refusal ≡ Memory
 
--- a request to the agent may be refused so: as that of a page of another site, or else as fits what it asks for
-abbrev pub IsRefusedHere : Request (List ℕ) → Refusal → Type 0
-IsRefusedHere request refusal = (IsCrossSite request × (refusal ≡ CrossSite)) ⊎ (¬ (IsCrossSite request) × Refuses (asked_by request) refusal)
+-- a request may be refused so: as that of a page of another site, or else as fits what it asks for
+abbrev pub IsRefused : Request (List ℕ) → Refusal → Type 0
+IsRefused request refusal = (IsCrossSite request × (refusal ≡ CrossSite)) ⊎ (¬ (IsCrossSite request) × Refuses (asked_by request) refusal)
 
--- a request to the agent is of no page of another site, and asks for this action
-abbrev pub AsksHere : Request (List ℕ) → Action → Type 0
-AsksHere request action = ¬ (IsCrossSite request) × (asked_by request ≡ Ok action)
-
--- a request may be refused so: as one that is not passed on, if a field names keys and it is one of a key, or else as one to the agent
-abbrev pub IsRefused : Option (List ℕ) → Request (List ℕ) → Refusal → Type 0
-IsRefused None request refusal = IsRefusedHere request refusal
-IsRefused (Some field) request refusal =
-    ((encoded : List ℕ) × IsKeyText field request encoded × IsNotPassed encoded request refusal) ⊎ (¬ (IsKeyed field request) × IsRefusedHere request refusal)
-
--- a request asks for this action: it is passed on, if a field names keys and it is one of a key, or else it is one to the agent
-abbrev pub AsksFor : Option (List ℕ) → Request (List ℕ) → Action → Type 0
-AsksFor None request action = AsksHere request action
-AsksFor (Some field) request action = ((encoded : List ℕ) × IsKeyText field request encoded × IsPassed encoded request action) ⊎ (¬ (IsKeyed field request) × AsksHere request action)
+-- a request is of no page of another site, and asks for this action
+abbrev pub AsksFor : Request (List ℕ) → Action → Type 0
+AsksFor request action = ¬ (IsCrossSite request) × (asked_by request ≡ Ok action)

@@ -11,7 +11,7 @@ use crate::waiting::Waiting;
 use crate::watchers::{MAX_QUESTIONS, Watchers};
 use agent_core::{Counts, PortCounts, Watch};
 use change_core::{Address, Moment};
-use http::HeaderName;
+use line_service::{ServerClock, Stopwatch, Timeouts};
 use log::{LevelFilter, Logged};
 use reactor::Places;
 use std::alloc::Global;
@@ -69,8 +69,6 @@ pub struct Agent<R> {
     pub stopwatch: Stopwatch,
     pub timeouts: Timeouts,
     pub application: Application<R>,
-    /// The field that names the key of a request, if any request of a key is passed on.
-    pub key_field: Option<HeaderName>,
     /// The passes that no thread has.
     pub passes: Mutex<Passes>,
     pub counters: Counters,

@@ -9,21 +9,16 @@ use crate::exchanges::{Answer, Asked, exchange};
 use crate::journals::Journal;
 use crate::notices::Notices;
 use crate::systems::Host;
-use agent_core::{
-    Failure, Field, MAX_BODY_BYTES, MAX_REQUEST_BYTES, MAX_STATUS, MIN_STATUS, PassedRequest,
-    Refusal, is_repeatable, pack, pack_answer, parts_in, push_field, request_of, unpack_bytes,
-};
+use agent_core::{Failure, MAX_BODY_BYTES, MAX_STATUS, MIN_STATUS, Refusal, pack};
 use change_core::Address;
 use cluster_core::{Deadline, Timed, socket_address};
-use http1::{Client, Header, Limits};
+use http1::{Client, Limits};
+use line_service::Stopwatch;
 use log::{Logged, info, warn};
 use message_core::{Keys, Text, WireError};
 use peer_core::{Handler, HandlerFault};
-use percent_encoding::{NON_ALPHANUMERIC, percent_encode};
-use server::Stopwatch;
-use std::alloc::{AllocError, Global};
+use std::alloc::Global;
 use std::io;
-use std::io::ErrorKind;
 use std::net::TcpStream;
 use std::sync::{Mutex, MutexGuard, Wait};
 use std::time::Duration;
@@ -58,8 +53,6 @@ pub struct Application<R> {
     stopwatch: Stopwatch,
     own: Address,
     at: Option<Address>,
-    /// Whether any request is passed on: then no application is asked twice for one that is not to be performed twice.
-    is_passing: bool,
     /// The number of requests that were to be handled here.
     pub handled: Count,
     /// The number of them that the program did not answer, or by no answer that can be passed on.
@@ -68,16 +61,6 @@ pub struct Application<R> {
     notices: Notices,
     /// The connections that are kept, the newest last.
     kept: Mutex<Vec<Kept>>,
-}
-
-/// Returns whether nothing has come over a connection, not even its end.
-fn is_quiet(stream: &TcpStream) -> bool {
-    if stream.set_nonblocking(true).is_err() {
-        return false;
-    }
-    let seen = stream.peek(&mut [0]);
-    let is_waiting = stream.set_nonblocking(false).is_ok();
-    is_waiting && matches!(seen, Err(error) if error.kind() == ErrorKind::WouldBlock)
 }
 
 /// Returns the text of a Reply for a refusal.
@@ -102,72 +85,23 @@ fn no_answer(_error: io::Error) -> Failure
     Failure::NoAnswer
 }
 
-/// Returns the handler's error if memory ran out.
-fn out_of_memory(_error: AllocError) -> HandlerFault
-    ensures { result ≡ HandlerFault.Memory }
-{
-    HandlerFault::Memory
-}
-
-/// Returns whether an answer with this status and a body of this many bytes, of at most so many, can be passed on.
-fn fits(status: u16, length: usize, most: usize) -> bool {
-    status >= MIN_STATUS && status <= MAX_STATUS && length <= most
-}
-
-/// Returns the text of a Reply for the answer to a request that is a body alone. None if the answer can't be passed on: its
-/// body is too long or not UTF-8, or its status is not 200 to 599.
-fn packed(alloc: Global, answer: &Answer) -> Option<Result<Text, HandlerFault>> {
-    let text = str::from_utf8(answer.body.as_slice()).ok()?;
-    if !fits(answer.status, text.len(), MAX_BODY_BYTES) {
+/// Returns the text of a Reply for an answer. None if the answer can't be passed on: its body is too long or not UTF-8, or
+/// its status is not 200 to 599.
+fn packed(
+    alloc: Global,
+    status: u16,
+    is_json: bool,
+    body: &[u8],
+) -> Option<Result<Text, HandlerFault>> {
+    let text = str::from_utf8(body).ok()?;
+    if status < MIN_STATUS || status > MAX_STATUS || body.len() > MAX_BODY_BYTES {
         return None;
     }
-    Some(pack(alloc, answer.status, answer.is_json, text).map_err(handler_fault))
-}
-
-/// Returns the text of a Reply for a refusal of a request that was passed on whole: a field says that it is no answer of the
-/// application.
-fn whole_refused(alloc: Global, refusal: Refusal) -> Result<Text, WireError> {
-    let line = refusal.line();
-    let mut fields = Vec::new(alloc);
-    push_field(&mut fields, b"content-type", b"text/plain; charset=utf-8")?;
-    push_field(&mut fields, b"x-ringpop-error", line.trim_end().as_bytes())?;
-    pack_answer(alloc, refusal.status(), line.as_bytes(), fields.as_slice())
-}
-
-/// Returns the fields of a request that is a body alone, to a service at this host.
-fn text_fields(alloc: Global, host: &str) -> Result<Vec<Header<'_>>, AllocError> {
-    let mut fields = Vec::with_capacity(alloc, 2)?;
-    fields.push(Header {
-        name: b"host",
-        value: host.as_bytes(),
-    })?;
-    fields.push(Header {
-        name: b"content-type",
-        value: b"text/plain; charset=utf-8",
-    })?;
-    Ok(fields)
-}
-
-/// Returns fields as the client of the application takes them.
-fn headers_of<'a>(alloc: Global, fields: &[Field<'a>]) -> Result<Vec<Header<'a>>, AllocError> {
-    let mut headers = Vec::with_capacity(alloc, fields.len())?;
-    for field in fields {
-        headers.push(Header {
-            name: field.name,
-            value: field.value,
-        })?;
-    }
-    Ok(headers)
-}
-
-/// Returns whether the fields have one of this name.
-fn has_field(fields: &[Field<'_>], name: &[u8]) -> bool {
-    fields.iter().any(|field| field.name == name)
+    Some(pack(alloc, status, is_json, text).map_err(handler_fault))
 }
 
 impl<R: Host> Application<R> {
-    /// Makes the application at an address; without one, the echo of the node at its own address. `is_passing` says whether
-    /// any request is passed on.
+    /// Makes the application at an address; without one, the echo of the node at its own address.
     pub fn new(
         rt: R,
         alloc: Global,
@@ -175,7 +109,6 @@ impl<R: Host> Application<R> {
         stopwatch: Stopwatch,
         own: Address,
         at: Option<Address>,
-        is_passing: bool,
     ) -> Self {
         Application {
             rt,
@@ -183,7 +116,6 @@ impl<R: Host> Application<R> {
             stopwatch,
             own,
             at,
-            is_passing,
             handled: Count::new(),
             failures: Count::new(),
             notices: Notices::new(alloc),
@@ -204,18 +136,6 @@ impl<R: Host> Application<R> {
 
     fn take_kept(&self) -> Option<Kept> {
         self.lock_kept(self.now()).pop()
-    }
-
-    /// Returns a kept connection over which a request may be sent, if there is one: the application has not closed it, as far
-    /// as this side knows, or the request may be sent again.
-    fn kept_for(&self, is_repeatable: bool) -> Option<Kept> {
-        for _ in 0..=MAX_APPLICATION_CONNECTIONS {
-            let kept = self.take_kept()?;
-            if is_repeatable || is_quiet(&kept.stream) {
-                return Some(kept);
-            }
-        }
-        None
     }
 
     /// Keeps a connection for another request, if it can have one and fewer than 128 are kept. Out of memory drops it.
@@ -272,14 +192,14 @@ impl<R: Host> Application<R> {
         answer
     }
 
-    /// Returns the application's answer to a request within a limit. If the application hung up on a kept connection, a request
-    /// that may be performed twice is sent again over a new one, since it may have closed the kept one before. After any other
-    /// failure it is not, since the application may be at work on it.
+    /// Returns the application's answer to a request within a limit. If the application hung up on a kept connection, the
+    /// request is sent again over a new one, since it may have closed the kept one before. After any other failure it is
+    /// not, since the application may be at work on it.
     fn ask(&self, alloc: Global, asked: &Asked<'_>, limit: Duration) -> Result<Answer, Failure> {
         let deadline = Deadline::after(&self.rt, limit).map_err(no_answer)?;
-        if let Some(kept) = self.kept_for(asked.is_repeatable) {
+        if let Some(kept) = self.take_kept() {
             match self.exchange_over(alloc, kept, &deadline, asked) {
-                Err(Failure::HungUp) if asked.is_repeatable => {}
+                Err(Failure::HungUp) => {}
                 answer => return answer,
             }
         }
@@ -321,143 +241,15 @@ impl<R: Host> Application<R> {
         }
     }
 
-    /// Returns the echo's answer to a request.
-    fn echo(&self, alloc: Global, asked: &Asked<'_>) -> Result<Answer, AllocError> {
+    fn echo(&self, alloc: Global, body: &str) -> Result<Text, HandlerFault> {
         let own = self.own;
-        let mut body = format!(in alloc; "{own} ")?.into_bytes();
-        body.extend_from_slice(asked.body)?;
-        let mut fields = Vec::new(alloc);
-        push_field(&mut fields, b"content-type", b"text/plain; charset=utf-8")?;
-        Ok(Answer {
-            status: 200,
-            is_json: false,
-            body,
-            fields,
-        })
-    }
-
-    /// Returns the answer to a request, by the program within a limit or by the echo.
-    fn answer_to(
-        &self,
-        alloc: Global,
-        asked: &Asked<'_>,
-        limit: Duration,
-    ) -> Result<Answer, Failure> {
-        match self.at {
-            Some(_) => self.ask(alloc, asked, limit),
-            None => self.echo(alloc, asked).map_err(|_| Failure::NoAnswer),
+        let Ok(text) = format!(in alloc; "{own} {body}") else {
+            return Err(HandlerFault::Memory);
+        };
+        match packed(alloc, 200, false, text.as_bytes()) {
+            Some(text) => text,
+            None => refused(alloc, &Refusal::Unanswered(Failure::BadAnswer)),
         }
-    }
-
-    /// Notes whether a request had an answer that could be passed on.
-    fn note_result(&self, failure: Option<Failure>) {
-        let Some(at) = self.at else {
-            return;
-        };
-        match failure {
-            None => self.note_answer(at),
-            Some(failure) => self.note_failure(at, failure),
-        }
-    }
-
-    /// Returns the answer to a request that is a body alone: a POST of it as text at the key's path.
-    fn answer_body(
-        &self,
-        alloc: Global,
-        key: &str,
-        body: &[u8],
-        limit: Duration,
-    ) -> Result<Text, HandlerFault> {
-        let mut target = String::from_str(alloc, "/keys/").map_err(out_of_memory)?;
-        percent_encode(key.as_bytes(), NON_ALPHANUMERIC)
-            .append_to(&mut target)
-            .map_err(out_of_memory)?;
-        let at = self.at.unwrap_or(self.own);
-        let host = format!(in alloc; "{at}").map_err(out_of_memory)?;
-        let fields = text_fields(alloc, host.as_str()).map_err(out_of_memory)?;
-        let asked = Asked {
-            at,
-            method: b"POST",
-            target: target.as_bytes(),
-            fields,
-            body,
-            is_whole: false,
-            is_repeatable: !self.is_passing,
-        };
-        let answer = self.answer_to(alloc, &asked, limit);
-        let failure = match &answer {
-            Ok(answer) => match packed(alloc, answer) {
-                Some(text) => {
-                    self.note_result(None);
-                    return text;
-                }
-                None => Failure::BadAnswer,
-            },
-            Err(failure) => *failure,
-        };
-        self.note_result(Some(failure));
-        // (a Reply and no error, so that the asking node does not try again)
-        refused(alloc, &Refusal::Unanswered(failure))
-    }
-
-    /// Returns the refusal of a request that is passed on whole for a failure, which it notes.
-    fn refuse_whole(&self, alloc: Global, failure: Failure) -> Result<Text, HandlerFault> {
-        self.note_result(Some(failure));
-        whole_refused(alloc, Refusal::Unanswered(failure)).map_err(handler_fault)
-    }
-
-    /// Returns the answer to a request that is passed on whole.
-    fn answer_whole(
-        &self,
-        alloc: Global,
-        asked: &Asked<'_>,
-        limit: Duration,
-    ) -> Result<Text, HandlerFault> {
-        let answer = match self.answer_to(alloc, asked, limit) {
-            Ok(answer) => answer,
-            Err(failure) => return self.refuse_whole(alloc, failure),
-        };
-        let Answer {
-            status,
-            body,
-            fields,
-            ..
-        } = &answer;
-        if !fits(*status, body.len(), MAX_REQUEST_BYTES) {
-            return self.refuse_whole(alloc, Failure::BadAnswer);
-        }
-        self.note_result(None);
-        // (a 205 has no body, RFC 9110, section 15.3.6)
-        let length = if *status == 205 { 0 } else { body.len() };
-        pack_answer(alloc, *status, &body[..length], fields.as_slice()).map_err(handler_fault)
-    }
-
-    /// Returns the answer to a request of these parts. Parts of another form are no request.
-    fn answer_parts(
-        &self,
-        alloc: Global,
-        parts: &[&[u8]],
-        limit: Duration,
-    ) -> Result<Text, HandlerFault> {
-        let request = request_of(alloc, parts).map_err(out_of_memory)?;
-        let PassedRequest {
-            method,
-            target,
-            body,
-            fields,
-        } = request.ok_or(HandlerFault::Failed)?;
-        let is_repeatable = has_field(fields.as_slice(), b"idempotency-key")
-            || is_repeatable(str::from_utf8(method).unwrap_or(""));
-        let asked = Asked {
-            at: self.at.unwrap_or(self.own),
-            method,
-            target,
-            fields: headers_of(alloc, fields.as_slice()).map_err(out_of_memory)?,
-            body,
-            is_whole: true,
-            is_repeatable,
-        };
-        self.answer_whole(alloc, &asked, limit)
     }
 
     /// Returns the answer to a request, by the program within a limit or by the echo.
@@ -465,22 +257,33 @@ impl<R: Host> Application<R> {
         &self,
         alloc: Global,
         keys: &Keys,
-        text: &Text,
+        body: &Text,
         limit: Duration,
     ) -> Result<Text, HandlerFault> {
         self.handled.add(1);
-        let key = keys.get(0).ok_or(HandlerFault::Failed)?.as_str();
-        let text = text.as_str();
-        let Some(bytes) = unpack_bytes(alloc, text).map_err(out_of_memory)? else {
-            return self.answer_body(alloc, key, text.as_bytes(), limit);
+        let Some(at) = self.at else {
+            return self.echo(alloc, body.as_str());
         };
-        let Some(parts) = parts_in(alloc, bytes.as_slice()).map_err(out_of_memory)? else {
-            return self.answer_body(alloc, key, text.as_bytes(), limit);
+        let key = keys.get(0).ok_or(HandlerFault::Failed)?;
+        let asked = Asked {
+            at,
+            key: key.as_str(),
+            body: body.as_str(),
         };
-        match parts.as_slice() {
-            [body] => self.answer_body(alloc, key, body, limit),
-            parts => self.answer_parts(alloc, parts, limit),
-        }
+        let failure = match self.ask(alloc, &asked, limit) {
+            Ok(answer) => {
+                let body = answer.body.as_slice();
+                if let Some(text) = packed(alloc, answer.status, answer.is_json, body) {
+                    self.note_answer(at);
+                    return text;
+                }
+                Failure::BadAnswer
+            }
+            Err(failure) => failure,
+        };
+        self.note_failure(at, failure);
+        // (a Reply and no error, so that the asking node does not try again)
+        refused(alloc, &Refusal::Unanswered(failure))
     }
 }
 

@@ -242,7 +242,7 @@ pub fn serve_over<R: Host, I: Read, O: Write>(
     writer: &mut O,
 ) -> io::Result<Pause>
     requires { config_of connection.old ≡ connection_limits }
-    ensures answers { SendsAnswers front.old.agent.now.own front.old.agent.now.replicas front.old.agent.now.key_field (history connection.old) (history connection.new) (I.remaining reader.old) (I.remaining reader.new) (O.contents writer.old) (O.contents writer.new) front.old.caller.now front.new.caller.now }
+    ensures answers { SendsAnswers front.old.agent.now.own front.old.agent.now.replicas (history connection.old) (history connection.new) (I.remaining reader.old) (I.remaining reader.new) (O.contents writer.old) (O.contents writer.new) front.old.caller.now front.new.caller.now }
     ensures settled { result ≡ Ok pause.Input → IsSettled (history connection.new) }
     ensures owing { result ≡ Ok pause.Room → 0 < length (history connection.new).pending }
     ensures done { result ≡ Ok pause.Done → IsDone (history connection.new) }

@@ -3,13 +3,12 @@ ghost use Rattle.std.specs.Prelude.{◌≡◌, Err, IsFalse};
 ghost use Rattle.std.specs.IoError.{error_kind};
 ghost use Rattle.agent.specs.Exchanges.{failure_of};
 
-use crate::passing::has_name;
-use agent_core::{Failure, is_of_connection, push_field};
+use agent_core::Failure;
 use bytes::{Buf, BytesMut};
 use change_core::Address;
-use http::HeaderName;
 use http1::{BodySize, Client, Event, Header};
 use httparse::spans::{EMPTY_HEADER_SPAN, HeaderSpan, ResponseSpans, Span};
+use percent_encoding::{NON_ALPHANUMERIC, percent_encode};
 use std::alloc::{AllocError, Global};
 use std::io;
 use std::io::{ErrorKind, Read, Write};
@@ -21,18 +20,11 @@ const MAX_ANSWER_BYTES: usize = 1_048_576;
 const READ_SIZE: usize = 8_192;
 
 /// A request to the application at an address.
-#[derive(Drop)]
+#[derive(Clone, Copy)]
 pub struct Asked<'a> {
     pub at: Address,
-    pub method: &'a [u8],
-    pub target: &'a [u8],
-    /// The fields, with one `Host`.
-    pub fields: Vec<Header<'a>>,
-    pub body: &'a [u8],
-    /// Whether the fields of the answer are wanted.
-    pub is_whole: bool,
-    /// Whether the application may be asked again if it hung up on a kept connection.
-    pub is_repeatable: bool,
+    pub key: &'a str,
+    pub body: &'a str,
 }
 
 /// An answer of the application.
@@ -42,8 +34,6 @@ pub struct Answer {
     /// Whether its content type is JSON.
     pub is_json: bool,
     pub body: Vec<u8>,
-    /// The name and the value of each field that passes, as parts, if they are wanted.
-    pub fields: Vec<u8>,
 }
 
 /// Returns the failure of a request whose connection failed by this error, after a byte of the answer or before.
@@ -59,44 +49,45 @@ fn failure_of(error: &io::Error, has_begun: bool) -> Failure
     }
 }
 
-/// Returns the size of the body that a request announces: none if it has no body and its fields give no length.
-fn size_of(asked: &Asked<'_>) -> BodySize {
-    let length = asked.body.len() as u64;
-    let is_announced = !asked.is_whole
-        || length > 0
-        || asked
-            .fields
-            .iter()
-            .any(|field| field.name == b"content-length".as_slice());
-    if is_announced {
-        BodySize::Known(length)
-    } else {
-        BodySize::Empty
-    }
+/// Writes the request into the output. Returns whether it was written whole.
+fn write_request(
+    client: &mut Client,
+    output: &mut BytesMut,
+    target: &str,
+    host: &str,
+    body: &str,
+) -> bool {
+    let headers = [
+        Header {
+            name: b"host",
+            value: host.as_bytes(),
+        },
+        Header {
+            name: b"content-type",
+            value: b"text/plain; charset=utf-8",
+        },
+    ];
+    let size = BodySize::Known(body.len() as u64);
+    client
+        .write_request(output, b"POST", target.as_bytes(), &headers, size)
+        .is_ok()
+        && client.write_data(output, body.as_bytes()).is_ok()
+        && client.write_end(output, &[]).is_ok()
 }
 
-/// Returns the bytes of a request; None if they could not be written.
-fn request(alloc: Global, client: &mut Client, asked: &Asked<'_>) -> Option<BytesMut> {
-    let Asked {
-        method,
-        target,
-        fields,
-        body,
-        ..
-    } = asked;
+/// Returns the bytes of a request, `POST /keys/KEY` with the key percent-encoded; None if they could not be written.
+fn request(
+    alloc: Global,
+    client: &mut Client,
+    asked: &Asked<'_>,
+) -> Result<Option<BytesMut>, AllocError> {
+    let Asked { at, key, body } = *asked;
+    let mut target = String::from_str(alloc, "/keys/")?;
+    percent_encode(key.as_bytes(), NON_ALPHANUMERIC).append_to(&mut target)?;
+    let host = format!(in alloc; "{at}")?;
     let mut output = BytesMut::new(alloc);
-    client
-        .write_request(
-            &mut output,
-            method,
-            target,
-            fields.as_slice(),
-            size_of(asked),
-        )
-        .ok()?;
-    client.write_data(&mut output, body).ok()?;
-    client.write_end(&mut output, &[]).ok()?;
-    Some(output)
+    let written = write_request(client, &mut output, target.as_str(), host.as_str(), body);
+    Ok(written.then_some(output))
 }
 
 /// The next step after an event of the connection.
@@ -123,67 +114,8 @@ fn says_json(unread: &[u8], field: &HeaderSpan) -> bool {
         && part(unread, field.value).starts_with(b"application/json")
 }
 
-/// Returns whether a field of an answer passes. A length passes alone if the answer has one and no body: it answers a HEAD,
-/// or its status is 304.
-fn passes(
-    alloc: Global,
-    unread: &[u8],
-    fields: &[HeaderSpan],
-    name: &[u8],
-    has_length: bool,
-) -> bool {
-    let Ok(lower) = HeaderName::from_bytes(alloc, name) else {
-        return false;
-    };
-    if lower.as_str() == "content-length" {
-        return has_length;
-    }
-    !is_of_connection(lower.as_str())
-        && !fields.iter().any(|list| {
-            part(unread, list.name).eq_ignore_ascii_case(b"connection")
-                && has_name(part(unread, list.value), name)
-        })
-}
-
-/// Appends the fields of an answer that pass.
-fn take_fields(
-    alloc: Global,
-    asked: &Asked<'_>,
-    unread: &[u8],
-    fields: &[HeaderSpan],
-    answer: &mut Answer,
-) -> Result<(), AllocError> {
-    let has_length = asked.method == b"HEAD".as_slice() || answer.status == 304;
-    for field in fields {
-        let name = part(unread, field.name);
-        if passes(alloc, unread, fields, name, has_length) {
-            push_field(&mut answer.fields, name, part(unread, field.value))?;
-        }
-    }
-    Ok(())
-}
-
-/// Takes the head of an answer.
-fn take_head(
-    alloc: Global,
-    asked: &Asked<'_>,
-    status: u16,
-    unread: &[u8],
-    fields: &[HeaderSpan],
-    answer: &mut Answer,
-) -> Result<(), AllocError> {
-    answer.status = status;
-    if asked.is_whole {
-        return take_fields(alloc, asked, unread, fields, answer);
-    }
-    answer.is_json = fields.iter().any(|field| says_json(unread, field));
-    Ok(())
-}
-
-/// Applies one event to the answer to a request.
+/// Applies one event to the answer.
 fn take_event(
-    alloc: Global,
-    asked: &Asked<'_>,
     event: &Event<ResponseSpans>,
     unread: &[u8],
     fields: &[HeaderSpan],
@@ -191,8 +123,11 @@ fn take_event(
 ) -> Result<Step, AllocError> {
     match event {
         Event::Head(head) => {
-            let fields = fields.get(..head.headers).unwrap_or(&[]);
-            take_head(alloc, asked, head.code, unread, fields, answer)?;
+            answer.status = head.code;
+            answer.is_json = fields
+                .iter()
+                .take(head.headers)
+                .any(|field| says_json(unread, field));
             Ok(Step::Next)
         }
         Event::Data(span) => {
@@ -208,8 +143,6 @@ fn take_event(
 
 /// Applies the next event of the bytes that were read. They may not be HTTP/1.1, and an allocation may fail.
 fn take_next(
-    alloc: Global,
-    asked: &Asked<'_>,
     client: &mut Client,
     input: &mut BytesMut,
     spans: &mut [HeaderSpan],
@@ -217,9 +150,7 @@ fn take_next(
 ) -> Result<Step, Failure> {
     let unread = input.as_slice();
     let read = client.read(unread, spans).map_err(|_| Failure::BadAnswer)?;
-    let step = take_event(alloc, asked, &read.event, unread, spans, answer).map_err(
-        |_| Failure::NoAnswer,
-    )?;
+    let step = take_event(&read.event, unread, spans, answer).map_err(|_| Failure::NoAnswer)?;
     input.advance(read.consumed);
     Ok(step)
 }
@@ -241,10 +172,15 @@ fn end(client: &mut Client, answer: Answer, has_begun: bool) -> Result<Answer, F
     }
 }
 
-/// Reads the answer to a request.
-fn read_answer<S: Read>(
+/// Reads an answer.
+///
+/// # Errors
+///
+/// - `HungUp`: the application ended or reset the connection before a byte of the answer came.
+/// - `NoAnswer`: no whole answer came, for another reason.
+/// - `BadAnswer`: the answer is not HTTP/1, or has more than 1,048,576 bytes.
+pub fn read_answer<S: Read>(
     alloc: Global,
-    asked: &Asked<'_>,
     client: &mut Client,
     stream: &mut S,
 ) -> Result<Answer, Failure> {
@@ -254,11 +190,10 @@ fn read_answer<S: Read>(
         status: 0,
         is_json: false,
         body: Vec::new(alloc),
-        fields: Vec::new(alloc),
     };
     let mut has_begun = false;
     for _ in 0..u64::MAX {
-        match take_next(alloc, asked, client, &mut input, &mut spans, &mut answer)? {
+        match take_next(client, &mut input, &mut spans, &mut answer)? {
             Step::Next => {}
             Step::Whole => return Ok(answer),
             Step::Read => match read_more(&mut input, stream) {
@@ -288,11 +223,11 @@ pub fn exchange<S: Read + Write>(
     stream: &mut S,
     asked: &Asked<'_>,
 ) -> Result<Answer, Failure> {
-    let Some(output) = request(alloc, client, asked) else {
+    let Ok(Some(output)) = request(alloc, client, asked) else {
         return Err(Failure::NoAnswer);
     };
     if let Err(error) = stream.write_all(output.as_slice()) {
         return Err(failure_of(&error, false));
     }
-    read_answer(alloc, asked, client, stream)
+    read_answer(alloc, client, stream)
 }

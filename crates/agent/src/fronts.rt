@@ -1,25 +1,22 @@
 //! The service that answers HTTP requests.
-ghost use Rattle.std.specs.Prelude.{◌≡◌, Bool, false, not, true, OnOk, IfErr, IfOk, Ok};
+ghost use Rattle.std.specs.Prelude.{◌≡◌, Bool, OnOk, IfErr, IfOk, Ok};
 ghost use Rattle.http_server.specs.Response.{IsBlank};
 ghost use Rattle.node_core.specs.declared.events.Event.TheVariants as call;
 ghost use Rattle.node_core.specs.declared.events.Reply.TheVariants as reply;
-ghost use Rattle.peer_core.specs.Forwarding.{IsRequest};
 ghost use Rattle.peer_core.specs.Parts.{Does, Tries};
 ghost use Rattle.agent_core.specs.declared.actions.Action.TheVariants as action;
 ghost use Rattle.agent.specs.Answers.{IsAnswered, Settles, ShowsOutcome};
-ghost use Rattle.agent.specs.Calling.{AnyAnswer, AnyHandling, AnyTimes, HasMade, hash_of};
-ghost use Rattle.agent.specs.Performing.{AsksIfPlaced, AsksOwner, Finds, IsFound, IsHealth, IsLiveness, Outcome, Performs, Settled, ShowsCounts, ShowsMembers, ShowsOwners, crowded, digest_by, refusal_of};
+ghost use Rattle.agent.specs.Calling.{HasMade};
+ghost use Rattle.agent.specs.Performing.{AsksIfPlaced, AsksOwner, Finds, IsFound, IsHealth, IsLiveness, IsUnjoined, Outcome, Performs, ShowsCounts, ShowsMembers, ShowsOwners, crowded, digest_by, refusal_of};
 
 use crate::agents::{Agent, Flag, Phase};
-use crate::applications::Application;
 use crate::callers::Caller;
 use crate::links::{NotedHandler, NotedLink};
-use crate::onces::OnceLink;
 use crate::replies::Reply;
-use crate::requests::{action_of, is_keyed};
+use crate::requests::action_of;
 use crate::responses::{put_refusal, put_reply};
 use crate::systems::Host;
-use agent_core::{Action, Refusal, is_live, pack_body};
+use agent_core::{Action, Refusal, is_live};
 use bytes::Bytes;
 use change_core::{Address, Change, Digest, MAX_MEMBERS};
 use hash_ring::Sha256Hash;
@@ -30,7 +27,6 @@ use message_core::{Keys, Reason, Text};
 use node_core::View;
 use peer_core::ClusterError;
 use std::alloc::{AllocError, Global};
-use std::net::IpAddr;
 use std::time::Instant;
 
 /// Returns the refusal for an error of the node.
@@ -118,22 +114,6 @@ fn owners_by(
     Reply::owners(alloc, owners.as_slice())
 }
 
-/// Returns the reply with the answer of a key's owner, or the refusal for its error. `is_over` says whether the request ended
-/// because a node may have performed it without a reply.
-fn settle(
-    owner: Address,
-    answer: Result<Text, ClusterError>,
-    is_over: bool,
-) -> Result<Reply, Refusal>
-    ensures { Settled (not is_over) answer result }
-{
-    match answer {
-        Ok(text) => Ok(Reply::Handled { owner, text }),
-        Err(ClusterError::Memory) if is_over => Err(Refusal::AnswerLost),
-        Err(error) => Err(refusal_of(error)),
-    }
-}
-
 /// The service that answers the requests of one connection.
 #[derive(Drop)]
 pub struct Front<'f, 'a, R> {
@@ -143,33 +123,20 @@ pub struct Front<'f, 'a, R> {
     pub link: &'f mut NotedLink<'a, R>,
     /// Set if the request is a question about the ring for which there is no place to wait.
     pub is_turned_away: &'f Flag,
-    /// The address of the client, if any request is passed on and the system says it.
-    pub client: Option<IpAddr>,
 }
 
 impl<'f, 'a, R: Host> Front<'f, 'a, R> {
-    /// Has the owner of a key answer a request that is a body alone.
+    /// Has the owner of a key answer a request, unless the hosts are still being asked or too many requests wait for it.
+    /// Returns the answer and the owner.
     fn handle(&mut self, key: Text, body: Text) -> Result<Reply, Refusal>
         ensures performed { HasMade (Performs self.old.agent.now.own self.old.agent.now.replicas (action.Handle key body) result) self.old.caller.now self.new.caller.now }
-        ensures agent { self.new.agent ≡ self.old.agent }
-    {
-        match pack_body(self.alloc, body) {
-            Ok(text) => self.pass(key, text, true),
-            Err(_) => Err(Refusal::Memory),
-        }
-    }
-
-    /// Has the owner of a key answer the request that a text has, unless the hosts are still being asked or too many requests
-    /// wait for it. Returns the answer and the owner.
-    fn pass(&mut self, key: Text, request: Text, is_repeatable: bool) -> Result<Reply, Refusal>
-        ensures performed { HasMade (Performs self.old.agent.now.own self.old.agent.now.replicas (action.Pass key request is_repeatable) result) self.old.caller.now self.new.caller.now }
         ensures agent { self.new.agent ≡ self.old.agent }
     {
         if self.agent.is_starting.get() {
             return Err(Refusal::NotJoined);
         }
         match self.owner_of(&key) {
-            Ok(owner) => self.ask_if_placed(owner, key, request, is_repeatable),
+            Ok(owner) => self.ask_if_placed(owner, key, body),
             Err(refusal) => Err(refusal),
         }
     }
@@ -186,28 +153,22 @@ impl<'f, 'a, R: Host> Front<'f, 'a, R> {
     }
 
     /// Has the owner of a key, which this node's view gave, answer a request, unless too many wait for that owner.
-    fn ask_if_placed(
-        &mut self,
-        owner: Address,
-        key: Text,
-        request: Text,
-        is_repeatable: bool,
-    ) -> Result<Reply, Refusal>
-        ensures asked { HasMade (AsksIfPlaced self.old.agent.now.own key request is_repeatable result (Ok owner)) self.old.caller.now self.new.caller.now }
+    fn ask_if_placed(&mut self, owner: Address, key: Text, body: Text) -> Result<Reply, Refusal>
+        ensures asked { HasMade (AsksIfPlaced self.old.agent.now.own key body result (Ok owner)) self.old.caller.now self.new.caller.now }
         ensures agent { self.new.agent ≡ self.old.agent }
     {
         let agent = self.agent;
         if !agent.waiting.take(&agent.rt, agent.own, owner) {
             return Err(crowded(agent.own, owner));
         }
-        let reply = self.ask_owner(key, request, is_repeatable);
+        let reply = self.ask_owner(key, body);
         agent.waiting.give_back(&agent.rt, agent.own, owner);
         reply
     }
 
-    /// Has the owner of a key answer the request that a text has, and returns the answer and the owner.
-    fn ask_owner(&mut self, key: Text, request: Text, is_repeatable: bool) -> Result<Reply, Refusal>
-        ensures asked { HasMade (AsksOwner key request is_repeatable result) self.old.caller.now self.new.caller.now }
+    /// Has the owner of a key answer a request, and returns the answer and the owner.
+    fn ask_owner(&mut self, key: Text, body: Text) -> Result<Reply, Refusal>
+        ensures asked { HasMade (AsksOwner key body result) self.old.caller.now self.new.caller.now }
         ensures agent { self.new.agent ≡ self.old.agent }
     {
         let agent = self.agent;
@@ -219,42 +180,23 @@ impl<'f, 'a, R: Host> Front<'f, 'a, R> {
             was_asked: false,
         };
         self.link.last = None;
-        let (answer, is_over) = self.ask(&mut handler, keys, request, is_repeatable);
+        let answer = self.caller.request(
+            &agent.rt,
+            self.alloc,
+            self.link,
+            &mut handler,
+            &agent.clock(),
+            keys,
+            body,
+        );
         let owner = match self.link.last {
             Some(last) if !handler.was_asked => last,
             _ => agent.own,
         };
-        settle(owner, answer, is_over)
-    }
-
-    /// Returns the answer to a request, and whether it ended because a node may have performed it without a reply: one that
-    /// may not be performed twice is sent again only while none can have.
-    fn ask(
-        &mut self,
-        handler: &mut NotedHandler<'_, Application<R>>,
-        keys: Keys,
-        request: Text,
-        is_repeatable: bool,
-    ) -> (Result<Text, ClusterError>, bool)
-        ensures node { self.new.caller.now.node ≡ self.old.caller.now.node }
-        ensures did { Does self.old.caller.now.node (IsRequest hash_of AnyAnswer AnyHandling AnyTimes keys request) result.0 self.old.caller.now.pass self.new.caller.now.pass }
-        ensures over { is_repeatable ≡ true → result.1 ≡ false }
-        ensures agent { self.new.agent ≡ self.old.agent }
-    {
-        let agent = self.agent;
-        let (rt, clock) = (&agent.rt, agent.clock());
-        if is_repeatable {
-            let link = &mut *self.link;
-            let answer = self
-                .caller
-                .request(rt, self.alloc, link, handler, &clock, keys, request);
-            return (answer, false);
+        match answer {
+            Ok(text) => Ok(Reply::Handled { owner, text }),
+            Err(error) => Err(refusal_of(error)),
         }
-        let mut link = OnceLink::new(&mut *self.link);
-        let answer = self
-            .caller
-            .request(rt, self.alloc, &mut link, handler, &clock, keys, request);
-        (answer, link.is_over)
     }
 
     /// Returns the first owners of a key, unless the hosts are still being asked.
@@ -420,11 +362,6 @@ impl<'f, 'a, R: Host> Front<'f, 'a, R> {
     {
         match action {
             Action::Handle { key, body } => self.handle(key, body),
-            Action::Pass {
-                key,
-                request,
-                is_repeatable,
-            } => self.pass(key, request, is_repeatable),
             Action::Owners { key, count } => self.owners(&key, count),
             Action::AllOwners {
                 keys,
@@ -446,11 +383,10 @@ impl<'f, 'a, R: Host> Front<'f, 'a, R> {
 
     /// Returns the reply to a request.
     fn reply(&mut self, request: &Request<Bytes>) -> Result<Reply, Refusal>
-        ensures settled { HasMade (Settles self.old.agent.now.own self.old.agent.now.replicas self.old.agent.now.key_field request.now result) self.old.caller.now self.new.caller.now }
+        ensures settled { HasMade (Settles self.old.agent.now.own self.old.agent.now.replicas request.now result) self.old.caller.now self.new.caller.now }
         ensures agent { self.new.agent ≡ self.old.agent }
     {
-        let field = self.agent.key_field.as_ref();
-        match action_of(self.alloc, request, field, self.client) {
+        match action_of(self.alloc, request) {
             Ok(action) => self.act(action),
             Err(refusal) => Err(refusal),
         }
@@ -483,13 +419,13 @@ impl<'f, 'a, R: Host> Front<'f, 'a, R> {
         response: &mut Response,
     ) -> Result<(), AllocError>
         requires { IsBlank response.old }
-        ensures answered { (outcome : Outcome) × HasMade (Settles self.old.agent.now.own self.old.agent.now.replicas self.old.agent.now.key_field request.now outcome) self.old.caller.now self.new.caller.now
+        ensures answered { (outcome : Outcome) × HasMade (Settles self.old.agent.now.own self.old.agent.now.replicas request.now outcome) self.old.caller.now self.new.caller.now
             × OnOk result ((closes : Bool) × ShowsOutcome outcome closes response.new) }
         ensures agent { self.new.agent ≡ self.old.agent }
     {
         let start = Instant::now(&self.agent.rt).ok();
         let reply = self.reply(request);
-        if is_keyed(request, self.agent.key_field.as_ref()) {
+        if request.uri().path().starts_with("/keys/") {
             self.count(&reply, start);
         }
         if matches!(&reply, Err(Refusal::Memory)) {
@@ -506,7 +442,7 @@ impl<'f, 'a, R: Host> Front<'f, 'a, R> {
 impl<'f, 'a, R: Host> Service for Front<'f, 'a, R> {
     // The response answers the request, after calls of the node by the thread's pass.
     ghost answers = { λ old request response new. (new.agent ≡ old.agent)
-        × HasMade (IsAnswered old.agent.now.own old.agent.now.replicas old.agent.now.key_field request response) old.caller.now new.caller.now };
+        × HasMade (IsAnswered old.agent.now.own old.agent.now.replicas request response) old.caller.now new.caller.now };
 
     fn call(
         &mut self,

@@ -18,8 +18,6 @@ mod hosts;
 mod journals;
 mod links;
 mod notices;
-mod onces;
-mod passing;
 mod peers;
 mod pumps;
 mod questions;

@@ -1,7 +1,6 @@
 //! A link that notes the node that gave its last answer, and a handler that notes whether it was called, so that a reply can
 //! name the node that gave it.
 ghost use Rattle.std.specs.Prelude.{◌≡◌, ◌↔◌, ◌⊎◌, IsTrue};
-ghost use Rattle.cluster_core.specs.Sockets.{failures_over};
 
 use crate::agents::Agent;
 use crate::rejections::note_answer;
@@ -26,7 +25,7 @@ fn is_own(error: LinkError) -> bool
 /// logs that a node does not answer, that it does again, and that this node's own link fails.
 #[derive(Drop)]
 pub struct NotedLink<'a, R> {
-    pub agent: &'a Agent<R>,
+    agent: &'a Agent<R>,
     link: TcpLink<R>,
     /// The node that gave the answer to the last call; None if there was none. A reply may be another node's than the one
     /// called, which relayed the request.
@@ -71,21 +70,6 @@ impl<'a, R: Host> NotedLink<'a, R> {
             warn!(self.agent.log(); "{owner} does not own what this node's members give it: members or --replicas differ");
         }
         disowned
-    }
-
-    /// Takes the answer of a node to a message: notes who gave it, counts, and logs.
-    pub fn take(&mut self, to: Address, message: &Message, answer: &Result<Message, LinkError>)
-        ensures { failures_over self.new.link ≡ failures_over self.old.link }
-    {
-        self.last = match answer {
-            Ok(message) => Some(message.source),
-            Err(_) => None,
-        };
-        if matches!(&message.content, Content::Forward(_, _)) {
-            self.agent.counters.forwards.add(1);
-            self.disowned = self.disowned_with(to, answer);
-        }
-        self.note(to, answer);
     }
 
     /// Counts a failed call of a node, and logs it, or that the node answers, unless the log said so last.
@@ -145,7 +129,16 @@ impl<'a, R: Host> Link for NotedLink<'a, R> {
         message: &Message,
     ) -> Result<Message, LinkError> {
         let answer = self.link.call(rt, alloc, to, message);
-        self.take(to, message, &answer);
+        self.last = match &answer {
+            Ok(message) => Some(message.source),
+            Err(_) => None,
+        };
+        if matches!(&message.content, Content::Forward(_, _)) {
+            self.agent.counters.forwards.add(1);
+            self.disowned = self.disowned_with(to, &answer);
+        }
+        self.note(to, &answer);
+        note_answer(self.agent, to, message, &answer);
         answer
     }
 }

@@ -1,22 +1,17 @@
 //! Responses of HTTP, from replies and refusals.
-ghost use Rattle.std.specs.Prelude.{◌≡◌, [], ◌∷◌, ◌++◌, map, None, Ok, true, false, OnOk, IfOk, IfSome};
-ghost use Rattle.std.specs.List.{All, Any};
+ghost use Rattle.std.specs.Prelude.{◌≡◌, [], ◌∷◌, ◌++◌, OnOk, IfOk};
 ghost use Rattle.change_core.specs.Address.{address_text};
 ghost use Rattle.http.specs.StatusCode.{IsStatusCode};
 ghost use Rattle.http_header.specs.FieldValue.{plain_value};
-ghost use Rattle.http_server.specs.Response.{IsBlank, IsResponse, fields, fields_of};
+ghost use Rattle.http_server.specs.Response.{IsBlank, IsResponse, fields_of};
 ghost use Rattle.agent_core.specs.Packs.{unpacked};
-ghost use Rattle.agent_core.specs.Passing.{named};
-ghost use Rattle.agent_core.specs.Refusals.{kind_name};
-ghost use Rattle.agent.specs.Replies.{HasNoAnswer, IsField, ShowsAnswer, ShowsRefusal, ShowsReply, allowed_methods, answered_kind, closing, fields_for, lost_field, lower, named_owner, owner_field, reply_body, reply_kind, reply_status, tag_field, tag_text};
+ghost use Rattle.agent_core.specs.Refusals.{kind_name, sent};
+ghost use Rattle.agent.specs.Replies.{ShowsRefusal, ShowsReply, allowed_methods, answered_kind, closing, fields_for, named_owner, owner_field, reply_body, reply_kind, reply_status, retry_field, tag_field, tag_text, word_field, word_if};
 
 use crate::replies::Reply;
-use agent_core::{
-    Answer, Field, Kind, PassedAnswer, Refusal, Verb, answer_of, parts_in, unpack, unpack_bytes,
-};
+use agent_core::{Answer, Kind, Refusal, Verb, unpack};
 use bytes::BufMut;
 use change_core::{Address, Digest, DigestText};
-use http::header::{HeaderNameError, HeaderValueError};
 use http::{HeaderName, HeaderValue, StatusCode};
 use http_server::Response;
 use message_core::Text;
@@ -75,121 +70,27 @@ fn kind_of(is_json: bool) -> Kind
     if is_json { Kind::Json } else { Kind::Text }
 }
 
-/// Returns a field as the response has it; None if it is no field of HTTP.
-fn header_of(
-    alloc: Global,
-    field: Field<'_>,
-) -> Result<Option<(HeaderName, HeaderValue)>, AllocError>
-    ensures field { IfOk result (λ r. IfSome r (λ shown. IsField (named field.entry) × ((shown.0, shown.1.bytes) ≡ lower (named field.entry)))) }
-    ensures none { result ≡ Ok None → ¬ (IsField (named field.entry)) }
-{
-    let name = match HeaderName::from_bytes(alloc, field.name) {
-        Ok(name) => name,
-        Err(HeaderNameError::OutOfMemory) => return Err(AllocError),
-        Err(HeaderNameError::Invalid) => return Ok(None),
-    };
-    match HeaderValue::from_bytes(alloc, field.value) {
-        Ok(value) => Ok(Some((name, value))),
-        Err(HeaderValueError::OutOfMemory) => Err(AllocError),
-        Err(HeaderValueError::Invalid) => Ok(None),
-    }
-}
-
-/// Returns fields as the response has them; None if one of them is no field of HTTP.
-fn headers_of(
-    alloc: Global,
-    given: &[Field<'_>],
-) -> Result<Option<Vec<(HeaderName, HeaderValue)>>, AllocError>
-    ensures fields { IfOk result (λ r. IfSome r (λ shown. All IsField (map named given.now) × (fields shown.items ≡ map lower (map named given.now)))) }
-    ensures none { result ≡ Ok None → ¬ (All IsField (map named given.now)) }
-{
-    let mut headers = Vec::with_capacity(alloc, given.len())?;
-    for field in given {
-        let Some(header) = header_of(alloc, *field)? else {
-            return Ok(None);
-        };
-        headers.push(header)?;
-    }
-    Ok(Some(headers))
-}
-
-/// Adds fields.
-fn put_fields(
-    response: &mut Response,
-    shown: Vec<(HeaderName, HeaderValue)>,
-) -> Result<(), AllocError>
+/// Adds the field with a refusal's word, by which a client tells it from an answer of the application.
+#[tactic(auto, using(crate::proofs::Worded::word_visible))]
+fn put_word(response: &mut Response, refusal: &Refusal) -> Result<(), AllocError>
     ensures status { response.new.status ≡ response.old.status }
     ensures body { response.new.body ≡ response.old.body }
-    ensures fields { OnOk result (fields_of response.new ≡ fields_of response.old ++ fields shown.items) }
+    ensures fields { OnOk result (fields_of response.new ≡ fields_of response.old ++ word_field refusal.now) }
 {
-    for (name, value) in shown {
-        response.add_header(name, value)?;
-    }
-    Ok(())
+    let word = HeaderValue::from_static(refusal.word());
+    response.add_header(HeaderName::from_static("x-ringpop-error"), word)
 }
 
-/// Writes an answer that was passed on whole into a blank response. Returns whether its fields are those of HTTP; if they are
-/// not, nothing is written.
-fn put_passed(
-    alloc: Global,
-    response: &mut Response,
-    answer: &PassedAnswer<'_>,
-    closes: bool,
-) -> Result<bool, AllocError>
-    requires blank { IsBlank response.old }
-    requires code { IsStatusCode answer.now.status }
-    ensures shown { result ≡ Ok true → All IsField (map named answer.now.fields.items)
-        × IsResponse answer.now.status (closing closes ++ map lower (map named answer.now.fields.items)) answer.now.body.now response.new }
-    ensures none { result ≡ Ok false → IsBlank response.new × ¬ (All IsField (map named answer.now.fields.items)) }
+/// Adds the field with the word of a refusal that the owner's agent sent in place of its application's answer, if this is one.
+fn put_sent(response: &mut Response, status: u16, body: &str) -> Result<(), AllocError>
+    ensures status { response.new.status ≡ response.old.status }
+    ensures body { response.new.body ≡ response.old.body }
+    ensures fields { OnOk result (fields_of response.new ≡ fields_of response.old ++ word_if (sent status body.now)) }
 {
-    let Some(fields) = headers_of(alloc, answer.fields.as_slice())? else {
-        return Ok(false);
-    };
-    if let Ok(status) = StatusCode::from_u16(answer.status) {
-        response.status = status;
+    match Refusal::sent(status, body) {
+        Some(refusal) => put_word(response, &refusal),
+        None => Ok(()),
     }
-    put_closing(response, closes)?;
-    put_fields(response, fields)?;
-    response.body.put_slice(answer.body)?;
-    Ok(true)
-}
-
-/// Writes the answer to a request that was passed on whole into a blank response. Returns whether the text is one; if it is
-/// not, nothing is written.
-fn put_whole(
-    alloc: Global,
-    response: &mut Response,
-    text: &str,
-    closes: bool,
-) -> Result<bool, AllocError>
-    requires { IsBlank response.old }
-    ensures shown { result ≡ Ok true → ShowsAnswer text.now closes [] response.new }
-    ensures none { result ≡ Ok false → IsBlank response.new × HasNoAnswer text.now }
-{
-    let Some(bytes) = unpack_bytes(alloc, text)? else {
-        return Ok(false);
-    };
-    let Some(parts) = parts_in(alloc, bytes.as_slice())? else {
-        return Ok(false);
-    };
-    match answer_of(alloc, parts.as_slice())? {
-        Some(answer) => put_passed(alloc, response, &answer, closes),
-        None => Ok(false),
-    }
-}
-
-/// Writes the answer to a request that was a body alone into a blank response.
-fn put_plain(response: &mut Response, text: &str, closes: bool) -> Result<(), AllocError>
-    requires { IsBlank response.old }
-    ensures { OnOk result (IsResponse (unpacked text.now).status (fields_for closes (answered_kind (unpacked text.now).is_json)) (unpacked text.now).body response.new) }
-{
-    let packed = unpack(text);
-    let answer = Answer {
-        status: packed.status,
-        kind: kind_of(packed.is_json),
-        body: packed.body,
-    };
-    put(response, answer, closes)
 }
 
 /// Writes the answer of an application into a blank response, with a header that names the owner.
@@ -203,10 +104,15 @@ fn put_handled(
     requires { IsBlank response.old }
     ensures { OnOk result (ShowsReply (Reply.Handled owner text.now) closes response.new) }
 {
-    if !put_whole(alloc, response, text.as_str(), closes)? {
-        put_plain(response, text.as_str(), closes)?;
-    }
-    put_owner(alloc, response, owner)
+    let packed = unpack(text.as_str());
+    let answer = Answer {
+        status: packed.status,
+        kind: kind_of(packed.is_json),
+        body: packed.body,
+    };
+    put(response, answer, closes)?;
+    put_owner(alloc, response, owner)?;
+    put_sent(response, packed.status, packed.body)
 }
 
 /// Writes a text with status 200 into a blank response.
@@ -312,18 +218,21 @@ fn allowed(verb: Verb) -> HeaderValue
     }
 }
 
-/// Adds the field that says why a request was refused, so that no client takes the refusal for an answer of the application.
-fn put_error(response: &mut Response) -> Result<(), AllocError>
+/// Adds the field that says after how many seconds a client may ask again, if the status is 503.
+fn put_retry(response: &mut Response, status: u16) -> Result<(), AllocError>
     ensures status { response.new.status ≡ response.old.status }
     ensures body { response.new.body ≡ response.old.body }
-    ensures fields { OnOk result (fields_of response.new ≡ fields_of response.old ++ lost_field) }
+    ensures fields { OnOk result (fields_of response.new ≡ fields_of response.old ++ retry_field status) }
 {
-    let why = HeaderValue::from_static("the answer was lost: the owner may have done the request");
-    response.add_header(HeaderName::from_static("x-ringpop-error"), why)
+    if status != 503 {
+        return Ok(());
+    }
+    let seconds = HeaderValue::from_static("1");
+    response.add_header(HeaderName::from_static("retry-after"), seconds)
 }
 
-/// Writes a refusal into a blank response: its status, its line of text and, for `BadMethod`, the methods that the path
-/// takes, for `OwnerBusy` the owner, for `AnswerLost` a field that says so. If `closes`, a header tells the client that the connection is closed after it.
+/// Writes a refusal into a blank response: its status, its line of text, its word, for a 503 when a client may ask again, for
+/// `BadMethod` the methods that the path takes, and for `OwnerBusy` the owner. If `closes`, a header tells the client that the connection is closed after it.
 ///
 /// # Errors
 ///
@@ -345,7 +254,6 @@ pub fn put_refusal(
             response.add_header(HeaderName::from_static("allow"), allowed(*verb))
         }
         Refusal::OwnerBusy(owner) => put_owner(alloc, response, *owner),
-        Refusal::AnswerLost => put_error(response),
         _ => Ok(()),
     }
 }

@@ -55,10 +55,6 @@ const PASSES: u32 = 1_023;
 /// The most requests of other nodes that wait for the application.
 const MAX_QUEUED_REQUESTS: usize = 256;
 
-/// The most milliseconds for a line to arrive, and for its answer's to be taken, where any request is passed on: a body of
-/// 524,288 bytes took 332 on a busy machine.
-const MAX_LONG_LINE: u64 = 2_000;
-
 /// The most milliseconds that the end waits for the rounds that spread that the node left.
 const MAX_SPREADING: u64 = 5_000;
 
@@ -126,25 +122,7 @@ fn application_of<R: System>(
     settings: &Settings,
 ) -> Application<R> {
     let log = Journal::new(*rt, settings.address).at(settings.level);
-    let is_passing = settings.key_field.is_some();
-    Application::new(
-        *rt,
-        alloc,
-        log,
-        stopwatch,
-        settings.address,
-        settings.app,
-        is_passing,
-    )
-}
-
-/// Returns the time limits of the settings: where any request is passed on, a line has more time, since it is longer.
-fn timeouts_of(settings: &Settings) -> Timeouts {
-    let mut timeouts = Timeouts::standard();
-    if settings.key_field.is_some() {
-        timeouts.line = Duration::from_millis(MAX_LONG_LINE);
-    }
-    timeouts
+    Application::new(*rt, alloc, log, stopwatch, settings.address, settings.app)
 }
 
 /// Makes the state that the threads of an agent share.
@@ -163,9 +141,8 @@ fn agent_of<R: System>(
         period: settings.period,
         hands: settings.hands,
         stopwatch,
-        timeouts: timeouts_of(settings),
+        timeouts: Timeouts::standard(),
         application: application_of(rt, alloc, stopwatch, settings),
-        key_field: settings.key_field.clone()?,
         passes: Mutex::new(passes),
         counters: Counters::new(),
         waiting: Waiting::new(alloc)?,

@@ -1,6 +1,5 @@
 //! The settings of an agent.
 use change_core::{Address, Incarnation, Weight};
-use http::HeaderName;
 use log::LevelFilter;
 
 /// The way in which an agent follows its application into the ring and out of it.
@@ -25,8 +24,10 @@ pub struct Settings {
     pub http_any: bool,
     /// The address of the application; without one the agent answers requests by an echo.
     pub app: Option<Address>,
-    /// The field that names the key of a request, if any request of a key is passed on to its owner's application.
-    pub key_field: Option<HeaderName>,
+    /// How the node follows that application.
+    pub following: Following,
+    /// Whether the application is told of the ring.
+    pub tell_app: bool,
     /// The most requests of other nodes that the application is given at a time.
     pub hands: u32,
     /// The most HTTP connections that are open at a time.

@@ -16,7 +16,7 @@ use http_server::Connection;
 use reactor::Lot;
 use std::alloc::Global;
 use std::hash::RandomState;
-use std::net::{IpAddr, TcpStream};
+use std::net::TcpStream;
 use std::sync::Arc;
 
 /// The most milliseconds that the client may take to receive an answer, or the answers to requests that it sent together.
@@ -151,12 +151,6 @@ fn visit<R: Host>(
     }
 }
 
-/// Returns the address of the client at the other end of a connection, if any request is passed on and the system says it.
-fn client_of<R>(agent: &Agent<R>, stream: &TcpStream) -> Option<IpAddr> {
-    agent.key_field.as_ref()?;
-    Some(stream.peer_addr().ok()?.ip())
-}
-
 /// Answers HTTP until the queue of the connections that are ready has no sender.
 pub fn serve_http<R: Host>(
     agent: Arc<Agent<R>, Global>,
@@ -179,7 +173,6 @@ pub fn serve_http<R: Host>(
             caller: &mut caller,
             link: &mut link,
             is_turned_away: &is_turned_away,
-            client: client_of(agent, &visited.stream),
         };
         agent.serving.add(1);
         visit(&mut front, &*lot, &ready, keys, visited);

@@ -22,8 +22,6 @@ status_of refusal.NotLeft = 409
 status_of refusal.Exhausted = 409
 status_of refusal.LongBody = 413
 status_of refusal.ManyKeys = 413
-status_of refusal.LongRequest = 413
-status_of refusal.NotPassed = 501
 status_of refusal.ApplicationFailed = 502
 status_of (refusal.Unanswered why) = 502
 status_of refusal.ApplicationDown = 503
@@ -40,7 +38,6 @@ status_of (refusal.OwnerBusy owner) = 503
 status_of refusal.Spent = 503
 status_of refusal.Memory = 503
 status_of refusal.OwnerSilent = 504
-status_of refusal.AnswerLost = 504
 
 -- the text of a refusal for a failure of the application
 abbrev pub failure_text : Failure → List ℕ
@@ -76,8 +73,6 @@ text_of refusal.NotLeft = codes "the node has not left"
 text_of refusal.Exhausted = codes "no incarnation is left"
 text_of refusal.LongBody = codes "bad body: more than 131072 bytes"
 text_of refusal.ManyKeys = codes "bad keys: more than 4096"
-text_of refusal.LongRequest = codes "bad body: more than 524288 bytes"
-text_of refusal.NotPassed = codes "not passed on: CONNECT, or a request with Upgrade"
 text_of refusal.ApplicationFailed = codes "the application failed"
 text_of (refusal.Unanswered why) = failure_text why
 text_of refusal.ApplicationDown = codes "the application does not answer"
@@ -95,7 +90,6 @@ text_of (refusal.OwnerBusy owner) =
 text_of refusal.Spent = codes "the node takes no more calls"
 text_of refusal.Memory = codes "out of memory"
 text_of refusal.OwnerSilent = codes "the owner does not answer"
-text_of refusal.AnswerLost = codes "the answer was lost: the owner may have done the request"
 
 -- that text as a line
 abbrev pub line_of : Refusal → List ℕ

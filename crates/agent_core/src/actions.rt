@@ -10,13 +10,6 @@ pub enum Action {
         key: Text,
         body: Text,
     },
-    /// The key's owner handles the request that this text has. It is sent again, though the owner may have performed it, only
-    /// if it may be performed twice.
-    Pass {
-        key: Text,
-        request: Text,
-        is_repeatable: bool,
-    },
     /// The answer has the first `count` owners of a key, 1 to 4,096, or all serving members if there are fewer.
     Owners {
         key: Text,

@@ -58,10 +58,6 @@ pub enum Refusal {
     LongBody,
     /// A request for the owners of keys has more than 4,096.
     ManyKeys,
-    /// The body of a request that is passed on whole has more than 524,288 bytes.
-    LongRequest,
-    /// The request is a CONNECT, or asks for an upgrade of the connection.
-    NotPassed,
     /// The application failed, and no more is known.
     ApplicationFailed,
     /// The application of the key's owner gave no answer that can be passed on.
@@ -94,8 +90,6 @@ pub enum Refusal {
     Memory,
     /// The owner of the key answered none of the sends.
     OwnerSilent,
-    /// The owner may have performed a request that is not to be performed twice, and its answer did not come.
-    AnswerLost,
 }
 
 /// Returns the text of a refused join, one line with its newline.
@@ -157,8 +151,7 @@ impl Refusal {
             Refusal::NotFound => 404,
             Refusal::BadMethod(_) => 405,
             Refusal::AlreadyLeft | Refusal::NotLeft | Refusal::Exhausted => 409,
-            Refusal::LongBody | Refusal::ManyKeys | Refusal::LongRequest => 413,
-            Refusal::NotPassed => 501,
+            Refusal::LongBody | Refusal::ManyKeys => 413,
             Refusal::ApplicationFailed | Refusal::Unanswered(_) => 502,
             Refusal::ApplicationDown
             | Refusal::NotJoined
@@ -173,7 +166,7 @@ impl Refusal {
             | Refusal::OwnerBusy(_)
             | Refusal::Spent
             | Refusal::Memory => 503,
-            Refusal::OwnerSilent | Refusal::AnswerLost => 504,
+            Refusal::OwnerSilent => 504,
         }
     }
 
@@ -267,8 +260,6 @@ impl Refusal {
             Refusal::Exhausted => "no incarnation is left\n",
             Refusal::LongBody => "bad body: more than 131072 bytes\n",
             Refusal::ManyKeys => "bad keys: more than 4096\n",
-            Refusal::LongRequest => "bad body: more than 524288 bytes\n",
-            Refusal::NotPassed => "not passed on: CONNECT, or a request with Upgrade\n",
             Refusal::ApplicationFailed => "the application failed\n",
             Refusal::Unanswered(failure) => failure.line(),
             Refusal::ApplicationDown => "the application does not answer\n",
@@ -291,7 +282,6 @@ impl Refusal {
             Refusal::Spent => "the node takes no more calls\n",
             Refusal::Memory => "out of memory\n",
             Refusal::OwnerSilent => "the owner does not answer\n",
-            Refusal::AnswerLost => "the answer was lost: the owner may have done the request\n",
         }
     }
 }

@@ -1,7 +1,7 @@
 use agent_core::*;
 
 /// A refusal, its status and the start of its line.
-const ROWS: [(Refusal, u16, &str); 32] = rows! {
+const ROWS: [(Refusal, u16, &str); 30] = rows! {
     Refusal::Malformed(Part::Key), 400, "bad key";
     Refusal::Malformed(Part::Count), 400, "bad count";
     Refusal::Malformed(Part::Body), 400, "bad body";
@@ -16,8 +16,6 @@ const ROWS: [(Refusal, u16, &str); 32] = rows! {
     Refusal::Exhausted, 409, "no incarnation";
     Refusal::LongBody, 413, "bad body";
     Refusal::ManyKeys, 413, "bad keys: more than";
-    Refusal::LongRequest, 413, "bad body: more than 524288";
-    Refusal::NotPassed, 501, "not passed on: CONNECT";
     Refusal::ApplicationFailed, 502, "the application failed";
     Refusal::Unanswered(Failure::NotAccepted), 502, "the owner's application accepts no connection";
     Refusal::Unanswered(Failure::HungUp), 502, "the owner's application hung up";
@@ -34,7 +32,6 @@ const ROWS: [(Refusal, u16, &str); 32] = rows! {
     Refusal::Spent, 503, "the node takes no more calls";
     Refusal::Memory, 503, "out of memory";
     Refusal::OwnerSilent, 504, "the owner does not answer";
-    Refusal::AnswerLost, 504, "the answer was lost";
 };
 
 #[test]

@@ -1,5 +1,5 @@
 -- What the subcommand `agent` makes of its arguments.
-use Rattle.std.specs.Prelude.{ℕ, ◌==◌, not, Bool, cond, filter, List, Option, Some, None, codes}
+use Rattle.std.specs.Prelude.{ℕ, ◌==◌, not, filter, List}
 use Rattle.log.specs.declared.level.LevelFilter.{LevelFilter}
 use Rattle.log.specs.declared.level.LevelFilter.TheVariants as filter_level
 use Rattle.cli_words.specs.declared.agent_words.LogLevel.{LogLevel}
@@ -16,7 +16,3 @@ filter_of level.Debug = filter_level.Debug
 -- the nodes that are asked to admit the node of an address: those of the arguments but itself
 abbrev pub other_hosts : List ℕ → ℕ → List ℕ
 other_hosts hosts own = filter (λ host. not (host == own)) hosts
-
--- the field that names the key of a request, if any request of a key is passed on
-abbrev pub key_field_of : Bool → Option (List ℕ)
-key_field_of any_request = cond any_request (Some (codes "x-ringpop-key")) None

@@ -3,13 +3,12 @@ ghost use Rattle.std.specs.Prelude.{◌≡◌, IfOk, OnOk};
 ghost use Rattle.std.specs.Io.KnownBytes.{Appends};
 ghost use Rattle.std.specs.Option.{unwrap_or};
 ghost use Rattle.agent.specs.Texts.{agent_text};
-ghost use Rattle.cli_net.specs.Agents.{filter_of, key_field_of, other_hosts};
+ghost use Rattle.cli_run.specs.Agents.{filter_of, other_hosts};
 ghost use Rattle.wire_json.specs.Input.{AppendsPrefix};
 
 use agent::{AgentError, Following, Settings, System, run};
 use change_core::Address;
 use cli_words::{AgentWords, LogLevel};
-use http::HeaderName;
 use log::LevelFilter;
 use std::alloc::{AllocError, Global};
 use std::io::Write;
@@ -36,17 +35,6 @@ fn other_hosts(alloc: Global, hosts: &[Address], own: Address) -> Result<Vec<Add
     Ok(others)
 }
 
-/// Returns the field that names the key of a request, if any request of a key is passed on.
-fn key_field_of(any_request: bool) -> Option<HeaderName>
-    ensures { result ≡ key_field_of any_request }
-{
-    if any_request {
-        Some(HeaderName::from_static("x-ringpop-key"))
-    } else {
-        None
-    }
-}
-
 /// Returns the settings of the arguments.
 fn settings_of(alloc: Global, words: &AgentWords) -> Result<Settings, AgentError>
     ensures address { IfOk result (λ s. s.address ≡ words.now.address) }
@@ -54,7 +42,9 @@ fn settings_of(alloc: Global, words: &AgentWords) -> Result<Settings, AgentError
     ensures http { IfOk result (λ s. s.http ≡ words.now.http) }
     ensures http_any { IfOk result (λ s. s.http_any ≡ words.now.http_any) }
     ensures app { IfOk result (λ s. s.app ≡ words.now.app) }
-    ensures key_field { IfOk result (λ s. s.key_field ≡ key_field_of words.now.any_request) }
+    ensures no_wait { IfOk result (λ s. s.following.no_wait ≡ words.now.following.no_wait) }
+    ensures leave_after { IfOk result (λ s. s.following.leave_after ≡ words.now.following.leave_after) }
+    ensures tell_app { IfOk result (λ s. s.tell_app ≡ words.now.tell_app) }
     ensures hands { IfOk result (λ s. s.hands ≡ words.now.hands) }
     ensures http_connections { IfOk result (λ s. s.http_connections ≡ words.now.http_connections) }
     ensures period { IfOk result (λ s. s.period ≡ words.now.period) }
@@ -71,7 +61,11 @@ fn settings_of(alloc: Global, words: &AgentWords) -> Result<Settings, AgentError
         http: words.http,
         http_any: words.http_any,
         app: words.app,
-        key_field: key_field_of(words.any_request),
+        following: Following {
+            no_wait: words.following.no_wait,
+            leave_after: words.following.leave_after,
+        },
+        tell_app: words.tell_app,
         hands: words.hands,
         http_connections: words.http_connections,
         period: words.period,

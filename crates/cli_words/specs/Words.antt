@@ -136,7 +136,8 @@ pub record AreAgentNumbersAt (rows : List Row) (words : AgentWords) : Type 0 whe
   pub weight : IsNumberAt rows (codes "weight") words.weight
   pub incarnation : IsNumberIfAt rows (codes "incarnation") (λ n. n ≤ greatest_number) words.incarnation
   pub http_any : IsFlagAt rows (codes "http-any") words.http_any
-  pub any_request : IsFlagAt rows (codes "any-request") words.any_request
+  pub following : IsFollowingAt rows words.following
+  pub tell_app : IsFlagAt rows (codes "tell-app") words.tell_app
   pub level : first_of (codes "log") rows ≡ Some (level_name words.level)
 
 -- and its addresses are, too

@@ -12,8 +12,8 @@ use crate::agent_words::{
 };
 use crate::cluster_words::{address_at, address_of, hosts_at, incarnation, weight};
 use crate::commands::{
-    ADDRESS, ANY_REQUEST, APP, BIND, HANDS, HTTP, HTTP_ANY, HTTP_CONNECTIONS, LOG, PER_MESSAGE,
-    PERIOD, agent_alone,
+    ADDRESS, APP, BIND, HANDS, HTTP, HTTP_ANY, HTTP_CONNECTIONS, LEAVE_AFTER, LOG, NO_WAIT_APP,
+    PER_MESSAGE, PERIOD, TELL_APP, agent_alone,
 };
 use crate::faults::WordsError;
 use crate::words::{absent, flag, number, refusal, replicas};
@@ -161,7 +161,8 @@ fn words_with(matches: &ArgMatches<'_>, addresses: Addresses) -> Option<AgentWor
         http,
         http_any: flag(matches, HTTP_ANY),
         app,
-        any_request: flag(matches, ANY_REQUEST),
+        following,
+        tell_app: flag(matches, TELL_APP),
         hands: hands as u32,
         http_connections: http_connections as u32,
         period,

@@ -54,8 +54,10 @@ pub struct AgentWords {
     pub http_any: bool,
     /// The address of the application, if there is one.
     pub app: Option<Address>,
-    /// Whether any HTTP request of a key is passed on to the owner's application.
-    pub any_request: bool,
+    /// How the node follows that application.
+    pub following: FollowingWords,
+    /// Whether the application is told of the ring.
+    pub tell_app: bool,
     /// The most requests of other nodes that the application is given at a time, 1 to 256.
     pub hands: u32,
     /// The most HTTP connections that are open at a time, 1 to 65,536.

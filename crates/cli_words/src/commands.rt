@@ -85,8 +85,14 @@ pub const HTTP_ANY: &str = "http-any";
 /// The argument for the address of the application.
 pub const APP: &str = "app";
 
-/// The argument for passing on any HTTP request of a key.
-pub const ANY_REQUEST: &str = "any-request";
+/// The argument for joining without waiting for the application.
+pub const NO_WAIT_APP: &str = "no-wait-app";
+
+/// The argument for the seconds after which a node leaves if its application accepts no connection.
+pub const LEAVE_AFTER: &str = "leave-after";
+
+/// The argument for telling the application of the ring.
+pub const TELL_APP: &str = "tell-app";
 
 /// The argument for the most requests of other nodes that the application is given at a time.
 pub const HANDS: &str = "hands";
@@ -520,18 +526,6 @@ fn app_option<'a>(alloc: Global) -> Arg<'a>
     )
 }
 
-/// The flag for passing on any HTTP request of a key.
-fn any_request_flag<'a>(alloc: Global) -> Arg<'a>
-    ensures { rule_of result ≡ line.flag (codes "any-request") }
-{
-    Arg::new(alloc, ANY_REQUEST)
-        .long(ANY_REQUEST)
-        .action(ArgAction::SetTrue)
-        .help(
-            "Pass any HTTP request of a key on to its owner's application, by any method: all agents need a version that reads it",
-        )
-}
-
 /// The flag for allowing an address for HTTP outside 127.0.0.0/8.
 fn http_any_flag<'a>(alloc: Global) -> Arg<'a>
     ensures { rule_of result ≡ line.flag (codes "http-any") }
@@ -674,7 +668,9 @@ fn agent_command_with<'a>(alloc: Global, tell: Arg<'a>) -> Result<Command<'a>, A
         http_option(alloc),
         http_any_flag(alloc),
         app_option(alloc),
-        any_request_flag(alloc),
+        no_wait_app_flag(alloc),
+        leave_after_option(alloc),
+        tell,
         hands_option(alloc),
         http_connections_option(alloc),
         agent_period_option(alloc),

@@ -3,7 +3,6 @@ use Rattle.cli_words.specs.CommandLine as line
 use Rattle.cli_words.proofs.Built.{rule_needing}
 use Rattle.cli_words.proofs.commands.agent_command.Goals as goal
 
-pub returns : goal.returns
-returns c =
-    leaf_if_built _ _ (codes "agent") line.agent_words.rules c.leaf_command.result c.leaf_command.ensures c.in_ok-words.ensures.items
-    (c.bind_option.ensures, refl, (c.http_option.ensures, refl, (c.http_any_flag.ensures, refl, (c.app_option.ensures, refl, (c.any_request_flag.ensures, refl, (c.hands_option.ensures, refl, (c.http_connections_option.ensures, refl, (c.agent_period_option.ensures, refl, (c.agent_per_message_option.ensures, refl, (c.replicas_option.ensures, refl, (c.weight_option.ensures, refl, (c.incarnation_option.ensures, refl, (c.log_option.ensures, refl, (c.agent_address.ensures, refl, (c.hosts_word.ensures, refl, tt)))))))))))))))
+pub agent_command_with-requires : goal.agent_command_with-requires
+agent_command_with-requires c =
+    rule_needing c.tell_flag.result c.in_ok-tell.tell _ (line.flag (codes "tell-app")) c.in_ok-tell.ensures c.tell_flag.ensures

@@ -45,9 +45,9 @@ use wire_json::write_line;
 /// The number of threads that read the lines of other nodes.
 const PEERS: u32 = 4;
 
-/// The greatest number of threads of an agent for other nodes: those that read lines, the one that makes rounds, the one that
-/// asks the hosts, and the one that looks after the service.
-pub const NODE_THREADS: u32 = PEERS + 3;
+/// The greatest number of threads of an agent for other nodes and its application: those that read lines, the one that makes rounds, the one
+/// that asks the hosts, the one that looks after the application, and the one that tells it of the ring.
+pub const NODE_THREADS: u32 = PEERS + 4;
 
 /// The number of passes for threads, each for 4,294,967,295 calls.
 const PASSES: u32 = 1_023;

@@ -33,7 +33,7 @@ fn say_agent_threads<R: Eprint>(rt: &R, words: &AgentWords) {
         0
     };
     let _ = eprintln!(rt;
-        "ringpop: wanted were {hands} threads for --hands {hands}, {http} for --http, and up to {NODE_THREADS} for other nodes: see ulimit -u and -v"
+        "ringpop: wanted were {hands} threads for --hands {hands}, {http} for --http, and up to {NODE_THREADS} for other nodes and the application: see ulimit -u and -v"
     );
 }
 

@@ -10,6 +10,8 @@ class App(BaseHTTPRequestHandler):
     protocol_version, wbufsize = "HTTP/1.1", -1  # connections are kept, and answers sent at once
 
     def do_POST(self):
+        if not self.path.startswith("/keys/"):
+            return self.send_error(404)
         key = unquote(self.path.removeprefix("/keys/"))
         body = self.rfile.read(int(self.headers.get("content-length", 0))).decode()
         time.sleep(2 if body == "slow" else 0)

@@ -18,6 +18,8 @@ import (
 const (
 	// The keys that an agent names the owners of in one request, at most.
 	mostKeys = 4096
+	// The bytes of JSON in one request for owners, at most; an agent takes 1,048,576.
+	mostBytes = 1_000_000
 	// How long an agent holds a question of Watch, and how long Watch waits before it asks one again that does not answer.
 	wait, pause = 30 * time.Second, time.Second
 )
@@ -87,15 +89,13 @@ func (client *Client) Owner(ctx context.Context, key string) (netip.AddrPort, er
 	return told.Owners[0], nil
 }
 
-// Owners is the first n owners of each key, in the order of the keys; those of each 4,096 keys are of one moment. Each has none if no
+// Owners is the first n owners of each key, in the order of the keys; those of each request are of one moment: 4,096 keys, or some megabyte of
+// them. Each has none if no
 // member serves. An agent that knows no `POST /owners` is asked for its members instead.
 func (client *Client) Owners(ctx context.Context, keys []string, n int) ([][]netip.AddrPort, error) {
 	owners := make([][]netip.AddrPort, 0, len(keys))
-	for start := 0; start < len(keys); start += mostKeys {
-		end := start + mostKeys
-		if end > len(keys) {
-			end = len(keys)
-		}
+	for start, end := 0, 0; start < len(keys); start = end {
+		end = endOfPart(keys, start)
 		body, err := json.Marshal(keys[start:end])
 		if err != nil {
 			return nil, err
@@ -111,6 +111,19 @@ func (client *Client) Owners(ctx context.Context, keys []string, n int) ([][]net
 		owners = append(owners, told.Owners...)
 	}
 	return owners, nil
+}
+
+// The end of the keys from start on that fit one request for owners.
+func endOfPart(keys []string, start int) int {
+	size := 0
+	for end := start; end < len(keys); end++ {
+		// (at most six bytes for each of a key as JSON, two quotes and a comma)
+		size += 6*len(keys[end]) + 3
+		if end-start == mostKeys || (end > start && size > mostBytes) {
+			return end
+		}
+	}
+	return len(keys)
 }
 
 func (client *Client) ownersByRing(ctx context.Context, keys []string, n int) ([][]netip.AddrPort, error) {

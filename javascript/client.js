@@ -8,6 +8,8 @@ const { Ring, isAddress } = require('./ring.js');
 const IDLE = 20_000;
 // Keys that an agent names the owners of in one request, at most.
 const MOST_KEYS = 4096;
+// The bytes of JSON in one request for owners, at most; an agent takes 1,048,576.
+const MOST_BYTES = 1_000_000;
 // Milliseconds before `watch` asks an agent again that does not answer.
 const PAUSE = 1000;
 const NOBODY = 'nobody serves';
@@ -15,6 +17,23 @@ const NOBODY = 'nobody serves';
 const refusal = answer => new AgentError(answer.status, answer.text.replace(/\n$/, ''), answer.headers['x-ringpop-error']);
 const isUnknown = answer => answer.status === 404 || answer.status === 405;
 const isNobody = answer => answer.status === 503 && answer.text === `${NOBODY}\n`;
+
+// The keys in lists that fit one request for owners each.
+function* parts(keys) {
+  let part = [];
+  let size = 0;
+  for (const key of keys) {
+    const length = Buffer.byteLength(JSON.stringify(key)) + 1;
+    if (part.length === MOST_KEYS || (part.length && size + length > MOST_BYTES)) {
+      yield part;
+      part = [];
+      size = 0;
+    }
+    part.push(key);
+    size += length;
+  }
+  if (part.length) yield part;
+}
 
 /** Asks an agent over HTTP. Each call rejects with Unreachable if no agent answers, and with AgentError if it refuses; but see `request` for a 502. */
 class Client {
@@ -47,13 +66,12 @@ class Client {
     return isNobody(answer) ? null : this.#json(answer).owners[0];
   }
 
-  /** The first n owners of each key, in the order of the keys; empty lists if no member serves. Those of each 4,096 keys are of one moment. */
+  /** The first n owners of each key, in the order of the keys; empty lists if no member serves. Those of each request are of one moment: 4,096 keys, or some megabyte of them. */
   async owners(keys, n = 1) {
     if (typeof keys === 'string') throw new TypeError(`give a list of keys, and not one key: ${JSON.stringify(keys)}`);
     const wanted = [...keys];
     const found = [];
-    for (let start = 0; start < wanted.length; start += MOST_KEYS) {
-      const part = wanted.slice(start, start + MOST_KEYS);
+    for (const part of parts(wanted)) {
       const answer = await this.#ask('POST', `/owners?n=${n}`, { body: JSON.stringify(part) });
       if (isUnknown(answer)) {
         const ring = await this.ring();

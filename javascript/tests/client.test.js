@@ -23,6 +23,8 @@ test('owners of many keys', { skip }, async () => {
   const ring = await Ring.fromAgent(one.url);
   const keys = Array.from({ length: 5000 }, (_, i) => `trip-${i}`);
   assert.deepStrictEqual(await other.owners(keys, 2), keys.map(key => ring.owners(key, 2)));
+  const long = Array.from({ length: 2000 }, (_, i) => `${i}${'ü'.repeat(400)}`); // (more than a megabyte)
+  assert.deepStrictEqual(await other.owners(long), long.map(key => ring.owners(key, 1)));
   await assert.rejects(other.owners('trip'), /give a list of keys, and not one key: "trip"/);
   other.close();
 });

@@ -15,6 +15,8 @@ from ._ring import RANKS, Member, Ring, Text, encoded, number_of
 IDLE = 20.0
 """Seconds after which a kept connection is not used again: an agent closes one that is idle for 30."""
 MOST_KEYS = 4096
+# the bytes of JSON in one request for owners, at most; an agent takes 1,048,576
+MOST_BYTES = 1_000_000
 """Keys that an agent names the owners of in one request, at most."""
 PAUSE = 1.0
 """Seconds before `watch` asks an agent again that does not answer, or asks one again that knows no `GET /ring`."""
@@ -72,14 +74,13 @@ class Client:
     def owners(self, keys: Iterable[Text], n: int = 1) -> list[list[str]]:
         """The first n owners of each key, the owner first, in the order of the keys; empty lists if no member serves.
 
-        Those of each 4,096 keys are of one moment. An agent that knows no `POST /owners` is asked for its members instead.
+        Those of each request are of one moment: 4,096 keys, or some megabyte of them. An agent that knows no `POST /owners` is asked for its members instead.
         """
         if isinstance(keys, (str, bytes)):
             raise TypeError(f"give a list of keys, and not one key: {keys!r}")
         wanted, found = [encoded(key).decode() for key in keys], []
-        for start in range(0, len(wanted), MOST_KEYS):
-            part = wanted[start : start + MOST_KEYS]
-            answer = self._ask("POST", f"/owners?n={n}", json.dumps(part))
+        for part in _parts(wanted):
+            answer = self._ask("POST", f"/owners?n={n}", json.dumps(part, ensure_ascii=False).encode())
             if answer.status in (404, 405):
                 ring = self.ring()
                 return [ring.owners(key, n) for key in wanted]
@@ -190,6 +191,20 @@ class Client:
 
 def _path(start: str, key: Text) -> str:
     return start + quote(encoded(key), safe="")
+
+
+def _parts(keys: list[str]) -> Iterator[list[str]]:
+    """The keys in lists that fit one request for owners each."""
+    part, size = [], 0
+    for key in keys:
+        length = len(json.dumps(key, ensure_ascii=False).encode()) + len(", ")
+        if part and (len(part) == MOST_KEYS or size + length > MOST_BYTES):
+            yield part
+            part, size = [], 0
+        part.append(key)
+        size += length
+    if part:
+        yield part
 
 
 def _is_nobody(answer: Answer) -> bool:

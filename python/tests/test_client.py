@@ -25,6 +25,8 @@ class Asked(unittest.TestCase):
         self.assertEqual(self.clients[1].owners(keys), [[ring.owner(key)] for key in keys])
         self.assertEqual(self.clients[1].owners(["a", b"b"], 2), [ring.owners("a", 2), ring.owners("b", 2)])
         self.assertEqual(self.clients[1].owners([]), [])
+        long = [f"{i}" + "ü" * 400 for i in range(2000)]  # (more than a megabyte)
+        self.assertEqual(self.clients[1].owners(long), [[ring.owner(key)] for key in long])
         with self.assertRaisesRegex(TypeError, "^give a list of keys, and not one key: 'trip'$"):
             self.clients[1].owners("trip")
 

@@ -1,119 +1,70 @@
 #!/usr/bin/env python3
 """A service that keeps each rider's trips where the rider's owner is, and hands them over when the ring changes: `store.py NODE AGENT`.
 
-NODE is the address of the agent's node, AGENT where the agent answers HTTP. Each service listens 200 above its node's port, so that services
-find one another (docs/HANDOVER.md). It needs the package of python/: installed, or its folder in PYTHONPATH.
+NODE is the address of the agent's node, AGENT where the agent answers HTTP. On SIGTERM it hands everything over before it ends. It needs the package
+of python/: installed, or its folder in PYTHONPATH. docs/HANDOVER.md explains it.
 """
-import http.client, json, sys, threading, time
-from collections import defaultdict
+import json
+import signal
+import sys
+import threading
 from http.server import BaseHTTPRequestHandler, ThreadingHTTPServer
-from urllib.parse import quote, unquote
 
-from ringpop import Client, Ring, RingpopError
+from ringpop import Client, HandOver, RingpopError
+
 
 class Rider:
-    trips = frozenset()  # merging twice is merging once
-    whole = False  # whether the nodes that may hold the rider were asked
-    taker = None  # the node that took the rider since, to which requests go on
+    """A rider has trips, and each of them once."""
 
-OWN, AGENT = sys.argv[1], Client(sys.argv[2])
-lock, now, held, dead = threading.RLock(), Ring([]), defaultdict(Rider), {}
+    def __init__(self, _):
+        self.trips = set()
 
-def call(node, path, body):
-    """The answer of another node's service; none, if it gives none."""
-    link = http.client.HTTPConnection(node.split(":")[0], int(node.split(":")[1]) + 200, timeout=3)
-    try:
-        link.request("POST", path, json.dumps(body))
-        return json.loads(link.getresponse().read())
-    except (OSError, http.client.HTTPException):
-        dead[node] = time.monotonic() + 5
-        return {}
+    def do(self, body):
+        """Adds a trip, if one is named; how many there are."""
+        if trip := json.loads(body).get("trip"):
+            self.trips.add(trip)
+        return json.dumps({"trips": len(self.trips)}).encode()
 
-def fetch(key):
-    """Takes a rider from the nodes that may hold it: those next to it on the ring of all members, also such as left or failed."""
-    trips, whole = set(), Ring([it._replace(status="alive") for it in AGENT.members()])
-    for node in whole.owners(key, 3):
-        if node != OWN and dead.get(node, 0) < time.monotonic():
-            trips |= set(call(node, "/take", {"key": key, "by": OWN}).get("merge", []))
-    with lock:
-        held[key].trips, held[key].whole = held[key].trips | trips, True
+    def state(self):
+        return sorted(self.trips) or None
 
-def add(key, trip, hops):
-    """Adds a trip here, or where the rider was taken to; how many trips there are."""
-    while True:
-        with lock:
-            taker, whole = held[key].taker, held[key].whole
-        if taker and hops < 2:
-            answer = call(taker, "/keys/" + quote(key, safe=""), {"trip": trip, "hops": hops + 1})
-            if answer:
-                return answer
-        elif not whole:
-            fetch(key)
-        with lock:
-            it = held[key]
-            if it.taker == taker and (taker or it.whole):
-                it.taker = None
-                it.trips |= {trip} if trip else set()
-                return {"trips": len(it.trips)}
+    def merge(self, trips):
+        self.trips.update(trips)
 
-def take(key, by):
-    """Gives a rider to the node that owns it by now: from here on requests go there."""
-    with lock:
-        held[key].taker = by
-        return {"merge": list(held[key].trips)}
-
-def merge(key, trips, by):
-    """Takes trips that another node pushed here."""
-    with lock:
-        it = held[key]
-        it.trips |= set(trips)
-        if it.taker == by:
-            it.taker, it.whole = None, False
-    return {"at": OWN}
-
-def sweep():
-    """Pushes what another node owns to it, through the agent."""
-    with lock:
-        away = [(key, it.trips) for key, it in held.items() if it.trips and now.owner(key) not in (OWN, None)]
-    for key, trips in away:
-        try:
-            at = json.loads(AGENT.request(key, json.dumps({"merge": list(trips), "by": OWN})).body)["at"]
-        except (RingpopError, ValueError):
-            return
-        with lock:
-            if at != OWN and held[key].trips == trips:
-                held[key] = Rider()
-
-def follow():
-    """Takes note of each ring: a rider that is ours again is asked for again."""
-    global now
-    for ring in AGENT.watch():
-        with lock:
-            now = ring
-            for key, it in held.items():
-                if it.taker and ring.owner(key) == OWN:
-                    it.taker, it.whole = None, False
-        sweep()
 
 class Store(BaseHTTPRequestHandler):
     protocol_version, wbufsize, log_message = "HTTP/1.1", -1, lambda *_: None
 
     def do_POST(self):
-        key, body = unquote(self.path.removeprefix("/keys/")), json.loads(self.rfile.read(int(self.headers["content-length"])))
-        if self.path == "/take":
-            answer = take(body["key"], body["by"])
-        else:
-            answer = merge(key, body["merge"], body["by"]) if "merge" in body else add(key, body.get("trip"), body.get("hops", 0))
-        text = json.dumps(answer).encode()
-        self.send_response_only(200)
+        status, text = hand_over.respond(self.path, self.rfile.read(int(self.headers["content-length"])))
+        self.send_response_only(status)
         self.send_header("content-length", str(len(text)))
         self.end_headers()
         self.wfile.write(text)
 
-ThreadingHTTPServer.request_queue_size, ThreadingHTTPServer.daemon_threads = 128, True
-server = ThreadingHTTPServer((OWN.split(":")[0], int(OWN.split(":")[1]) + 200), Store)
-for work in (follow, server.serve_forever):
-    threading.Thread(target=work, daemon=True).start()
-while True:
-    time.sleep(1)
-    sweep()
+
+class Server(ThreadingHTTPServer):
+    request_queue_size, daemon_threads = 128, True
+
+
+def service(node):
+    """The service beside a node listens 200 above the node's port, so that services find one another."""
+    host, port = node.split(":")
+    return host, int(port) + 200
+
+
+def main():
+    server = Server(service(sys.argv[1]), Store)
+    for work in (hand_over.run, server.serve_forever):
+        threading.Thread(target=work, daemon=True).start()
+    told = threading.Event()
+    signal.signal(signal.SIGTERM, lambda *_: told.set())
+    told.wait()
+    try:
+        sys.exit(0 if hand_over.leave() else f"the trips of {hand_over.left} riders are not handed over")
+    except RingpopError as error:
+        sys.exit(str(error))
+
+
+hand_over = HandOver(Client(sys.argv[2]), sys.argv[1], service=lambda node: "http://{}:{}".format(*service(node)), new=Rider)
+main()

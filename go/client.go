@@ -13,6 +13,7 @@ import (
 	"strconv"
 	"strings"
 	"time"
+	"unicode/utf8"
 )
 
 const (
@@ -20,6 +21,8 @@ const (
 	mostKeys = 4096
 	// The bytes of JSON in one request for owners, at most; an agent takes 1,048,576.
 	mostBytes = 1_000_000
+	// The bytes of a body that an agent reads at most: it closes a connection over which more are announced. Of a key's request it takes 131,072.
+	mostBody = 1 << 20
 	// How long an agent holds a question of Watch, and how long Watch waits before it asks one again that does not answer.
 	wait, pause = 30 * time.Second, time.Second
 )
@@ -42,16 +45,29 @@ type Answer struct {
 // NewClient makes a client of the agent at a URL, as http://127.0.0.1:7980. It answers ErrURL for another form.
 func NewClient(where string) (*Client, error) {
 	parts, err := url.Parse(where)
-	if err != nil || parts.Scheme != "http" || parts.Host == "" || strings.Trim(parts.Path, "/") != "" || parts.RawQuery != "" {
+	if err != nil || parts.Scheme != "http" || parts.Hostname() == "" || !isPort(parts.Port()) || strings.Trim(parts.Path, "/") != "" || parts.RawQuery != "" {
 		return nil, fmt.Errorf("%w, and not %q", ErrURL, where)
 	}
-	// An agent closes a connection that is idle for 30 seconds.
-	kept := http.DefaultTransport.(*http.Transport).Clone()
-	kept.IdleConnTimeout, kept.MaxIdleConnsPerHost = 20*time.Second, 64
-	return &Client{"http://" + parts.Host, &http.Client{Transport: kept}}, nil
+	return &Client{"http://" + parts.Host, &http.Client{Transport: keeping()}}, nil
 }
 
-// RingFromAgent makes the ring of what the agent at a URL holds now.
+// isPort is whether the port of a URL is left out, or from 1 to 65,535.
+func isPort(text string) bool {
+	port, err := strconv.ParseUint(text, 10, 16)
+	return text == "" || err == nil && port > 0
+}
+
+// keeping keeps connections for less than the 30 seconds after which an agent closes an idle one, and asks the agent itself, not a proxy.
+func keeping() *http.Transport {
+	kept := http.DefaultTransport.(*http.Transport).Clone()
+	kept.Proxy, kept.IdleConnTimeout, kept.MaxIdleConnsPerHost = nil, 20*time.Second, 64
+	return kept
+}
+
+// String is the URL of its agent.
+func (client *Client) String() string { return client.url }
+
+// RingFromAgent makes the ring of the members that serve, as the agent at a URL sees it now.
 func RingFromAgent(ctx context.Context, where string) (*Ring, error) {
 	client, err := NewClient(where)
 	if err != nil {
@@ -61,8 +77,8 @@ func RingFromAgent(ctx context.Context, where string) (*Ring, error) {
 }
 
 // Request has the service of the key's owner answer a POST, and returns its answer, whatever its status. It answers ErrUnreachable, and an
-// *AgentError if the agent refuses. A 502 whose text is one of the agent's lines (HTTP.md) is an answer, and no error: the service gave none.
-// A request may be done twice, and may have been done after an error or a 502: give what may not be repeated an id.
+// *AgentError if the agent refuses, and if the service gave no answer: its Status is 502 then, and its Name says why (HTTP.md).
+// A request may be done twice, and may have been done after an error: give what may not be repeated an id.
 func (client *Client) Request(ctx context.Context, key string, body []byte) (*Answer, error) {
 	answer, err := client.ask(ctx, http.MethodPost, "/keys/"+url.PathEscape(key), body)
 	if err != nil {
@@ -90,9 +106,14 @@ func (client *Client) Owner(ctx context.Context, key string) (netip.AddrPort, er
 }
 
 // Owners is the first n owners of each key, in the order of the keys; those of each request are of one moment: 4,096 keys, or some megabyte of
-// them. Each has none if no
-// member serves. An agent that knows no `POST /owners` is asked for its members instead.
+// them. Each has none if no member serves. An agent that knows no `POST /owners` is asked for its ring instead. It answers ErrKey for a key that
+// is not UTF-8.
 func (client *Client) Owners(ctx context.Context, keys []string, n int) ([][]netip.AddrPort, error) {
+	for _, key := range keys {
+		if !utf8.ValidString(key) {
+			return nil, fmt.Errorf("%w: %q", ErrKey, key)
+		}
+	}
 	owners := make([][]netip.AddrPort, 0, len(keys))
 	for start, end := 0, 0; start < len(keys); start = end {
 		end = endOfPart(keys, start)
@@ -146,22 +167,15 @@ func isUnknown(err error) bool {
 
 // Members are those that the agent holds, ascending by address, those that do not serve included.
 func (client *Client) Members(ctx context.Context) ([]Member, error) {
-	ring, err := client.Ring(ctx)
+	ring, err := client.all(ctx)
 	if err != nil {
 		return nil, err
 	}
 	return ring.Members(), nil
 }
 
-// What an agent answers to GET /members and to GET /ring.
-type told struct {
-	Own, Address     netip.AddrPort
-	Replicas         int
-	Members, Serving []Member
-}
-
-// Ring is the ring of the members that the agent holds now.
-func (client *Client) Ring(ctx context.Context) (*Ring, error) {
+// all is the ring of all members, those that do not serve included.
+func (client *Client) all(ctx context.Context) (*Ring, error) {
 	var answer told
 	if err := client.read(ctx, http.MethodGet, "/members", nil, &answer); err != nil {
 		return nil, err
@@ -169,13 +183,39 @@ func (client *Client) Ring(ctx context.Context) (*Ring, error) {
 	return ringOf(answer.Members, answer.Replicas, answer.Address)
 }
 
+// What an agent answers to GET /members and to GET /ring.
+type told struct {
+	Own, Address     netip.AddrPort
+	Digest           string
+	Replicas         int
+	Members, Serving []Member
+}
+
+// Ring is the ring of the members that serve, as the agent sees it now. It answers an *AgentError with 503 until the agent has asked its hosts.
+func (client *Client) Ring(ctx context.Context) (*Ring, error) {
+	answer, err := client.ask(ctx, http.MethodGet, "/ring", nil)
+	if err != nil {
+		return nil, err
+	}
+	if answer.Status == http.StatusNotFound {
+		return client.all(ctx) // (of an agent that knows no `GET /ring`)
+	}
+	return serving(answer)
+}
+
+// serving is the ring that an answer to GET /ring has.
+func serving(answer *Answer) (*Ring, error) {
+	var found told
+	if err := parse(answer, &found); err != nil {
+		return nil, err
+	}
+	return ringOf(found.Serving, found.Replicas, found.Own)
+}
+
 func ringOf(members []Member, replicas int, own netip.AddrPort) (*Ring, error) {
 	for i := range members {
 		if members[i].Status == "" {
 			members[i].Status = "alive"
-		}
-		if _, known := ranks[members[i].Status]; !known || !members[i].Address.IsValid() || members[i].Weight < 1 {
-			return nil, fmt.Errorf("%w: a member is %+v", ErrAnswer, members[i])
 		}
 	}
 	ring, err := NewRing(members, replicas)
@@ -186,26 +226,28 @@ func ringOf(members []Member, replicas int, own netip.AddrPort) (*Ring, error) {
 	return ring, nil
 }
 
-// Watch gives the ring now, and from then on each other ring, until the context ends, which closes the channel. An agent that does not answer or
-// refuses is asked again each second. One that knows `GET /ring` answers as soon as it has another ring; one that does not is asked for its
-// members each second. A ring that did not last until it was asked for is passed over.
+// Watch gives the ring now, and from then on each other ring, until the context ends, which closes the channel. An agent that does not answer,
+// refuses, or answers what cannot be read is asked again after a second. One that knows `GET /ring` answers as soon as it has another ring; one that
+// does not is asked for its members each second. A ring that did not last until it was asked for is passed over.
 func (client *Client) Watch(ctx context.Context) <-chan *Ring {
 	rings := make(chan *Ring)
 	go func() {
 		defer close(rings)
-		var ring *Ring
+		var ring, known *Ring // the last one given; what the agent told, nil once it may have been started again, maybe with other replicas
 		for ctx.Err() == nil {
-			other, err := client.other(ctx, ring)
+			found, err := client.later(ctx, known)
 			if err != nil {
+				known = nil
 				rest(ctx)
 				continue
 			}
-			if other == nil || other.Equal(ring) {
+			known = found
+			if known.Equal(ring) {
 				continue
 			}
 			select {
-			case rings <- other:
-				ring = other
+			case rings <- known:
+				ring, known = known, nil
 			case <-ctx.Done():
 			}
 		}
@@ -220,31 +262,23 @@ func rest(ctx context.Context) {
 	}
 }
 
-// other is the ring if it is another one than this, and nil if it still is this one after the wait.
-func (client *Client) other(ctx context.Context, ring *Ring) (*Ring, error) {
-	if ring == nil {
+// later is the ring as soon as it is another one than this, and this one after the wait. The digest does not tell the replicas.
+func (client *Client) later(ctx context.Context, known *Ring) (*Ring, error) {
+	if known == nil {
 		return client.Ring(ctx)
 	}
 	asked := time.Now()
-	answer, err := client.ask(ctx, http.MethodGet, fmt.Sprintf("/ring?after=%s&wait=%d", ring.Digest(), wait/time.Second), nil)
-	if err != nil {
+	answer, err := client.ask(ctx, http.MethodGet, fmt.Sprintf("/ring?after=%s&wait=%d", known.Digest(), wait/time.Second), nil)
+	switch {
+	case err != nil:
 		return nil, err
+	case answer.Status != http.StatusNotModified:
+		return serving(answer)
+	case time.Since(asked) >= pause:
+		return known, nil
 	}
-	if answer.Status == http.StatusNotModified {
-		if time.Since(asked) < pause {
-			rest(ctx) // (it did not wait)
-		}
-		return nil, nil
-	}
-	if answer.Status == http.StatusNotFound {
-		rest(ctx)
-		return client.Ring(ctx)
-	}
-	var found told
-	if err := parse(answer, &found); err != nil {
-		return nil, err
-	}
-	return ringOf(found.Serving, found.Replicas, found.Own)
+	rest(ctx) // (it did not wait)
+	return client.Ring(ctx)
 }
 
 // Leave has the node leave the ring: it owns no key from then on, and still passes requests to their owners.
@@ -281,11 +315,20 @@ func parse(answer *Answer, into any) error {
 }
 
 func refusal(answer *Answer) error {
-	return &AgentError{answer.Status, strings.TrimSuffix(string(answer.Body), "\n"), answer.Header.Get("X-Ringpop-Error")}
+	line := strings.TrimSuffix(string(answer.Body), "\n")
+	if line == "" {
+		line = http.StatusText(answer.Status)
+	}
+	after, _ := strconv.Atoi(answer.Header.Get("Retry-After"))
+	return &AgentError{answer.Status, line, answer.Header.Get("X-Ringpop-Error"), time.Duration(after) * time.Second}
 }
 
 // ask is the answer to a request. The end of the context is its error, and else it is ErrUnreachable that none came.
 func (client *Client) ask(ctx context.Context, method, path string, body []byte) (*Answer, error) {
+	if len(body) > mostBody {
+		line := fmt.Sprintf("bad body: it has %d bytes, and an agent reads no more than %d", len(body), mostBody)
+		return nil, &AgentError{http.StatusRequestEntityTooLarge, line, "long-body", 0}
+	}
 	request, err := http.NewRequestWithContext(ctx, method, client.url+path, bytes.NewReader(body))
 	if err != nil {
 		return nil, err
@@ -299,7 +342,7 @@ func (client *Client) ask(ctx context.Context, method, path string, body []byte)
 		return nil, ctx.Err()
 	}
 	if err != nil {
-		return nil, fmt.Errorf("%w at %s: %v", ErrUnreachable, client.url, err)
+		return nil, &unreachable{client.url, err}
 	}
 	return &Answer{Status: got.StatusCode, Body: body, Header: got.Header}, nil
 }

@@ -3,6 +3,7 @@ package ringpop
 import (
 	"errors"
 	"fmt"
+	"time"
 )
 
 // What errors.Is tells of the errors of this package.
@@ -11,6 +12,10 @@ var (
 	ErrLine = errors.New("ringpop: not a change")
 	// ErrReplicas is a number of replicas that is not from 1 to 1,000.
 	ErrReplicas = errors.New("ringpop: replicas is not from 1 to 1000")
+	// ErrMember is a member that a ring cannot have.
+	ErrMember = errors.New("ringpop: bad member")
+	// ErrKey is a key that is not UTF-8, of which JSON would make another one.
+	ErrKey = errors.New("ringpop: a key is not UTF-8")
 	// ErrTooManyMembers is more members than a cluster can have.
 	ErrTooManyMembers = errors.New("ringpop: more than 4096 members")
 	// ErrURL is a URL that is not http://HOST:PORT.
@@ -41,11 +46,13 @@ func (fault *LineError) Is(other error) bool {
 	return other == ErrLine || ok && *same == *fault
 }
 
-// An AgentError is an agent's refusal: the status and the line of its answer, which says why, and its name if the agent gave one.
+// An AgentError is an agent's refusal: the status and the line of its answer, which says why, its word (HTTP.md) if the agent gave one, and after
+// how long to ask again, zero if the agent did not say.
 type AgentError struct {
-	Status int
-	Line   string
-	Name   string
+	Status     int
+	Line       string
+	Name       string
+	RetryAfter time.Duration
 }
 
 func (refusal *AgentError) Error() string {
@@ -57,6 +64,20 @@ func (refusal *AgentError) Is(other error) bool {
 	same, ok := other.(*AgentError)
 	return other == ErrRefused || other == ErrNobody && refusal.Line == nobody || ok && *same == *refusal
 }
+
+// Why no agent answered at a URL.
+type unreachable struct {
+	url   string
+	cause error
+}
+
+func (fault *unreachable) Error() string {
+	return fmt.Sprintf("%v at %s: %v", ErrUnreachable, fault.url, fault.cause)
+}
+
+func (fault *unreachable) Is(other error) bool { return other == ErrUnreachable }
+
+func (fault *unreachable) Unwrap() error { return fault.cause }
 
 // What an agent says if no member serves.
 const nobody = "nobody serves"

@@ -118,8 +118,11 @@ func textOf(value json.RawMessage) (string, bool) {
 func addressOf(value json.RawMessage) (netip.AddrPort, bool) {
 	text, isText := textOf(value)
 	address, err := netip.ParseAddrPort(text)
-	return address, isText && err == nil && address.Addr().Is4() && address.Port() > 0 && address.String() == text
+	return address, isText && err == nil && isAddress(address) && address.String() == text
 }
+
+// isAddress is whether a node may have the address: IPv4 and a port from 1.
+func isAddress(address netip.AddrPort) bool { return address.Addr().Is4() && address.Port() > 0 }
 
 // numberOf reads a whole number in a range.
 func numberOf(value json.RawMessage, least, most uint64) (uint64, bool) {

@@ -6,6 +6,8 @@
 //	owner, found := ring.Owner("trip-42") // without asking anyone
 //	for ring := range client.Watch(ctx) { .. } // now, and again after each change of the ring
 //
+// A HandOver is the handler of a service whose state follows the owners of its keys.
+//
 // It is written in Go alone: it calls no C, and needs nothing built.
 package ringpop
 
@@ -52,7 +54,7 @@ type point struct {
 
 // A Ring names the owners of keys among members that do not change: for other members make another ring. It names the same owners, in the
 // same order, as each node of a cluster with these members and this number of replicas, and as `ringpop owner`. Any number of goroutines may
-// use it at a time, without waiting for one another.
+// use it at a time, without waiting for one another. A nil ring has no owner of any key, and equals nil alone; its other methods panic.
 type Ring struct {
 	members  []Member
 	serving  []Member
@@ -61,8 +63,8 @@ type Ring struct {
 	points   []point
 }
 
-// NewRing makes the ring of members with different addresses; replicas is that of the cluster, 1 to 1,000. It answers ErrReplicas, and
-// ErrTooManyMembers.
+// NewRing makes the ring of members with different addresses; replicas is that of the cluster, 1 to 1,000. It answers ErrReplicas,
+// ErrTooManyMembers, and ErrMember.
 func NewRing(members []Member, replicas int) (*Ring, error) {
 	if replicas < 1 || replicas > 1000 {
 		return nil, fmt.Errorf("%w: it is %d", ErrReplicas, replicas)
@@ -76,7 +78,13 @@ func NewRing(members []Member, replicas int) (*Ring, error) {
 		order := one.Addr().Compare(other.Addr())
 		return order < 0 || order == 0 && one.Port() < other.Port()
 	})
-	for _, member := range ring.members {
+	for i, member := range ring.members {
+		if _, known := ranks[member.Status]; !known || !isAddress(member.Address) || member.Weight < 1 || member.Weight > 8 {
+			return nil, fmt.Errorf("%w: it needs an IPv4 address with a port, a weight of 1 to 8 and a status: %+v", ErrMember, member)
+		}
+		if i > 0 && member.Address == ring.members[i-1].Address {
+			return nil, fmt.Errorf("%w: two have the address %s", ErrMember, member.Address)
+		}
 		if member.Serves() {
 			ring.place(member)
 		}
@@ -112,7 +120,7 @@ func (ring *Ring) at(key string) int {
 
 // Owner is the address of the key's owner, and whether a member serves.
 func (ring *Ring) Owner(key string) (netip.AddrPort, bool) {
-	if len(ring.points) == 0 {
+	if ring == nil || len(ring.points) == 0 {
 		return netip.AddrPort{}, false
 	}
 	return ring.serving[ring.points[ring.at(key)].server].Address, true
@@ -120,12 +128,12 @@ func (ring *Ring) Owner(key string) (netip.AddrPort, bool) {
 
 // Owners is the first n owners of the key, all different, the owner first, or all that serve if those are fewer. A negative n counts as 0.
 func (ring *Ring) Owners(key string, n int) []netip.AddrPort {
+	owners := []netip.AddrPort{}
+	if ring == nil || len(ring.serving) == 0 || n < 1 {
+		return owners
+	}
 	if n > len(ring.serving) {
 		n = len(ring.serving)
-	}
-	owners := []netip.AddrPort{}
-	if n < 1 {
-		return owners
 	}
 	named := make([]bool, len(ring.serving))
 	for place := ring.at(key); len(owners) < n; place = (place + 1) % len(ring.points) {
@@ -180,7 +188,10 @@ func (ring *Ring) Digest() string {
 
 // Equal is whether two rings have the same serving members, weights and replicas, so that they name the same owners.
 func (ring *Ring) Equal(other *Ring) bool {
-	return other != nil && ring.replicas == other.replicas && ring.Digest() == other.Digest()
+	if ring == nil || other == nil {
+		return ring == other
+	}
+	return ring.replicas == other.replicas && ring.Digest() == other.Digest()
 }
 
 // String says how many members a ring has, and the beginning of its digest.

@@ -3,6 +3,7 @@ package ringpop
 import (
 	"errors"
 	"fmt"
+	"net/netip"
 	"os"
 	"path/filepath"
 	"strings"
@@ -130,8 +131,17 @@ func TestFaults(t *testing.T) {
 	if _, err := NewRing(make([]Member, MaxMembers+1), 1); !errors.Is(err, ErrTooManyMembers) {
 		t.Error(err)
 	}
-	if _, err := NewClient("127.0.0.1:7980"); !errors.Is(err, ErrURL) {
-		t.Error(err)
+}
+
+func TestANilRing(t *testing.T) {
+	var none *Ring
+	ring := made(t, change(1, 1, "alive"))
+	if owner, found := none.Owner("trip"); found || len(none.Owners("trip", 2)) != 0 || none.Equal(ring) || ring.Equal(none) || !none.Equal(nil) {
+		t.Fatal(owner)
+	}
+	owner, _ := ring.Owner("trip")
+	if moves := ring.Moved([]string{"trip"}, none); len(moves) != 1 || moves[0] != (Move{Key: "trip", After: owner}) {
+		t.Fatal(moves)
 	}
 }
 
@@ -167,5 +177,18 @@ func BenchmarkOwner(b *testing.B) {
 	b.ReportAllocs()
 	for i := 0; i < b.N; i++ {
 		ring.Owner("trip-42")
+	}
+}
+
+func TestBadMembers(t *testing.T) {
+	at := netip.MustParseAddrPort
+	one, other := at("10.0.0.1:7946"), at("10.0.0.2:7946")
+	good, six, mapped, none := Member{one, 1, "alive", 0}, at("[::1]:7946"), at("[::ffff:10.0.0.2]:7946"), at("10.0.0.2:0")
+	for _, bad := range []Member{
+		{}, good, {other, 9, "alive", 0}, {other, 0, "alive", 0}, {other, 1, "up", 0}, {six, 1, "alive", 0}, {mapped, 1, "alive", 0}, {none, 1, "alive", 0},
+	} {
+		if ring, err := NewRing([]Member{good, bad}, 1); !errors.Is(err, ErrMember) {
+			t.Fatal(bad, ring, err)
+		}
 	}
 }

@@ -16,10 +16,24 @@ class BadLine extends RingpopError {
   }
 }
 
+/** A `key` that is not UTF-8, since it has half of a surrogate pair. */
+class BadKey extends RingpopError {
+  constructor(key) {
+    super(`a key is not UTF-8: ${JSON.stringify(key)}`, { key });
+  }
+}
+
 /** A number of replicas that is not from 1 to 1,000. */
 class BadReplicas extends RingpopError {
   constructor(replicas) {
     super(`replicas is ${replicas}, and not from 1 to 1000`, { replicas });
+  }
+}
+
+/** A `member` that a ring cannot have, and the `reason`. */
+class BadMember extends RingpopError {
+  constructor(member, reason) {
+    super(`${reason}: ${JSON.stringify(member)}`, { member, reason });
   }
 }
 
@@ -30,10 +44,13 @@ class TooManyMembers extends RingpopError {
   }
 }
 
-/** An agent's refusal: the `status` and the `line` of its answer, which says why, and its word in `code` if the agent gave one. */
+/**
+ * An agent's refusal: the `status` and the `line` of its answer, which says why; its word (HTTP.md) in `code`, and in `retryAfter` the seconds after
+ * which to ask again, each if the agent gave one.
+ */
 class AgentError extends RingpopError {
-  constructor(status, line, code) {
-    super(`${status}: ${line}`, { status, line, code });
+  constructor(status, line, code, retryAfter) {
+    super(`${status}: ${line}`, { status, line, code, retryAfter });
   }
 }
 
@@ -51,4 +68,4 @@ class BadAnswer extends RingpopError {
   }
 }
 
-module.exports = { AgentError, BadAnswer, BadLine, BadReplicas, RingpopError, TooManyMembers, Unreachable };
+module.exports = { AgentError, BadAnswer, BadKey, BadLine, BadMember, BadReplicas, RingpopError, TooManyMembers, Unreachable };

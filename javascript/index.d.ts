@@ -6,14 +6,16 @@ export interface Answer { status: number; body: Buffer; text: string; owner: str
 
 export class RingpopError extends Error {}
 export class BadLine extends RingpopError { line: number; reason: string }
+export class BadKey extends RingpopError { key: string }
 export class BadReplicas extends RingpopError { replicas: unknown }
+export class BadMember extends RingpopError { member: unknown; reason: string }
 export class TooManyMembers extends RingpopError {}
-export class AgentError extends RingpopError { status: number; line: string; code?: string }
+export class AgentError extends RingpopError { status: number; line: string; code?: string; retryAfter?: number }
 export class Unreachable extends RingpopError { url: string; reason: string }
 export class BadAnswer extends RingpopError { url: string; reason: string }
 
 export class Ring {
-  constructor(members: Member[], options?: { replicas?: number; own?: string });
+  constructor(members: (Pick<Member, 'address'> & Partial<Member>)[], options?: { replicas?: number; own?: string });
   static fromMembers(lines: string | Iterable<string>, options?: { replicas?: number }): Ring;
   static fromAgent(url?: string): Promise<Ring>;
   readonly members: Member[];

@@ -10,4 +10,6 @@
  *     ring.owner('trip-42');                                 // '10.0.0.2:7946', without asking anyone
  *     for await (ring of client.watch()) { .. }              // now, and again after each change of the ring
  */
-module.exports = { ...require('./errors.js'), ...require('./ring.js'), ...require('./client.js') };
+const { MAX_MEMBERS, Ring } = require('./ring.js');
+
+module.exports = { ...require('./errors.js'), MAX_MEMBERS, Ring, ...require('./client.js') };

@@ -1,6 +1,6 @@
 'use strict';
 const { createHash } = require('crypto');
-const { BadLine, BadReplicas, TooManyMembers } = require('./errors.js');
+const { BadKey, BadLine, BadMember, BadReplicas, TooManyMembers } = require('./errors.js');
 
 const MAX_MEMBERS = 4096;
 const MAX_LINE = 1 << 20;
@@ -17,6 +17,34 @@ function numberOf(address) {
   const port = numbers.pop();
   if (numbers.some(it => it > 255) || port < 1 || port > 65535) return undefined;
   return numbers.reduce((sum, it) => sum * 256 + it, 0) * 65536 + port;
+}
+
+/** The members with what is left out, ascending by address. */
+function checked(members) {
+  const held = new Map();
+  for (const given of members) {
+    const member = { weight: 1, status: 'alive', incarnation: 0, ...given };
+    const number = numberOf(member.address);
+    if (number === undefined) throw new BadMember(given, "a member has an address like '10.0.0.1:7946'");
+    if (!FIELDS.weight(member.weight) || !FIELDS.status(member.status)) {
+      throw new BadMember(given, `a weight is 1 to 8, and a status one of ${Object.keys(RANKS).join(', ')}`);
+    }
+    if (held.has(number)) throw new BadMember(given, 'two members have one address');
+    held.set(number, member);
+  }
+  return [...held].sort(([one], [other]) => one - other).map(([, member]) => member);
+}
+
+/** A key, unless it has half of a surrogate pair: of that UTF-8 would make another key. */
+function keyOf(key) {
+  if (typeof key === 'string' && /\p{Surrogate}/u.test(key)) throw new BadKey(key);
+  return key;
+}
+
+/** A list of keys, unless it is one key. */
+function keysOf(keys) {
+  if (typeof keys === 'string') throw new TypeError(`give a list of keys, and not one key: ${JSON.stringify(keys)}`);
+  return [...keys];
 }
 
 /** The first eight bytes of the SHA-256 as two numbers, since one of JavaScript holds 53 bits. */
@@ -72,13 +100,13 @@ class Ring {
   #names;
 
   /**
-   * Makes the ring of members with different addresses, each `{ address, weight, status, incarnation }` and checked already; `own` names the node
-   * that told them. Throws BadReplicas if `replicas` is not 1 to 1,000, and TooManyMembers.
+   * Makes the ring of members with different addresses, each `{ address, weight, status, incarnation }`, of which all but the first may be left out;
+   * `own` names the node that told them. Throws BadReplicas if `replicas` is not 1 to 1,000, TooManyMembers, and BadMember.
    */
   constructor(members, { replicas = 100, own } = {}) {
     if (!isNumber(replicas, 1, 1000)) throw new BadReplicas(replicas);
     if (members.length > MAX_MEMBERS) throw new TooManyMembers();
-    this.members = [...members].sort((one, other) => numberOf(one.address) - numberOf(other.address));
+    this.members = checked(members);
     this.replicas = replicas;
     this.own = own;
     this.serving = this.members.filter(serves).map(({ address, weight }) => ({ address, weight }));
@@ -107,7 +135,7 @@ class Ring {
     return new Ring([...held.values()], { replicas });
   }
 
-  /** Makes the ring of what an agent holds now. */
+  /** Makes the ring of the members that serve, as an agent sees it now. Rejects with AgentError, of status 503, until the agent has asked its hosts. */
   static fromAgent(url = 'http://127.0.0.1:7980') {
     const { Client } = require('./client.js');
     return new Client(url).ring();
@@ -115,7 +143,7 @@ class Ring {
 
   /** The place of the first point at or after the key's hash, wrapping around. */
   #at(key) {
-    const [high, low] = hashOf(key);
+    const [high, low] = hashOf(keyOf(key));
     const [highs, lows] = this.#hashes;
     let start = 0;
     let end = highs.length;
@@ -143,7 +171,7 @@ class Ring {
 
   /** Those keys that have another owner here than in another ring, such as the ring before: in their order, with both owners. */
   moved(keys, other) {
-    const moves = [...keys].map(key => ({ key, before: other.owner(key), after: this.owner(key) }));
+    const moves = keysOf(keys).map(key => ({ key, before: other.owner(key), after: this.owner(key) }));
     return moves.filter(move => move.before !== move.after);
   }
 
@@ -163,4 +191,4 @@ class Ring {
   }
 }
 
-module.exports = { MAX_MEMBERS, Ring, isAddress: address => numberOf(address) !== undefined };
+module.exports = { MAX_MEMBERS, Ring, keyOf, keysOf };

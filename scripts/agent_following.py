@@ -1,5 +1,4 @@
 """Agents that follow their services into the ring and out of it, for `scripts/agent following`."""
-import contextlib
 import tempfile
 import time
 from urllib.parse import quote
@@ -33,12 +32,6 @@ class Follower(Agent):
         if self.application is None:
             self.serve()
         Agent.end(self)
-
-
-def is_up(agent):
-    with contextlib.suppress(OSError):
-        return agent.ask("GET", "/livez")[0] == 200
-    return False
 
 
 def owns(agents, owner):
@@ -129,7 +122,7 @@ def check_without(program, port, hosts):
     """An agent that does not wait, and never leaves, is in the ring without its service."""
     bold = Follower(program, port, hosts, more=("--no-wait-app", "--leave-after", "0"))
     try:
-        wait_until("answered over HTTP", 10, lambda: is_up(bold))
+        wait_until("answered over HTTP", 10, bold.is_up)
         wait_until("joined", 10, lambda: bold.ask("GET", "/healthz") == (503, "the application does not answer\n"))
         time.sleep(AFTER + 1)
         if bold.members()[bold.own] != "alive":
@@ -145,7 +138,7 @@ def check(program, agents, port):
         late = Follower(program, late_port, ports, log=log, more=("--leave-after", str(AFTER)))
         agents.append(late)
         others = agents[:3]
-        wait_until("answered over HTTP", 10, lambda: is_up(late))
+        wait_until("answered over HTTP", 10, late.is_up)
         check_join(others, late, log)
         check_loss(others, late, log)
         check_told(others, late)

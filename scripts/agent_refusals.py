@@ -1,15 +1,14 @@
 """What agents say of what they and others refuse, for `scripts/agent refusals`."""
 import contextlib
 import http.client
-import json
 import tempfile
 from urllib.parse import quote
 
-from agents import Agent, agree, counted, said, wait_until
+from agents import Agent, counted, keys_of, running, said, wait_until
 from nodes import NOBODY, Wrong, address, call, connect, message, rest
 
-# the most addresses that a node holds
-MOST = 4_096
+# the most addresses that a node holds, and the number from which on an agent lets no new one join
+MOST, MARGIN = 4_096, 4_000
 
 
 def told_apart(agent, method, path, body=None):
@@ -21,15 +20,9 @@ def told_apart(agent, method, path, body=None):
         return answer.status, answer.headers.get("x-ringpop-error"), answer.headers.get("retry-after")
 
 
-def key_of(agents, owner):
-    """A key that an agent owns, as the first agent names it."""
-    keys = (f"key {number}" for number in range(100_000))
-    return next(key for key in keys if json.loads(agents[0].ask("GET", "/owner/" + quote(key))[1])["owners"] == [owner.own])
-
-
 def check_words(agents):
     """An agent's own answers have a word, those of services have none, whatever their status is."""
-    keys = [key_of(agents, owner) for owner in agents]
+    keys = [key for owner in agents for key in keys_of(agents, owner, 1)]
     for key in keys:
         for status in (200, 404, 502, 503):
             told = told_apart(agents[0], "POST", f"/keys/{quote(key)}", f"status {status}".encode())
@@ -50,6 +43,20 @@ def check_words(agents):
             raise Wrong(f"a 502 of the owner's agent is told as {told}")
 
 
+def check_margin(program, full, port):
+    """A node that holds 3,999 addresses lets a newcomer join, and no other one after it, unless it knows it; it goes on to take news of others."""
+    fill(full, MARGIN - 1)
+    with running(program, port, hosts=(full.port,)) as (last,):
+        wait_until("admitted", 20, last.is_well)
+        wait_until("at the margin", 10, lambda: counted([full], "ringpop_addresses_used") == MARGIN)
+    with running(program, port, hosts=(full.port,)) as (last,):
+        wait_until("admitted again", 20, last.is_well)
+    with tempfile.NamedTemporaryFile() as log:
+        check_newcomer(program, port + 1, full.port, log)
+    if counted([full], "ringpop_addresses_used") != MARGIN:
+        raise Wrong("a node lets a newcomer join beyond the margin")
+
+
 def check_full(program, first, second):
     """A node that becomes full says so, and a newcomer that it refuses, too."""
     with tempfile.NamedTemporaryFile() as log, tempfile.NamedTemporaryFile() as late_log:
@@ -57,6 +64,7 @@ def check_full(program, first, second):
         try:
             wait_until("well", 10, full.is_well)
             wait_until("in its third round", 10, lambda: counted([full], 'ringpop_rounds_total{outcome="idle"}') > 1)
+            check_margin(program, full, second + 1)
             fill(full)
             wait_until("full", 10, lambda: counted([full], "ringpop_addresses_used") == MOST)
             wait_until("said to be full", 10, lambda: f"{MOST} of {MOST} addresses are used" in said(log))
@@ -66,9 +74,10 @@ def check_full(program, first, second):
             full.end()
 
 
-def fill(agent):
-    """Tells a node of members that left, until it holds as many as it can."""
-    members = [f"10.0.{number // 250}.{number % 250 + 1}:1" for number in range(MOST - 1)]
+def fill(agent, most=MOST):
+    """Tells a node of members that left, until it holds this number of them, itself among them."""
+    held = counted([agent], "ringpop_addresses_used")
+    members = [f"10.0.{number // 250}.{number % 250 + 1}:1" for number in range(held, most)]
     for start in range(0, len(members), 500):
         changes = [{"address": it, "incarnationNumber": 1, "source": it, "sourceIncarnationNumber": 0, "status": "leave"} for it in members[start : start + 500]]
         answer = call(agent.port, message("ping", checksum=NOBODY, changes=changes))
@@ -80,7 +89,7 @@ def check_newcomer(program, port, host, log):
     newcomer = Agent(program, port, (host,), log=log)
     try:
         refused = 503, "a host refused this node: full\n"
-        wait_until("said to be refused", 20, lambda: is_up(newcomer) and newcomer.ask("GET", "/healthz") == refused)
+        wait_until("said to be refused", 20, lambda: newcomer.is_up() and newcomer.ask("GET", "/healthz") == refused)
         if f"{address(host)} refused a message of this node: full" not in said(log):
             raise Wrong(f"the log of a node that is refused: {said(log)}")
         if not counted([newcomer], 'ringpop_joins_total{outcome="refused"}') or not counted([newcomer], "ringpop_messages_refused_total"):
@@ -96,12 +105,6 @@ def check_line(agent, log):
         rest(link)
     wait_until("counted", 5, lambda: counted([agent], 'ringpop_lines_refused_total{reason="malformed"}') == 1)
     wait_until("logged", 5, lambda: "a line at this node's port was refused: malformed" in said(log))
-
-
-def is_up(agent):
-    with contextlib.suppress(OSError):
-        return agent.ask("GET", "/livez")[0] == 200
-    return False
 
 
 def check(program, agents, first, second):

@@ -43,10 +43,17 @@ class Agent:
             answer = link.getresponse()
             return answer.status, answer.read().decode()
 
-    def is_well(self):
+    def is_ok(self, path):
         with contextlib.suppress(OSError, http.client.HTTPException):
-            return self.ask("GET", "/healthz")[0] == 200
+            return self.ask("GET", path)[0] == 200
         return False
+
+    def is_well(self):
+        return self.is_ok("/healthz")
+
+    def is_up(self):
+        """Whether it answers HTTP, well or not."""
+        return self.is_ok("/livez")
 
     def tell(self, member, incarnation, status, source="0.0.0.0:1"):
         """Tells the node a change; returns its answer."""
@@ -83,6 +90,15 @@ class Agent:
             process.wait()
 
 
+def built(service, folder):
+    """The command of a service. One in Go is built first: `go run` would leave it running."""
+    if service[0] != "go":
+        return service
+    program = f"{folder}/service"
+    subprocess.run(["go", "build", "-o", program, service[-1]], check=True)
+    return (program,)
+
+
 def wait_until(what, seconds, is_so):
     """Waits until something is so."""
     end = time.monotonic() + seconds
@@ -115,6 +131,13 @@ def said(log):
 def counted(agents, name):
     """What these agents have counted under this name in all."""
     return sum(int(re.search(rf"\n{re.escape(name)} (\d+)\n", agent.ask("GET", "/metrics")[1])[1]) for agent in agents)
+
+
+def keys_of(agents, owner, count):
+    """Keys that an agent owns, as the first agent names it."""
+    keys = (f"key {number}" for number in range(100_000))
+    owned = (key for key in keys if json.loads(agents[0].ask("GET", "/owner/" + quote(key))[1])["owners"] == [owner.own])
+    return [next(owned) for _ in range(count)]
 
 
 def at_once(*checks):

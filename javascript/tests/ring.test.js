@@ -3,7 +3,7 @@
 const assert = require('node:assert');
 const { readFileSync } = require('node:fs');
 const test = require('node:test');
-const { BadLine, BadReplicas, MAX_MEMBERS, Ring, RingpopError, TooManyMembers } = require('..');
+const { BadKey, BadLine, BadMember, BadReplicas, MAX_MEMBERS, Ring, RingpopError, TooManyMembers } = require('..');
 
 const FOLDER = process.env.RINGPOP_ANSWERS;
 const read = name => readFileSync(`${FOLDER}/${name}`, 'utf8');
@@ -62,4 +62,15 @@ test('lines at fault', () => {
   assert.throws(() => new Ring(Array(MAX_MEMBERS + 1)), TooManyMembers);
   assert.ok(new TooManyMembers() instanceof RingpopError);
   assert.throws(() => ringOf(1).owners('trip-42', -1), /^RangeError: n is -1, and not 0 or more$/);
+  for (const key of ['\ud800', 'a\udc00b']) assert.throws(() => ringOf(1).owner(key), new BadKey(key));
+  assert.strictEqual(ringOf(1).owner('🗝'), '10.0.0.1:7946');
+  assert.throws(() => ringOf(1).moved('abc', ringOf(2)), /^TypeError: give a list of keys, and not one key: "abc"$/);
+});
+
+test('members at fault', () => {
+  const address = '10.0.0.1:7946';
+  assert.strictEqual(new Ring([{ address }]).owner('trip-42'), address);
+  for (const bad of [{ address: '10.0.0.1' }, { address: '10.0.0.2:7946', weight: 9 }, { address: '10.0.0.2:7946', status: 'up' }, { address }, undefined]) {
+    assert.throws(() => new Ring([{ address }, bad]), BadMember);
+  }
 });

@@ -34,6 +34,28 @@ class BadReplicas(RingpopError, ValueError):
         return f"replicas is {self.replicas!r}, and not from 1 to 1000"
 
 
+class BadKey(RingpopError, ValueError):
+    """A key that is not UTF-8."""
+
+    def __init__(self, key: object) -> None:
+        super().__init__(key)
+        self.key = key
+
+    def __str__(self) -> str:
+        return f"a key is not UTF-8: {self.key!r}"
+
+
+class BadMember(RingpopError, ValueError):
+    """A member that a ring cannot have: the member, and what is wrong with it."""
+
+    def __init__(self, member: object, reason: str) -> None:
+        super().__init__(member, reason)
+        self.member, self.reason = member, reason
+
+    def __str__(self) -> str:
+        return f"{self.reason}: {self.member!r}"
+
+
 class TooManyMembers(RingpopError, ValueError):
     """More members than a cluster can have."""
 
@@ -42,11 +64,12 @@ class TooManyMembers(RingpopError, ValueError):
 
 
 class AgentError(RingpopError):
-    """An agent's refusal: the status and the line of its answer, which says why, and its name if the agent gave one."""
+    """An agent's refusal: the status and the line of its answer, which says why; its word (HTTP.md) as `name`, and the seconds after which to ask
+    again as `retry_after`, each if the agent gave one."""
 
-    def __init__(self, status: int, line: str, name: str | None = None) -> None:
-        super().__init__(status, line, name)
-        self.status, self.line, self.name = status, line, name
+    def __init__(self, status: int, line: str, name: str | None = None, retry_after: float | None = None) -> None:
+        super().__init__(status, line, name, retry_after)
+        self.status, self.line, self.name, self.retry_after = status, line, name, retry_after
 
     def __str__(self) -> str:
         return f"{self.status}: {self.line}"

@@ -3,6 +3,7 @@ from __future__ import annotations
 
 import ctypes as c
 import os
+import threading
 
 DONE = 0
 # (the node of a view holds one member more, itself, at an address where no node can listen)
@@ -37,7 +38,6 @@ class Address(c.Structure):
 
 
 _HANDLE, _SIZE, _BYTES = c.POINTER(Handle), c.POINTER(c.c_size_t), [c.c_char_p, c.c_size_t]
-_IP, _PORT = c.POINTER(c.c_uint32), c.POINTER(c.c_uint16)
 _CALLS = {
     "node_new": [_HANDLE, c.POINTER(Config), c.c_uint32, c.c_uint16, c.c_uint64, c.c_uint64, c.c_uint64],
     "node_free": [_HANDLE],
@@ -45,7 +45,7 @@ _CALLS = {
     "node_take": [_HANDLE, *_BYTES, c.c_uint64],
     "view_new": [_HANDLE, _HANDLE],
     "view_free": [_HANDLE],
-    "view_owner": [_HANDLE, *_BYTES, _IP, _PORT],
+    "view_owner": [_HANDLE, *_BYTES, c.c_void_p, c.c_void_p],
     "view_owners": [_HANDLE, *_BYTES, c.c_size_t, c.POINTER(Address), c.c_size_t, _SIZE],
 }
 
@@ -55,15 +55,15 @@ def _load() -> c.CDLL | None:
     named = os.environ.get("RINGPOP_LIBRARY")
     try:
         library = c.PyDLL(named or "libringpop.so.1")
-    except OSError as error:
+        library.ringpop_config_standard.argtypes = [c.POINTER(Config)]
+        library.ringpop_config_standard.restype = None
+        for name, types in _CALLS.items():
+            call = getattr(library, f"ringpop_{name}")
+            call.argtypes, call.restype = types, c.c_uint32
+    except (OSError, AttributeError) as error:  # (none that can be loaded, or one that is not ringpop's)
         if named:
-            raise ImportError(f"RINGPOP_LIBRARY names no library that can be loaded: {error}") from error
+            raise ImportError(f"RINGPOP_LIBRARY names no library of ringpop: {error}") from error
         return None
-    library.ringpop_config_standard.argtypes = [c.POINTER(Config)]
-    library.ringpop_config_standard.restype = None
-    for name, types in _CALLS.items():
-        call = getattr(library, f"ringpop_{name}")
-        call.argtypes, call.restype = types, c.c_uint32
     return library
 
 
@@ -78,6 +78,17 @@ def _done(code: int) -> None:
 def _name(place: int) -> str:
     """The text of an address, an IPv4 number with a port above its 32 bits."""
     return f"{place >> 24 & 255}.{place >> 16 & 255}.{place >> 8 & 255}.{place & 255}:{place >> 32}"
+
+
+class _Place(threading.local):
+    """Where a look-up writes an address, eight bytes that are read as one number. Each thread has its own: another one may have its turn in between."""
+
+    def __init__(self) -> None:
+        number = c.c_uint64()
+        self.parts = number, c.byref(number), c.byref(number, 4)
+
+
+_place = _Place()
 
 
 class View:
@@ -99,22 +110,19 @@ class View:
             _done(_library.ringpop_view_new(self._view, node))
         finally:
             _library.ringpop_node_free(node)
-        # What a look-up uses, made once: an address is written into eight bytes, and read as one number.
-        self._place = c.c_uint64()
-        ip, port = c.c_uint32.from_buffer(self._place), c.c_uint16.from_buffer(self._place, 4)
-        self._given = c.byref(self._view), c.byref(ip), c.byref(port)
+        self._given = c.byref(self._view)
         self._names: dict[int, str] = {}
         # The same call without the types of its arguments, which take as long to convert as the look-up. Then a length is a C int.
         self._owner = _library["ringpop_view_owner"]
         self._owner.restype = c.c_uint32
 
     def owner(self, key: bytes) -> str | None:
-        view, ip, port = self._given
+        number, ip, port = _place.parts
         length = len(key)
         look = self._owner if length < 1 << 31 else _library.ringpop_view_owner
-        if look(view, key, length, ip, port):
+        if look(self._given, key, length, ip, port):
             return None
-        place = self._place.value
+        place = number.value
         name = self._names.get(place)
         if name is None:
             name = self._names[place] = _name(place)

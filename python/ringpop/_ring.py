@@ -9,7 +9,7 @@ from collections.abc import Iterable
 from typing import Any, NamedTuple, Union
 
 from . import _library
-from ._errors import BadLine, BadReplicas, TooManyMembers
+from ._errors import BadKey, BadLine, BadMember, BadReplicas, TooManyMembers
 
 Text = Union[str, bytes]
 MAX_MEMBERS = 4096
@@ -52,10 +52,13 @@ def number_of(address: object) -> int | None:
 
 def encoded(key: Text) -> bytes:
     """The bytes of a key: a text counts as its UTF-8."""
-    if isinstance(key, str):
-        return key.encode()
     if isinstance(key, bytes):
         return key
+    if isinstance(key, str):
+        try:
+            return key.encode()
+        except UnicodeEncodeError:
+            raise BadKey(key) from None
     raise TypeError(f"a key is str or bytes, and not {type(key).__name__}: {key!r}")
 
 
@@ -65,6 +68,20 @@ def _point(text: bytes) -> int:
 
 def _is_number(value: object, most: int, least: int = 0) -> bool:
     return type(value) is int and least <= value <= most
+
+
+def _checked(members: Iterable[Member]) -> list[Member]:
+    """The members, ascending by address."""
+    held: dict[int, Member] = {}
+    for it in members:
+        number = number_of(it.address) if isinstance(it, Member) else None
+        if number is None:
+            raise BadMember(it, "a member is a Member with an address like '10.0.0.1:7946'")
+        if not _is_number(it.weight, 8, 1) or it.status not in RANKS:
+            raise BadMember(it, f"a weight is 1 to 8, and a status one of {', '.join(RANKS)}")
+        if held.setdefault(number, it) is not it:
+            raise BadMember(it, "two members have one address")
+    return [held[number] for number in sorted(held)]
 
 
 # What each field of a change has to be.
@@ -119,13 +136,13 @@ class Ring:
     """
 
     def __init__(self, members: Iterable[Member], *, replicas: int = 100, own: str | None = None) -> None:
-        """Makes the ring of members with different addresses, each of them checked already; `own` names the node that told them.
+        """Makes the ring of members with different addresses; `own` names the node that told them.
 
-        Raises BadReplicas if `replicas` is not 1 to 1,000, and TooManyMembers.
+        Raises BadReplicas if `replicas` is not 1 to 1,000, BadMember, and TooManyMembers.
         """
         if not _is_number(replicas, 1000, 1):
             raise BadReplicas(replicas)
-        self.members = tuple(sorted(members, key=lambda it: number_of(it.address) or 0))
+        self.members = tuple(_checked(members))
         """The members, ascending by address, those that do not serve included."""
         if len(self.members) > MAX_MEMBERS:
             raise TooManyMembers
@@ -167,9 +184,9 @@ class Ring:
 
     @classmethod
     def from_agent(cls, url: str = "http://127.0.0.1:7980", *, timeout: float = 10.0) -> Ring:
-        """Makes the ring of what an agent holds now; `url` is where it answers HTTP.
+        """Makes the ring of the members that serve, as an agent sees it now; `url` is where it answers HTTP.
 
-        Raises Unreachable, AgentError and BadAnswer.
+        Raises Unreachable, BadAnswer, and AgentError, with 503 until the agent has asked its hosts.
         """
         from ._client import Client
 
@@ -202,6 +219,8 @@ class Ring:
 
     def moved(self, keys: Iterable[Text], other: Ring) -> list[Move]:
         """Those keys that have another owner here than in another ring, such as the ring before: in their order, with both owners."""
+        if isinstance(keys, (str, bytes)):
+            raise TypeError(f"give a list of keys, and not one key: {keys!r}")
         moves = (Move(key, other.owner(key), self.owner(key)) for key in keys)
         return [move for move in moves if move.before != move.after]
 

@@ -1,12 +1,14 @@
 """What a ring names compared with the program's answers, and what is refused. scripts/rings makes the folder of answers."""
+import ctypes
 import json
 import os
 import pathlib
 import pickle
 import threading
 import unittest
+from unittest import mock
 
-from ringpop import AgentError, BadLine, BadReplicas, MAX_MEMBERS, Member, Ring, RingpopError, TooManyMembers, Unreachable
+from ringpop import _library, AgentError, BadLine, BadMember, BadReplicas, MAX_MEMBERS, Member, Ring, RingpopError, TooManyMembers, Unreachable
 
 
 def change(address: str, incarnation: int, status: str, **more: object) -> str:
@@ -54,6 +56,8 @@ class Answers(unittest.TestCase):
         self.assertEqual({it.after for it in moves}, {"10.0.0.3:7946"})
         self.assertEqual([it.before for it in moves], [before.owner(it.key) for it in moves])
         self.assertEqual(ring_of().moved(["a"], before), [("a", before.owner("a"), None)])
+        with self.assertRaisesRegex(TypeError, "^give a list of keys, and not one key: 'abc'$"):
+            after.moved("abc", before)
 
     def test_equal_and_pickled(self) -> None:
         ring = Ring([Member("10.0.0.2:7946", 3), Member("10.0.0.1:7946", status="suspect"), Member("10.0.0.3:7946", status="leave")])
@@ -112,6 +116,19 @@ class Faults(unittest.TestCase):
         with self.assertRaisesRegex(TooManyMembers, "^more than 4096 members$"):
             Ring.from_members(lines, replicas=1)
 
+    def test_members(self) -> None:
+        good = Member("10.0.0.1:7946")
+        for bad, reason in {
+            good._replace(address="10.0.0.1"): "a member is a Member with an address like '10.0.0.1:7946'",
+            "10.0.0.1:7946": "a member is a Member with an address like '10.0.0.1:7946'",
+            good._replace(weight=9): "a weight is 1 to 8, and a status one of alive, suspect, faulty, leave, tombstone",
+            good._replace(status="up"): "a weight is 1 to 8, and a status one of alive, suspect, faulty, leave, tombstone",
+            good._replace(incarnation=2): "two members have one address",
+        }.items():
+            with self.assertRaises(BadMember) as told:
+                Ring([good, bad])  # type: ignore[list-item]
+            self.assertEqual((str(told.exception), told.exception), (f"{reason}: {bad!r}", BadMember(bad, reason)))
+
     def test_keys(self) -> None:
         for look in ring_of(1).owner, lambda key: ring_of(1).owners(key, 1):
             with self.assertRaisesRegex(TypeError, "^a key is str or bytes, and not NoneType: None$"):
@@ -120,12 +137,47 @@ class Faults(unittest.TestCase):
             ring_of(1).owners("trip-42", -1)
 
     def test_errors_are_values(self) -> None:
-        for error in BadLine(2, "not JSON"), BadReplicas(0), TooManyMembers(), AgentError(503, "nobody serves", "nobody"), Unreachable("http://x", "no"):
+        for error in BadLine(2, "not JSON"), BadReplicas(0), TooManyMembers(), AgentError(503, "nobody serves", "nobody", 1.0), Unreachable("http://x", "no"):
             copy = pickle.loads(pickle.dumps(error))
             self.assertEqual((copy, repr(copy), str(copy), hash(copy)), (error, repr(error), str(error), hash(error)))
             self.assertIsInstance(error, RingpopError)
         self.assertNotEqual(BadLine(1, "not JSON"), BadLine(2, "not JSON"))
         self.assertNotEqual(BadReplicas(0), TooManyMembers())
+
+
+class Stub:
+    """A C library whose look-up names 10.0.0.N:7946, N the first byte of the key. Before that of b"a" returns, another thread looks b"b" up."""
+
+    def __getattr__(self, _: str) -> object:
+        return lambda *_: _library.DONE
+
+    def __getitem__(self, _: str) -> object:
+        return lambda *given: self.look(*given)
+
+    def look(self, _: object, key: bytes, length: int, ip: object, port: object) -> int:
+        ctypes.cast(ip, ctypes.POINTER(ctypes.c_uint32))[0] = 10 << 24 | key[0]
+        ctypes.cast(port, ctypes.POINTER(ctypes.c_uint16))[0] = 7946
+        if key == b"a":
+            other = threading.Thread(target=self.ring.owner, args=("b",))
+            other.start()
+            other.join()
+        return _library.DONE
+
+
+class OverTheLibrary(unittest.TestCase):
+    def test_a_thread_gets_its_own_owner(self) -> None:
+        stub = Stub()
+        with mock.patch.object(_library, "_library", stub):
+            stub.ring = ring_of(1, 2)
+            self.assertEqual([stub.ring.owner(key) for key in "ab"], ["10.0.0.97:7946", "10.0.0.98:7946"])
+
+    def test_another_library(self) -> None:
+        with mock.patch("ctypes.PyDLL", return_value=object()), mock.patch.dict(os.environ):
+            os.environ.pop("RINGPOP_LIBRARY", None)
+            self.assertIsNone(_library._load())
+            os.environ["RINGPOP_LIBRARY"] = "libm.so.6"
+            with self.assertRaisesRegex(ImportError, "^RINGPOP_LIBRARY names no library of ringpop: "):
+                _library._load()
 
 
 if __name__ == "__main__":

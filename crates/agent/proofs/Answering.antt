@@ -1,5 +1,5 @@
 -- What answers a request over HTTP.
-use Rattle.std.proofs.Common.{◌≡◌, ℕ, false, List, Bool, Result, Ok, Err, true≢false}
+use Rattle.std.proofs.Common.{◌≡◌, ℕ, false, List, Bool, Option, Result, Ok, Err, true≢false}
 use Rattle.std.specs.Prelude.{[], ◌⊎◌, OnOk, is_err}
 use Rattle.http.specs.declared.request.Request.{Request}
 use Rattle.http_server.specs.declared.response.Response.{Response}
@@ -10,11 +10,11 @@ use Rattle.agent.specs.Performing.{Outcome}
 use Rattle.agent.proofs.Performed.{made_as}
 
 -- a response that shows the outcome, or a status alone, answers the request
-pub answered_by : (own replicas : ℕ) (request : Request (List ℕ)) (response : Response) (outcome : Outcome) (old new : Calling)
-    → HasMade (Settles own replicas request outcome) old new → ((closes : Bool) × ShowsOutcome outcome closes response) ⊎ IsResponse 503 [] [] response
-    → HasMade (IsAnswered own replicas request response) old new
-answered_by own replicas request response outcome old new made shown =
-    made_as (IsAnswered own replicas request response) (Settles own replicas request outcome) old new
+pub answered_by : (own replicas : ℕ) (field : Option (List ℕ)) (request : Request (List ℕ)) (response : Response) (outcome : Outcome) (old new : Calling)
+    → HasMade (Settles own replicas field request outcome) old new → ((closes : Bool) × ShowsOutcome outcome closes response) ⊎ IsResponse 503 [] [] response
+    → HasMade (IsAnswered own replicas field request response) old new
+answered_by own replicas field request response outcome old new made shown =
+    made_as (IsAnswered own replicas field request response) (Settles own replicas field request outcome) old new
     (λ acts settled. record { outcome = outcome; settled = settled; shown = shown }) made
 
 -- what holds where a result is no error

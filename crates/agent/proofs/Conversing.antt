@@ -14,15 +14,15 @@ use Rattle.agent.specs.Calling.{Calling, HasMade}
 use Rattle.agent.specs.Connections.{AnswersEach, SendsAnswers, connection_limits}
 use Rattle.agent.proofs.Performed.{made_none, made_then}
 
-module _ {S : Type 0} (answers : S → Request (List ℕ) → Response → S → Type 0) (own replicas : ℕ) (IsOfNode : S → Type 0) (calling : S → Calling)
+module _ {S : Type 0} (answers : S → Request (List ℕ) → Response → S → Type 0) (own replicas : ℕ) (field : Option (List ℕ)) (IsOfNode : S → Type 0) (calling : S → Calling)
     (step : (a b : S) (request : Request (List ℕ)) (response : Response) → IsOfNode a → answers a request response b
-    → IsOfNode b × HasMade (IsAnswered own replicas request response) (calling a) (calling b)) where
+    → IsOfNode b × HasMade (IsAnswered own replicas field request response) (calling a) (calling b)) where
   -- each call of a chain is answered by the node, as each step from a service of the node leads to one
-  pub chain_answered : (calls : List Call) (old new : S) → IsOfNode old → Chain answers old calls new → HasMade (AnswersEach own replicas calls) (calling old) (calling new)
-  chain_answered [] old new ours chain = made_none (AnswersEach own replicas []) (calling old) (calling new) (ap calling chain) refl
+  pub chain_answered : (calls : List Call) (old new : S) → IsOfNode old → Chain answers old calls new → HasMade (AnswersEach own replicas field calls) (calling old) (calling new)
+  chain_answered [] old new ours chain = made_none (AnswersEach own replicas field []) (calling old) (calling new) (ap calling chain) refl
   chain_answered (call ∷ calls) old new ours chain =
       let first = step old chain.0 call.0 call.1 ours chain.1 in
-      made_then (IsAnswered own replicas call.0 call.1) (AnswersEach own replicas calls) (calling old) (calling chain.0) (calling new) first.1
+      made_then (IsAnswered own replicas field call.0 call.1) (AnswersEach own replicas field calls) (calling old) (calling chain.0) (calling new) first.1
       (chain_answered calls chain.0 new first.0 chain.2)
 
 limits_with : ℕ → ℕ → ℕ → ℕ → Config
@@ -46,13 +46,13 @@ pub limits_are : (d : Config) → (d.max_body_len ≡ 1048576) × (d.max_pending
 unfolding limits_with
 limits_are d said = limits_by d said
 
-module _ (own replicas : ℕ) (first last : Connection) (unread left written wrote : Option (List ℕ)) (old new : Calling)
+module _ (own replicas : ℕ) (field : Option (List ℕ)) (first last : Connection) (unread left written wrote : Option (List ℕ)) (old new : Calling)
     (limits : config_of last ≡ connection_limits) where
   -- a connection that made these calls, and read and wrote so, sends answers
   pub sends_answers : ((came : List ℕ) × Consumes unread left came × ((history last).received ≡ (history first).received ++ came))
       → ((went : List ℕ) × Appends written wrote went × ((history last).sent ≡ (history first).sent ++ went))
-      → (calls : List Call) → (history last).calls ≡ (history first).calls ++ calls → HasMade (AnswersEach own replicas calls) old new
-      → SendsAnswers own replicas (history first) (history last) unread left written wrote old new
+      → (calls : List Call) → (history last).calls ≡ (history first).calls ++ calls → HasMade (AnswersEach own replicas field calls) old new
+      → SendsAnswers own replicas field (history first) (history last) unread left written wrote old new
   sends_answers read sent calls made answered = record {
     read = read;
     sent = sent;

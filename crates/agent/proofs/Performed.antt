@@ -1,5 +1,5 @@
 -- The calls of a thread, one after the other, and what comes of them.
-use Rattle.std.proofs.Common.{◌≡◌, ◌∙◌, ℕ, false, length, List, [], Result, Ok, Err, inl, inr, refl, subst, sym, true≢false}
+use Rattle.std.proofs.Common.{◌≡◌, ◌∙◌, ℕ, Bool, ⊎_elim, false, true, length, List, [], ◌∷◌, slice_get, take, Result, Ok, Err, ap, inl, inr, not, refl, subst, sym, true≢false}
 use Rattle.std.specs.Prelude.{◌≢◌, ◌==◌, IfErr, IfOk, is_err}
 use Rattle.hash_ring.specs.declared.hash.Sha256Hash.{Sha256Hash}
 use Rattle.locked_node.specs.declared.node.LockedNode.{LockedNode}
@@ -10,12 +10,15 @@ use Rattle.peer_core.specs.declared.errors.ClusterError.{ClusterError}
 use Rattle.peer_core.proofs.Acts.{makes_as, makes_none, makes_then}
 use Rattle.agent_core.specs.declared.answers.Kind.{Kind}
 use Rattle.agent_core.specs.declared.answers.Kind.TheVariants as kind
+use Rattle.agent_core.specs.Parts.{text_of_body}
 use Rattle.agent_core.specs.Texts.{owners_text}
+use Rattle.agent_core.specs.declared.passing.Outgoing.{Outgoing}
+use Rattle.agent_core.specs.declared.passing.Outgoing.TheVariants.{Body}
 use Rattle.agent_core.specs.declared.actions.Action.TheVariants as action
 use Rattle.agent_core.specs.declared.refusals.Refusal.{Refusal}
 use Rattle.agent_core.specs.declared.refusals.Refusal.TheVariants as refusal
 use Rattle.agent.specs.Calling.{Calling, HasMade, Looks}
-use Rattle.agent.specs.Performing.{After, AsksIfPlaced, Finds, IsFound, Outcome, Performs, Shows, ShowsOwners, crowded, first_owners}
+use Rattle.agent.specs.Performing.{After, AsksIfPlaced, AsksOwner, Finds, IsFound, Outcome, Owners, Performs, Settled, Shows, ShowsOwners, crowded, first_owners}
 use Rattle.agent.specs.Replies.{IsText}
 
 module _ (So : OfActs Sha256Hash) where
@@ -45,24 +48,52 @@ made_after Done Comes result outcome old new same does comes = record {
 }
 
 -- a view, and what is found by it
-pub made_found : (key : List ℕ) (result : Result (Viewed Sha256Hash) ClusterError) (found : Result ℕ Refusal) (old new : Calling) → new.node ≡ old.node
+pub made_found : (key : List ℕ) (result : Result (Viewed Sha256Hash) ClusterError) (found : Result Owners Refusal) (old new : Calling) → new.node ≡ old.node
     → Does old.node Looks result old.pass new.pass → IsFound key result found → HasMade (Finds key found) old new
 made_found key result found old new same does is = record { node = same; makes = makes_as (Finds key found) (λ acts done. (result, done, is)) does.makes }
 
 -- the owner of a key, and then a request of it
-pub made_handled : (own replicas : ℕ) (key body : List ℕ) (found : Result ℕ Refusal) (outcome : Outcome) (a b c : Calling) → HasMade (Finds key found) a b
-    → HasMade (AsksIfPlaced own key body outcome found) b c → HasMade (Performs own replicas (action.Handle key body) outcome) a c
-made_handled own replicas key body found outcome a b c first next =
-    let Next = AsksIfPlaced own key body outcome found in
-    made_as (Performs own replicas (action.Handle key body) outcome) (Then (Finds key found) Next) a c (λ acts both. inr (found, both))
+pub made_handled : (own replicas : ℕ) (key : List ℕ) (request : Outgoing) (is_repeatable : Bool) (found : Result Owners Refusal) (outcome : Outcome) (a b c : Calling) → HasMade (Finds key found) a b
+    → HasMade (AsksIfPlaced own key request is_repeatable outcome found) b c → HasMade (Performs own replicas (action.Pass key request is_repeatable) outcome) a c
+made_handled own replicas key request is_repeatable found outcome a b c first next =
+    let Next = AsksIfPlaced own key request is_repeatable outcome found in
+    made_as (Performs own replicas (action.Pass key request is_repeatable) outcome) (Then (Finds key found) Next) a c (λ acts both. inr (found, both))
     (made_then (Finds key found) Next a b c first next)
 
+-- a request that is a body alone is passed on as one that may be performed twice
+pub made_body : (own replicas : ℕ) (key body : List ℕ) (outcome : Outcome) (a b : Calling)
+    → HasMade (Performs own replicas (action.Pass key (Body (text_of_body body)) true) outcome) a b → HasMade (Performs own replicas (action.Handle key body) outcome) a b
+made_body own replicas key body outcome a b made =
+    made_as (Performs own replicas (action.Handle key body) outcome) (Performs own replicas (action.Pass key (Body (text_of_body body)) true) outcome) a b
+    (λ acts. ⊎_elim (λ declined. inl (inl declined)) (λ handled. inr handled)) made
+
+-- what comes of a request that did not end early comes of it too if it could have
+pub settled_as : (owner : ℕ) (is_repeatable is_over : Bool) (result : Result (List ℕ) ClusterError) (outcome : Outcome) → (is_repeatable ≡ true → is_over ≡ false)
+    → Settled owner (not is_over) result outcome → Settled owner is_repeatable result outcome
+settled_as owner false is_over result outcome never (inl comes) = inl comes
+settled_as owner false is_over result outcome never (inr ended) = inr (refl, ended.1, ended.2)
+settled_as owner true is_over result outcome never (inl comes) = inl comes
+settled_as owner true is_over result outcome never (inr ended) =
+    let some : not is_over ≡ true = ap not (never refl) in
+    absurd (true≢false (sym some ∙ ended.0))
+
 -- no place for a request
-pub made_crowded : (own owner : ℕ) (key body : List ℕ) (why : Refusal) (old : Calling) → why ≡ crowded own owner
-    → HasMade (AsksIfPlaced own key body (Err why) (Ok owner)) old old
-made_crowded own owner key body why old is =
-    subst (λ (it : Refusal). HasMade (AsksIfPlaced own key body (Err it) (Ok owner)) old old) (sym is)
-    (made_none (AsksIfPlaced own key body (Err (crowded own owner)) (Ok owner)) old old refl (inl (refl, refl)))
+pub made_crowded : (own : ℕ) (found : Owners) (key : List ℕ) (request : Outgoing) (is_repeatable : Bool) (why : Refusal) (old : Calling)
+    → why ≡ crowded own found.0 → HasMade (AsksIfPlaced own key request is_repeatable (Err why) (Ok found)) old old
+made_crowded own found key request is_repeatable why old is =
+    subst (λ (it : Refusal). HasMade (AsksIfPlaced own key request is_repeatable (Err it) (Ok found)) old old) (sym is)
+    (made_none (AsksIfPlaced own key request is_repeatable (Err (crowded own found.0)) (Ok found)) old old refl (inl (refl, refl)))
+
+-- the first two of the first two are the first two
+pub first_taken : (xs : List ℕ) → slice_get (take 2 xs) 0 ≡ slice_get xs 0
+first_taken [] = refl
+first_taken (x ∷ []) = refl
+first_taken (x ∷ y ∷ xs) = refl
+
+pub second_taken : (xs : List ℕ) → slice_get (take 2 xs) 1 ≡ slice_get xs 1
+second_taken [] = refl
+second_taken (x ∷ []) = refl
+second_taken (x ∷ y ∷ xs) = refl
 
 -- a text, or out of memory for it
 pub shows : (content : Kind) (text : List ℕ) (outcome : Outcome) → IfOk outcome (IsText content text) → IfErr outcome (λ e. e ≡ refusal.Memory) → Shows content text outcome

@@ -15,6 +15,7 @@ fits : (asks : Result Action Refusal) (why : Refusal) → (why ≢ refusal.Memor
 fits (Ok action) refusal.Memory is = refl
 fits (Err wrong) refusal.Memory is = inr refl
 fits asks (refusal.Malformed part) is = asked_for asks (refusal.Malformed part) (is (λ same. absurd cc))
+fits asks (refusal.BadKey place fault) is = asked_for asks (refusal.BadKey place fault) (is (λ same. absurd cc))
 fits asks (refusal.BadMethod verb) is = asked_for asks (refusal.BadMethod verb) (is (λ same. absurd cc))
 fits asks (refusal.Unanswered failure) is = asked_for asks (refusal.Unanswered failure) (is (λ same. absurd cc))
 fits asks (refusal.OwnerBusy owner) is = asked_for asks (refusal.OwnerBusy owner) (is (λ same. absurd cc))
@@ -26,6 +27,8 @@ fits asks refusal.NotLeft is = asked_for asks refusal.NotLeft (is (λ same. absu
 fits asks refusal.Exhausted is = asked_for asks refusal.Exhausted (is (λ same. absurd cc))
 fits asks refusal.LongBody is = asked_for asks refusal.LongBody (is (λ same. absurd cc))
 fits asks refusal.ManyKeys is = asked_for asks refusal.ManyKeys (is (λ same. absurd cc))
+fits asks refusal.LongRequest is = asked_for asks refusal.LongRequest (is (λ same. absurd cc))
+fits asks refusal.NotPassed is = asked_for asks refusal.NotPassed (is (λ same. absurd cc))
 fits asks refusal.ApplicationFailed is = asked_for asks refusal.ApplicationFailed (is (λ same. absurd cc))
 fits asks refusal.ApplicationDown is = asked_for asks refusal.ApplicationDown (is (λ same. absurd cc))
 fits asks refusal.NotJoined is = asked_for asks refusal.NotJoined (is (λ same. absurd cc))
@@ -38,6 +41,7 @@ fits asks refusal.Busy is = asked_for asks refusal.Busy (is (λ same. absurd cc)
 fits asks refusal.ManyQuestions is = asked_for asks refusal.ManyQuestions (is (λ same. absurd cc))
 fits asks refusal.Spent is = asked_for asks refusal.Spent (is (λ same. absurd cc))
 fits asks refusal.OwnerSilent is = asked_for asks refusal.OwnerSilent (is (λ same. absurd cc))
+fits asks refusal.AnswerLost is = asked_for asks refusal.AnswerLost (is (λ same. absurd cc))
 
 pub refuses : (asks result : Result Action Refusal) → IfErr result (λ why. why ≢ refusal.Memory → asks ≡ Err why) → IfErr result (Refuses asks)
 refuses asks (Ok action) said = tt

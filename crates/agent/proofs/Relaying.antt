@@ -66,7 +66,7 @@ quiet_both a b c h k =
     made_as MakesNone (Then MakesNone MakesNone) a c (λ acts t. subst MakesNone (sym t.2) (none_both t.0 t.1 t.3 t.4)) (made_then MakesNone MakesNone a b c h k)
 
 -- the same calls satisfy both
-made_both : (So To : OfActs Sha256Hash) (a b : Calling) → HasMade So a b → HasMade To a b → HasMade (λ acts. So acts × To acts) a b
+pub made_both : (So To : OfActs Sha256Hash) (a b : Calling) → HasMade So a b → HasMade To a b → HasMade (λ acts. So acts × To acts) a b
 made_both So To a b h k = record {
   node = h.node;
   makes = record {

@@ -2,7 +2,7 @@
 use Rattle.std.proofs.Common.{◌≡◌, true, refl}
 use Rattle.http_header.specs.FieldValue.{is_visible_text}
 use Rattle.agent_core.specs.declared.refusals.Failure.TheVariants as failure
-use Rattle.agent_core.specs.declared.refusals.Part.TheVariants.{Key, Count, Body, Keys, After}
+use Rattle.agent_core.specs.declared.refusals.Part.TheVariants.{Key, Count, Body, Keys, NotMine, After, Wait, OwnerQuery, OwnersQuery, RingQuery, KeyField}
 use Rattle.agent_core.specs.declared.refusals.Refusal.{Refusal}
 use Rattle.agent_core.specs.declared.refusals.Refusal.TheVariants as refusal
 use Rattle.agent_core.specs.Refusals.{word_of}
@@ -12,7 +12,14 @@ word_visible (refusal.Malformed Key) = refl
 word_visible (refusal.Malformed Count) = refl
 word_visible (refusal.Malformed Body) = refl
 word_visible (refusal.Malformed Keys) = refl
+word_visible (refusal.Malformed NotMine) = refl
 word_visible (refusal.Malformed After) = refl
+word_visible (refusal.Malformed Wait) = refl
+word_visible (refusal.Malformed OwnerQuery) = refl
+word_visible (refusal.Malformed OwnersQuery) = refl
+word_visible (refusal.Malformed RingQuery) = refl
+word_visible (refusal.Malformed KeyField) = refl
+word_visible (refusal.BadKey place why) = refl
 word_visible refusal.CrossSite = refl
 word_visible refusal.NotFound = refl
 word_visible (refusal.BadMethod verb) = refl
@@ -21,6 +28,8 @@ word_visible refusal.NotLeft = refl
 word_visible refusal.Exhausted = refl
 word_visible refusal.LongBody = refl
 word_visible refusal.ManyKeys = refl
+word_visible refusal.LongRequest = refl
+word_visible refusal.NotPassed = refl
 word_visible refusal.ApplicationFailed = refl
 word_visible (refusal.Unanswered failure.NotAccepted) = refl
 word_visible (refusal.Unanswered failure.HungUp) = refl
@@ -40,3 +49,4 @@ word_visible (refusal.OwnerBusy owner) = refl
 word_visible refusal.Spent = refl
 word_visible refusal.Memory = refl
 word_visible refusal.OwnerSilent = refl
+word_visible refusal.AnswerLost = refl

@@ -1,5 +1,5 @@
 -- The answer to a request over HTTP: what the request asks for, what was done by the node, and the response.
-use Rattle.std.specs.Prelude.{◌⊎◌, ℕ, Bool, List, [], Ok, Err}
+use Rattle.std.specs.Prelude.{◌⊎◌, ℕ, Bool, List, [], Option, Ok, Err}
 use Rattle.hash_ring.specs.declared.hash.Sha256Hash.{Sha256Hash}
 use Rattle.peer_core.specs.Acts.{Act, OfActs}
 use Rattle.http.specs.declared.request.Request.{Request}
@@ -17,14 +17,14 @@ ShowsOutcome (Ok reply) closes response = ShowsReply reply closes response
 ShowsOutcome (Err refusal) closes response = ShowsRefusal refusal closes response
 
 -- the action that a request asks for is performed, with this outcome; or the request is refused, and the node is not called
-abbrev pub Settles : ℕ → ℕ → Request (List ℕ) → Outcome → OfActs Sha256Hash
-Settles own replicas request outcome acts =
-    ((asked : Action) × AsksFor request asked × Performs own replicas asked outcome acts)
-    ⊎ ((refusal : Refusal) × IsRefused request refusal × Declines refusal outcome acts)
+abbrev pub Settles : ℕ → ℕ → Option (List ℕ) → Request (List ℕ) → Outcome → OfActs Sha256Hash
+Settles own replicas field request outcome acts =
+    ((asked : Action) × AsksFor field request asked × Performs own replicas asked outcome acts)
+    ⊎ ((refusal : Refusal) × IsRefused field request refusal × Declines refusal outcome acts)
 
--- A response answers a request at an agent that states this address and this many replicas, after these calls of its node: it shows the
--- outcome or, out of memory, has a status alone.
-pub record IsAnswered (own replicas : ℕ) (request : Request (List ℕ)) (response : Response) (acts : List (Act Sha256Hash)) : Type 0 where
+-- A response answers a request at an agent that states this address and this many replicas, and that passes any request of a key on, which a field
+-- of this name may name, or does not, after these calls of its node: it shows the outcome or, out of memory, has a status alone.
+pub record IsAnswered (own replicas : ℕ) (field : Option (List ℕ)) (request : Request (List ℕ)) (response : Response) (acts : List (Act Sha256Hash)) : Type 0 where
   pub outcome : Outcome
-  pub settled : Settles own replicas request outcome acts
+  pub settled : Settles own replicas field request outcome acts
   pub shown : ((closes : Bool) × ShowsOutcome outcome closes response) ⊎ IsResponse 503 [] [] response

@@ -19,18 +19,19 @@ abbrev pub connection_limits : Config
 connection_limits = record { limits = head_limits; max_body_len = 1048576; max_pending = 65536; read_size = 512 }
 
 -- the requests are answered one after the other, each by its response, and these are all calls of the node that were made meanwhile
-abbrev pub AnswersEach : ℕ → ℕ → List Call → OfActs Sha256Hash
-AnswersEach own replicas [] = Nothing
-AnswersEach own replicas (call ∷ calls) = Then (IsAnswered own replicas call.0 call.1) (AnswersEach own replicas calls)
+abbrev pub AnswersEach : ℕ → ℕ → Option (List ℕ) → List Call → OfActs Sha256Hash
+AnswersEach own replicas field [] = Nothing
+AnswersEach own replicas field (call ∷ calls) = Then (IsAnswered own replicas field call.0 call.1) (AnswersEach own replicas field calls)
 
 -- A visit takes a connection from one point of its history to another, whose part is what was read and what was written meanwhile. By HTTP,
 -- all that was ever written, and then what waits, are responses to the requests that were ever read, in order. Each response of the visit is an
--- answer of an agent that states this address and this many replicas, after calls of its node by the thread's pass.
-pub record SendsAnswers (own replicas : ℕ) (before after : History) (unread left written wrote : Option (List ℕ)) (old new : Calling) : Type 0 where
+-- answer of an agent that states this address and this many replicas, and that passes any request of a key on, which a field of this name
+-- may name, or does not, after calls of its node by the thread's pass.
+pub record SendsAnswers (own replicas : ℕ) (field : Option (List ℕ)) (before after : History) (unread left written wrote : Option (List ℕ)) (old new : Calling) : Type 0 where
   pub read : (came : List ℕ) × Consumes unread left came × (after.received ≡ before.received ++ came)
   pub sent : (went : List ℕ) × Appends written wrote went × (after.sent ≡ before.sent ++ went)
   pub served : ∥ IsServed connection_limits after ∥₁
-  pub answered : (calls : List Call) × (after.calls ≡ before.calls ++ calls) × HasMade (AnswersEach own replicas calls) old new
+  pub answered : (calls : List Call) × (after.calls ≡ before.calls ++ calls) × HasMade (AnswersEach own replicas field calls) old new
 
 -- nothing is owed: what was answered is written, and each whole request that came is answered
 abbrev pub IsSettled : History → Type 0

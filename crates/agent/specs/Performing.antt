@@ -1,5 +1,5 @@
 -- What an action makes the node do, and the reply or the refusal that comes of it.
-use Rattle.std.specs.Prelude.{◌≡◌, ◌≢◌, ◌⊎◌, ◌==◌, ℕ, Bool, true, false, cond, bytes_eq, map, string_bytes, List, [], ◌∷◌, ◌++◌, take, codes, Option, Some, None, Result, Ok, Err}
+use Rattle.std.specs.Prelude.{◌≡◌, ◌≢◌, ◌⊎◌, ◌==◌, ℕ, Bool, true, false, cond, bytes_eq, map, string_bytes, List, [], ◌∷◌, ◌++◌, slice_get, take, codes, Option, Some, None, Result, Ok, Err}
 use Rattle.change_core.specs.Digest.{digest_digits}
 use Rattle.change_core.specs.Members.{members}
 use Rattle.change_core.specs.declared.changes.Change.{Change}
@@ -12,19 +12,25 @@ use Rattle.node_core.specs.declared.events.Reply.TheVariants as reply
 use Rattle.peer_core.specs.Acts.{OfActs, Nothing, Then}
 use Rattle.peer_core.specs.Forwarding.{IsRequest}
 use Rattle.peer_core.specs.Parts.{Part, Tries}
+use Rattle.peer_core.specs.Resending.{SendsRequest}
 use Rattle.peer_core.specs.declared.errors.ClusterError.{ClusterError}
 use Rattle.peer_core.specs.declared.errors.ClusterError.TheVariants as error
 use Rattle.agent_core.specs.Metrics.{metrics_text}
+use Rattle.agent_core.specs.Parts.{text_of_body}
+use Rattle.agent_core.specs.Passing.{sent_text}
 use Rattle.agent_core.specs.Texts.{all_owners_text, digest_line, members_text, on_ring, owners_text, ring_text, shown_owners}
 use Rattle.agent_core.specs.declared.actions.Action.{Action}
 use Rattle.agent_core.specs.declared.actions.Action.TheVariants as action
 use Rattle.agent_core.specs.declared.answers.Kind.{Kind}
 use Rattle.agent_core.specs.declared.answers.Kind.TheVariants as kind
 use Rattle.agent_core.specs.declared.metrics.Counts.{Counts}
+use Rattle.agent_core.specs.declared.passing.Outgoing.{Outgoing}
+use Rattle.agent_core.specs.declared.passing.Outgoing.TheVariants.{Body}
 use Rattle.agent_core.specs.declared.refusals.Refusal.{Refusal}
 use Rattle.agent_core.specs.declared.refusals.Refusal.TheVariants as refusal
+use Rattle.agent.specs.Asking.{answerer, notes_call, notes_source}
 use Rattle.agent.specs.Calling.{AnyAnswer, AnyHandling, AnyTimes, Looks, hash_number, hash_of}
-use Rattle.agent.specs.Replies.{IsText}
+use Rattle.agent.specs.Replies.{IsOpenText, IsText}
 use Rattle.agent.specs.declared.replies.Reply.{Reply}
 use Rattle.agent.specs.declared.replies.Reply.TheVariants.{Handled, Page, Ring, Unchanged}
 
@@ -60,6 +66,11 @@ After {A} Done Comes outcome acts = (result : Result A ClusterError) × Done res
 abbrev pub Shows : Kind → List ℕ → Outcome → Type 0
 Shows content text (Ok shown) = IsText content text shown
 Shows content text (Err why) = why ≡ refusal.Memory
+
+-- the reply is this text, which the page of any site may read, or memory ran out
+abbrev pub ShowsOpen : List ℕ → Outcome → Type 0
+ShowsOpen text (Ok shown) = IsOpenText text shown
+ShowsOpen text (Err why) = why ≡ refusal.Memory
 
 -- the reply is this line
 abbrev pub Says : List ℕ → Outcome → Type 0
@@ -106,7 +117,7 @@ is_known (Some after) digest = bytes_eq after (digest_digits digest)
 
 -- the reply says that the ring has this digest still, or shows it with this text
 abbrev pub IsRing : List ℕ → List ℕ → Bool → Reply → Type 0
-IsRing bytes text known (Ring digest shown) = (known ≡ false) × (digest.bytes ≡ bytes) × (string_bytes shown ≡ text)
+IsRing bytes text known (Ring digest since shown) = (known ≡ false) × (digest.bytes ≡ bytes) × (string_bytes shown ≡ text)
 IsRing bytes text known (Unchanged digest) = (known ≡ true) × (digest.bytes ≡ bytes)
 IsRing bytes text known other = ⊥
 
@@ -120,43 +131,63 @@ ShowsRing own replicas after held (Err why) = why ≡ refusal.Memory
 abbrev pub ShowsCounts : List Change → Outcome → Type 0
 ShowsCounts held outcome = (counts : Counts) × Shows kind.Text (metrics_text counts held) outcome
 
--- The reply is the text that answered a request, and an owner. Which owner is not said: it is the source of the last message that the link
--- brought, or this node.
-abbrev pub ShowsAnswer : List ℕ → Outcome → Type 0
-ShowsAnswer text (Ok shown) = (owner : ℕ) × (shown ≡ Handled owner text)
-ShowsAnswer text (Err why) = ⊥
+-- the reply is the text that answered a request, and the node that gave it
+abbrev pub ShowsAnswer : ℕ → List ℕ → Outcome → Type 0
+ShowsAnswer owner text (Ok shown) = shown ≡ Handled owner text
+ShowsAnswer owner text (Err why) = ⊥
 
--- a request of one key, answered by the application or by the key's owner: by views of the node, other nodes and the application may answer
--- anything, at any moments
-abbrev pub IsAsked : List ℕ → List ℕ → Part Sha256Hash (List ℕ)
-IsAsked key body = IsRequest hash_of AnyAnswer AnyHandling AnyTimes (key ∷ []) body
+-- a request of keys, answered by the application or by their owner: by views of the node, other nodes and the application may answer anything, at any
+-- moments; and what went over the link for it, which noted the node that answered last, and whether the application was asked
+abbrev pub IsRequested : Bool → Option ℕ → List (List ℕ) → List ℕ → Part Sha256Hash (List ℕ)
+IsRequested asked noted keys request r acts =
+    IsRequest hash_of AnyAnswer AnyHandling AnyTimes keys request r acts
+    × SendsRequest hash_of notes_source notes_call keys request r false asked None noted acts
 
--- a request of one key is made; it is not if memory runs out for its key
-abbrev pub AsksOwner : List ℕ → List ℕ → Outcome → OfActs Sha256Hash
-AsksOwner key body outcome acts = Declines refusal.Memory outcome acts ⊎ After (IsAsked key body) (ComesOf ShowsAnswer) outcome acts
+-- What comes of a request: the text that answered it, or the refusal for its error. One that may not be performed twice can end early, at a node
+-- that may have performed it and gave no reply.
+abbrev pub Settled : ℕ → Bool → Result (List ℕ) ClusterError → Outcome → Type 0
+Settled owner is_repeatable result outcome =
+    ComesOf (ShowsAnswer owner) result outcome ⊎ ((is_repeatable ≡ false) × (result ≡ Err error.Memory) × (outcome ≡ Err refusal.AnswerLost))
 
--- what is found of the owner of a key by the result of a call for a view: the owner, or why there is none
-abbrev pub IsFound : List ℕ → Result (Viewed Sha256Hash) ClusterError → Result ℕ Refusal → Type 0
-IsFound key (Ok view) (Ok found) = owner hash_number view.replicas view.servers key ≡ Some found
-IsFound key (Ok view) (Err why) = (owner hash_number view.replicas view.servers key ≡ None) × (why ≡ refusal.Nobody)
+-- a request of one key is made, which this text has; it is not if memory runs out for its key
+abbrev pub AsksOwner : ℕ → List ℕ → List ℕ → Bool → Outcome → OfActs Sha256Hash
+AsksOwner own key request is_repeatable outcome acts =
+    Declines refusal.Memory outcome acts
+    ⊎ ((asked : Bool) × (noted : Option ℕ)
+    × After (IsRequested asked noted (key ∷ []) request) (Settled (answerer own asked noted) is_repeatable) outcome acts)
+
+-- the owner of a key, and the node that would own it next, if there is one
+abbrev pub Owners : Type 0
+Owners = ℕ × Option ℕ
+
+-- the node that would own a key next by a view: the second of its owners
+abbrev pub next_owner : Viewed Sha256Hash → List ℕ → Option ℕ
+next_owner view key = slice_get (owners hash_number view.replicas view.servers key) 1
+
+-- what is found of the owners of a key by the result of a call for a view: the owner and the next, or why there is none
+abbrev pub IsFound : List ℕ → Result (Viewed Sha256Hash) ClusterError → Result Owners Refusal → Type 0
+IsFound key (Ok view) (Ok found) = (owner hash_number view.replicas view.servers key ≡ Some found.0) × (next_owner view key ≡ found.1)
+IsFound key (Ok view) (Err why) = (why ≡ refusal.Memory) ⊎ ((owner hash_number view.replicas view.servers key ≡ None) × (why ≡ refusal.Nobody))
 IsFound key (Err e) found = found ≡ Err (refusal_of e)
 
--- the node is asked for a view, by which this is the owner of a key, or why there is none
-abbrev pub Finds : List ℕ → Result ℕ Refusal → OfActs Sha256Hash
+-- the node is asked for a view, by which this is the owner of a key and the next, or why there is none
+abbrev pub Finds : List ℕ → Result Owners Refusal → OfActs Sha256Hash
 Finds key found acts = (result : Result (Viewed Sha256Hash) ClusterError) × Looks result acts × IsFound key result found
 
 -- the refusal of a request that finds no place: those of the node's own keys and those of each other owner have places of their own
 abbrev pub crowded : ℕ → ℕ → Refusal
 crowded own found = cond (found == own) refusal.Busy (refusal.OwnerBusy found)
 
--- a request of a key is made if its owner was found and there is a place for it
-abbrev pub AsksIfPlaced : ℕ → List ℕ → List ℕ → Outcome → Result ℕ Refusal → OfActs Sha256Hash
-AsksIfPlaced own key body outcome (Ok found) acts = Declines (crowded own found) outcome acts ⊎ AsksOwner key body outcome acts
-AsksIfPlaced own key body outcome (Err why) acts = Declines why outcome acts
+-- a request of a key is made if its owner was found and there is a place for it; by the text that names the next owner, if it is passed on whole
+abbrev pub AsksIfPlaced : ℕ → List ℕ → Outgoing → Bool → Outcome → Result Owners Refusal → OfActs Sha256Hash
+AsksIfPlaced own key request is_repeatable outcome (Ok found) acts =
+    Declines (crowded own found.0) outcome acts ⊎ AsksOwner own key (sent_text found.1 request) is_repeatable outcome acts
+AsksIfPlaced own key request is_repeatable outcome (Err why) acts = Declines why outcome acts
 
--- the owner of a key is found first, and then a request of it is made
-abbrev pub Handles : ℕ → List ℕ → List ℕ → Outcome → OfActs Sha256Hash
-Handles own key body outcome acts = (found : Result ℕ Refusal) × Then (Finds key found) (AsksIfPlaced own key body outcome found) acts
+-- the owner of a key is found first, and then this request of it is made
+abbrev pub Handles : ℕ → List ℕ → Outgoing → Bool → Outcome → OfActs Sha256Hash
+Handles own key request is_repeatable outcome acts =
+    (found : Result Owners Refusal) × Then (Finds key found) (AsksIfPlaced own key request is_repeatable outcome found) acts
 
 -- the node left, or had left already, and the agent stops; or it is refused as a leave is
 abbrev pub Stops : Result Change ClusterError → Outcome → Type 0
@@ -182,7 +213,10 @@ IsLiveness (Err why) = why ≡ refusal.NoRounds
 
 -- An action of the agent whose node has this address and this many replicas, its outcome, and all calls of the node that were made for it.
 abbrev pub Performs : ℕ → ℕ → Action → Outcome → OfActs Sha256Hash
-Performs own replicas (action.Handle key body) outcome acts = Declines refusal.NotJoined outcome acts ⊎ Handles own key body outcome acts
+Performs own replicas (action.Handle key body) outcome acts =
+    (Declines refusal.NotJoined outcome acts ⊎ Declines refusal.Memory outcome acts) ⊎ Handles own key (Body (text_of_body body)) true outcome acts
+Performs own replicas (action.Pass key request is_repeatable) outcome acts =
+    Declines refusal.NotJoined outcome acts ⊎ Handles own key request is_repeatable outcome acts
 Performs own replicas (action.Owners key count) outcome acts =
     Declines refusal.NotJoined outcome acts ⊎ After Looks (ComesOf (ShowsOwners key count)) outcome acts
 Performs own replicas (action.AllOwners keys count only_others) outcome acts =
@@ -192,7 +226,7 @@ Performs own replicas (action.Ring after) outcome acts =
     ⊎ After (Tries call.Members reply.Members) (ComesOf (ShowsRing own replicas after)) outcome acts
 Performs own replicas action.Members outcome acts = After (Tries call.Members reply.Members) (ComesOf (ShowsMembers own replicas)) outcome acts
 Performs own replicas action.Digest outcome acts =
-    After (Tries call.Digest reply.Digest) (ComesOf (λ digest. Shows kind.Text (digest_line digest.bytes))) outcome acts
+    After (Tries call.Digest reply.Digest) (ComesOf (λ digest. ShowsOpen (digest_line digest.bytes))) outcome acts
 Performs own replicas action.Health outcome acts = Nothing acts × IsHealth outcome
 Performs own replicas action.Live outcome acts = Nothing acts × IsLiveness outcome
 Performs own replicas action.Metrics outcome acts = After (Tries call.Members reply.Members) (ComesOf ShowsCounts) outcome acts

@@ -1,11 +1,20 @@
 -- The response that shows a reply, or a refusal: its status, its fields in their order, and its body.
-use Rattle.std.specs.Prelude.{◌≡◌, ◌==◌, ℕ, Bool, cond, Option, Some, None, List, [], ◌∷◌, ◌++◌, string_bytes, codes}
+use Rattle.std.specs.Prelude.{◌≡◌, ◌⊎◌, ◌≤◌, ◌==◌, ℕ, Bool, cond, map, Option, Some, None, List, [], ◌∷◌, ◌++◌, string_bytes, codes}
+use Rattle.std.specs.List.{All}
 use Rattle.change_core.specs.Address.{address_text}
 use Rattle.change_core.specs.Digest.{digest_digits}
 use Rattle.http1.specs.Fields.{Header}
+use Rattle.http_header.specs.FieldName.{IsFieldName}
+use Rattle.http_header.specs.FieldValue.{IsFieldValue}
+use Rattle.http_header.specs.Token.{lowercase}
 use Rattle.http_server.specs.declared.response.Response.{Response}
 use Rattle.http_server.specs.Response.{IsResponse}
+use Rattle.httpdate.specs.Date.{date_text}
+use Rattle.httpdate.specs.declared.date.HttpDate.{HttpDate}
+use Rattle.base64.specs.GeneralPurpose.{IsBytes}
 use Rattle.agent_core.specs.Packs.{unpacked}
+use Rattle.agent_core.specs.Parts.{joined}
+use Rattle.agent_core.specs.Passing.{answer_parts, answer_text}
 use Rattle.agent_core.specs.Refusals.{kind_name, line_of, sent, status_of, word_of}
 use Rattle.agent_core.specs.declared.answers.Kind.{Kind}
 use Rattle.agent_core.specs.declared.answers.Kind.TheVariants as kind
@@ -15,7 +24,7 @@ use Rattle.agent_core.specs.declared.refusals.Refusal.TheVariants.{BadMethod, Ow
 use Rattle.agent_core.specs.declared.verbs.Verb.{Verb}
 use Rattle.agent_core.specs.declared.verbs.Verb.TheVariants.{Get, Post}
 use Rattle.agent.specs.declared.replies.Reply.{Reply}
-use Rattle.agent.specs.declared.replies.Reply.TheVariants.{Handled, Line, Text, Json, Ring, Unchanged, Page}
+use Rattle.agent.specs.declared.replies.Reply.TheVariants.{Handled, Line, Text, Json, Ring, Unchanged, Digest, Page}
 
 -- the kind of an application's answer
 abbrev pub answered_kind : Bool → Kind
@@ -33,8 +42,9 @@ reply_kind (Handled owner text) = answered_kind (unpacked text).is_json
 reply_kind (Line line) = kind.Text
 reply_kind (Text text) = kind.Text
 reply_kind (Json text) = kind.Json
-reply_kind (Ring digest text) = kind.Json
+reply_kind (Ring digest since text) = kind.Json
 reply_kind (Unchanged digest) = kind.Json
+reply_kind (Digest text) = kind.Text
 reply_kind Page = kind.Html
 
 -- the body
@@ -43,8 +53,9 @@ reply_body (Handled owner text) = (unpacked text).body
 reply_body (Line line) = line.now
 reply_body (Text text) = string_bytes text
 reply_body (Json text) = string_bytes text
-reply_body (Ring digest text) = string_bytes text
+reply_body (Ring digest since text) = string_bytes text
 reply_body (Unchanged digest) = []
+reply_body (Digest text) = string_bytes text
 reply_body Page = PAGE.now
 
 -- a reply with status 200, of this kind and with this body
@@ -69,16 +80,36 @@ tag_text digest = 34 ∷ (digest_digits digest ++ 34 ∷ [])
 abbrev pub tag_field : List ℕ → List Header
 tag_field digest = (codes "etag", tag_text digest) ∷ []
 
+-- the field that has a date since when the ring is this one (RFC 9110, section 8.8.2)
+abbrev pub dated : HttpDate → List Header
+dated date = (codes "last-modified", date_text date) ∷ []
+
+-- that field, if the date is known
+abbrev pub date_field : Option HttpDate → List Header
+date_field None = []
+date_field (Some date) = dated date
+
 -- the field that names the owner of the key
 abbrev pub named_owner : ℕ → List Header
 named_owner owner = (codes "x-ringpop-owner", address_text owner) ∷ []
 
--- the field that names the owner of the key, if the reply is an answer of the owner, or the digest, if it is about the ring
+-- the field by which the page of any site may read an answer (the standard Fetch of the WHATWG, section 3.3)
+abbrev pub open_field : List Header
+open_field = (codes "access-control-allow-origin", codes "*") ∷ []
+
+-- the field that names the owner of the key, if the reply is an answer of the owner, or the digest, if it is about the ring, with since when it is
+-- this one, if the ring is shown; the field that lets any page read it, if the reply is the digest of the members
 abbrev pub owner_field : Reply → List Header
 owner_field (Handled owner text) = named_owner owner
-owner_field (Ring digest text) = tag_field digest.bytes
+owner_field (Ring digest since text) = tag_field digest.bytes ++ date_field since
 owner_field (Unchanged digest) = tag_field digest.bytes
+owner_field (Digest text) = open_field
 owner_field _ = []
+
+-- a reply with status 200 and a text that the page of any site may read
+pub record IsOpenText (text : List ℕ) (reply : Reply) : Type 0 where
+  pub shown : IsText kind.Text text reply
+  pub readable : owner_field reply ≡ open_field
 
 -- the methods of HTTP that a path with this method takes
 abbrev pub allowed_methods : Verb → List ℕ
@@ -109,10 +140,42 @@ sent_field _ = []
 abbrev pub retry_field : ℕ → List Header
 retry_field status = cond (status == 503) ((codes "retry-after", codes "1") ∷ []) []
 
+-- a field of HTTP: it is not so that its name is none, or its value
+abbrev pub IsField : Header → Type 0
+IsField field = ¬ (¬ (IsFieldName field.0) ⊎ ¬ (IsFieldValue field.1))
+
+-- a field as a response has it, with its name in lower case
+abbrev pub lower : Header → Header
+lower field = (lowercase field.0, field.1)
+
+-- An answer that was passed on whole, which a text has: its status, its body and its fields.
+pub record HasAnswer (text : List ℕ) (status : ℕ) (body : List ℕ) (fields : List Header) : Type 0 where
+  pub packed : text ≡ answer_text status body fields
+  pub bytes : IsBytes (joined (answer_parts status body fields))
+  pub least : 200 ≤ status
+  pub greatest : status ≤ 599
+  pub names : All IsField fields
+
+-- a response shows the whole answer that a text has, and names the owner
+abbrev pub ShowsWhole : List ℕ → Bool → ℕ → Response → Type 0
+ShowsWhole text closes owner response =
+    (status : ℕ) × (body : List ℕ) × (fields : List Header) × HasAnswer text status body fields
+    × IsResponse status ((closing closes ++ map lower fields) ++ named_owner owner) body response
+
+-- a text has no whole answer
+abbrev pub HasNoAnswer : List ℕ → Type 0
+HasNoAnswer text = (status : ℕ) (body : List ℕ) (fields : List Header) → ¬ (HasAnswer text status body fields)
+
+-- a response shows a reply that is a text of this node, or the answer to a request that was a body alone
+abbrev pub ShowsText : Reply → Bool → Response → Type 0
+ShowsText reply closes response =
+    IsResponse (reply_status reply) ((fields_for closes (reply_kind reply) ++ owner_field reply) ++ sent_field reply) (reply_body reply) response
+
 -- a response shows a reply, and says whether the connection is closed
 abbrev pub ShowsReply : Reply → Bool → Response → Type 0
-ShowsReply reply closes response =
-    IsResponse (reply_status reply) ((fields_for closes (reply_kind reply) ++ owner_field reply) ++ sent_field reply) (reply_body reply) response
+ShowsReply (Handled owner text) closes response =
+    ShowsWhole text closes owner response ⊎ (HasNoAnswer text × ShowsText (Handled owner text) closes response)
+ShowsReply reply closes response = ShowsText reply closes response
 
 -- a response shows a refusal, and says whether the connection is closed
 abbrev pub ShowsRefusal : Refusal → Bool → Response → Type 0

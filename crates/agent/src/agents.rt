@@ -2,8 +2,9 @@
 use crate::applications::Application;
 use crate::callers::{Caller, Passes};
 use crate::counters::{Count, Counters};
-use crate::journals::Journal;
+use crate::journals::Logger;
 use crate::notices::Notices;
+use crate::processes::Process;
 use crate::rejections::Refused;
 use crate::systems::Host;
 use crate::tellers::Teller;
@@ -11,8 +12,8 @@ use crate::waiting::Waiting;
 use crate::watchers::{MAX_QUESTIONS, Watchers};
 use agent_core::{Counts, PortCounts, Watch};
 use change_core::{Address, Moment};
+use http::HeaderName;
 use line_service::{ServerClock, Stopwatch, Timeouts};
-use log::{LevelFilter, Logged};
 use reactor::Places;
 use std::alloc::Global;
 use std::sync::atomic::{AtomicBool, Ordering};
@@ -57,8 +58,7 @@ impl Flag {
 #[derive(Drop)]
 pub struct Agent<R> {
     pub rt: R,
-    /// The greatest level that the log prints.
-    pub level: LevelFilter,
+    pub log: Logger<R>,
     /// The node's address.
     pub own: Address,
     pub replicas: u32,
@@ -69,9 +69,12 @@ pub struct Agent<R> {
     pub stopwatch: Stopwatch,
     pub timeouts: Timeouts,
     pub application: Application<R>,
+    /// The field that may name the key of a request, if any request of a key is passed on to its owner's application.
+    pub key_field: Option<HeaderName>,
     /// The passes that no thread has.
     pub passes: Mutex<Passes>,
     pub counters: Counters,
+    pub process: Process,
     /// The HTTP requests that wait for a key's owner.
     pub waiting: Waiting,
     /// The number of requests that are being relayed.
@@ -119,9 +122,9 @@ impl<R: Host> Agent<R> {
         self.stopwatch.moment(&self.rt)
     }
 
-    /// Returns the log, which prints to standard error what is at most at the agent's level.
-    pub fn log(&self) -> Logged<R, Journal<R>> {
-        Journal::new(self.rt, self.own).at(self.level)
+    /// Returns the log, which has lines written to standard error.
+    pub fn log(&self) -> &Logger<R> {
+        &self.log
     }
 
     /// Returns the clock by which requests are tried again.
@@ -172,6 +175,7 @@ impl<R: Host> Agent<R> {
         };
         Counts {
             handled: self.application.handled.get(),
+            application: self.application.times.counts(),
             application_failures: self.application.failures.get(),
             waiting: self.waiting.counts(&self.rt),
             http: port,
@@ -184,6 +188,8 @@ impl<R: Host> Agent<R> {
             notices_failed: self.teller.failed.get(),
             notices_untold: self.teller.untold.get(),
             refusals: self.refused.counts(),
+            log: self.log().sink().counts(),
+            process: self.process.counts(),
             ..self.counters.counts()
         }
     }

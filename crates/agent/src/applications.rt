@@ -4,24 +4,30 @@ ghost use Rattle.std.specs.Duration.{as_nanos};
 ghost use Rattle.agent_core.specs.Packs.{packed};
 ghost use Rattle.agent_core.specs.Refusals.{line_of, status_of};
 
-use crate::counters::Count;
-use crate::exchanges::{Answer, Asked, exchange};
-use crate::journals::Journal;
+use crate::counters::{Count, Times};
+use crate::exchanges::{Answer, Asked, Wanted, exchange};
+use crate::journals::Logger;
 use crate::notices::Notices;
+use crate::settings::Settings;
 use crate::systems::Host;
-use agent_core::{Failure, MAX_BODY_BYTES, MAX_STATUS, MIN_STATUS, Refusal, pack};
+use agent_core::{
+    Failure, Field, MAX_BODY_BYTES, MAX_REQUEST_BYTES, MAX_STATUS, MIN_STATUS, PassedRequest,
+    Refusal, body_in, is_repeatable, pack, pack_answer, push_field, request_in, unpack_bytes,
+};
 use change_core::Address;
 use cluster_core::{Deadline, Timed, socket_address};
-use http1::{Client, Limits};
+use http1::{Client, Header, Limits};
 use line_service::Stopwatch;
-use log::{Logged, info, warn};
+use log::{info, warn};
 use message_core::{Keys, Text, WireError};
 use peer_core::{Handler, HandlerFault};
-use std::alloc::Global;
+use percent_encoding::{NON_ALPHANUMERIC, percent_encode};
+use std::alloc::{AllocError, Global};
 use std::io;
+use std::io::ErrorKind;
 use std::net::TcpStream;
 use std::sync::{Mutex, MutexGuard, Wait};
-use std::time::Duration;
+use std::time::{Duration, Instant};
 
 /// The most milliseconds for a request to the application and its answer, connecting and a second try included.
 const MAX_APPLICATION_MILLIS: u64 = 4_000;
@@ -49,14 +55,18 @@ struct Kept {
 #[derive(Drop)]
 pub struct Application<R> {
     rt: R,
-    log: Logged<R, Journal<R>>,
+    log: Logger<R>,
     stopwatch: Stopwatch,
     own: Address,
     at: Option<Address>,
+    /// Whether any request is passed on: then the application is not asked twice for a POST.
+    any_request: bool,
     /// The number of requests that were to be handled here.
     pub handled: Count,
     /// The number of them that the program did not answer, or by no answer that can be passed on.
     pub failures: Count,
+    /// The times in which the program answered, or did not.
+    pub times: Times,
     /// What the log said last of the program.
     notices: Notices,
     /// The connections that are kept, the newest last.
@@ -67,7 +77,26 @@ pub struct Application<R> {
 fn refused(alloc: Global, refusal: &Refusal) -> Result<Text, HandlerFault>
     ensures { IfOk result (λ text. text ≡ packed (status_of refusal.now) false (line_of refusal.now)) }
 {
-    pack(alloc, refusal.status(), false, refusal.line()).map_err(handler_fault)
+    let line = refusal.line(alloc).map_err(out_of_memory)?;
+    pack(alloc, refusal.status(), false, line.as_str()).map_err(handler_fault)
+}
+
+/// Returns the text of a Reply for a refusal of a request that was passed on whole: a field says that it is the agent's.
+fn refused_whole(alloc: Global, refusal: &Refusal) -> Result<Text, WireError> {
+    let mut fields = Vec::new(alloc);
+    push_field(&mut fields, b"content-type", b"text/plain; charset=utf-8")?;
+    push_field(&mut fields, b"x-ringpop-error", refusal.word().as_bytes())?;
+    let line = refusal.line(alloc)?;
+    pack_answer(alloc, refusal.status(), line.as_bytes(), fields.as_slice())
+}
+
+/// Returns the text of a Reply for a failure of a request: no error, so that the asking node does not try again.
+fn failed(alloc: Global, asked: &Asked<'_>, failure: Failure) -> Result<Text, HandlerFault> {
+    let refusal = Refusal::Unanswered(failure);
+    match asked.wanted {
+        Wanted::Kind => refused(alloc, &refusal),
+        Wanted::All { .. } => refused_whole(alloc, &refusal).map_err(handler_fault),
+    }
 }
 
 /// Returns the handler's error if an answer has no text.
@@ -85,39 +114,104 @@ fn no_answer(_error: io::Error) -> Failure
     Failure::NoAnswer
 }
 
-/// Returns the text of a Reply for an answer. None if the answer can't be passed on: its body is too long or not UTF-8, or
-/// its status is not 200 to 599.
-fn packed(
-    alloc: Global,
-    status: u16,
-    is_json: bool,
-    body: &[u8],
-) -> Option<Result<Text, HandlerFault>> {
-    let text = str::from_utf8(body).ok()?;
-    if status < MIN_STATUS || status > MAX_STATUS || body.len() > MAX_BODY_BYTES {
+/// Returns the handler's error if memory ran out.
+fn out_of_memory(_error: AllocError) -> HandlerFault
+    ensures { result ≡ HandlerFault.Memory }
+{
+    HandlerFault::Memory
+}
+
+/// Returns the text of a Reply for the answer to a request that is a body alone. None if the answer can't be passed on: its
+/// body is too long or not UTF-8, or its status is not 200 to 599.
+fn packed(alloc: Global, answer: &Answer) -> Option<Result<Text, HandlerFault>> {
+    let status = answer.status;
+    let text = str::from_utf8(answer.body.as_slice()).ok()?;
+    if status < MIN_STATUS || status > MAX_STATUS || text.len() > MAX_BODY_BYTES {
         return None;
     }
-    Some(pack(alloc, status, is_json, text).map_err(handler_fault))
+    Some(pack(alloc, status, answer.is_json, text).map_err(handler_fault))
+}
+
+/// Returns the text of a Reply for the answer to a request that is passed on whole. None if the answer can't be passed on: its
+/// body is too long, or its status is not 200 to 599.
+fn packed_whole(alloc: Global, answer: &Answer) -> Option<Result<Text, HandlerFault>> {
+    let (status, body) = (answer.status, answer.body.as_slice());
+    if status < MIN_STATUS || status > MAX_STATUS || body.len() > MAX_REQUEST_BYTES {
+        return None;
+    }
+    // (a 205 has no body, RFC 9110, section 15.3.6)
+    let body = if status == 205 { &[] } else { body };
+    Some(pack_answer(alloc, status, body, answer.fields.as_slice()).map_err(handler_fault))
+}
+
+/// Returns fields as the client of the application takes them.
+fn headers_of<'a>(alloc: Global, fields: &[Field<'a>]) -> Result<Vec<Header<'a>>, AllocError> {
+    let mut headers = Vec::with_capacity(alloc, fields.len())?;
+    for field in fields {
+        headers.push(Header {
+            name: field.name,
+            value: field.value,
+        })?;
+    }
+    Ok(headers)
+}
+
+/// Returns the fields of a request that is a body alone, to a service at this host.
+fn text_fields(alloc: Global, host: &str) -> Result<Vec<Header<'_>>, AllocError> {
+    let mut fields = Vec::with_capacity(alloc, 2)?;
+    fields.push(Header {
+        name: b"host",
+        value: host.as_bytes(),
+    })?;
+    fields.push(Header {
+        name: b"content-type",
+        value: b"text/plain; charset=utf-8",
+    })?;
+    Ok(fields)
+}
+
+/// Returns whether a request that is passed on whole may be performed twice: by its method, or since it says so.
+fn may_repeat(method: &[u8], fields: &[Field<'_>]) -> bool {
+    fields
+        .iter()
+        .any(|field| field.name == b"idempotency-key".as_slice())
+        || is_repeatable(str::from_utf8(method).unwrap_or(""))
+}
+
+/// Returns whether nothing has come over a connection, not even its end.
+fn is_quiet(stream: &TcpStream) -> bool {
+    if stream.set_nonblocking(true).is_err() {
+        return false;
+    }
+    let seen = stream.peek(&mut [0]);
+    if stream.set_nonblocking(false).is_err() {
+        return false;
+    }
+    match seen {
+        Ok(_) => false,
+        Err(error) => error.kind() == ErrorKind::WouldBlock,
+    }
 }
 
 impl<R: Host> Application<R> {
-    /// Makes the application at an address; without one, the echo of the node at its own address.
+    /// Makes the application of the settings; without an address, the echo of the node at its own address.
     pub fn new(
         rt: R,
         alloc: Global,
-        log: Logged<R, Journal<R>>,
+        log: Logger<R>,
         stopwatch: Stopwatch,
-        own: Address,
-        at: Option<Address>,
+        settings: &Settings,
     ) -> Self {
         Application {
             rt,
             log,
             stopwatch,
-            own,
-            at,
+            own: settings.address,
+            at: settings.app,
+            any_request: settings.key_field.is_some(),
             handled: Count::new(),
             failures: Count::new(),
+            times: Times::new(),
             notices: Notices::new(alloc),
             kept: Mutex::new(Vec::new(alloc)),
         }
@@ -136,6 +230,18 @@ impl<R: Host> Application<R> {
 
     fn take_kept(&self) -> Option<Kept> {
         self.lock_kept(self.now()).pop()
+    }
+
+    /// Returns a kept connection over which nothing has come, if there is one: as far as this side knows its application has not
+    /// closed it, and has sent nothing that would be taken for the answer to the next request.
+    fn take_quiet(&self) -> Option<Kept> {
+        for _ in 0..=MAX_APPLICATION_CONNECTIONS {
+            let kept = self.take_kept()?;
+            if is_quiet(&kept.stream) {
+                return Some(kept);
+            }
+        }
+        None
     }
 
     /// Keeps a connection for another request, if it can have one and fewer than 128 are kept. Out of memory drops it.
@@ -192,20 +298,33 @@ impl<R: Host> Application<R> {
         answer
     }
 
-    /// Returns the application's answer to a request within a limit. If the application hung up on a kept connection, the
-    /// request is sent again over a new one, since it may have closed the kept one before. After any other failure it is
-    /// not, since the application may be at work on it.
+    /// Returns the application's answer to a request within a limit. If the application hung up on a kept connection, a request
+    /// that may be performed twice is sent again over a new one, since the application may have closed the kept one before. After
+    /// any other failure it is not, since the application may be at work on it.
     fn ask(&self, alloc: Global, asked: &Asked<'_>, limit: Duration) -> Result<Answer, Failure> {
         let deadline = Deadline::after(&self.rt, limit).map_err(no_answer)?;
-        if let Some(kept) = self.take_kept() {
+        if let Some(kept) = self.take_quiet() {
             match self.exchange_over(alloc, kept, &deadline, asked) {
-                Err(Failure::HungUp) => {}
+                Err(Failure::HungUp) if asked.is_repeatable => {}
                 answer => return answer,
             }
         }
         let left = deadline.left().map_err(no_answer)?;
         let connection = self.connect(asked.at, left).ok_or(Failure::NotAccepted)?;
         self.exchange_over(alloc, connection, &deadline, asked)
+    }
+
+    /// Returns the application's answer to a request within a limit, and counts the time that it took.
+    fn ask_timed(
+        &self,
+        alloc: Global,
+        asked: &Asked<'_>,
+        limit: Duration,
+    ) -> Result<Answer, Failure> {
+        let start = Instant::now(&self.rt).ok();
+        let answer = self.ask(alloc, asked, limit);
+        self.times.add_since(&self.rt, start);
+        answer
     }
 
     /// Notes whether a request had no answer that can be passed on. Returns whether the log is to say so.
@@ -241,15 +360,127 @@ impl<R: Host> Application<R> {
         }
     }
 
-    fn echo(&self, alloc: Global, body: &str) -> Result<Text, HandlerFault> {
+    /// Returns the echo's answer to a request.
+    fn echo(&self, alloc: Global, asked: &Asked<'_>) -> Result<Answer, AllocError> {
         let own = self.own;
-        let Ok(text) = format!(in alloc; "{own} {body}") else {
-            return Err(HandlerFault::Memory);
+        let mut body = format!(in alloc; "{own} ")?.into_bytes();
+        body.extend_from_slice(asked.body)?;
+        let mut fields = Vec::new(alloc);
+        push_field(&mut fields, b"content-type", b"text/plain; charset=utf-8")?;
+        Ok(Answer {
+            wanted: asked.wanted,
+            status: 200,
+            is_json: false,
+            body,
+            fields,
+        })
+    }
+
+    /// Notes whether a request had an answer that could be passed on.
+    fn note_result(&self, failure: Option<Failure>) {
+        let Some(at) = self.at else {
+            return;
         };
-        match packed(alloc, 200, false, text.as_bytes()) {
-            Some(text) => text,
-            None => refused(alloc, &Refusal::Unanswered(Failure::BadAnswer)),
+        match failure {
+            None => self.note_answer(at),
+            Some(failure) => self.note_failure(at, failure),
         }
+    }
+
+    /// Returns the answer to a request, by the program within a limit or by the echo, as a text.
+    fn answer_to(
+        &self,
+        alloc: Global,
+        asked: &Asked<'_>,
+        limit: Duration,
+    ) -> Result<Text, HandlerFault> {
+        let answer = match self.at {
+            Some(_) => self.ask_timed(alloc, asked, limit),
+            None => Ok(self.echo(alloc, asked).map_err(out_of_memory)?),
+        };
+        let failure = match &answer {
+            Ok(answer) => {
+                let text = match asked.wanted {
+                    Wanted::Kind => packed(alloc, answer),
+                    Wanted::All { .. } => packed_whole(alloc, answer),
+                };
+                if let Some(text) = text {
+                    self.note_result(None);
+                    return text;
+                }
+                Failure::BadAnswer
+            }
+            Err(failure) => *failure,
+        };
+        self.note_result(Some(failure));
+        failed(alloc, asked, failure)
+    }
+
+    /// Returns the answer to a POST of a body as text at this target, by a service at this host.
+    fn answer_text(
+        &self,
+        alloc: Global,
+        target: &str,
+        host: &str,
+        body: &[u8],
+        limit: Duration,
+    ) -> Result<Text, HandlerFault> {
+        let fields = text_fields(alloc, host).map_err(out_of_memory)?;
+        let asked = Asked {
+            at: self.at.unwrap_or(self.own),
+            method: b"POST",
+            target: target.as_bytes(),
+            fields,
+            body,
+            wanted: Wanted::Kind,
+            is_repeatable: !self.any_request,
+        };
+        self.answer_to(alloc, &asked, limit)
+    }
+
+    /// Returns the answer to a request that is a body alone: a POST of it as text at the key's path.
+    fn answer_body(
+        &self,
+        alloc: Global,
+        key: &str,
+        body: &[u8],
+        limit: Duration,
+    ) -> Result<Text, HandlerFault> {
+        let mut target = String::from_str(alloc, "/keys/").map_err(out_of_memory)?;
+        percent_encode(key.as_bytes(), NON_ALPHANUMERIC)
+            .append_to(&mut target)
+            .map_err(out_of_memory)?;
+        let at = self.at.unwrap_or(self.own);
+        let host = format!(in alloc; "{at}").map_err(|_| HandlerFault::Memory)?;
+        self.answer_text(alloc, target.as_str(), host.as_str(), body, limit)
+    }
+
+    /// Returns the answer to a request that is passed on whole.
+    fn answer_whole(
+        &self,
+        alloc: Global,
+        request: &PassedRequest<'_>,
+        limit: Duration,
+    ) -> Result<Text, HandlerFault> {
+        let PassedRequest {
+            method,
+            target,
+            body,
+            fields,
+        } = request;
+        let fields = fields.as_slice();
+        let asked = Asked {
+            at: self.at.unwrap_or(self.own),
+            method,
+            target,
+            fields: headers_of(alloc, fields).map_err(out_of_memory)?,
+            body,
+            wanted: Wanted::All {
+                is_of_head: *method == b"HEAD".as_slice(),
+            },
+            is_repeatable: may_repeat(method, fields),
+        };
+        self.answer_to(alloc, &asked, limit)
     }
 
     /// Returns the answer to a request, by the program within a limit or by the echo.
@@ -257,33 +488,23 @@ impl<R: Host> Application<R> {
         &self,
         alloc: Global,
         keys: &Keys,
-        body: &Text,
+        text: &Text,
         limit: Duration,
     ) -> Result<Text, HandlerFault> {
         self.handled.add(1);
-        let Some(at) = self.at else {
-            return self.echo(alloc, body.as_str());
+        let key = keys.get(0).ok_or(HandlerFault::Failed)?.as_str();
+        let text = text.as_str();
+        let Some(bytes) = unpack_bytes(alloc, text).map_err(out_of_memory)? else {
+            return self.answer_body(alloc, key, text.as_bytes(), limit);
         };
-        let key = keys.get(0).ok_or(HandlerFault::Failed)?;
-        let asked = Asked {
-            at,
-            key: key.as_str(),
-            body: body.as_str(),
-        };
-        let failure = match self.ask(alloc, &asked, limit) {
-            Ok(answer) => {
-                let body = answer.body.as_slice();
-                if let Some(text) = packed(alloc, answer.status, answer.is_json, body) {
-                    self.note_answer(at);
-                    return text;
-                }
-                Failure::BadAnswer
-            }
-            Err(failure) => failure,
-        };
-        self.note_failure(at, failure);
-        // (a Reply and no error, so that the asking node does not try again)
-        refused(alloc, &Refusal::Unanswered(failure))
+        let bytes = bytes.as_slice();
+        if let Some(request) = request_in(alloc, bytes).map_err(out_of_memory)? {
+            return self.answer_whole(alloc, &request, limit);
+        }
+        match body_in(bytes) {
+            Some(body) => self.answer_body(alloc, key, body, limit),
+            None => self.answer_body(alloc, key, text.as_bytes(), limit),
+        }
     }
 }
 
@@ -340,6 +561,26 @@ impl<'a, R: Host> Handler for Limited<'a, R> {
         body: &Text,
     ) -> Result<Text, HandlerFault> {
         self.application.answer(alloc, keys, body, self.limit)
+    }
+}
+
+/// The handler of requests that come before a host has answered. It fails, so that the asking node tries again later: this node
+/// knows too few members to say whose the keys are, and its application too few to ask for their state.
+pub struct Joining;
+
+impl Handler for Joining {
+    ghost use Rattle.agent.specs.Calling.{AnyHandling};
+
+    ghost may_handle = { λ _. AnyHandling };
+
+    fn handle<W: Wait>(
+        &self,
+        _rt: &W,
+        _alloc: Global,
+        _keys: &Keys,
+        _body: &Text,
+    ) -> Result<Text, HandlerFault> {
+        Err(HandlerFault::Failed)
     }
 }
 

@@ -310,6 +310,21 @@ impl Caller {
         let_in(self.node.member(rt, &mut self.pass, address))
     }
 
+    /// Returns how many members the node holds.
+    ///
+    /// # Errors
+    ///
+    /// The node and the pass are unchanged.
+    ///
+    /// - `ForeignPass`: the pass has another node's name. This is checked first.
+    /// - `PassSpent`: the pass has made all its calls.
+    pub fn len<R: Wait>(&mut self, rt: &R) -> Result<usize, ClusterError>
+        ensures node { self.new.node ≡ self.old.node }
+        ensures did { Does self.old.node (Calls call.Len reply.Len) result self.old.pass self.new.pass }
+    {
+        let_in(self.node.len(rt, &mut self.pass))
+    }
+
     /// Returns the members that the node holds, ascending by address.
     ///
     /// # Errors

@@ -132,7 +132,7 @@ impl<'a, R: Host> Requests<'a, R> {
     /// Returns whether these bytes, the last that came, start with a question that is to wait. They are then kept, and not read.
     fn sets_aside(&mut self, bytes: &[u8]) -> bool {
         let agent = self.agent;
-        let Some(question) = Question::of(bytes) else {
+        let Some(question) = Question::of(bytes, &agent.key_field) else {
             return false;
         };
         if !self.came.framing.is_between()
@@ -242,7 +242,7 @@ pub fn serve_over<R: Host, I: Read, O: Write>(
     writer: &mut O,
 ) -> io::Result<Pause>
     requires { config_of connection.old ≡ connection_limits }
-    ensures answers { SendsAnswers front.old.agent.now.own front.old.agent.now.replicas (history connection.old) (history connection.new) (I.remaining reader.old) (I.remaining reader.new) (O.contents writer.old) (O.contents writer.new) front.old.caller.now front.new.caller.now }
+    ensures answers { SendsAnswers front.old.agent.now.own front.old.agent.now.replicas front.old.agent.now.key_field (history connection.old) (history connection.new) (I.remaining reader.old) (I.remaining reader.new) (O.contents writer.old) (O.contents writer.new) front.old.caller.now front.new.caller.now }
     ensures settled { result ≡ Ok pause.Input → IsSettled (history connection.new) }
     ensures owing { result ≡ Ok pause.Room → 0 < length (history connection.new).pending }
     ensures done { result ≡ Ok pause.Done → IsDone (history connection.new) }

@@ -3,12 +3,13 @@ ghost use Rattle.std.specs.Prelude.{◌≡◌, Err, IsFalse};
 ghost use Rattle.std.specs.IoError.{error_kind};
 ghost use Rattle.agent.specs.Exchanges.{failure_of};
 
-use agent_core::Failure;
+use agent_core::{Failure, is_of_connection, push_field};
 use bytes::{Buf, BytesMut};
 use change_core::Address;
+use http::HeaderName;
+use http::header::HeaderNameError;
 use http1::{BodySize, Client, Event, Header};
 use httparse::spans::{EMPTY_HEADER_SPAN, HeaderSpan, ResponseSpans, Span};
-use percent_encoding::{NON_ALPHANUMERIC, percent_encode};
 use std::alloc::{AllocError, Global};
 use std::io;
 use std::io::{ErrorKind, Read, Write};
@@ -20,20 +21,51 @@ const MAX_ANSWER_BYTES: usize = 1_048_576;
 const READ_SIZE: usize = 8_192;
 
 /// A request to the application at an address.
-#[derive(Clone, Copy)]
+#[derive(Drop)]
 pub struct Asked<'a> {
     pub at: Address,
-    pub key: &'a str,
-    pub body: &'a str,
+    pub method: &'a [u8],
+    pub target: &'a [u8],
+    /// The fields, with one `Host`.
+    pub fields: Vec<Header<'a>>,
+    pub body: &'a [u8],
+    pub wanted: Wanted,
+    /// Whether the application may be asked again if it hung up on a kept connection.
+    pub is_repeatable: bool,
+}
+
+/// The fields of an answer that are wanted.
+#[derive(Clone, Copy, Debug, PartialEq, Eq)]
+pub enum Wanted {
+    /// Whether the content type is JSON.
+    Kind,
+    /// Those that pass. The answer to a HEAD has the length of a body that does not come.
+    All { is_of_head: bool },
 }
 
 /// An answer of the application.
 #[derive(Debug, Drop)]
 pub struct Answer {
+    pub wanted: Wanted,
     pub status: u16,
-    /// Whether its content type is JSON.
+    /// Whether its content type is JSON, if that is wanted.
     pub is_json: bool,
     pub body: Vec<u8>,
+    /// The name and the value of each field that passes, as parts, if they are wanted.
+    pub fields: Vec<u8>,
+}
+
+impl Answer {
+    /// Makes the answer of which nothing has come.
+    pub fn new(alloc: Global, wanted: Wanted) -> Self {
+        Answer {
+            wanted,
+            status: 0,
+            is_json: false,
+            body: Vec::new(alloc),
+            fields: Vec::new(alloc),
+        }
+    }
 }
 
 /// Returns the failure of a request whose connection failed by this error, after a byte of the answer or before.
@@ -49,45 +81,44 @@ fn failure_of(error: &io::Error, has_begun: bool) -> Failure
     }
 }
 
-/// Writes the request into the output. Returns whether it was written whole.
-fn write_request(
-    client: &mut Client,
-    output: &mut BytesMut,
-    target: &str,
-    host: &str,
-    body: &str,
-) -> bool {
-    let headers = [
-        Header {
-            name: b"host",
-            value: host.as_bytes(),
-        },
-        Header {
-            name: b"content-type",
-            value: b"text/plain; charset=utf-8",
-        },
-    ];
-    let size = BodySize::Known(body.len() as u64);
-    client
-        .write_request(output, b"POST", target.as_bytes(), &headers, size)
-        .is_ok()
-        && client.write_data(output, body.as_bytes()).is_ok()
-        && client.write_end(output, &[]).is_ok()
+/// Returns the size of the body that a request announces: none if it has no body and its fields give no length.
+fn size_of(asked: &Asked<'_>) -> BodySize {
+    let length = asked.body.len() as u64;
+    let is_announced = asked.wanted == Wanted::Kind
+        || length > 0
+        || asked
+            .fields
+            .iter()
+            .any(|field| field.name == b"content-length".as_slice());
+    if is_announced {
+        BodySize::Known(length)
+    } else {
+        BodySize::Empty
+    }
 }
 
-/// Returns the bytes of a request, `POST /keys/KEY` with the key percent-encoded; None if they could not be written.
-fn request(
-    alloc: Global,
-    client: &mut Client,
-    asked: &Asked<'_>,
-) -> Result<Option<BytesMut>, AllocError> {
-    let Asked { at, key, body } = *asked;
-    let mut target = String::from_str(alloc, "/keys/")?;
-    percent_encode(key.as_bytes(), NON_ALPHANUMERIC).append_to(&mut target)?;
-    let host = format!(in alloc; "{at}")?;
+/// Returns the bytes of a request; None if they could not be written.
+fn request(alloc: Global, client: &mut Client, asked: &Asked<'_>) -> Option<BytesMut> {
+    let Asked {
+        method,
+        target,
+        fields,
+        body,
+        ..
+    } = asked;
     let mut output = BytesMut::new(alloc);
-    let written = write_request(client, &mut output, target.as_str(), host.as_str(), body);
-    Ok(written.then_some(output))
+    client
+        .write_request(
+            &mut output,
+            method,
+            target,
+            fields.as_slice(),
+            size_of(asked),
+        )
+        .ok()?;
+    client.write_data(&mut output, body).ok()?;
+    client.write_end(&mut output, &[]).ok()?;
+    Some(output)
 }
 
 /// The next step after an event of the connection.
@@ -114,8 +145,67 @@ fn says_json(unread: &[u8], field: &HeaderSpan) -> bool {
         && part(unread, field.value).starts_with(b"application/json")
 }
 
+/// Returns whether a list of names, as the value of `Connection` is, has this name, in any case.
+pub fn has_name(list: &[u8], name: &[u8]) -> bool {
+    list.split(|byte| *byte == b',')
+        .any(|one| one.trim_ascii().eq_ignore_ascii_case(name))
+}
+
+/// Returns whether a field of an answer passes: it is not for this connection alone, by its name or by what `Connection` says.
+fn passes(unread: &[u8], fields: &[HeaderSpan], name: &HeaderName) -> bool {
+    !is_of_connection(name.as_str())
+        && !fields.iter().any(|list| {
+            part(unread, list.name).eq_ignore_ascii_case(b"connection")
+                && has_name(part(unread, list.value), name.as_bytes())
+        })
+}
+
+/// Appends the fields of an answer that pass. A length passes only if it has one, as an answer without a body.
+fn take_fields(
+    alloc: Global,
+    unread: &[u8],
+    fields: &[HeaderSpan],
+    has_length: bool,
+    taken: &mut Vec<u8>,
+) -> Result<(), AllocError> {
+    for field in fields {
+        let name = match HeaderName::from_bytes(alloc, part(unread, field.name)) {
+            Ok(name) => name,
+            Err(HeaderNameError::OutOfMemory) => return Err(AllocError),
+            Err(HeaderNameError::Invalid) => continue,
+        };
+        let is_length = name.as_str() == "content-length";
+        if passes(unread, fields, &name) && (has_length || !is_length) {
+            push_field(taken, name.as_bytes(), part(unread, field.value))?;
+        }
+    }
+    Ok(())
+}
+
+/// Takes the head of an answer.
+fn take_head(
+    alloc: Global,
+    status: u16,
+    unread: &[u8],
+    fields: &[HeaderSpan],
+    answer: &mut Answer,
+) -> Result<(), AllocError> {
+    answer.status = status;
+    match answer.wanted {
+        Wanted::Kind => {
+            answer.is_json = fields.iter().any(|field| says_json(unread, field));
+            Ok(())
+        }
+        Wanted::All { is_of_head } => {
+            let has_length = is_of_head || status == 304;
+            take_fields(alloc, unread, fields, has_length, &mut answer.fields)
+        }
+    }
+}
+
 /// Applies one event to the answer.
 fn take_event(
+    alloc: Global,
     event: &Event<ResponseSpans>,
     unread: &[u8],
     fields: &[HeaderSpan],
@@ -123,11 +213,8 @@ fn take_event(
 ) -> Result<Step, AllocError> {
     match event {
         Event::Head(head) => {
-            answer.status = head.code;
-            answer.is_json = fields
-                .iter()
-                .take(head.headers)
-                .any(|field| says_json(unread, field));
+            let fields = fields.get(..head.headers).unwrap_or(&[]);
+            take_head(alloc, head.code, unread, fields, answer)?;
             Ok(Step::Next)
         }
         Event::Data(span) => {
@@ -143,6 +230,7 @@ fn take_event(
 
 /// Applies the next event of the bytes that were read. They may not be HTTP/1.1, and an allocation may fail.
 fn take_next(
+    alloc: Global,
     client: &mut Client,
     input: &mut BytesMut,
     spans: &mut [HeaderSpan],
@@ -150,7 +238,9 @@ fn take_next(
 ) -> Result<Step, Failure> {
     let unread = input.as_slice();
     let read = client.read(unread, spans).map_err(|_| Failure::BadAnswer)?;
-    let step = take_event(&read.event, unread, spans, answer).map_err(|_| Failure::NoAnswer)?;
+    let step = take_event(alloc, &read.event, unread, spans, answer).map_err(|_| {
+        Failure::NoAnswer
+    })?;
     input.advance(read.consumed);
     Ok(step)
 }
@@ -172,28 +262,19 @@ fn end(client: &mut Client, answer: Answer, has_begun: bool) -> Result<Answer, F
     }
 }
 
-/// Reads an answer.
-///
-/// # Errors
-///
-/// - `HungUp`: the application ended or reset the connection before a byte of the answer came.
-/// - `NoAnswer`: no whole answer came, for another reason.
-/// - `BadAnswer`: the answer is not HTTP/1, or has more than 1,048,576 bytes.
-pub fn read_answer<S: Read>(
+/// Reads the rest of an answer.
+fn read_rest<S: Read>(
     alloc: Global,
     client: &mut Client,
     stream: &mut S,
+    answer: Answer,
 ) -> Result<Answer, Failure> {
     let mut spans = [EMPTY_HEADER_SPAN; 64];
     let mut input = BytesMut::new(alloc);
-    let mut answer = Answer {
-        status: 0,
-        is_json: false,
-        body: Vec::new(alloc),
-    };
+    let mut answer = answer;
     let mut has_begun = false;
     for _ in 0..u64::MAX {
-        match take_next(client, &mut input, &mut spans, &mut answer)? {
+        match take_next(alloc, client, &mut input, &mut spans, &mut answer)? {
             Step::Next => {}
             Step::Whole => return Ok(answer),
             Step::Read => match read_more(&mut input, stream) {
@@ -210,6 +291,21 @@ pub fn read_answer<S: Read>(
     Err(Failure::BadAnswer)
 }
 
+/// Reads an answer of whose fields the content type alone is wanted.
+///
+/// # Errors
+///
+/// - `HungUp`: the application ended or reset the connection before a byte of the answer came.
+/// - `NoAnswer`: no whole answer came, for another reason.
+/// - `BadAnswer`: the answer is not HTTP/1, or has more than 1,048,576 bytes.
+pub fn read_answer<S: Read>(
+    alloc: Global,
+    client: &mut Client,
+    stream: &mut S,
+) -> Result<Answer, Failure> {
+    read_rest(alloc, client, stream, Answer::new(alloc, Wanted::Kind))
+}
+
 /// Sends a request to the application, and reads its answer.
 ///
 /// # Errors
@@ -223,11 +319,11 @@ pub fn exchange<S: Read + Write>(
     stream: &mut S,
     asked: &Asked<'_>,
 ) -> Result<Answer, Failure> {
-    let Ok(Some(output)) = request(alloc, client, asked) else {
+    let Some(output) = request(alloc, client, asked) else {
         return Err(Failure::NoAnswer);
     };
     if let Err(error) = stream.write_all(output.as_slice()) {
         return Err(failure_of(&error, false));
     }
-    read_answer(alloc, client, stream)
+    read_rest(alloc, client, stream, Answer::new(alloc, asked.wanted))
 }

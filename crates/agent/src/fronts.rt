@@ -1,22 +1,25 @@
 //! The service that answers HTTP requests.
-ghost use Rattle.std.specs.Prelude.{◌≡◌, Bool, OnOk, IfErr, IfOk, Ok};
+ghost use Rattle.std.specs.Prelude.{◌≡◌, ◌+◌, ◌<◌, ◌≤◌, ℕ, Bool, Option, false, not, true, OnOk, IfErr, IfOk, Ok};
 ghost use Rattle.http_server.specs.Response.{IsBlank};
 ghost use Rattle.node_core.specs.declared.events.Event.TheVariants as call;
 ghost use Rattle.node_core.specs.declared.events.Reply.TheVariants as reply;
 ghost use Rattle.peer_core.specs.Parts.{Does, Tries};
+ghost use Rattle.agent_core.specs.Passing.{sent_text};
 ghost use Rattle.agent_core.specs.declared.actions.Action.TheVariants as action;
 ghost use Rattle.agent.specs.Answers.{IsAnswered, Settles, ShowsOutcome};
+ghost use Rattle.agent.specs.Asking.{answerer};
 ghost use Rattle.agent.specs.Calling.{HasMade};
-ghost use Rattle.agent.specs.Performing.{AsksIfPlaced, AsksOwner, Finds, IsFound, IsHealth, IsLiveness, IsUnjoined, Outcome, Performs, ShowsCounts, ShowsMembers, ShowsOwners, crowded, digest_by, refusal_of};
+ghost use Rattle.agent.specs.Performing.{AsksIfPlaced, AsksOwner, Finds, IsFound, IsHealth, IsLiveness, IsRequested, IsUnjoined, Outcome, Performs, Settled, ShowsCounts, ShowsMembers, ShowsOwners, crowded, digest_by, refusal_of};
 
 use crate::agents::{Agent, Flag, Phase};
 use crate::callers::Caller;
 use crate::links::{NotedHandler, NotedLink};
+use crate::onces::OnceLink;
 use crate::replies::Reply;
-use crate::requests::action_of;
+use crate::requests::{action_of, is_of_key};
 use crate::responses::{put_refusal, put_reply};
 use crate::systems::Host;
-use agent_core::{Action, Refusal, is_live};
+use agent_core::{Action, Outgoing, Refusal, is_live, pack_body, pack_request};
 use bytes::Bytes;
 use change_core::{Address, Change, Digest, MAX_MEMBERS};
 use hash_ring::Sha256Hash;
@@ -27,6 +30,7 @@ use message_core::{Keys, Reason, Text};
 use node_core::View;
 use peer_core::ClusterError;
 use std::alloc::{AllocError, Global};
+use std::net::IpAddr;
 use std::time::Instant;
 
 /// Returns the refusal for an error of the node.
@@ -65,12 +69,16 @@ pub fn digest_of(alloc: Global, members: &[Change]) -> Result<Digest, Refusal>
     table.digest().map_err(|_| Refusal::Memory)
 }
 
-/// Returns the owner of a key by a view.
-fn owner_by(view: &View<Sha256Hash>, key: &Text) -> Result<Address, Refusal>
+/// Returns the owner of a key by a view, and the node that would own it next, if there is one.
+fn found_by(view: &View<Sha256Hash>, key: &Text) -> Result<(Address, Option<Address>), Refusal>
     ensures { IsFound key.now (Ok view.now) result }
 {
-    match view.owner(key.as_str().as_bytes()) {
-        Some(owner) => Ok(owner),
+    let Ok(owners) = view.owners(key.as_str().as_bytes(), 2) else {
+        return Err(Refusal::Memory);
+    };
+    let owners = owners.as_slice();
+    match owners.get(0) {
+        Some(owner) => Ok((*owner, owners.get(1).copied())),
         None => Err(Refusal::Nobody),
     }
 }
@@ -84,6 +92,13 @@ fn crowded(own: Address, owner: Address) -> Refusal
     } else {
         Refusal::OwnerBusy(owner)
     }
+}
+
+/// Returns the node that gave an answer: this one, if it asked its application, or else the one that the link noted.
+fn answerer(own: Address, was_asked: bool, last: Option<Address>) -> Address
+    ensures { result ≡ answerer own was_asked last }
+{
+    if was_asked { own } else { last.unwrap_or(own) }
 }
 
 /// Returns the refusal of a node that no host has admitted, which a host refused for a reason if there is one.
@@ -114,11 +129,42 @@ fn owners_by(
     Reply::owners(alloc, owners.as_slice())
 }
 
+/// Returns `ok` if at this moment fewer than ten seconds have passed since the one at which a round was due.
+fn liveness(due: u64, now: u64) -> Result<Reply, Refusal>
+    ensures shown { IsLiveness result }
+    ensures live { IfOk result (λ reply. now < due + 10000) }
+    ensures still { IfErr result (λ refused. due + 10000 ≤ now) }
+{
+    if is_live(due, now) {
+        Ok(Reply::Line("ok\n"))
+    } else {
+        Err(Refusal::NoRounds)
+    }
+}
+
+/// Returns the reply with the answer to a request, which this node gave, or the refusal for its error. `is_over` says whether
+/// the request ended because a node may have performed it without a reply.
+fn settle(
+    owner: Address,
+    answer: Result<Text, ClusterError>,
+    is_over: bool,
+) -> Result<Reply, Refusal>
+    ensures { Settled owner (not is_over) answer result }
+{
+    match answer {
+        Ok(text) => Ok(Reply::Handled { owner, text }),
+        Err(ClusterError::Memory) if is_over => Err(Refusal::AnswerLost),
+        Err(error) => Err(refusal_of(error)),
+    }
+}
+
 /// The service that answers the requests of one connection.
 #[derive(Drop)]
 pub struct Front<'f, 'a, R> {
     pub agent: &'a Agent<R>,
     pub alloc: Global,
+    /// The client's IP address, if it is known.
+    pub client: Option<IpAddr>,
     pub caller: &'f mut Caller,
     pub link: &'f mut NotedLink<'a, R>,
     /// Set if the request is a question about the ring for which there is no place to wait.
@@ -126,77 +172,125 @@ pub struct Front<'f, 'a, R> {
 }
 
 impl<'f, 'a, R: Host> Front<'f, 'a, R> {
-    /// Has the owner of a key answer a request, unless the hosts are still being asked or too many requests wait for it.
-    /// Returns the answer and the owner.
+    /// Has the owner of a key answer a request that is a body alone.
     fn handle(&mut self, key: Text, body: Text) -> Result<Reply, Refusal>
         ensures performed { HasMade (Performs self.old.agent.now.own self.old.agent.now.replicas (action.Handle key body) result) self.old.caller.now self.new.caller.now }
+        ensures agent { self.new.agent ≡ self.old.agent }
+    {
+        match pack_body(self.alloc, body) {
+            Ok(text) => self.pass(key, Outgoing::Body(text), true),
+            Err(_) => Err(Refusal::Memory),
+        }
+    }
+
+    /// Has the owner of a key answer a request, unless the hosts are still being asked or too many requests wait for it. Returns
+    /// the answer and the owner.
+    fn pass(&mut self, key: Text, request: Outgoing, is_repeatable: bool) -> Result<Reply, Refusal>
+        ensures performed { HasMade (Performs self.old.agent.now.own self.old.agent.now.replicas (action.Pass key request is_repeatable) result) self.old.caller.now self.new.caller.now }
         ensures agent { self.new.agent ≡ self.old.agent }
     {
         if self.agent.is_starting.get() {
             return Err(Refusal::NotJoined);
         }
-        match self.owner_of(&key) {
-            Ok(owner) => self.ask_if_placed(owner, key, body),
+        match self.find(&key) {
+            Ok(found) => self.ask_if_placed(found, key, request, is_repeatable),
             Err(refusal) => Err(refusal),
         }
     }
 
-    /// Returns the owner of a key by this node's view.
-    fn owner_of(&mut self, key: &Text) -> Result<Address, Refusal>
+    /// Returns the owner of a key by this node's view, and the node that would own it next, if there is one.
+    fn find(&mut self, key: &Text) -> Result<(Address, Option<Address>), Refusal>
         ensures found { HasMade (Finds key.now result) self.old.caller.now self.new.caller.now }
         ensures agent { self.new.agent ≡ self.old.agent }
     {
         match self.caller.view(&self.agent.rt) {
-            Ok(view) => owner_by(&view, key),
+            Ok(view) => found_by(&view, key),
             Err(error) => Err(refusal_of(error)),
         }
     }
 
     /// Has the owner of a key, which this node's view gave, answer a request, unless too many wait for that owner.
-    fn ask_if_placed(&mut self, owner: Address, key: Text, body: Text) -> Result<Reply, Refusal>
-        ensures asked { HasMade (AsksIfPlaced self.old.agent.now.own key body result (Ok owner)) self.old.caller.now self.new.caller.now }
+    fn ask_if_placed(
+        &mut self,
+        found: (Address, Option<Address>),
+        key: Text,
+        request: Outgoing,
+        is_repeatable: bool,
+    ) -> Result<Reply, Refusal>
+        ensures asked { HasMade (AsksIfPlaced self.old.agent.now.own key request is_repeatable result (Ok found)) self.old.caller.now self.new.caller.now }
         ensures agent { self.new.agent ≡ self.old.agent }
     {
         let agent = self.agent;
+        let (owner, next) = found;
         if !agent.waiting.take(&agent.rt, agent.own, owner) {
             return Err(crowded(agent.own, owner));
         }
-        let reply = self.ask_owner(key, body);
+        let reply = self.send(key, request, next, is_repeatable);
         agent.waiting.give_back(&agent.rt, agent.own, owner);
         reply
     }
 
-    /// Has the owner of a key answer a request, and returns the answer and the owner.
-    fn ask_owner(&mut self, key: Text, body: Text) -> Result<Reply, Refusal>
-        ensures asked { HasMade (AsksOwner key body result) self.old.caller.now self.new.caller.now }
+    /// Has the owner of a key answer a request, which tells the next owner. Returns the answer and the node that gave it.
+    fn send(
+        &mut self,
+        key: Text,
+        request: Outgoing,
+        next: Option<Address>,
+        is_repeatable: bool,
+    ) -> Result<Reply, Refusal>
+        ensures asked { HasMade (AsksOwner self.old.agent.now.own key (sent_text next request) is_repeatable result) self.old.caller.now self.new.caller.now }
+        ensures agent { self.new.agent ≡ self.old.agent }
+    {
+        match pack_request(self.alloc, request, next) {
+            Ok(text) => self.ask_owner(key, text, is_repeatable),
+            Err(_) => Err(Refusal::Memory),
+        }
+    }
+
+    /// Has the owner of a key answer the request that a text has, and returns the answer and the node that gave it.
+    fn ask_owner(&mut self, key: Text, request: Text, is_repeatable: bool) -> Result<Reply, Refusal>
+        ensures asked { HasMade (AsksOwner self.old.agent.now.own key request is_repeatable result) self.old.caller.now self.new.caller.now }
         ensures agent { self.new.agent ≡ self.old.agent }
     {
         let agent = self.agent;
         let Ok(keys) = Keys::new(self.alloc, key) else {
             return Err(Refusal::Memory);
         };
-        let mut handler = NotedHandler {
-            handler: &agent.application,
-            was_asked: false,
-        };
+        let (answer, owner, is_over) = self.ask(keys, request, is_repeatable);
+        settle(owner, answer, is_over)
+    }
+
+    /// Returns the answer to a request, the node that gave it, and whether the request ended because a node may have performed it
+    /// without a reply: one that may not be performed twice is sent again only while none can have.
+    fn ask(
+        &mut self,
+        keys: Keys,
+        request: Text,
+        is_repeatable: bool,
+    ) -> (Result<Text, ClusterError>, Address, bool)
+        ensures requested { (asked : Bool) × (noted : Option ℕ) × (result.1 ≡ answerer self.old.agent.now.own asked noted)
+            × HasMade (IsRequested asked noted keys request result.0) self.old.caller.now self.new.caller.now }
+        ensures over { is_repeatable ≡ true → result.2 ≡ false }
+        ensures agent { self.new.agent ≡ self.old.agent }
+    {
+        let agent = self.agent;
+        let (rt, alloc, clock) = (&agent.rt, self.alloc, agent.clock());
+        let mut handler = NotedHandler::new(&agent.application);
         self.link.last = None;
-        let answer = self.caller.request(
-            &agent.rt,
-            self.alloc,
-            self.link,
-            &mut handler,
-            &agent.clock(),
-            keys,
-            body,
-        );
-        let owner = match self.link.last {
-            Some(last) if !handler.was_asked => last,
-            _ => agent.own,
-        };
-        match answer {
-            Ok(text) => Ok(Reply::Handled { owner, text }),
-            Err(error) => Err(refusal_of(error)),
+        if is_repeatable {
+            let link = &mut *self.link;
+            let answer = self
+                .caller
+                .request(rt, alloc, link, &mut handler, &clock, keys, request);
+            let owner = answerer(agent.own, handler.was_asked, self.link.last);
+            return (answer, owner, false);
         }
+        let mut once = OnceLink::new(agent, &mut *self.link);
+        let answer = self
+            .caller
+            .request(rt, alloc, &mut once, &mut handler, &clock, keys, request);
+        let owner = answerer(agent.own, handler.was_asked, once.last);
+        (answer, owner, once.is_over)
     }
 
     /// Returns the first owners of a key, unless the hosts are still being asked.
@@ -347,12 +441,8 @@ impl<'f, 'a, R: Host> Front<'f, 'a, R> {
         ensures { IsLiveness result }
     {
         let agent = self.agent;
-        let last = agent.last_round.get().saturating_add(agent.period);
-        if is_live(last, agent.now().number()) {
-            Ok(Reply::Line("ok\n"))
-        } else {
-            Err(Refusal::NoRounds)
-        }
+        let due = agent.last_round.get().saturating_add(agent.period);
+        liveness(due, agent.now().number())
     }
 
     /// Performs an action, and returns its reply.
@@ -362,6 +452,11 @@ impl<'f, 'a, R: Host> Front<'f, 'a, R> {
     {
         match action {
             Action::Handle { key, body } => self.handle(key, body),
+            Action::Pass {
+                key,
+                request,
+                is_repeatable,
+            } => self.pass(key, request, is_repeatable),
             Action::Owners { key, count } => self.owners(&key, count),
             Action::AllOwners {
                 keys,
@@ -383,10 +478,10 @@ impl<'f, 'a, R: Host> Front<'f, 'a, R> {
 
     /// Returns the reply to a request.
     fn reply(&mut self, request: &Request<Bytes>) -> Result<Reply, Refusal>
-        ensures settled { HasMade (Settles self.old.agent.now.own self.old.agent.now.replicas request.now result) self.old.caller.now self.new.caller.now }
+        ensures settled { HasMade (Settles self.old.agent.now.own self.old.agent.now.replicas self.old.agent.now.key_field request.now result) self.old.caller.now self.new.caller.now }
         ensures agent { self.new.agent ≡ self.old.agent }
     {
-        match action_of(self.alloc, request) {
+        match action_of(self.alloc, request, &self.agent.key_field, &self.client) {
             Ok(action) => self.act(action),
             Err(refusal) => Err(refusal),
         }
@@ -395,16 +490,13 @@ impl<'f, 'a, R: Host> Front<'f, 'a, R> {
     /// Counts a request of a key by its reply and its time.
     fn count(&self, reply: &Result<Reply, Refusal>, start: Option<Instant>) {
         let counters = &self.agent.counters;
+        counters.add_answer(reply);
         match reply {
             Ok(_) => counters.answered.add(1),
             Err(refusal) if refusal.status() < 500 => counters.refused.add(1),
             Err(_) => counters.failed.add(1),
         }
-        if let Some(start) = start {
-            if let Ok(spent) = start.elapsed(&self.agent.rt) {
-                counters.add_time(spent.as_micros().min(u64::MAX as u128) as u64);
-            }
-        }
+        counters.requests.add_since(&self.agent.rt, start);
     }
 
     /// Returns whether the connection is closed after the answer: the agent is to end.
@@ -419,13 +511,13 @@ impl<'f, 'a, R: Host> Front<'f, 'a, R> {
         response: &mut Response,
     ) -> Result<(), AllocError>
         requires { IsBlank response.old }
-        ensures answered { (outcome : Outcome) × HasMade (Settles self.old.agent.now.own self.old.agent.now.replicas request.now outcome) self.old.caller.now self.new.caller.now
+        ensures answered { (outcome : Outcome) × HasMade (Settles self.old.agent.now.own self.old.agent.now.replicas self.old.agent.now.key_field request.now outcome) self.old.caller.now self.new.caller.now
             × OnOk result ((closes : Bool) × ShowsOutcome outcome closes response.new) }
         ensures agent { self.new.agent ≡ self.old.agent }
     {
         let start = Instant::now(&self.agent.rt).ok();
         let reply = self.reply(request);
-        if request.uri().path().starts_with("/keys/") {
+        if is_of_key(request, &self.agent.key_field) {
             self.count(&reply, start);
         }
         if matches!(&reply, Err(Refusal::Memory)) {
@@ -442,7 +534,7 @@ impl<'f, 'a, R: Host> Front<'f, 'a, R> {
 impl<'f, 'a, R: Host> Service for Front<'f, 'a, R> {
     // The response answers the request, after calls of the node by the thread's pass.
     ghost answers = { λ old request response new. (new.agent ≡ old.agent)
-        × HasMade (IsAnswered old.agent.now.own old.agent.now.replicas request response) old.caller.now new.caller.now };
+        × HasMade (IsAnswered old.agent.now.own old.agent.now.replicas old.agent.now.key_field request response) old.caller.now new.caller.now };
 
     fn call(
         &mut self,

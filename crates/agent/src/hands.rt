@@ -1,9 +1,12 @@
 //! The hands of an agent, the threads that have the application answer the requests of other nodes.
+ghost use Rattle.agent.specs.Asking.{AsksFor};
+ghost use Rattle.agent.specs.Calling.{HasMade};
+
 use crate::agents::Agent;
 use crate::applications::Limited;
 use crate::callers::Caller;
 use crate::links::NotedHandler;
-use crate::peers::{Job, line_for, send_back};
+use crate::peers::{Job, send_back};
 use crate::relays::{line_after, millis_left, relay, relay_link};
 use crate::systems::Host;
 use cluster_core::TcpLink;
@@ -14,20 +17,20 @@ use std::net::TcpStream;
 use std::sync::Arc;
 
 /// Returns the line of this node's own answer to a request, for which the application has what is left of the limit, and
-/// whether the application was asked: it is if this node owns the request by its view.
+/// whether the application was asked: once, if this node owns the request by its view.
 fn own_answer<R: Host>(
     agent: &Agent<R>,
     alloc: Global,
     caller: &mut Caller,
     link: &mut TcpLink<R>,
     job: &Job,
-) -> (Option<Vec<u8>>, bool) {
+) -> (Option<Vec<u8>>, bool)
+    ensures asked { HasMade (AsksFor job.now.input result.1) caller.old caller.new }
+{
     let application = Limited::new(&agent.application, millis_left(agent, job.since));
-    let mut handler = NotedHandler {
-        handler: &application,
-        was_asked: false,
-    };
-    let line = line_for(agent, alloc, caller, link, &mut handler, &job.input);
+    let mut handler = NotedHandler::new(&application);
+    let (rt, now) = (&agent.rt, agent.now());
+    let line = caller.respond(rt, alloc, link, &mut handler, now, &job.input);
     (line, handler.was_asked)
 }
 
@@ -42,9 +45,11 @@ fn serve_request<R: Host>(
     mut job: Job,
 ) {
     let (mut line, was_asked) = own_answer(agent, alloc, caller, link, &job);
+    agent.renew(caller);
     if !was_asked {
         let mut relay_link = relay_link(agent);
         let relayed = relay(agent, alloc, caller, &mut relay_link, &mut job);
+        agent.renew(caller);
         line = match line_after(relayed) {
             Some(line) => line,
             None => own_answer(agent, alloc, caller, link, &job).0,

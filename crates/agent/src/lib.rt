@@ -3,6 +3,7 @@
 #![tactic(auto)]
 
 mod acceptors;
+mod admissions;
 mod agents;
 mod applications;
 mod callers;
@@ -18,7 +19,10 @@ mod hosts;
 mod journals;
 mod links;
 mod notices;
+mod onces;
+mod passing;
 mod peers;
+mod processes;
 mod pumps;
 mod questions;
 mod rejections;

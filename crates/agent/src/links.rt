@@ -1,6 +1,8 @@
 //! A link that notes the node that gave its last answer, and a handler that notes whether it was called, so that a reply can
 //! name the node that gave it.
-ghost use Rattle.std.specs.Prelude.{◌≡◌, ◌↔◌, ◌⊎◌, IsTrue};
+ghost use Rattle.std.specs.Prelude.{◌≡◌, ◌↔◌, ◌⊎◌, IsTrue, false};
+ghost use Rattle.cluster_core.specs.Sockets.{failures_over};
+ghost use Rattle.agent.specs.Asking.{source_of};
 
 use crate::agents::Agent;
 use crate::rejections::note_answer;
@@ -19,6 +21,16 @@ fn is_own(error: LinkError) -> bool
     ensures { IsTrue result ↔ ((error ≡ LinkError.Memory) ⊎ (error ≡ LinkError.Spent)) }
 {
     matches!(error, LinkError::Memory | LinkError::Spent)
+}
+
+/// Returns the node that gave an answer; None if there is none.
+pub fn source_of(answer: &Result<Message, LinkError>) -> Option<Address>
+    ensures { result ≡ source_of answer.now }
+{
+    match answer {
+        Ok(message) => Some(message.source),
+        Err(_) => None,
+    }
 }
 
 /// A link of an agent. It notes the node that gave the last answer, counts the requests sent and the calls that failed, and
@@ -72,6 +84,20 @@ impl<'a, R: Host> NotedLink<'a, R> {
         disowned
     }
 
+    /// Takes the answer of a node to a message: notes who gave it, counts, and logs.
+    pub fn take(&mut self, to: Address, message: &Message, answer: &Result<Message, LinkError>)
+        ensures failures { failures_over self.new.link ≡ failures_over self.old.link }
+        ensures noted { self.new.last ≡ source_of answer.now }
+    {
+        self.last = source_of(answer);
+        if matches!(&message.content, Content::Forward(_, _)) {
+            self.agent.counters.forwards.add(1);
+            self.disowned = self.disowned_with(to, answer);
+        }
+        self.note(to, answer);
+        note_answer(self.agent, to, message, answer);
+    }
+
     /// Counts a failed call of a node, and logs it, or that the node answers, unless the log said so last.
     fn note(&self, to: Address, answer: &Result<Message, LinkError>) {
         let Agent {
@@ -110,10 +136,12 @@ impl<'a, R: Host> NotedLink<'a, R> {
 impl<'a, R: Host> Link for NotedLink<'a, R> {
     ghost use Rattle.cluster_core.specs.Sockets.{failures_over};
     ghost use Rattle.agent.specs.Calling.{AnyAnswer};
+    ghost use Rattle.agent.specs.Asking.{notes_source};
 
     ghost may_answer = { AnyAnswer };
 
-    ghost went = { λ _ _ _ _ _. Unit {0} };
+    // the node that gave the answer is noted
+    ghost went = { λ to message answer old new. notes_source to message answer old.last new.last };
 
     ghost failed = { λ n. failures_over n.link };
 
@@ -129,16 +157,7 @@ impl<'a, R: Host> Link for NotedLink<'a, R> {
         message: &Message,
     ) -> Result<Message, LinkError> {
         let answer = self.link.call(rt, alloc, to, message);
-        self.last = match &answer {
-            Ok(message) => Some(message.source),
-            Err(_) => None,
-        };
-        if matches!(&message.content, Content::Forward(_, _)) {
-            self.agent.counters.forwards.add(1);
-            self.disowned = self.disowned_with(to, &answer);
-        }
-        self.note(to, &answer);
-        note_answer(self.agent, to, message, &answer);
+        self.take(to, message, &answer);
         answer
     }
 }
@@ -146,12 +165,27 @@ impl<'a, R: Host> Link for NotedLink<'a, R> {
 /// A handler that notes whether it was called.
 #[derive(Drop)]
 pub struct NotedHandler<'a, A> {
-    pub handler: &'a A,
+    handler: &'a A,
     pub was_asked: bool,
 }
 
+impl<'a, A> NotedHandler<'a, A> {
+    /// Makes the handler, which was not called.
+    pub fn new(handler: &'a A) -> Self
+        ensures asked { result.was_asked ≡ false }
+    {
+        NotedHandler {
+            handler,
+            was_asked: false,
+        }
+    }
+}
+
 impl<'a, A: Handler> HandlerMut for NotedHandler<'a, A> {
-    ghost handled = { λ keys body answer old new. A.may_handle old.handler.now keys body answer };
+    ghost use Rattle.agent.specs.Asking.{notes_call};
+
+    // a call is noted
+    ghost handled = { λ keys body answer old new. notes_call keys body answer old.was_asked new.was_asked × A.may_handle old.handler.now keys body answer };
 
     fn handle_mut<R: Wait>(
         &mut self,

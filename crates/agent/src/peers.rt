@@ -1,7 +1,8 @@
 //! Connections of other nodes: one line in and one line out. Gossip is answered immediately, by threads that never wait
 //! for the application.
+use crate::admissions::admit;
 use crate::agents::Agent;
-use crate::applications::Overloaded;
+use crate::applications::{Joining, Overloaded};
 use crate::callers::Caller;
 use crate::rejections::note_input;
 use crate::systems::Host;
@@ -89,7 +90,7 @@ fn listen_to<R: Host>(agent: &Agent<R>, alloc: Global, stream: &TcpStream) -> In
 }
 
 /// Serves one connection. Gossip is answered immediately. A request goes to the queue of the hands, the threads that
-/// have the application answer; if the queue is full, it is answered that too many wait.
+/// have the application answer; if the queue is full, it is answered that too many wait. Before a host has answered it is refused.
 fn serve_connection<R: Host>(
     agent: &Agent<R>,
     alloc: Global,
@@ -101,6 +102,7 @@ fn serve_connection<R: Host>(
     let since = agent.now();
     let input = listen_to(agent, alloc, &stream);
     note_input(agent, &input);
+    let input = admit(agent, caller, input);
     let is_request = is_request(&input);
     let job = Job {
         input,
@@ -109,6 +111,9 @@ fn serve_connection<R: Host>(
     };
     if !is_request {
         return answer(agent, alloc, caller, link, &mut &agent.application, job);
+    }
+    if agent.is_starting.get() {
+        return answer(agent, alloc, caller, link, &mut &Joining, job);
     }
     if let Err(TrySendError::Full(job)) = hands.try_send(&agent.rt, job) {
         answer(agent, alloc, caller, link, &mut &Overloaded, job);

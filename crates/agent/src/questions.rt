@@ -99,25 +99,6 @@ pub fn ring_digest(alloc: Global, members: &[Change]) -> Result<Digest, Refusal>
     digest_of(alloc, servers.as_slice())
 }
 
-/// Makes the reply with the ring of a node that holds these members, unless `after` is the text of the ring's digest.
-fn ring_by(
-    alloc: Global,
-    own: Address,
-    replicas: u32,
-    members: &[Change],
-    after: Option<&Text>,
-) -> Result<Reply, Refusal>
-    ensures { ShowsRing own replicas (option_copied after.entry) members.now result }
-{
-    let servers = on_ring(alloc, members).map_err(out_of_memory)?;
-    let digest = digest_of(alloc, servers.as_slice())?;
-    if is_known(after, &digest) {
-        return Ok(Reply::Unchanged { digest });
-    }
-    let text = ring_text(alloc, own, &digest, replicas, servers.as_slice()).map_err(out_of_memory)?;
-    Ok(Reply::Ring { digest, text })
-}
-
 impl<'f, 'a, R: Host> Front<'f, 'a, R> {
     /// Returns the first owners of keys by one view.
     ///
@@ -145,6 +126,28 @@ impl<'f, 'a, R: Host> Front<'f, 'a, R> {
         }
     }
 
+    /// Makes the reply with the ring of these members, unless `after` is the text of the ring's digest.
+    fn show_ring(&self, members: &[Change], after: Option<&Text>) -> Result<Reply, Refusal>
+        ensures { ShowsRing self.now.agent.now.own self.now.agent.now.replicas (option_copied after.entry) members.now result }
+    {
+        let (agent, alloc) = (self.agent, self.alloc);
+        let servers = on_ring(alloc, members).map_err(out_of_memory)?;
+        let servers = servers.as_slice();
+        let digest = digest_of(alloc, servers)?;
+        if is_known(after, &digest) {
+            return Ok(Reply::Unchanged { digest });
+        }
+        let since = agent.watchers.since(&agent.rt, &digest);
+        let text = ring_text(alloc, agent.own, &digest, agent.replicas, servers).map_err(
+            out_of_memory,
+        )?;
+        Ok(Reply::Ring {
+            digest,
+            since,
+            text,
+        })
+    }
+
     /// Returns the ring, or that its digest is the one with the text `after`.
     ///
     /// # Errors
@@ -164,17 +167,8 @@ impl<'f, 'a, R: Host> Front<'f, 'a, R> {
             self.is_turned_away.set(false);
             return Err(Refusal::ManyQuestions);
         }
-        let agent = self.agent;
-        match self.caller.members(&agent.rt) {
-            Ok(members) => {
-                ring_by(
-                    self.alloc,
-                    agent.own,
-                    agent.replicas,
-                    members.as_slice(),
-                    after,
-                )
-            }
+        match self.caller.members(&self.agent.rt) {
+            Ok(members) => self.show_ring(members.as_slice(), after),
             Err(error) => Err(refusal_of(error)),
         }
     }

@@ -3,10 +3,11 @@ ghost use Rattle.std.specs.Prelude.{◌≡◌, IfOk, IfErr};
 ghost use Rattle.agent_core.specs.Metrics.{metrics_text};
 ghost use Rattle.agent_core.specs.Texts.{digest_line, members_text, owners_text};
 ghost use Rattle.agent_core.specs.declared.answers.Kind.{Kind as Content};
-ghost use Rattle.agent.specs.Replies.{IsText};
+ghost use Rattle.agent.specs.Replies.{IsOpenText, IsText};
 
 use agent_core::{Counts, Refusal, digest_line, members_text, metrics_text, owners_text};
 use change_core::{Address, Change, Digest};
+use httpdate::HttpDate;
 use message_core::Text;
 use std::alloc::{AllocError, Global};
 
@@ -14,17 +15,28 @@ use std::alloc::{AllocError, Global};
 #[derive(Debug, Drop)]
 pub enum Reply {
     /// An application's answer, as `pack` makes it, and the node that owns the key.
-    Handled { owner: Address, text: Text },
+    Handled {
+        owner: Address,
+        text: Text,
+    },
     /// One line of text.
     Line(&'static str),
     /// Text.
     Text(String),
     /// JSON.
     Json(String),
-    /// The ring as JSON, and its digest.
-    Ring { digest: Digest, text: String },
+    /// The ring as JSON, its digest, and since when it is this one; None if no clock tells it.
+    Ring {
+        digest: Digest,
+        since: Option<HttpDate>,
+        text: String,
+    },
     /// The ring has this digest still.
-    Unchanged { digest: Digest },
+    Unchanged {
+        digest: Digest,
+    },
+    /// The digest of the members, which pages of other sites may read, so that the pages of other agents compare it.
+    Digest(String),
     /// The page that shows the ring, as HTML.
     Page,
 }
@@ -88,10 +100,10 @@ impl Reply {
     ///
     /// - `Memory`: out of memory.
     pub fn digest(alloc: Global, digest: &Digest) -> Result<Reply, Refusal>
-        ensures reply { IfOk result (IsText Content.Text (digest_line digest.now.bytes)) }
+        ensures reply { IfOk result (IsOpenText (digest_line digest.now.bytes)) }
         ensures refused { IfErr result (λ e. e ≡ Refusal.Memory) }
     {
         let text = digest_line(alloc, digest).map_err(out_of_memory)?;
-        Ok(Reply::Text(text))
+        Ok(Reply::Digest(text))
     }
 }

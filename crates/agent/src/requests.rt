@@ -1,12 +1,15 @@
 //! What a request over HTTP asks for.
-ghost use Rattle.std.specs.Prelude.{◌≡◌, ◌↔◌, IfOk, IfErr, IsTrue, Ok};
+ghost use Rattle.std.specs.Prelude.{◌≡◌, ◌↔◌, Err, IfOk, IfErr, IsTrue, Ok, option_copied};
 ghost use Rattle.http.specs.Request.{head_of};
-ghost use Rattle.agent.specs.Requests.{AsksFor, IsCrossSite, IsRefused, Refuses, answered_as, asked_by};
+ghost use Rattle.http_header.specs.HeaderMap.{get_all};
+ghost use Rattle.agent.specs.Requests.{AsksFor, AsksHere, IsCrossSite, IsRefused, IsRefusedHere, Refuses, answered_as, asked_by, field_text, passed_key};
 
-use agent_core::{Action, Refusal, route};
+use crate::passing::pass;
+use agent_core::{Action, Part, Refusal, key_text, route};
 use bytes::Bytes;
-use http::Request;
+use http::{HeaderName, Request};
 use std::alloc::Global;
+use std::net::IpAddr;
 
 /// Returns the method by which a request is answered. A HEAD is answered as a GET (RFC 9110, section 9.3.2): the HTTP server
 /// sends the head of the answer alone.
@@ -37,18 +40,83 @@ fn routed(alloc: Global, request: &Request<Bytes>) -> Result<Action, Refusal>
     route(alloc, method_of(request), uri.path(), uri.query(), body)
 }
 
-/// Returns the action that a request asks for.
-///
-/// # Errors
-///
-/// - `CrossSite`: the method is neither GET nor HEAD, and the request has an `Origin` field. This is checked first.
-/// - Each error of [`route`].
-pub fn action_of(alloc: Global, request: &Request<Bytes>) -> Result<Action, Refusal>
-    ensures action { IfOk result (AsksFor request.now) }
-    ensures refused { IfErr result (IsRefused request.now) }
+/// Returns the action that a request to the agent itself asks for.
+fn action_here(alloc: Global, request: &Request<Bytes>) -> Result<Action, Refusal>
+    ensures action { IfOk result (AsksHere request.now) }
+    ensures refused { IfErr result (IsRefusedHere request.now) }
 {
     if is_cross_site(request) {
         return Err(Refusal::CrossSite);
     }
     routed(alloc, request)
+}
+
+/// Returns the text of the field of a request that has this name, if it has one.
+fn field_text<'a>(
+    request: &'a Request<Bytes>,
+    name: &HeaderName,
+) -> Result<Option<&'a str>, Refusal>
+    ensures text { IfOk result (λ text. field_text (get_all (head_of request.now).headers name.now) ≡ Ok (option_copied text)) }
+    ensures refused { IfErr result (λ e. field_text (get_all (head_of request.now).headers name.now) ≡ Err e) }
+{
+    let values = request.headers().get_all(name);
+    let mut values = values.iter();
+    let Some(value) = values.next() else {
+        return Ok(None);
+    };
+    if values.next().is_some() {
+        return Err(Refusal::Malformed(Part::KeyField));
+    }
+    match value.to_str() {
+        Ok(text) => Ok(Some(text)),
+        Err(_) => Err(Refusal::Malformed(Part::KeyField)),
+    }
+}
+
+/// Returns the text that encodes the key of a request, if any request of a key is passed on, which the field of this name
+/// says, and it is one: that field or, without it, the segment of its path after `/keys/`.
+fn passed_key<'a>(
+    request: &'a Request<Bytes>,
+    key_field: &Option<HeaderName>,
+) -> Result<Option<&'a str>, Refusal>
+    ensures key { IfOk result (λ key. passed_key key_field.now request.now ≡ Ok (option_copied key)) }
+    ensures refused { IfErr result (λ e. passed_key key_field.now request.now ≡ Err e) }
+{
+    let Some(name) = key_field else {
+        return Ok(None);
+    };
+    let field = field_text(request, name)?;
+    Ok(key_text(request.uri().path(), field))
+}
+
+/// Returns whether a request is one of a key, by its path or by the field of this name.
+pub fn is_of_key(request: &Request<Bytes>, key_field: &Option<HeaderName>) -> bool {
+    let is_named = match key_field {
+        Some(name) => request.headers().contains_key(name),
+        None => false,
+    };
+    is_named || request.uri().path().starts_with("/keys/")
+}
+
+/// Returns the action that a request of the client at this IP address, if that is known, asks for. With a name of the field that names keys, any request of a key is passed on.
+///
+/// # Errors
+///
+/// - `Malformed(Part::KeyField)`: that field comes twice, or is not visible ASCII, spaces and tabs. This is checked first.
+/// - Each error of [`pass`], if the request is passed on, and no other then.
+/// - `CrossSite`: the method is neither GET nor HEAD, and the request has an `Origin` field.
+/// - Each error of [`route`].
+pub fn action_of(
+    alloc: Global,
+    request: &Request<Bytes>,
+    key_field: &Option<HeaderName>,
+    client: &Option<IpAddr>,
+) -> Result<Action, Refusal>
+    ensures action { IfOk result (AsksFor key_field.now request.now) }
+    ensures refused { IfErr result (IsRefused key_field.now request.now) }
+{
+    match passed_key(request, key_field)? {
+        Some(key) => pass(alloc, request, key, client),
+        None => action_here(alloc, request),
+    }
 }

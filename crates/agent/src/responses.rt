@@ -1,19 +1,26 @@
 //! Responses of HTTP, from replies and refusals.
-ghost use Rattle.std.specs.Prelude.{◌≡◌, [], ◌∷◌, ◌++◌, OnOk, IfOk};
+ghost use Rattle.std.specs.Prelude.{◌≡◌, [], ◌∷◌, ◌++◌, map, None, Ok, true, false, OnOk, IfOk, IfSome};
+ghost use Rattle.std.specs.List.{All};
 ghost use Rattle.change_core.specs.Address.{address_text};
 ghost use Rattle.http.specs.StatusCode.{IsStatusCode};
 ghost use Rattle.http_header.specs.FieldValue.{plain_value};
-ghost use Rattle.http_server.specs.Response.{IsBlank, IsResponse, fields_of};
+ghost use Rattle.http_server.specs.Response.{IsBlank, IsResponse, fields, fields_of};
+ghost use Rattle.httpdate.specs.Date.{date_text};
 ghost use Rattle.agent_core.specs.Packs.{unpacked};
+ghost use Rattle.agent_core.specs.Passing.{named};
 ghost use Rattle.agent_core.specs.Refusals.{kind_name, sent};
-ghost use Rattle.agent.specs.Replies.{ShowsRefusal, ShowsReply, allowed_methods, answered_kind, closing, fields_for, named_owner, owner_field, reply_body, reply_kind, reply_status, retry_field, tag_field, tag_text, word_field, word_if};
+ghost use Rattle.agent.specs.Replies.{HasNoAnswer, IsField, ShowsRefusal, ShowsReply, ShowsText, ShowsWhole, allowed_methods, answered_kind, closing, date_field, dated, fields_for, lower, named_owner, open_field, owner_field, reply_body, reply_kind, reply_status, retry_field, tag_field, tag_text, word_field, word_if};
 
 use crate::replies::Reply;
-use agent_core::{Answer, Kind, Refusal, Verb, unpack};
+use agent_core::{
+    Answer, Field, Kind, PassedAnswer, Refusal, Verb, answer_in, unpack, unpack_bytes,
+};
 use bytes::BufMut;
 use change_core::{Address, Digest, DigestText};
+use http::header::{HeaderNameError, HeaderValueError};
 use http::{HeaderName, HeaderValue, StatusCode};
 use http_server::Response;
+use httpdate::{HttpDate, fmt_http_date};
 use message_core::Text;
 use std::alloc::{AllocError, Global};
 
@@ -93,6 +100,147 @@ fn put_sent(response: &mut Response, status: u16, body: &str) -> Result<(), Allo
     }
 }
 
+/// Returns a field as the response has it; None if it is no field of HTTP.
+fn header_of(
+    alloc: Global,
+    field: Field<'_>,
+) -> Result<Option<(HeaderName, HeaderValue)>, AllocError>
+    ensures field { IfOk result (λ r. IfSome r (λ shown. IsField (named field.entry) × ((shown.0, shown.1.bytes) ≡ lower (named field.entry)))) }
+    ensures none { result ≡ Ok None → ¬ (IsField (named field.entry)) }
+{
+    let name = match HeaderName::from_bytes(alloc, field.name) {
+        Ok(name) => name,
+        Err(HeaderNameError::OutOfMemory) => return Err(AllocError),
+        Err(HeaderNameError::Invalid) => return Ok(None),
+    };
+    match HeaderValue::from_bytes(alloc, field.value) {
+        Ok(value) => Ok(Some((name, value))),
+        Err(HeaderValueError::OutOfMemory) => Err(AllocError),
+        Err(HeaderValueError::Invalid) => Ok(None),
+    }
+}
+
+/// Returns fields as the response has them; None if one of them is no field of HTTP.
+fn headers_of(
+    alloc: Global,
+    given: &[Field<'_>],
+) -> Result<Option<Vec<(HeaderName, HeaderValue)>>, AllocError>
+    ensures fields { IfOk result (λ r. IfSome r (λ shown. All IsField (map named given.now) × (fields shown.items ≡ map lower (map named given.now)))) }
+    ensures none { result ≡ Ok None → ¬ (All IsField (map named given.now)) }
+{
+    let mut headers = Vec::with_capacity(alloc, given.len())?;
+    for i in 0..given.len() {
+        let field = given[i];
+        let Some(header) = header_of(alloc, field)? else {
+            return Ok(None);
+        };
+        headers.push(header)?;
+    }
+    Ok(Some(headers))
+}
+
+/// Adds fields.
+#[tactic(auto, using(crate::proofs::Shown::fields_more))]
+fn put_fields(
+    response: &mut Response,
+    shown: Vec<(HeaderName, HeaderValue)>,
+) -> Result<(), AllocError>
+    ensures status { response.new.status ≡ response.old.status }
+    ensures body { response.new.body ≡ response.old.body }
+    ensures fields { OnOk result (fields_of response.new ≡ fields_of response.old ++ fields shown.items) }
+{
+    let mut shown = shown;
+    response.headers.append(&mut shown)
+}
+
+/// Writes an answer with these fields into a blank response. If `closes`, a header tells the client that the connection is
+/// closed after it.
+fn put_shown(
+    response: &mut Response,
+    status: u16,
+    shown: Vec<(HeaderName, HeaderValue)>,
+    body: &[u8],
+    closes: bool,
+) -> Result<(), AllocError>
+    requires blank { IsBlank response.old }
+    requires code { IsStatusCode status }
+    ensures { OnOk result (IsResponse status (closing closes ++ fields shown.items) body.now response.new) }
+{
+    if let Ok(status) = StatusCode::from_u16(status) {
+        response.status = status;
+    }
+    put_closing(response, closes)?;
+    put_fields(response, shown)?;
+    response.body.put_slice(body)
+}
+
+/// Writes an answer that was passed on whole into a blank response, with a header that names the owner. Returns whether its
+/// fields are those of HTTP; if they are not, nothing is written.
+fn put_passed(
+    alloc: Global,
+    response: &mut Response,
+    owner: Address,
+    answer: &PassedAnswer<'_>,
+    closes: bool,
+) -> Result<bool, AllocError>
+    requires blank { IsBlank response.old }
+    requires code { IsStatusCode answer.now.status }
+    ensures shown { result ≡ Ok true → All IsField (map named answer.now.fields.items)
+        × IsResponse answer.now.status ((closing closes ++ map lower (map named answer.now.fields.items)) ++ named_owner owner) answer.now.body.now response.new }
+    ensures none { result ≡ Ok false → IsBlank response.new × ¬ (All IsField (map named answer.now.fields.items)) }
+{
+    let Some(fields) = headers_of(alloc, answer.fields.as_slice())? else {
+        return Ok(false);
+    };
+    put_shown(response, answer.status, fields, answer.body, closes)?;
+    put_owner(alloc, response, owner)?;
+    Ok(true)
+}
+
+/// Writes the answer to a request that was passed on whole into a blank response, with a header that names the owner. Returns
+/// whether the text is one; if it is not, nothing is written.
+fn put_whole(
+    alloc: Global,
+    response: &mut Response,
+    owner: Address,
+    text: &str,
+    closes: bool,
+) -> Result<bool, AllocError>
+    requires { IsBlank response.old }
+    ensures shown { result ≡ Ok true → ShowsWhole text.now closes owner response.new }
+    ensures none { result ≡ Ok false → IsBlank response.new × HasNoAnswer text.now }
+{
+    let Some(bytes) = unpack_bytes(alloc, text)? else {
+        return Ok(false);
+    };
+    match answer_in(alloc, bytes.as_slice())? {
+        Some(answer) => put_passed(alloc, response, owner, &answer, closes),
+        None => Ok(false),
+    }
+}
+
+/// Writes the answer to a request that was a body alone into a blank response, with a header that names the owner.
+fn put_plain(
+    alloc: Global,
+    response: &mut Response,
+    owner: Address,
+    text: &Text,
+    closes: bool,
+) -> Result<(), AllocError>
+    requires { IsBlank response.old }
+    ensures { OnOk result (ShowsText (Reply.Handled owner text.now) closes response.new) }
+{
+    let packed = unpack(text.as_str());
+    let answer = Answer {
+        status: packed.status,
+        kind: kind_of(packed.is_json),
+        body: packed.body,
+    };
+    put(response, answer, closes)?;
+    put_owner(alloc, response, owner)?;
+    put_sent(response, packed.status, packed.body)
+}
+
 /// Writes the answer of an application into a blank response, with a header that names the owner.
 fn put_handled(
     alloc: Global,
@@ -104,15 +252,10 @@ fn put_handled(
     requires { IsBlank response.old }
     ensures { OnOk result (ShowsReply (Reply.Handled owner text.now) closes response.new) }
 {
-    let packed = unpack(text.as_str());
-    let answer = Answer {
-        status: packed.status,
-        kind: kind_of(packed.is_json),
-        body: packed.body,
-    };
-    put(response, answer, closes)?;
-    put_owner(alloc, response, owner)?;
-    put_sent(response, packed.status, packed.body)
+    if put_whole(alloc, response, owner, text.as_str(), closes)? {
+        return Ok(());
+    }
+    put_plain(alloc, response, owner, text, closes)
 }
 
 /// Writes a text with status 200 into a blank response.
@@ -149,19 +292,56 @@ fn put_tag(alloc: Global, response: &mut Response, digest: &Digest) -> Result<()
     response.add_header(HeaderName::from_static("etag"), tag)
 }
 
-/// Writes the ring into a blank response, with a header that names its digest.
+/// Returns the header value that names a date.
+fn date_of(alloc: Global, date: HttpDate) -> Result<HeaderValue, AllocError>
+    ensures { IfOk result (λ value. value ≡ plain_value (date_text date)) }
+{
+    let text = fmt_http_date(alloc, date)?;
+    HeaderValue::from_string(text).map_err(|_| AllocError)
+}
+
+/// Adds the field that has a date since when the ring is this one (RFC 9110, section 8.8.2).
+fn add_date(alloc: Global, response: &mut Response, date: HttpDate) -> Result<(), AllocError>
+    ensures status { response.new.status ≡ response.old.status }
+    ensures body { response.new.body ≡ response.old.body }
+    ensures fields { OnOk result (fields_of response.new ≡ fields_of response.old ++ dated date) }
+{
+    let date = date_of(alloc, date)?;
+    response.add_header(HeaderName::from_static("last-modified"), date)
+}
+
+/// Adds the field that says since when the ring is this one, if that is known.
+#[tactic(auto, using(crate::proofs::Dated::no_date))]
+fn put_date(
+    alloc: Global,
+    response: &mut Response,
+    since: Option<HttpDate>,
+) -> Result<(), AllocError>
+    ensures status { response.new.status ≡ response.old.status }
+    ensures body { response.new.body ≡ response.old.body }
+    ensures fields { OnOk result (fields_of response.new ≡ fields_of response.old ++ date_field since) }
+{
+    match since {
+        Some(date) => add_date(alloc, response, date),
+        None => Ok(()),
+    }
+}
+
+/// Writes the ring into a blank response, with headers that name its digest and since when it is this one.
 fn put_ring(
     alloc: Global,
     response: &mut Response,
     digest: &Digest,
+    since: Option<HttpDate>,
     text: &str,
     closes: bool,
 ) -> Result<(), AllocError>
     requires { IsBlank response.old }
-    ensures { OnOk result (IsResponse 200 (fields_for closes Kind.Json ++ tag_field digest.now.bytes) text.now response.new) }
+    ensures { OnOk result (IsResponse 200 ((fields_for closes Kind.Json ++ tag_field digest.now.bytes) ++ date_field since) text.now response.new) }
 {
     put_text(response, Kind::Json, text, closes)?;
-    put_tag(alloc, response, digest)
+    put_tag(alloc, response, digest)?;
+    put_date(alloc, response, since)
 }
 
 /// Writes into a blank response that the ring has a digest still (RFC 9110, section 15.4.5).
@@ -183,6 +363,16 @@ fn put_unchanged(
     put_tag(alloc, response, digest)
 }
 
+/// Writes the line of a digest into a blank response, with a header by which the page of any site may read it.
+fn put_digest(response: &mut Response, line: &str, closes: bool) -> Result<(), AllocError>
+    requires { IsBlank response.old }
+    ensures { OnOk result (IsResponse 200 (fields_for closes Kind.Text ++ open_field) line.now response.new) }
+{
+    put_text(response, Kind::Text, line, closes)?;
+    let any = HeaderValue::from_static("*");
+    response.add_header(HeaderName::from_static("access-control-allow-origin"), any)
+}
+
 /// Writes a reply into a blank response. If `closes`, a header tells the client that the connection is closed after it.
 ///
 /// # Errors
@@ -202,8 +392,13 @@ pub fn put_reply(
         Reply::Line(line) => put(response, Answer::line(line), closes),
         Reply::Text(text) => put_text(response, Kind::Text, text.as_str(), closes),
         Reply::Json(text) => put_text(response, Kind::Json, text.as_str(), closes),
-        Reply::Ring { digest, text } => put_ring(alloc, response, digest, text.as_str(), closes),
+        Reply::Ring {
+            digest,
+            since,
+            text,
+        } => put_ring(alloc, response, digest, *since, text.as_str(), closes),
         Reply::Unchanged { digest } => put_unchanged(alloc, response, digest, closes),
+        Reply::Digest(line) => put_digest(response, line.as_str(), closes),
         Reply::Page => put(response, Answer::page(), closes),
     }
 }
@@ -246,7 +441,13 @@ pub fn put_refusal(
     requires { IsBlank response.old }
     ensures { OnOk result (ShowsRefusal refusal.now closes response.new) }
 {
-    put(response, Answer::refused(refusal), closes)?;
+    let line = refusal.line(alloc)?;
+    let answer = Answer {
+        status: refusal.status(),
+        kind: Kind::Text,
+        body: line.as_str(),
+    };
+    put(response, answer, closes)?;
     put_word(response, refusal)?;
     put_retry(response, refusal.status())?;
     match refusal {

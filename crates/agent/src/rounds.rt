@@ -13,7 +13,7 @@ use peer_core::{ClusterError, Healing, Round};
 use std::alloc::Global;
 use std::sync::Arc;
 use std::thread;
-use std::time::Duration;
+use std::time::{Duration, Instant};
 
 /// The number of rounds that spread that the node has left, before the agent ends.
 const LAST_ROUNDS: u64 = 10;
@@ -89,6 +89,9 @@ impl<'a, R: Host> Rounds<'a, R> {
             log_since_start(&agent.log(), initial, after, has_moved);
         }
         self.warn_of_addresses(used, after);
+        agent
+            .counters
+            .note_members(agent.own, after, &changed.digest);
         self.members = Some(changed.members);
         self.digest = Some(changed.digest);
         is_own
@@ -108,11 +111,20 @@ impl<'a, R: Host> Rounds<'a, R> {
             return;
         }
         let ring = match self.caller.members(&agent.rt) {
-            Ok(members) => agent.teller.note(&agent.rt, self.alloc, members.as_slice()),
+            Ok(members) => {
+                let members = members.as_slice();
+                agent.teller.note(&agent.rt, self.alloc, agent.own, members)
+            }
             Err(_) => None,
         };
         self.noted = if ring.is_some() { Some(digest) } else { None };
         agent.watchers.note(&agent.rt, ring);
+    }
+
+    /// Has the application told now that the node leaves, whatever failed before.
+    fn tell_of_end(&mut self) {
+        self.note_ring();
+        self.agent.teller.hurry();
     }
 
     /// Has the questions answered for which the ring has changed.
@@ -159,8 +171,10 @@ impl<'a, R: Host> Rounds<'a, R> {
         let agent = self.agent;
         self.answer_questions();
         let now = agent.now();
+        let start = Instant::now(&agent.rt).ok();
         let round = self.gossip(now);
         agent.counters.add_round(&round);
+        agent.counters.rounds.add_since(&agent.rt, start);
         agent.last_round.set(agent.now().number());
         self.log_errors(&round, now);
         self.log(&round);
@@ -230,6 +244,9 @@ pub fn make_rounds<R: Host>(
         let begun = agent.now().number();
         rounds.make();
         if agent.is_stopping.get() {
+            if last == 0 {
+                rounds.tell_of_end();
+            }
             last = last.saturating_add(1);
             if last >= LAST_ROUNDS {
                 agent.spread.unpark();

@@ -13,9 +13,10 @@ use crate::counters::{Count, Counters};
 use crate::errors::AgentError;
 use crate::hands::serve_requests;
 use crate::hosts::join_hosts;
-use crate::journals::Journal;
+use crate::journals::{Logger, share_log, start_log};
 use crate::notices::Notices;
 use crate::peers::{Job, serve_peers};
+use crate::processes::Process;
 use crate::rejections::Refused;
 use crate::rounds::make_rounds;
 use crate::services::{await_service, watch_service};
@@ -33,7 +34,8 @@ use line_service::{Stopwatch, Timeouts};
 use log::warn;
 use node_core::{Config, NodeError, NodeState};
 use reactor::{Lot, Places};
-use std::alloc::Global;
+use std::alloc::{AllocError, Global};
+use std::fs::Files;
 use std::io::Write;
 use std::net::TcpListener;
 use std::sync::{Arc, Mutex};
@@ -46,14 +48,21 @@ use wire_json::write_line;
 const PEERS: u32 = 4;
 
 /// The greatest number of threads of an agent for other nodes and its application: those that read lines, the one that makes rounds, the one
-/// that asks the hosts, the one that looks after the application, and the one that tells it of the ring.
-pub const NODE_THREADS: u32 = PEERS + 4;
+/// that asks the hosts, the one that looks after the application, the one that tells it of the ring, and the one that writes the log.
+pub const NODE_THREADS: u32 = PEERS + 5;
 
 /// The number of passes for threads, each for 4,294,967,295 calls.
 const PASSES: u32 = 1_023;
 
 /// The most requests of other nodes that wait for the application.
 const MAX_QUEUED_REQUESTS: usize = 256;
+
+/// The milliseconds between two looks at what the process uses.
+const BETWEEN_LOOKS: u64 = 5_000;
+
+/// The most milliseconds for a line to arrive, and for its answer's to be taken, where any request is passed on: a body of
+/// 524,288 bytes took 332 on a busy machine.
+const MAX_LONG_LINE: u64 = 2_000;
 
 /// The most milliseconds that the end waits for the rounds that spread that the node left.
 const MAX_SPREADING: u64 = 5_000;
@@ -118,11 +127,21 @@ fn passes_of<R: System>(rt: &R, alloc: Global, settings: &Settings) -> Result<Pa
 fn application_of<R: System>(
     rt: &R,
     alloc: Global,
+    log: &Logger<R>,
     stopwatch: Stopwatch,
     settings: &Settings,
-) -> Application<R> {
-    let log = Journal::new(*rt, settings.address).at(settings.level);
-    Application::new(*rt, alloc, log, stopwatch, settings.address, settings.app)
+) -> Result<Application<R>, AllocError> {
+    let log = share_log(log)?;
+    Ok(Application::new(*rt, alloc, log, stopwatch, settings))
+}
+
+/// Returns the time limits of the settings: where any request is passed on, a line has more time, since it may be longer.
+fn timeouts_of(settings: &Settings) -> Timeouts {
+    let mut timeouts = Timeouts::standard();
+    if settings.key_field.is_some() {
+        timeouts.line = Duration::from_millis(MAX_LONG_LINE);
+    }
+    timeouts
 }
 
 /// Makes the state that the threads of an agent share.
@@ -133,18 +152,22 @@ fn agent_of<R: System>(
 ) -> Result<Arc<Agent<R>, Global>, AgentError> {
     let passes = passes_of(rt, alloc, settings)?;
     let stopwatch = Stopwatch::start(rt);
+    let log = start_log(rt, alloc, settings.address, settings.level)?;
+    let application = application_of(rt, alloc, &log, stopwatch, settings)?;
     let agent = Agent {
         rt: *rt,
-        level: settings.level,
+        log,
         own: settings.address,
         replicas: settings.replicas,
         period: settings.period,
         hands: settings.hands,
         stopwatch,
-        timeouts: Timeouts::standard(),
-        application: application_of(rt, alloc, stopwatch, settings),
+        timeouts: timeouts_of(settings),
+        application,
+        key_field: settings.key_field.clone()?,
         passes: Mutex::new(passes),
         counters: Counters::new(),
+        process: Process::start(rt),
         waiting: Waiting::new(alloc)?,
         relaying: Count::new(),
         workers: Count::new(),
@@ -292,14 +315,29 @@ fn say_serving<W: Write>(alloc: Global, address: Address, writer: &mut W) -> Res
     say(writer, text.as_str())
 }
 
-/// Waits until the agent is to end, then for the last rounds, five seconds at most, and then until each HTTP connection that
-/// was accepted is closed, ten seconds at most.
-fn wait_for_end<R: System>(
+/// Looks at what the process uses, now and every five seconds, until the agent is to end.
+fn watch_process<R: System + Files>(rt: &R, alloc: Global, agent: &Agent<R>) {
+    for _ in rt.forever() {
+        if agent.is_stopping.get() || agent.is_spent.get() {
+            return;
+        }
+        agent.process.look(rt, alloc);
+        agent
+            .bell
+            .park_timeout(rt, Duration::from_millis(BETWEEN_LOOKS));
+    }
+}
+
+/// Waits until the agent is to end, then for the last rounds, five seconds at most, then until each HTTP connection that
+/// was accepted is closed, ten seconds at most, and last until the application was told that the node left, four seconds at most, unless it takes no
+/// connection.
+fn wait_for_end<R: System + Files>(
     rt: &R,
+    alloc: Global,
     agent: &Agent<R>,
     lot: Option<Arc<Lot<Kept>, Global>>,
 ) -> Result<(), AgentError> {
-    agent.bell.park(rt);
+    watch_process(rt, alloc, agent);
     if agent.is_spent.get() {
         return Err(AgentError::Spent);
     }
@@ -308,6 +346,9 @@ fn wait_for_end<R: System>(
         .park_timeout(rt, Duration::from_millis(MAX_SPREADING));
     if let Some(lot) = lot {
         end_http(rt, agent, &*lot);
+    }
+    if agent.is_service_up.get() {
+        agent.teller.await_told(rt);
     }
     Ok(())
 }
@@ -367,14 +408,35 @@ fn set_up<R: System>(
     if settings.app.is_none() {
         warn!(agent.log(); "no --app: requests of this node's keys are echoed");
     }
-    let lot = start(rt, alloc, &agent, settings)?;
-    Ok((agent, lot))
+    let started = start(rt, alloc, &agent, settings);
+    if started.is_err() {
+        agent.log().sink().end();
+    }
+    Ok((agent, started?))
+}
+
+/// Writes that the agent of the node at an address serves, waits for its end, and writes that it is done.
+fn serve<R: System + Files, W: Write>(
+    rt: &R,
+    alloc: Global,
+    own: Address,
+    agent: &Agent<R>,
+    lot: Option<Arc<Lot<Kept>, Global>>,
+    writer: &mut W,
+) -> Result<(), AgentError>
+    ensures served { OnOk result (Appends (W.contents writer.old) (W.contents writer.new) (agent_text own)) }
+    ensures prefix { AppendsPrefix (W.contents writer.old) (W.contents writer.new) (agent_text own) }
+{
+    say_serving(alloc, own, writer)?;
+    wait_for_end(rt, alloc, agent, lot)?;
+    say(writer, "done")
 }
 
 /// Runs an agent until it is told to stop. It listens to other nodes, joins the hosts, answers HTTP, starts the rounds of
 /// gossip, and writes `serving` and the node's address. When `POST /stop` comes, it leaves, makes ten rounds that spread
 /// this, answers the HTTP connections that wait, closes each after its next answer or after a second in which it sends
-/// nothing, ten seconds at most, and writes `done`.
+/// nothing, ten seconds at most, waits until an application that is told of the ring was told this, four seconds at most, and
+/// writes `done`.
 ///
 /// # Errors
 ///
@@ -393,7 +455,7 @@ fn set_up<R: System>(
 /// - `Spent`: a thread needs a pass of the node, and none is left. There are 1,023, each for 4,294,967,295 calls.
 /// - `Memory`: out of memory before `serving` was written. Later only the request or the round that runs out of memory
 ///   fails.
-pub fn run<R: System, W: Write>(
+pub fn run<R: System + Files, W: Write>(
     rt: &R,
     alloc: Global,
     settings: Settings,
@@ -404,7 +466,7 @@ pub fn run<R: System, W: Write>(
 {
     let own = settings.address;
     let (agent, lot) = set_up(rt, alloc, settings)?;
-    say_serving(alloc, own, writer)?;
-    wait_for_end(rt, &agent, lot)?;
-    say(writer, "done")
+    let ended = serve(rt, alloc, own, &agent, lot, writer);
+    agent.log().sink().end();
+    ended
 }

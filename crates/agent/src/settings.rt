@@ -1,5 +1,6 @@
 //! The settings of an agent.
 use change_core::{Address, Incarnation, Weight};
+use http::HeaderName;
 use log::LevelFilter;
 
 /// The way in which an agent follows its application into the ring and out of it.
@@ -28,6 +29,8 @@ pub struct Settings {
     pub following: Following,
     /// Whether the application is told of the ring.
     pub tell_app: bool,
+    /// The field that may name the key of a request, if any request of a key is passed on to its owner's application.
+    pub key_field: Option<HeaderName>,
     /// The most requests of other nodes that the application is given at a time.
     pub hands: u32,
     /// The most HTTP connections that are open at a time.

@@ -1,5 +1,5 @@
 //! The notices by which the application is told of the ring, by a thread of their own: an application that is slow or down holds up no round.
-use crate::agents::Agent;
+use crate::agents::{Agent, Flag};
 use crate::counters::Count;
 use crate::errors::AgentError;
 use crate::exchanges::read_answer;
@@ -28,9 +28,15 @@ const MAX_NOTICE_MILLIS: u64 = 4_000;
 pub struct Teller {
     /// Whether the application is told.
     is_on: bool,
+    /// Whether the node was in the ring. Until then nothing is told.
+    has_served: Flag,
     /// The ring that was noted last, if the thread has not taken it yet.
     noted: Mutex<Option<Ring>>,
+    /// Whether the next notice is to go out now, whatever failed before.
+    is_hurried: Flag,
     bell: Parker,
+    /// The parker that is unparked when nothing is left to tell.
+    all_told: Parker,
     /// The notices that the application answered with a status from 200 to 299.
     pub taken: Count,
     /// The notices that were sent, or were to be, and that it did not answer so.
@@ -44,19 +50,28 @@ impl Teller {
     pub fn new(is_on: bool) -> Self {
         Teller {
             is_on,
+            has_served: Flag::new(false),
             noted: Mutex::new(None),
+            is_hurried: Flag::new(false),
             bell: Parker::new(),
+            all_told: Parker::new(),
             taken: Count::new(),
             failed: Count::new(),
             untold: Count::new(),
         }
     }
 
-    /// Notes the ring of a node that holds these members, which replaces one that the thread has not taken. Returns its digest; None if memory
-    /// runs out, and then nothing is noted.
-    pub fn note<R: Wait>(&self, rt: &R, alloc: Global, members: &[Change]) -> Option<Digest> {
+    /// Notes the ring of a node with its own address that holds these members, which replaces one that the thread has not taken. Returns its digest;
+    /// None if memory runs out, and then nothing is noted. It is not told before the node is in it for the first time.
+    pub fn note<R: Wait>(
+        &self,
+        rt: &R,
+        alloc: Global,
+        own: Address,
+        members: &[Change],
+    ) -> Option<Digest> {
         let digest = ring_digest(alloc, members).ok()?;
-        if self.is_on {
+        if self.is_on && self.note_served(own, members) {
             let servers = on_ring(alloc, members).ok()?;
             *self.noted.lock(rt) = Some(Ring { digest, servers });
             self.bell.unpark();
@@ -64,8 +79,59 @@ impl Teller {
         Some(digest)
     }
 
-    fn take<R: Wait>(&self, rt: &R) -> Option<Ring> {
-        self.noted.lock(rt).take()
+    /// Returns whether the node was in the ring, that of these members included.
+    fn note_served(&self, own: Address, members: &[Change]) -> bool {
+        let serves = members
+            .iter()
+            .any(|member| member.address == own && member.status.serving());
+        if serves {
+            self.has_served.set(true);
+        }
+        self.has_served.get()
+    }
+
+    /// Has the next notice go out now, whatever failed before.
+    pub fn hurry(&self) {
+        self.is_hurried.set(true);
+        self.bell.unpark();
+    }
+
+    /// Moves the ring that was noted to what is to be told.
+    fn pass_to<R: Wait>(&self, rt: &R, telling: &mut Telling) {
+        let mut noted = self.noted.lock(rt);
+        if let Some(ring) = noted.take() {
+            telling.note(ring);
+        }
+        if self.is_hurried.get() {
+            self.is_hurried.set(false);
+            telling.hurry();
+        }
+        self.untold.set(u64::from(telling.next.is_some()));
+        if telling.next.is_none() {
+            self.all_told.unpark();
+        }
+    }
+
+    /// Returns whether the ring that was noted last was told.
+    fn has_told<R: Wait>(&self, rt: &R) -> bool {
+        let noted = self.noted.lock(rt);
+        noted.is_none() && self.untold.get() == 0
+    }
+
+    /// Waits until the ring that was noted last was told, but no longer than a notice and its answer may take.
+    pub fn await_told<R: Host>(&self, rt: &R) {
+        let Ok(deadline) = Deadline::after(rt, Duration::from_millis(MAX_NOTICE_MILLIS)) else {
+            return;
+        };
+        for _ in rt.forever() {
+            if self.has_told(rt) {
+                return;
+            }
+            let Ok(left) = deadline.left() else {
+                return;
+            };
+            self.all_told.park_timeout(rt, left);
+        }
     }
 
     /// Waits until a ring is noted, or these milliseconds have passed, if there are any. It may return early.
@@ -203,13 +269,7 @@ impl<'a, R: Host> Notices<'a, R> {
             Some(0) => self.make(),
             left => agent.teller.wait(&agent.rt, left),
         }
-        if let Some(ring) = agent.teller.take(&agent.rt) {
-            self.telling.note(ring);
-        }
-        agent
-            .teller
-            .untold
-            .set(u64::from(self.telling.next.is_some()));
+        agent.teller.pass_to(&agent.rt, &mut self.telling);
     }
 }
 

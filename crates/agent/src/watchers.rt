@@ -1,8 +1,14 @@
-//! Questions about the ring that wait until it changes. Each holds its connection, and no thread.
+//! Questions about the ring that wait until it changes, and when it last did. Each question holds its connection, and no thread.
+ghost use Rattle.std.specs.Prelude.{◌≡◌};
+ghost use Rattle.agent.specs.Dating.{seen_at};
+
 use crate::connections::Kept;
 use crate::counters::Count;
+use crate::systems::Host;
 use agent_core::question_at;
 use change_core::Digest;
+use http::HeaderName;
+use httpdate::HttpDate;
 use reactor::{Connection, Lot};
 use std::alloc::Global;
 use std::sync::{Arc, Mutex, Wait};
@@ -20,11 +26,32 @@ pub struct Question {
     millis: u64,
 }
 
+/// Returns whether the whole head of a request is in these bytes, and has no field of this name.
+fn lacks_field(bytes: &[u8], name: &HeaderName) -> bool {
+    for line in bytes.split(|byte| *byte == b'\n') {
+        if line.trim_ascii().is_empty() {
+            return true;
+        }
+        let end = line.iter().position(|byte| *byte == b':');
+        let field = line.get(..end.unwrap_or(0)).unwrap_or(&[]);
+        if field.eq_ignore_ascii_case(name.as_bytes()) {
+            return false;
+        }
+    }
+    false
+}
+
 impl Question {
-    /// Returns the question that waits, if these bytes of a request start with one.
-    pub fn of(bytes: &[u8]) -> Option<Question> {
+    /// Returns the question that waits, if these bytes of a request start with one, and the field of this name, which would
+    /// name its key, is not among them.
+    pub fn of(bytes: &[u8], key_field: &Option<HeaderName>) -> Option<Question> {
         if !bytes.starts_with(b"GET /ring?") {
             return None;
+        }
+        if let Some(name) = key_field {
+            if !lacks_field(bytes, name) {
+                return None;
+            }
         }
         let end = bytes.iter().position(|byte| *byte == b'\n')?;
         let (digits, seconds) = question_at(str::from_utf8(bytes.get(..end)?).ok()?)?;
@@ -38,6 +65,30 @@ impl Question {
     }
 }
 
+/// The digest of the ring, and since when the ring has it.
+#[derive(Clone, Copy)]
+pub struct Seen {
+    pub digest: Digest,
+    pub since: HttpDate,
+}
+
+/// Returns since when the ring has its present digest: since what was seen before, if it had that digest then and the clock did not go back, or
+/// else since now.
+fn seen_at(before: Option<Seen>, digest: Digest, now: HttpDate) -> Seen
+    ensures { result ≡ seen_at before digest now }
+{
+    match before {
+        Some(seen) if seen.digest == digest && seen.since.unix_secs() <= now.unix_secs() => seen,
+        _ => Seen { digest, since: now },
+    }
+}
+
+/// Returns the present date; None if there is no clock, or it shows a time after the year 9999.
+fn date<R: Host>(rt: &R) -> Option<HttpDate> {
+    let since = rt.since_1970().ok()?;
+    HttpDate::from_unix_secs(since.as_secs()).ok()
+}
+
 /// A question that waits on its connection, and the millisecond at which its wait is over.
 #[derive(Drop)]
 struct Watcher {
@@ -46,12 +97,13 @@ struct Watcher {
     until: u64,
 }
 
-/// The questions that wait, the digest of the ring for whose change they do, None if it is not known, and the lot of the connections, if
-/// HTTP is answered.
+/// The questions that wait, the digest of the ring for whose change they do, None if it is not known, since when the ring last noted has its digest,
+/// and the lot of the connections, if HTTP is answered.
 #[derive(Drop)]
 struct Waits {
     watchers: Vec<Watcher>,
     ring: Option<Digest>,
+    seen: Option<Seen>,
     lot: Option<Arc<Lot<Kept>, Global>>,
 }
 
@@ -88,6 +140,7 @@ impl Watchers {
         let waits = Waits {
             watchers: Vec::new(alloc),
             ring: None,
+            seen: None,
             lot: None,
         };
         Watchers {
@@ -101,9 +154,20 @@ impl Watchers {
         self.waits.lock(rt).lot = Some(lot);
     }
 
-    /// Notes the digest of the ring; None if it is not known.
-    pub fn note<R: Wait>(&self, rt: &R, ring: Option<Digest>) {
-        self.waits.lock(rt).ring = ring;
+    /// Notes the digest of the ring now; None if it is not known.
+    pub fn note<R: Host>(&self, rt: &R, ring: Option<Digest>) {
+        let mut waits = self.waits.lock(rt);
+        waits.ring = ring;
+        if let (Some(digest), Some(now)) = (ring, date(rt)) {
+            waits.seen = Some(seen_at(waits.seen, digest, now));
+        }
+    }
+
+    /// Returns since when the ring has the digest that it has now: since now, if it was not noted yet. None if no clock tells it.
+    pub fn since<R: Host>(&self, rt: &R, digest: &Digest) -> Option<HttpDate> {
+        let now = date(rt)?;
+        let seen = self.waits.lock(rt).seen;
+        Some(seen_at(seen, *digest, now).since)
     }
 
     /// Returns whether the ring still has the digest that a question knows.

@@ -16,7 +16,7 @@ use http_server::Connection;
 use reactor::Lot;
 use std::alloc::Global;
 use std::hash::RandomState;
-use std::net::TcpStream;
+use std::net::{IpAddr, TcpStream};
 use std::sync::Arc;
 
 /// The most milliseconds that the client may take to receive an answer, or the answers to requests that it sent together.
@@ -151,6 +151,11 @@ fn visit<R: Host>(
     }
 }
 
+/// Returns the IP address of a client; None if its connection has failed.
+fn ip_of(stream: &TcpStream) -> Option<IpAddr> {
+    Some(stream.peer_addr().ok()?.ip())
+}
+
 /// Answers HTTP until the queue of the connections that are ready has no sender.
 pub fn serve_http<R: Host>(
     agent: Arc<Agent<R>, Global>,
@@ -170,6 +175,7 @@ pub fn serve_http<R: Host>(
         let mut front = Front {
             agent,
             alloc,
+            client: ip_of(&visited.stream),
             caller: &mut caller,
             link: &mut link,
             is_turned_away: &is_turned_away,

@@ -8,4 +8,5 @@ pub mod Listing
 pub mod Ringing
 pub mod Sharing
 pub mod Watching
+pub mod Nexting
 pub mod Noting

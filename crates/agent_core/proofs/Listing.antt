@@ -1,8 +1,8 @@
 -- The keys of things, one after the other.
-use Rattle.std.proofs.Common.{◌≡◌, ◌≢◌, ℕ, suc, ◌+◌, ◌<◌, ◌≤◌, Bool, true, false, Option, Some, None, IsUtf8, subst, ⊎_elim, List, [], ◌∷◌, ◌++◌, length, get_or, take, drop, map, Result, Ok, Err, IfOk, IfErr, refl, sym, ap, ◌∙◌, add-one, append_assoc, append-nil, arith}
+use Rattle.std.proofs.Common.{◌≡◌, ◌≢◌, ℕ, suc, ◌+◌, ◌<◌, ◌≤◌, true, false, Some, IsUtf8, subst, List, [], ◌∷◌, ◌++◌, length, get_or, take, drop, map, Result, Ok, Err, IfOk, IfErr, refl, sym, ap, ◌∙◌, add-one, append_assoc, append-nil, arith}
 use Rattle.std.proofs.Math.Seq.{drop-cons}
 use Rattle.std.proofs.lemmas.Bool.{false_from_ne_true, le-leb, lt-leb}
-use Rattle.std.proofs.lemmas.List.{length-take, length-take-le, map-append, take_all, take_more}
+use Rattle.std.proofs.lemmas.List.{length-append, length-take, map-append, take_all, take_more}
 use Rattle.std.proofs.lemmas.List.Elements.{filter-append}
 use Rattle.std.proofs.lemmas.Str.{IsUtf8-from_is_utf8, is_utf8-from_IsUtf8}
 use Rattle.std.specs.List.{filter}
@@ -12,12 +12,13 @@ use Rattle.change_core.specs.Status.{is_serving}
 use Rattle.change_core.specs.declared.changes.Change.{Change}
 use Rattle.serde_json.specs.Find.{as_array}
 use Rattle.serde_json.specs.Read.{read}
+use Rattle.agent_core.specs.declared.refusals.KeyFault.TheVariants.{NotUtf8}
 use Rattle.agent_core.specs.declared.refusals.Part.TheVariants.{Body}
 use Rattle.agent_core.specs.Texts.{on_ring, server_of}
 use Rattle.agent_core.specs.declared.refusals.Refusal.{Refusal}
-use Rattle.agent_core.specs.declared.refusals.Refusal.TheVariants.{Malformed, ManyKeys, Memory}
-use Rattle.agent_core.specs.Requests.{few_keys, is_list, key_before, key_in, key_of_element, keys_by, keys_in, keys_of_data, keys_of_items}
-use Rattle.serde_json.specs.Data.{Data, Items, no_items, item}
+use Rattle.agent_core.specs.declared.refusals.Refusal.TheVariants.{BadKey, Malformed, ManyKeys, Memory}
+use Rattle.agent_core.specs.Requests.{bytes_at, element_at, few_keys, is_list, key_before, keys_from, keys_in, keys_of_data, keys_of_items, line_at, text_at}
+use Rattle.serde_json.specs.Data.{Data}
 use Rattle.serde_json.specs.View.{items_of}
 use Rattle.agent_core.specs.Requests.{elements}
 
@@ -38,23 +39,32 @@ more_before keys key (Ok more) = ap Ok (sym (append_assoc keys (key ∷ []) more
 here : {X : Type 0} (vs : List X) (i : ℕ) (v : X) → i < length vs → v ≡ get_or vs i v → drop i vs ≡ v ∷ drop (i + 1) vs
 here vs i v lt is = rw add-one (drop-cons vs i v lt ∙ ap (λ x. x ∷ drop (suc i) vs) (sym is))
 
-module _ {X A : Type 0} (f : X → A) (key : A → Result (List ℕ) Refusal) (vs : List X) where
+module _ {X A : Type 0} (f : X → A) (key : ℕ → A → Result (List ℕ) Refusal) (vs : List X) where
+  -- the keys so far stand before those that are left
+  abbrev pub SoFar : ℕ → List (List ℕ) → Type 0
+  SoFar i keys = keys_from key 1 (map f vs) ≡ keys_before keys (keys_from key (length keys + 1) (map f (drop i vs)))
+
+  -- the one at i, and those after it
+  split : (i : ℕ) (v : X) (keys : List (List ℕ)) → i < length vs → v ≡ get_or vs i v → SoFar i keys
+      → keys_from key 1 (map f vs) ≡ keys_before keys (key_before (key (length keys + 1) (f v)) (keys_from key (length keys + 1 + 1) (map f (drop (i + 1) vs))))
+  split i v keys lt is so_far = so_far ∙ ap (λ xs. keys_before keys (keys_from key (length keys + 1) (map f xs))) (here vs i v lt is)
+
   -- the key at i is read
-  pub reads : (i : ℕ) (v : X) (keys : List (List ℕ)) (k : List ℕ) → i < length vs → v ≡ get_or vs i v
-      → keys_by key (map f vs) ≡ keys_before keys (keys_by key (map f (drop i vs))) → key (f v) ≡ Ok k
-      → keys_by key (map f vs) ≡ keys_before (keys ++ k ∷ []) (keys_by key (map f (drop (i + 1) vs)))
+  pub reads : (i : ℕ) (v : X) (keys : List (List ℕ)) (k : List ℕ) → i < length vs → v ≡ get_or vs i v → SoFar i keys
+      → key (length keys + 1) (f v) ≡ Ok k → SoFar (i + 1) (keys ++ k ∷ [])
   reads i v keys k lt is so_far good =
-      so_far ∙ ap (λ xs. keys_before keys (keys_by key (map f xs))) (here vs i v lt is)
-      ∙ ap (λ r. keys_before keys (key_before r (keys_by key (map f (drop (i + 1) vs))))) good
-      ∙ more_before keys k (keys_by key (map f (drop (i + 1) vs)))
+      let rest = map f (drop (i + 1) vs) in
+      split i v keys lt is so_far
+      ∙ ap (λ r. keys_before keys (key_before r (keys_from key (length keys + 1 + 1) rest))) good
+      ∙ more_before keys k (keys_from key (length keys + 1 + 1) rest)
+      ∙ ap (λ n. keys_before (keys ++ k ∷ []) (keys_from key (n + 1) rest)) (sym (length-append keys (k ∷ [])))
 
   -- the one at i is at fault
-  pub fails : (i : ℕ) (v : X) (keys : List (List ℕ)) (e : Refusal) → i < length vs → v ≡ get_or vs i v
-      → keys_by key (map f vs) ≡ keys_before keys (keys_by key (map f (drop i vs))) → key (f v) ≡ Err e
-      → keys_by key (map f vs) ≡ Err e
+  pub fails : (i : ℕ) (v : X) (keys : List (List ℕ)) (e : Refusal) → i < length vs → v ≡ get_or vs i v → SoFar i keys
+      → key (length keys + 1) (f v) ≡ Err e → keys_from key 1 (map f vs) ≡ Err e
   fails i v keys e lt is so_far bad =
-      so_far ∙ ap (λ xs. keys_before keys (keys_by key (map f xs))) (here vs i v lt is)
-      ∙ ap (λ r. keys_before keys (key_before r (keys_by key (map f (drop (i + 1) vs))))) bad
+      split i v keys lt is so_far
+      ∙ ap (λ r. keys_before keys (key_before r (keys_from key (length keys + 1 + 1) (map f (drop (i + 1) vs))))) bad
 
 -- the elements of a list
 pub elements_of : (ds : List Data) → elements (items_of ds) ≡ ds
@@ -70,10 +80,10 @@ all_of xs some is few =
     let least = length-take 4097 xs in
     is ∙ take_all 4097 xs (omega arith)
 
-pub few_keys-few : {A : Type 0} (key : A → Result (List ℕ) Refusal) (xs : List A) → length xs ≤ 4096 → few_keys key xs ≡ keys_by key xs
+pub few_keys-few : {A : Type 0} (key : ℕ → A → Result (List ℕ) Refusal) (xs : List A) → length xs ≤ 4096 → few_keys key xs ≡ keys_from key 1 xs
 few_keys-few key xs few = rw (le-leb (length xs) 4096 few) refl
 
-pub few_keys-many : {A : Type 0} (key : A → Result (List ℕ) Refusal) (xs : List A) → 4096 < length xs → few_keys key xs ≡ Err ManyKeys
+pub few_keys-many : {A : Type 0} (key : ℕ → A → Result (List ℕ) Refusal) (xs : List A) → 4096 < length xs → few_keys key xs ≡ Err ManyKeys
 few_keys-many key xs many = rw (lt-leb (length xs) 4096 many) refl
 
 -- more than 4,096 of the first 4,097 are of more than 4,096
@@ -96,16 +106,23 @@ err_as {X} r a b e h = subst (λ (w : Result X Refusal). IfErr r (λ x. x ≢ Me
 pub keys_in-list : (body : List ℕ) → IsUtf8 body → is_list body ≡ true → keys_in body ≡ keys_of_data (read body)
 keys_in-list body text list = rw (is_utf8-from_IsUtf8 body text, list) refl
 
-pub keys_in-lines : (body : List ℕ) → IsUtf8 body → is_list body ≡ false → keys_in body ≡ few_keys key_in (lines body)
+pub keys_in-lines : (body : List ℕ) → IsUtf8 body → is_list body ≡ false → keys_in body ≡ few_keys line_at (lines body)
 keys_in-lines body text list = rw (is_utf8-from_IsUtf8 body text, list) refl
 
 pub keys_in-none : (body : List ℕ) → ¬ IsUtf8 body → keys_in body ≡ Err (Malformed Body)
 keys_in-none body h = rw (false_from_ne_true (is_utf8 body) (λ t. h (IsUtf8-from_is_utf8 body t))) refl
 
+-- a line's bytes
+pub bytes_at-text : (place : ℕ) (bytes : List ℕ) → IsUtf8 bytes → bytes_at place bytes ≡ text_at place bytes
+bytes_at-text place bytes text = rw (is_utf8-from_IsUtf8 bytes text) refl
+
+pub bytes_at-none : (place : ℕ) (bytes : List ℕ) → ¬ IsUtf8 bytes → bytes_at place bytes ≡ Err (BadKey place NotUtf8)
+bytes_at-none place bytes h = rw (false_from_ne_true (is_utf8 bytes) (λ t. h (IsUtf8-from_is_utf8 bytes t))) refl
+
 -- a JSON list
 pub keys_of_data-list : (text : List ℕ) (value : Data) (ds : List Data) → read text ≡ Some value → as_array value ≡ Some (items_of ds)
-    → keys_of_data (read text) ≡ few_keys key_of_element ds
-keys_of_data-list text value ds is list = ap keys_of_data is ∙ ap keys_of_items list ∙ ap (few_keys key_of_element) (elements_of ds)
+    → keys_of_data (read text) ≡ few_keys element_at ds
+keys_of_data-list text value ds is list = ap keys_of_data is ∙ ap keys_of_items list ∙ ap (few_keys element_at) (elements_of ds)
 
 -- ---- members on the ring
 

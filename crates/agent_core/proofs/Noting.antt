@@ -1,11 +1,11 @@
 -- What the application is told, over any events.
-use Rattle.std.proofs.Common.{◌≡◌, ◌∙◌, ◌≤◌, ◌<◌, ◌*◌, ℕ, Bool, true, false, nat_lt, cond, List, [], ◌∷◌, Option, Some, None, refl, sym, ap, arith, true≢false}
+use Rattle.std.proofs.Common.{◌≡◌, ◌∙◌, ◌≤◌, ◌*◌, ℕ, Bool, true, false, nat_lt, cond, List, [], ◌∷◌, Option, Some, None, refl, sym, ap, arith, true≢false}
 use Rattle.std.proofs.lemmas.Bool.{ltb-true}
 use Rattle.std.proofs.lemmas.Slice.Eq.{bytes_eq-Decides}
 use Rattle.change_core.specs.declared.digests.Digest.{Digest}
 use Rattle.agent_core.specs.declared.tellings.Ring.{Ring}
 use Rattle.agent_core.specs.declared.tellings.Telling.{Telling}
-use Rattle.agent_core.specs.Tellings.{Event, Noted, Taken, Failed, after_all, digest_in, failed, is_latest, is_of, last_noted, last_taken, latest, longer, noted, taken}
+use Rattle.agent_core.specs.Tellings.{Event, Noted, Taken, Failed, Hurried, after_all, digest_in, failed, hurried, is_latest, is_of, last_noted, last_taken, latest, longer, noted, taken}
 
 -- a ring with this digest has these bytes
 bytes_of : (ring : Option Ring) (digest : Digest) → is_of ring digest ≡ true → digest_in ring ≡ Some digest.bytes
@@ -46,6 +46,7 @@ latest_is t [] = refl
 latest_is t (Noted ring ∷ events) = latest_is (noted t ring) events ∙ ap (λ known. last_noted known events) (noted_latest t ring)
 latest_is t (Taken ∷ events) = latest_is (taken t) events
 latest_is t (Failed now ∷ events) = latest_is (failed t now) events
+latest_is t (Hurried ∷ events) = latest_is (hurried t) events
 
 pub told_is : (t : Telling) (events : List Event) → digest_in (after_all t events).told ≡ last_taken (digest_in (latest t)) (digest_in t.told) events
 told_is t [] = refl
@@ -55,9 +56,11 @@ told_is t (Noted ring ∷ events) =
     ∙ ap (λ told. last_taken (Some ring.digest.bytes) told events) (noted_told t ring)
 told_is t (Taken ∷ events) = told_is (taken t) events
 told_is t (Failed now ∷ events) = told_is (failed t now) events
+told_is t (Hurried ∷ events) = told_is (hurried t) events
 
 pub pause_is : (t : Telling) (events : List Event) → t.pause ≤ 8000 → (after_all t events).pause ≤ 8000
 pause_is t [] low = low
 pause_is t (Noted ring ∷ events) low = pause_is (noted t ring) events (noted_pause t ring low)
 pause_is t (Taken ∷ events) low = pause_is (taken t) events (omega arith)
 pause_is t (Failed now ∷ events) low = pause_is (failed t now) events (longer_low t.pause)
+pause_is t (Hurried ∷ events) low = pause_is (hurried t) events (omega arith)

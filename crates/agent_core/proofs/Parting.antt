@@ -1,7 +1,7 @@
 -- Parts come out whole, and no two lists of parts have the same bytes.
 use Rattle.std.proofs.Common.{◌≡◌, ◌≢◌, ℕ, ◌+◌, ◌^◌, ◌<◌, List, [], ◌∷◌, ◌++◌, length, take, drop, refl, sym, ap, subst, ◌∙◌, arith, append_assoc, append-nil, length-append, map, Bor, Ok}
 use Rattle.std.proofs.lemmas.List.{take_at, drop_at, map-append}
-use Rattle.std.proofs.lemmas.List.Elements.{All-head, All-tail}
+use Rattle.std.proofs.lemmas.List.Elements.{All-cons, All-head, All-nil, All-tail}
 use Rattle.std.proofs.lemmas.Nat.{from_be_bytes-to_be_bytes_8}
 use Rattle.std.specs.Int.{from_be_bytes, to_be_bytes, w64}
 use Rattle.std.specs.List.{All}
@@ -33,6 +33,41 @@ joined-once (p ∷ ps) [] ps_fit qs_fit e = absurd (cc)
 joined-once (p ∷ ps) (q ∷ qs) ps_fit qs_fit e =
     let both = unjoined p q (joined ps) (joined qs) (All-head fits p ps ps_fit) (All-head fits q qs qs_fit) e in
     ap (λ x. x ∷ ps) both.0 ∙ ap (λ xs. q ∷ xs) (joined-once ps qs (All-tail fits p ps ps_fit) (All-tail fits q qs qs_fit) both.1)
+
+-- each of some parts is no longer than their bytes
+pub all-fit : (ps : List (List ℕ)) → length (joined ps) < 2 ^ 64 → All (λ p. length p < 2 ^ 64) ps
+all-fit [] short = All-nil fits
+all-fit (p ∷ ps) short =
+    let both : length (part_of p) + length (joined ps) < 2 ^ 64 = subst (λ n. n < 2 ^ 64) (length-append (part_of p) (joined ps)) short in
+    let size : length (part_of p) ≡ length (to_be_bytes w64 (length p)) + length p = length-append (to_be_bytes w64 (length p)) p in
+    All-cons fits p ps (omega arith) (all-fit ps (omega arith))
+
+-- bytes that are those of parts are those of no others
+pub other_parts : (bytes : List ℕ) (ps qs : List (List ℕ)) → length bytes < 2 ^ 64 → bytes ≡ joined ps → ps ≢ qs → bytes ≢ joined qs
+other_parts bytes ps qs short is other same =
+    let ps_short : length (joined ps) < 2 ^ 64 = subst (λ z. length z < 2 ^ 64) is short in
+    let qs_short : length (joined qs) < 2 ^ 64 = subst (λ z. length z < 2 ^ 64) same short in
+    other (joined-once ps qs (all-fit ps ps_short) (all-fit qs qs_short) (sym is ∙ same))
+
+-- bytes are those of a part alone if none come after it
+pub alone : (bytes part rest : List ℕ) → bytes ≡ part_of part ++ rest → length rest ≡ 0 → bytes ≡ part_of part
+alone bytes part [] is none = is ∙ append-nil (part_of part)
+alone bytes part (x ∷ rest) is none = absurd (omega (arith, none))
+
+-- and not if some come
+pub not_alone : (bytes part rest body : List ℕ) → length bytes < 2 ^ 64 → bytes ≡ part_of part ++ rest → 0 < length rest → bytes ≢ part_of body
+not_alone bytes part rest body short is some same =
+    let whole : length (part_of part) + length rest < 2 ^ 64 = subst (λ n. n < 2 ^ 64) (ap length is ∙ length-append (part_of part) rest) short in
+    let other : length (part_of body) < 2 ^ 64 = subst (λ z. length z < 2 ^ 64) same short in
+    let part_size : length (part_of part) ≡ length (to_be_bytes w64 (length part)) + length part = length-append (to_be_bytes w64 (length part)) part in
+    let body_size : length (part_of body) ≡ length (to_be_bytes w64 (length body)) + length body = length-append (to_be_bytes w64 (length body)) body in
+    let both = unjoined part body rest [] (omega arith) (omega arith) (sym is ∙ same ∙ sym (append-nil (part_of body))) in
+    let none : length rest ≡ 0 = ap length both.1 in
+    absurd (omega (arith, some, none))
+
+-- nor if no part comes first
+pub none_alone : (bytes body : List ℕ) → ((part rest : List ℕ) → bytes ≢ part_of part ++ rest) → bytes ≢ part_of body
+none_alone bytes body none same = none body [] (same ∙ sym (append-nil (part_of body)))
 
 -- one more part comes last
 pub joined-more : (ps : List (List ℕ)) (p : List ℕ) → joined (ps ++ p ∷ []) ≡ joined ps ++ part_of p

@@ -1,11 +1,12 @@
 -- Requests and answers that are passed on whole come out whole.
-use Rattle.std.proofs.Common.{◌≡◌, ◌≢◌, ◌==◌, not, ℕ, ◌+◌, ◌-◌, ◌*◌, ◌/◌, ◌%◌, ◌<◌, ◌≤◌, Bool, true, false, ◌&&◌, Bor, List, [], ◌∷◌, ◌++◌, length, get_or, take, drop, map, Option, Some, None, IfSome, IfNone, decimal, refl, sym, ap, ◌∙◌, ⊎_elim, true≢false, arith, append_assoc}
+use Rattle.std.proofs.Common.{◌≡◌, ◌≢◌, ◌==◌, not, ℕ, ◌+◌, ◌-◌, ◌*◌, ◌/◌, ◌%◌, ◌<◌, ◌≤◌, Bool, true, false, ◌&&◌, Bor, List, [], ◌∷◌, ◌++◌, length, get_or, take, drop, map, Option, Some, None, IfSome, IfNone, decimal, refl, sym, ap, ◌∙◌, ⊎_elim, true≢false, arith, append_assoc, append-nil, codes}
 use Rattle.std.proofs.lemmas.Bool.{cases_Bool, leb-true, and_parts, cond-true, cond-false, not-true}
 use Rattle.std.proofs.lemmas.Fmt.{decimal_injective}
 use Rattle.std.proofs.lemmas.List.{length-map, map-append, take_all, take_more}
 use Rattle.agent_core.specs.Packs.{is_marked, is_within, marked, packed}
 use Rattle.agent_core.specs.Parts.{is_reserved, joined, packed_bytes, part_of, text_of_body, text_of_parts}
-use Rattle.agent_core.specs.Passing.{AreParts, answer_parts, answer_text, flat, named, request_parts, request_text, status_in}
+use Rattle.change_core.specs.Address.{address_text}
+use Rattle.agent_core.specs.Passing.{AreParts, answer_parts, answer_text, flat, named, next_fields, request_parts, request_text, status_in}
 use Rattle.agent_core.specs.declared.passing.Field.{Field}
 use Rattle.agent_core.proofs.Packing.{decimal_three, is_within-true}
 use Rattle.agent_core.proofs.Parting.{joined-once, unpacked-once}
@@ -58,16 +59,38 @@ read_all parts xs i all so_far = sym (ap (map (λ p. p.now)) (take_all (2 * i) p
 
 -- the bytes of a request, which were appended one part after the other
 pub request_bytes : (m t b fields : List ℕ) (all : List (List ℕ × List ℕ)) → fields ≡ joined (flat all)
-    → packed_bytes (((part_of m ++ part_of t) ++ part_of b) ++ fields) ≡ request_text m t b all
+    → ((part_of m ++ part_of t) ++ part_of b) ++ fields ≡ joined (request_parts m t b all)
 request_bytes m t b fields all is =
-    ap packed_bytes (append_assoc (part_of m ++ part_of t) (part_of b) fields ∙ append_assoc (part_of m) (part_of t) (part_of b ++ fields)
-    ∙ ap (λ z. part_of m ++ (part_of t ++ (part_of b ++ z))) is)
+    append_assoc (part_of m ++ part_of t) (part_of b) fields ∙ append_assoc (part_of m) (part_of t) (part_of b ++ fields)
+    ∙ ap (λ z. part_of m ++ (part_of t ++ (part_of b ++ z))) is
+
+-- parts come after others
+joined-append : (ps qs : List (List ℕ)) → joined ps ++ joined qs ≡ joined (ps ++ qs)
+joined-append [] qs = refl
+joined-append (p ∷ ps) qs = append_assoc (part_of p) (joined ps) (joined qs) ∙ ap (λ z. part_of p ++ z) (joined-append ps qs)
+
+-- more fields of a request come after the others
+pub request-more : (m t b : List ℕ) (fs gs : List (List ℕ × List ℕ))
+    → joined (request_parts m t b fs) ++ joined (flat gs) ≡ joined (request_parts m t b (fs ++ gs))
+request-more m t b fs gs =
+    joined-append (request_parts m t b fs) (flat gs) ∙ ap (λ z. joined (m ∷ t ∷ b ∷ z)) (sym (flat-append fs gs))
 
 -- the bytes of an answer, which were appended so
 pub answer_bytes : (status : ℕ) (b fields : List ℕ) (all : List (List ℕ × List ℕ)) → fields ≡ joined (flat all)
     → packed_bytes ((part_of (decimal status) ++ part_of b) ++ fields) ≡ answer_text status b all
 answer_bytes status b fields all is =
     ap packed_bytes (append_assoc (part_of (decimal status)) (part_of b) fields ∙ ap (λ z. part_of (decimal status) ++ (part_of b ++ z)) is)
+
+-- no field comes after others
+pub no_next : (old : List ℕ) → old ≡ old ++ joined (flat (next_fields None))
+no_next old = sym (append-nil old)
+
+-- one field comes after others
+pub one_next : (old value : List ℕ) (a : ℕ) → value ≡ address_text a
+    → (old ++ part_of (codes "x-ringpop-next")) ++ part_of value ≡ old ++ joined (flat (next_fields (Some a)))
+one_next old value a is =
+    append_assoc old (part_of (codes "x-ringpop-next")) (part_of value)
+    ∙ ap (λ z. old ++ (part_of (codes "x-ringpop-next") ++ z)) (ap part_of is ∙ sym (append-nil (part_of (address_text a))))
 
 -- no two lists of fields have the same parts
 flat-once : (fs gs : List (List ℕ × List ℕ)) → flat fs ≡ flat gs → fs ≡ gs

@@ -1,5 +1,5 @@
 -- The action that a request asks for, by the parts of the definition.
-use Rattle.std.proofs.Common.{◌≡◌, ◌≢◌, ℕ, ◌+◌, ◌^◌, ◌<◌, ◌≤◌, true, false, ◌&&◌, ltb, leb, List, [], ◌∷◌, ◌++◌, length, drop, get_or, Option, Some, None, Result, Ok, Err, IfOk, IfErr, MatchOption, IsUtf8, option_copied, codes, Bor, refl, sym, ap, ◌∙◌, ⊎_elim, arith}
+use Rattle.std.proofs.Common.{◌≡◌, ◌≢◌, ℕ, ◌+◌, ◌^◌, ◌<◌, ◌≤◌, true, false, ◌&&◌, ltb, leb, List, [], ◌∷◌, ◌++◌, length, drop, get_or, Option, Some, None, Result, Ok, Err, IfOk, IfErr, MatchOption, is_some, IsUtf8, option_copied, codes, Bor, refl, sym, ap, ◌∙◌, ⊎_elim, arith}
 use Rattle.std.proofs.lemmas.Bool.{cases_Bool, cases_eq, eq-eqb, ne_eqb, lt-ltb, le-leb, le-ltb, ltb-true, leb-true, and_parts, false_from_ne_true, cond-true, cond-false}
 use Rattle.std.proofs.lemmas.Str.{IsUtf8-from_is_utf8, is_utf8-from_IsUtf8}
 use Rattle.std.proofs.lemmas.Str.Parse.{IsNumeralModel, numerals_by_value, tells_all_ascii_digits, parse_plain}
@@ -13,7 +13,7 @@ use Rattle.agent_core.specs.declared.actions.Action.{Action}
 use Rattle.agent_core.specs.declared.refusals.Part.TheVariants.{Key, Body}
 use Rattle.agent_core.specs.declared.refusals.Refusal.{Refusal}
 use Rattle.agent_core.specs.declared.refusals.Refusal.TheVariants.{Malformed, BadMethod, Memory}
-use Rattle.agent_core.specs.Requests.{after, asked, body_in, by, count_in, count_of, handled, key_in, key_of, named, open_at, place_of, plain, verb_name}
+use Rattle.agent_core.specs.Requests.{after, asked, body_in, by, count_in, count_of, handled, key_in, key_of, named, open_at, plain, verb_name}
 
 -- ---- the rest of a text after a prefix
 
@@ -38,6 +38,16 @@ stripped p s (Some x) h =
     let (n, f, now, fits) = h in
     let split : s ≡ p ++ x.now = f.1 ∙ ap (λ z. p ++ z) (sym now) in
     sym (ap (after p) split ∙ after-append p x.now)
+
+some_of : (r : Option (Bor (List ℕ))) → is_some r ≡ is_some (option_copied r)
+some_of None = refl
+some_of (Some x) = refl
+
+-- whether there is one
+pub has_name : (p s : List ℕ) (r : Option (Bor (List ℕ)))
+    → MatchOption r (FindsTextPrefix p s None) (λ x. (n : ℕ) × FindsTextPrefix p s (Some n) × (x.now ≡ drop n s) × (length x.now + n ≡ length s))
+    → is_some r ≡ is_some (after p s)
+has_name p s r h = some_of r ∙ ap is_some (stripped p s r h)
 
 -- ---- keys and bodies
 

@@ -1,16 +1,14 @@
 -- The watch over the service of a node, over a run of observations.
-use Rattle.std.proofs.Common.{◌≡◌, ◌∙◌, ◌≤◌, ◌+◌, ℕ, Bool, true, false, not, nat_le, nat_lt, cond, List, [], ◌∷◌, length, refl, sym, ap, arith, true≢false}
+use Rattle.std.proofs.Common.{◌≡◌, ◌≤◌, ◌+◌, ℕ, Bool, true, false, not, nat_le, nat_lt, cond, List, [], ◌∷◌, refl, sym, arith, true≢false}
 use Rattle.std.specs.Prelude.{◌&&◌, ◌||◌, max, IsTrue}
 use Rattle.std.specs.List.{All}
 use Rattle.std.proofs.Math.Nat.{le-max_left, le-max_right}
 use Rattle.std.proofs.lemmas.Bool.{and_parts, leb-true}
 use Rattle.std.proofs.lemmas.List.Elements.{All-cons, All-head, All-tail, All-weaker}
-use Rattle.hash_ring.proofs.Firsts.{test_cases}
-use Rattle.agent_core.specs.declared.services.Move.{Move}
 use Rattle.agent_core.specs.declared.services.Move.TheVariants as move
 use Rattle.agent_core.specs.declared.services.Sight.{Sight}
 use Rattle.agent_core.specs.declared.services.Watch.{Watch}
-use Rattle.agent_core.specs.Services.{LeavesLate, StaysOut, is_found, is_lost, move_of, watched, watched_all}
+use Rattle.agent_core.specs.Services.{LeavesLate, StaysOut, is_found, is_lost, watched_all}
 
 -- whether the moment of an observation counts
 abbrev counts : Sight → Bool

@@ -5,16 +5,20 @@ use Rattle.change_core.specs.declared.statuses.Status.{Status}
 use Rattle.change_core.specs.declared.statuses.Status.TheVariants.{Alive, Suspect, Faulty, Leave, Tombstone}
 use Rattle.change_core.specs.Status.{rank, status_word}
 use Rattle.change_core.specs.Numbers.{most_members}
+use Rattle.agent_core.specs.declared.counts.LogCounts.{LogCounts}
+use Rattle.agent_core.specs.declared.counts.PortCounts.{PortCounts}
+use Rattle.agent_core.specs.declared.counts.ProcessCounts.{ProcessCounts}
+use Rattle.agent_core.specs.declared.counts.RefusalCounts.{RefusalCounts}
+use Rattle.agent_core.specs.declared.counts.TimeCounts.{TimeCounts}
+use Rattle.agent_core.specs.declared.counts.WaitingCounts.{WaitingCounts}
 use Rattle.agent_core.specs.declared.metrics.Counts.{Counts}
-use Rattle.agent_core.specs.declared.metrics.PortCounts.{PortCounts}
-use Rattle.agent_core.specs.declared.metrics.RefusalCounts.{RefusalCounts}
-use Rattle.agent_core.specs.declared.metrics.WaitingCounts.{WaitingCounts}
 
 -- the bucket of a time in microseconds
 abbrev pub bucket_of : ℕ → ℕ
 bucket_of micros =
-    cond (nat_le micros 1000) 0 (cond (nat_le micros 5000) 1 (cond (nat_le micros 10000) 2 (cond (nat_le micros 50000) 3 (cond (nat_le micros 100000) 4
-    (cond (nat_le micros 500000) 5 (cond (nat_le micros 1000000) 6 (cond (nat_le micros 5000000) 7 (cond (nat_le micros 10000000) 8 9))))))))
+    cond (nat_le micros 250) 0 (cond (nat_le micros 500) 1
+    (cond (nat_le micros 1000) 2 (cond (nat_le micros 5000) 3 (cond (nat_le micros 10000) 4 (cond (nat_le micros 50000) 5 (cond (nat_le micros 100000) 6
+    (cond (nat_le micros 500000) 7 (cond (nat_le micros 1000000) 8 (cond (nat_le micros 5000000) 9 (cond (nat_le micros 10000000) 10 11))))))))))
 
 -- whether the member has the status
 abbrev pub holds : Status → Change → Bool
@@ -24,22 +28,65 @@ holds status c = rank c.status == rank status
 abbrev pub within : List ℕ → ℕ → ℕ
 within buckets bucket = min (sum (take (bucket + 1) buckets)) 18446744073709551615
 
+-- the lines that say what a metric is, and of which kind
+unfoldable pub head : List ℕ → List ℕ → List ℕ → List ℕ
+head name kind help = codes "# HELP " ++ (name ++ 32 ∷ (help ++ 10 ∷ (codes "# TYPE " ++ (name ++ 32 ∷ (kind ++ 10 ∷ [])))))
+
 -- a line with a name and a number
 unfoldable pub sample : List ℕ → ℕ → List ℕ
 sample name number = name ++ 32 ∷ (decimal number ++ 10 ∷ [])
 
--- a line of text, as the one that names a metric and its type
-abbrev pub line : List ℕ → List ℕ
-line text = text ++ 10 ∷ []
+-- a line with a name and a number of thousandths
+unfoldable pub milli_sample : List ℕ → ℕ → List ℕ
+milli_sample name millis = name ++ 32 ∷ (decimal millis ++ (codes "e-3" ++ 10 ∷ []))
+
+-- a metric that has one sample
+abbrev pub metric : List ℕ → List ℕ → List ℕ → ℕ → List ℕ
+metric name kind help number = head name kind help ++ sample name number
 
 -- the number of members with a status
 unfoldable pub status_sample : List Change → Status → List ℕ
 status_sample members status = codes "ringpop_members{status=\"" ++ (status_word status ++ (codes "\"} " ++ (decimal (count_by (holds status) members) ++ 10 ∷ [])))
 
+-- the number of times that are no longer than a bucket's bound, with that bound in seconds
+unfoldable pub bucket_sample : List ℕ → List ℕ → ℕ → List ℕ → List ℕ
+bucket_sample name buckets bucket bound = name ++ (codes "_bucket{le=\"" ++ (bound ++ (codes "\"} " ++ (decimal (within buckets bucket) ++ 10 ∷ []))))
+
+-- the buckets of a histogram
+abbrev pub bucket_samples : List ℕ → List ℕ → List ℕ
+bucket_samples name buckets =
+    bucket_sample name buckets 0 (codes "0.00025")
+    ++ bucket_sample name buckets 1 (codes "0.0005")
+    ++ bucket_sample name buckets 2 (codes "0.001")
+    ++ bucket_sample name buckets 3 (codes "0.005")
+    ++ bucket_sample name buckets 4 (codes "0.01")
+    ++ bucket_sample name buckets 5 (codes "0.05")
+    ++ bucket_sample name buckets 6 (codes "0.1")
+    ++ bucket_sample name buckets 7 (codes "0.5")
+    ++ bucket_sample name buckets 8 (codes "1")
+    ++ bucket_sample name buckets 9 (codes "5")
+    ++ bucket_sample name buckets 10 (codes "10")
+    ++ bucket_sample name buckets 11 (codes "+Inf")
+
+-- the sum of times and their number
+unfoldable pub sum_samples : List ℕ → TimeCounts → List ℕ
+sum_samples name times =
+    name ++ (codes "_sum " ++ (decimal times.micros ++ (codes "e-6" ++ 10 ∷ (name ++ (codes "_count " ++ (decimal (within times.buckets 11) ++ 10 ∷ []))))))
+
+-- a histogram of times, their sum and their number
+abbrev pub time_samples : List ℕ → List ℕ → TimeCounts → List ℕ
+time_samples name help times = head name (codes "histogram") help ++ bucket_samples name times.buckets ++ sum_samples name times
+
+-- the version
+abbrev pub build_samples : List ℕ
+build_samples =
+    head (codes "ringpop_build_info") (codes "gauge") (codes "The version of the program, as a label.")
+    ++ sample (codes "ringpop_build_info{version=\"1.0.0-dev\"}") 1
+
 -- the number of members with each status
 abbrev pub status_samples : List Change → List ℕ
 status_samples members =
-    line (codes "# TYPE ringpop_members gauge")
+    head (codes "ringpop_members") (codes "gauge") (codes "Members that the node holds, by status.")
     ++ status_sample members Alive
     ++ status_sample members Suspect
     ++ status_sample members Faulty
@@ -49,55 +96,43 @@ status_samples members =
 -- the number of addresses used, and the most that there can be
 abbrev pub address_samples : ℕ → List ℕ
 address_samples addresses =
-    line (codes "# TYPE ringpop_addresses_used gauge")
-    ++ sample (codes "ringpop_addresses_used") addresses
-    ++ line (codes "# TYPE ringpop_addresses_max gauge")
-    ++ sample (codes "ringpop_addresses_max") most_members
+    metric (codes "ringpop_addresses_used") (codes "gauge") (codes "Addresses that the node holds, those of members that left or died included.") addresses
+    ++ metric (codes "ringpop_addresses_max") (codes "gauge") (codes "Addresses that a node can hold.") most_members
+
+-- the node's own incarnation, and the digest of its members
+abbrev pub node_samples : Counts → List ℕ
+node_samples counts =
+    metric (codes "ringpop_incarnation") (codes "gauge") (codes "The incarnation of the node, in its own entry at the last change of its members.") counts.incarnation
+    ++ metric (codes "ringpop_digest") (codes "gauge") (codes "The first six bytes of the digest of the members at their last change: nodes that agree have one number.") counts.digest
 
 -- the numbers of requests: by outcome, handled here, sent to another node, and passed on
 abbrev pub request_samples : Counts → List ℕ
 request_samples counts =
-    line (codes "# TYPE ringpop_requests_total counter")
+    head (codes "ringpop_requests_total") (codes "counter") (codes "Requests of keys that this agent answered over HTTP, by outcome.")
     ++ sample (codes "ringpop_requests_total{outcome=\"answered\"}") counts.answered
     ++ sample (codes "ringpop_requests_total{outcome=\"refused\"}") counts.refused
     ++ sample (codes "ringpop_requests_total{outcome=\"failed\"}") counts.failed
-    ++ line (codes "# TYPE ringpop_handled_total counter")
-    ++ sample (codes "ringpop_handled_total") counts.handled
-    ++ line (codes "# TYPE ringpop_forwards_total counter")
-    ++ sample (codes "ringpop_forwards_total") counts.forwards
-    ++ line (codes "# TYPE ringpop_passed_on_total counter")
-    ++ sample (codes "ringpop_passed_on_total") counts.passed_on
+    ++ metric (codes "ringpop_handled_total") (codes "counter") (codes "Requests of keys that the service of this agent was to handle, those of other nodes included.") counts.handled
+    ++ metric (codes "ringpop_forwards_total") (codes "counter") (codes "Sends of a request of a key to another node, repeated ones and those passed on included.") counts.forwards
+    ++ metric (codes "ringpop_passed_on_total") (codes "counter") (codes "Requests of other nodes that were passed on to the owner.") counts.passed_on
 
--- the number of requests that took no longer than a bucket's bound, with that bound in seconds
-unfoldable pub bucket_sample : List ℕ → ℕ → List ℕ → List ℕ
-bucket_sample buckets bucket bound = codes "ringpop_request_seconds_bucket{le=\"" ++ (bound ++ (codes "\"} " ++ (decimal (within buckets bucket) ++ 10 ∷ [])))
-
--- the histogram's buckets
-abbrev pub bucket_samples : List ℕ → List ℕ
-bucket_samples buckets =
-    bucket_sample buckets 0 (codes "0.001")
-    ++ bucket_sample buckets 1 (codes "0.005")
-    ++ bucket_sample buckets 2 (codes "0.01")
-    ++ bucket_sample buckets 3 (codes "0.05")
-    ++ bucket_sample buckets 4 (codes "0.1")
-    ++ bucket_sample buckets 5 (codes "0.5")
-    ++ bucket_sample buckets 6 (codes "1")
-    ++ bucket_sample buckets 7 (codes "5")
-    ++ bucket_sample buckets 8 (codes "10")
-    ++ bucket_sample buckets 9 (codes "+Inf")
-
--- the histogram of the times of requests, their sum and their number
-abbrev pub time_samples : Counts → List ℕ
-time_samples counts =
-    line (codes "# TYPE ringpop_request_seconds histogram")
-    ++ bucket_samples counts.buckets
-    ++ (codes "ringpop_request_seconds_sum " ++ (decimal counts.micros ++ line (codes "e-6")))
-    ++ sample (codes "ringpop_request_seconds_count") (within counts.buckets 9)
+-- the numbers of answers to requests of keys, by who made them and by status
+abbrev pub answer_samples : Counts → List ℕ
+answer_samples counts =
+    head (codes "ringpop_answers_total") (codes "counter") (codes "Answers to requests of keys over HTTP, by who made them and by status.")
+    ++ sample (codes "ringpop_answers_total{from=\"service\",status=\"2xx\"}") counts.by_services.successes
+    ++ sample (codes "ringpop_answers_total{from=\"service\",status=\"3xx\"}") counts.by_services.redirections
+    ++ sample (codes "ringpop_answers_total{from=\"service\",status=\"4xx\"}") counts.by_services.client_errors
+    ++ sample (codes "ringpop_answers_total{from=\"service\",status=\"5xx\"}") counts.by_services.server_errors
+    ++ sample (codes "ringpop_answers_total{from=\"agent\",status=\"2xx\"}") counts.by_agents.successes
+    ++ sample (codes "ringpop_answers_total{from=\"agent\",status=\"3xx\"}") counts.by_agents.redirections
+    ++ sample (codes "ringpop_answers_total{from=\"agent\",status=\"4xx\"}") counts.by_agents.client_errors
+    ++ sample (codes "ringpop_answers_total{from=\"agent\",status=\"5xx\"}") counts.by_agents.server_errors
 
 -- the number of rounds by outcome
 abbrev pub round_samples : Counts → List ℕ
 round_samples counts =
-    line (codes "# TYPE ringpop_rounds_total counter")
+    head (codes "ringpop_rounds_total") (codes "counter") (codes "Rounds of gossip, by outcome.")
     ++ sample (codes "ringpop_rounds_total{outcome=\"idle\"}") counts.idle
     ++ sample (codes "ringpop_rounds_total{outcome=\"reached\"}") counts.reached
     ++ sample (codes "ringpop_rounds_total{outcome=\"suspected\"}") counts.suspected
@@ -107,86 +142,113 @@ round_samples counts =
 -- the numbers of failures: of the application, of links, and of allocations
 abbrev pub other_samples : Counts → List ℕ
 other_samples counts =
-    line (codes "# TYPE ringpop_application_failures_total counter")
-    ++ sample (codes "ringpop_application_failures_total") counts.application_failures
-    ++ line (codes "# TYPE ringpop_link_failures_total counter")
-    ++ sample (codes "ringpop_link_failures_total") counts.link_failures
-    ++ line (codes "# TYPE ringpop_allocation_failures_total counter")
-    ++ sample (codes "ringpop_allocation_failures_total") counts.allocation_failures
+    metric (codes "ringpop_application_failures_total") (codes "counter") (codes "Requests that the service did not answer, or by no answer that can be passed on.") counts.application_failures
+    ++ metric (codes "ringpop_link_failures_total") (codes "counter") (codes "Messages to other nodes whose sending failed, or that got no answer.") counts.link_failures
+    ++ metric (codes "ringpop_allocation_failures_total") (codes "counter") (codes "Requests and rounds that ran out of memory.") counts.allocation_failures
 
 -- the requests that wait: how many of this node's keys and of others', how many may, the share of each other owner, and how many found no place
 abbrev pub waiting_samples : WaitingCounts → List ℕ
 waiting_samples waiting =
-    line (codes "# TYPE ringpop_waiting_used gauge")
+    head (codes "ringpop_waiting_used") (codes "gauge") (codes "Requests of keys that wait for their owner.")
     ++ sample (codes "ringpop_waiting_used{owner=\"self\"}") waiting.own
     ++ sample (codes "ringpop_waiting_used{owner=\"others\"}") waiting.others
-    ++ line (codes "# TYPE ringpop_waiting_max gauge")
+    ++ head (codes "ringpop_waiting_max") (codes "gauge") (codes "Requests of keys that may wait for their owner.")
     ++ sample (codes "ringpop_waiting_max{owner=\"self\"}") 96
     ++ sample (codes "ringpop_waiting_max{owner=\"others\"}") 128
-    ++ line (codes "# TYPE ringpop_waiting_share gauge")
-    ++ sample (codes "ringpop_waiting_share") 32
-    ++ line (codes "# TYPE ringpop_waiting_refused_total counter")
-    ++ sample (codes "ringpop_waiting_refused_total") waiting.refused
+    ++ metric (codes "ringpop_waiting_share") (codes "gauge") (codes "Requests that may wait for one other owner while many wait for others.") 32
+    ++ metric (codes "ringpop_waiting_refused_total") (codes "counter") (codes "Requests of keys that found no place among those that wait.") waiting.refused
 
 -- the connections of clients over HTTP: how many are open, how many may be, how many were closed for others, and how often none was accepted
 abbrev pub connection_samples : PortCounts → List ℕ
 connection_samples http =
-    line (codes "# TYPE ringpop_connections_used gauge")
+    head (codes "ringpop_connections_used") (codes "gauge") (codes "Connections that are open.")
     ++ sample (codes "ringpop_connections_used{port=\"http\"}") http.used
-    ++ line (codes "# TYPE ringpop_connections_max gauge")
+    ++ head (codes "ringpop_connections_max") (codes "gauge") (codes "Connections that may be open.")
     ++ sample (codes "ringpop_connections_max{port=\"http\"}") http.max
-    ++ line (codes "# TYPE ringpop_connections_evicted_total counter")
+    ++ head (codes "ringpop_connections_evicted_total") (codes "counter") (codes "Connections that were closed for others.")
     ++ sample (codes "ringpop_connections_evicted_total{port=\"http\"}") http.evicted
-    ++ line (codes "# TYPE ringpop_accept_failures_total counter")
+    ++ head (codes "ringpop_accept_failures_total") (codes "counter") (codes "How often the system let no connection be accepted.")
     ++ sample (codes "ringpop_accept_failures_total{port=\"http\"}") http.failures
 
 -- the workers that serve a connection, and all workers
 abbrev pub worker_samples : Counts → List ℕ
 worker_samples counts =
-    line (codes "# TYPE ringpop_workers_used gauge")
-    ++ sample (codes "ringpop_workers_used") counts.workers_used
-    ++ line (codes "# TYPE ringpop_workers_max gauge")
-    ++ sample (codes "ringpop_workers_max") counts.workers_max
+    metric (codes "ringpop_workers_used") (codes "gauge") (codes "Threads that serve an HTTP connection.") counts.workers_used
+    ++ metric (codes "ringpop_workers_max") (codes "gauge") (codes "Threads for HTTP connections.") counts.workers_max
 
 -- the questions about the ring that wait, and the most that may
 abbrev pub question_samples : Counts → List ℕ
 question_samples counts =
-    line (codes "# TYPE ringpop_questions_used gauge")
-    ++ sample (codes "ringpop_questions_used") counts.questions_used
-    ++ line (codes "# TYPE ringpop_questions_max gauge")
-    ++ sample (codes "ringpop_questions_max") counts.questions_max
+    metric (codes "ringpop_questions_used") (codes "gauge") (codes "Questions about the ring that wait.") counts.questions_used
+    ++ metric (codes "ringpop_questions_max") (codes "gauge") (codes "Questions about the ring that may wait.") counts.questions_max
 
 -- whether the service took a connection when it was looked at last
 abbrev pub service_samples : Counts → List ℕ
 service_samples counts =
-    line (codes "# TYPE ringpop_service_up gauge")
-    ++ sample (codes "ringpop_service_up") counts.service_up
+    metric (codes "ringpop_service_up") (codes "gauge") (codes "Whether the service took a connection when the agent last looked.") counts.service_up
 
 -- the notices of the ring that the application took, those that it did not take, and whether one is still to be taken
 abbrev pub notice_samples : Counts → List ℕ
 notice_samples counts =
-    line (codes "# TYPE ringpop_notices_total counter")
+    head (codes "ringpop_notices_total") (codes "counter") (codes "Notices of the ring to the service, by outcome.")
     ++ sample (codes "ringpop_notices_total{outcome=\"taken\"}") counts.notices_taken
     ++ sample (codes "ringpop_notices_total{outcome=\"failed\"}") counts.notices_failed
-    ++ line (codes "# TYPE ringpop_notices_untold gauge")
-    ++ sample (codes "ringpop_notices_untold") counts.notices_untold
+    ++ metric (codes "ringpop_notices_untold") (codes "gauge") (codes "Whether a ring is still to be told to the service.") counts.notices_untold
 
 -- joins by outcome, messages that other nodes refused, and lines that were refused here by reason
 abbrev pub refusal_samples : RefusalCounts → List ℕ
 refusal_samples refusals =
-    line (codes "# TYPE ringpop_joins_total counter")
+    head (codes "ringpop_joins_total") (codes "counter") (codes "Joins that this node asked for, by outcome.")
     ++ sample (codes "ringpop_joins_total{outcome=\"joined\"}") refusals.joined
     ++ sample (codes "ringpop_joins_total{outcome=\"refused\"}") refusals.join_refused
     ++ sample (codes "ringpop_joins_total{outcome=\"failed\"}") refusals.join_failed
-    ++ line (codes "# TYPE ringpop_messages_refused_total counter")
-    ++ sample (codes "ringpop_messages_refused_total") refusals.messages
-    ++ line (codes "# TYPE ringpop_lines_refused_total counter")
+    ++ metric (codes "ringpop_messages_refused_total") (codes "counter") (codes "Messages of this node that another one refused.") refusals.messages
+    ++ head (codes "ringpop_lines_refused_total") (codes "counter") (codes "Lines at the node's port that were refused, by reason.")
     ++ sample (codes "ringpop_lines_refused_total{reason=\"malformed\"}") refusals.malformed
     ++ sample (codes "ringpop_lines_refused_total{reason=\"memory\"}") refusals.memory
 
+-- the log lines that wait, the most that may, and those that were dropped
+abbrev pub log_samples : LogCounts → List ℕ
+log_samples log =
+    metric (codes "ringpop_log_lines_used") (codes "gauge") (codes "Lines of the log that wait to be written.") log.used
+    ++ metric (codes "ringpop_log_lines_max") (codes "gauge") (codes "Lines of the log that may wait.") log.max
+    ++ metric (codes "ringpop_log_lines_dropped_total") (codes "counter") (codes "Lines of the log that were dropped.") log.dropped
+
+-- what the process uses of the machine, and when it started
+abbrev pub process_samples : ProcessCounts → List ℕ
+process_samples process =
+    metric (codes "process_resident_memory_bytes") (codes "gauge") (codes "Memory that the process holds.") process.memory
+    ++ metric (codes "process_open_fds") (codes "gauge") (codes "Descriptors that are open.") process.descriptors
+    ++ metric (codes "process_max_fds") (codes "gauge") (codes "Descriptors that may be open.") process.max_descriptors
+    ++ metric (codes "process_start_time_seconds") (codes "gauge") (codes "When the process started, in seconds since 1970.") process.started
+    ++ head (codes "process_cpu_seconds_total") (codes "counter") (codes "Processor time that the process used.")
+    ++ milli_sample (codes "process_cpu_seconds_total") process.cpu_millis
+
+-- the times of requests, of the application and of rounds
+abbrev pub histogram_samples : Counts → List ℕ
+histogram_samples counts =
+    time_samples (codes "ringpop_request_seconds") (codes "Time of requests of keys over HTTP, those to other nodes included.") counts.requests
+    ++ time_samples (codes "ringpop_application_seconds") (codes "Time in which the service of this agent answered, or did not.") counts.application
+    ++ time_samples (codes "ringpop_round_seconds") (codes "Time of rounds of gossip, without the pauses between them.") counts.rounds
+
+-- what a node is, and what it knows of others
+abbrev pub node_texts : Counts → List Change → List ℕ
+node_texts counts members =
+    build_samples ++ status_samples members ++ address_samples (length members) ++ node_samples counts ++ process_samples counts.process
+
+-- what was asked and done
+abbrev pub work_texts : Counts → List ℕ
+work_texts counts = request_samples counts ++ answer_samples counts ++ histogram_samples counts ++ round_samples counts ++ other_samples counts
+
+-- what is held, and of how much
+abbrev pub limit_texts : Counts → List ℕ
+limit_texts counts =
+    waiting_samples counts.waiting ++ connection_samples counts.http ++ worker_samples counts ++ question_samples counts ++ log_samples counts.log
+
+-- what goes between the node, its service and other nodes
+abbrev pub link_texts : Counts → List ℕ
+link_texts counts = service_samples counts ++ notice_samples counts ++ refusal_samples counts.refusals
+
 -- the whole text
 abbrev pub metrics_text : Counts → List Change → List ℕ
-metrics_text counts members =
-    status_samples members ++ address_samples (length members) ++ request_samples counts ++ time_samples counts ++ round_samples counts ++ other_samples counts
-    ++ waiting_samples counts.waiting ++ connection_samples counts.http ++ worker_samples counts ++ question_samples counts ++ service_samples counts
-    ++ notice_samples counts ++ refusal_samples counts.refusals
+metrics_text counts members = node_texts counts members ++ work_texts counts ++ limit_texts counts ++ link_texts counts

@@ -1,9 +1,12 @@
 -- The status and the line of text of each refusal, and the content types.
-use Rattle.std.specs.Prelude.{ℕ, ◌==◌, ◌&&◌, Bool, cond, Option, Some, None, List, [], ◌∷◌, ◌++◌, codes, bytes_eq}
+use Rattle.std.specs.Prelude.{ℕ, ◌==◌, ◌&&◌, Bool, cond, Option, Some, None, List, [], ◌∷◌, ◌++◌, codes, decimal, bytes_eq}
 use Rattle.agent_core.specs.declared.verbs.Verb.TheVariants.{Get, Post}
 use Rattle.agent_core.specs.declared.refusals.Failure.{Failure}
 use Rattle.agent_core.specs.declared.refusals.Failure.TheVariants as failure
-use Rattle.agent_core.specs.declared.refusals.Part.TheVariants.{Key, Count, Body, Keys, After}
+use Rattle.agent_core.specs.declared.refusals.KeyFault.{KeyFault}
+use Rattle.agent_core.specs.declared.refusals.KeyFault.TheVariants as fault
+use Rattle.agent_core.specs.declared.refusals.Part.{Part}
+use Rattle.agent_core.specs.declared.refusals.Part.TheVariants.{Key, Count, Body, Keys, NotMine, After, Wait, OwnerQuery, OwnersQuery, RingQuery, KeyField}
 use Rattle.agent_core.specs.declared.refusals.Refusal.{Refusal}
 use Rattle.agent_core.specs.declared.refusals.Refusal.TheVariants as refusal
 use Rattle.message_core.specs.declared.kinds.Reason.{Reason}
@@ -14,6 +17,7 @@ use Rattle.agent_core.specs.declared.answers.Kind.TheVariants.{Text, Json, Html}
 -- the status code of HTTP (RFC 9110, section 15)
 abbrev pub status_of : Refusal → ℕ
 status_of (refusal.Malformed part) = 400
+status_of (refusal.BadKey place why) = 400
 status_of refusal.CrossSite = 403
 status_of refusal.NotFound = 404
 status_of (refusal.BadMethod verb) = 405
@@ -22,6 +26,8 @@ status_of refusal.NotLeft = 409
 status_of refusal.Exhausted = 409
 status_of refusal.LongBody = 413
 status_of refusal.ManyKeys = 413
+status_of refusal.LongRequest = 413
+status_of refusal.NotPassed = 501
 status_of refusal.ApplicationFailed = 502
 status_of (refusal.Unanswered why) = 502
 status_of refusal.ApplicationDown = 503
@@ -38,6 +44,7 @@ status_of (refusal.OwnerBusy owner) = 503
 status_of refusal.Spent = 503
 status_of refusal.Memory = 503
 status_of refusal.OwnerSilent = 504
+status_of refusal.AnswerLost = 504
 
 -- the text of a refusal for a failure of the application
 abbrev pub failure_text : Failure → List ℕ
@@ -45,6 +52,27 @@ failure_text failure.NotAccepted = codes "the owner's application accepts no con
 failure_text failure.HungUp = codes "the owner's application hung up before it answered"
 failure_text failure.NoAnswer = codes "no whole answer of the owner's application came"
 failure_text failure.BadAnswer = codes "bad answer of the owner's application: not HTTP/1, not UTF-8, too long or of a status not 200 to 599"
+
+-- the text of a refusal for a part of the request
+abbrev pub part_text : Part → List ℕ
+part_text Key = codes "bad key: not 1 to 1024 bytes of UTF-8"
+part_text Count = codes "bad count: not n=1 to n=4096"
+part_text Body = codes "bad body: not UTF-8"
+part_text Keys = codes "bad keys: not a JSON list of texts"
+part_text NotMine = codes "bad not-mine: not not-mine=1"
+part_text After = codes "bad after: not the digest of a ring, 64 digits of 0 to 9 and a to f"
+part_text Wait = codes "bad wait: not wait=1 to wait=60, in seconds"
+part_text OwnerQuery = codes "bad query: this path takes n=COUNT alone"
+part_text OwnersQuery = codes "bad query: this path takes n=COUNT and not-mine=1, each once"
+part_text RingQuery = codes "bad query: this path takes after=DIGEST and, only with it, wait=SECONDS, each once"
+part_text KeyField = codes "bad key field: it comes twice, or is not ASCII"
+
+-- the text of a refusal for a key of many
+abbrev pub fault_text : KeyFault → List ℕ
+fault_text fault.NotText = codes "not a text"
+fault_text fault.NotUtf8 = codes "not UTF-8"
+fault_text fault.Empty = codes "empty"
+fault_text fault.Long = codes "more than 1024 bytes"
 
 -- the text of a refused join
 abbrev pub join_text : Reason → List ℕ
@@ -57,13 +85,10 @@ join_text reason.Failed = codes "a host refused this node"
 join_text reason.Unexpected = codes "a host refused this node"
 join_text reason.Malformed = codes "a host refused this node: malformed"
 
--- the text of a refusal
+-- the text of a refusal; of a key of many it is the fault alone
 abbrev pub text_of : Refusal → List ℕ
-text_of (refusal.Malformed Key) = codes "bad key: not 1 to 1024 bytes of UTF-8"
-text_of (refusal.Malformed Count) = codes "bad count: not n=1 to n=4096"
-text_of (refusal.Malformed Body) = codes "bad body: not UTF-8"
-text_of (refusal.Malformed Keys) = codes "bad keys: not a JSON list of texts"
-text_of (refusal.Malformed After) = codes "bad query: not after=DIGEST, or after=DIGEST&wait=1 to wait=60"
+text_of (refusal.Malformed part) = part_text part
+text_of (refusal.BadKey place why) = fault_text why
 text_of refusal.CrossSite = codes "refused: asked by a page of another site"
 text_of refusal.NotFound = codes "nothing at this path"
 text_of (refusal.BadMethod Get) = codes "bad method: this path takes GET"
@@ -73,6 +98,8 @@ text_of refusal.NotLeft = codes "the node has not left"
 text_of refusal.Exhausted = codes "no incarnation is left"
 text_of refusal.LongBody = codes "bad body: more than 131072 bytes"
 text_of refusal.ManyKeys = codes "bad keys: more than 4096"
+text_of refusal.LongRequest = codes "bad body: more than 524288 bytes"
+text_of refusal.NotPassed = codes "not passed on: a CONNECT, or a request with Upgrade"
 text_of refusal.ApplicationFailed = codes "the application failed"
 text_of (refusal.Unanswered why) = failure_text why
 text_of refusal.ApplicationDown = codes "the application does not answer"
@@ -90,18 +117,31 @@ text_of (refusal.OwnerBusy owner) =
 text_of refusal.Spent = codes "the node takes no more calls"
 text_of refusal.Memory = codes "out of memory"
 text_of refusal.OwnerSilent = codes "the owner does not answer"
+text_of refusal.AnswerLost = codes "the answer was lost: the owner may have performed the request"
 
--- that text as a line
+-- a line after which of many keys is bad, by its place among them, from 1; the line alone for another refusal
+abbrev pub placed : Refusal → List ℕ → List ℕ
+placed (refusal.BadKey place why) line = codes "bad key " ++ (decimal place ++ (codes ": " ++ line))
+placed _ line = line
+
+-- the text of a refusal as a line
 abbrev pub line_of : Refusal → List ℕ
-line_of refused = text_of refused ++ 10 ∷ []
+line_of refused = placed refused (text_of refused ++ 10 ∷ [])
 
 -- the word of a refusal, another for each
 abbrev pub word_of : Refusal → List ℕ
 word_of (refusal.Malformed Key) = codes "bad-key"
+word_of (refusal.BadKey place why) = codes "bad-listed-key"
 word_of (refusal.Malformed Count) = codes "bad-count"
 word_of (refusal.Malformed Body) = codes "bad-body"
 word_of (refusal.Malformed Keys) = codes "bad-keys"
-word_of (refusal.Malformed After) = codes "bad-query"
+word_of (refusal.Malformed NotMine) = codes "bad-not-mine"
+word_of (refusal.Malformed After) = codes "bad-after"
+word_of (refusal.Malformed Wait) = codes "bad-wait"
+word_of (refusal.Malformed OwnerQuery) = codes "bad-owner-query"
+word_of (refusal.Malformed OwnersQuery) = codes "bad-owners-query"
+word_of (refusal.Malformed RingQuery) = codes "bad-ring-query"
+word_of (refusal.Malformed KeyField) = codes "bad-key-field"
 word_of refusal.CrossSite = codes "cross-site"
 word_of refusal.NotFound = codes "not-found"
 word_of (refusal.BadMethod verb) = codes "bad-method"
@@ -110,6 +150,8 @@ word_of refusal.NotLeft = codes "not-left"
 word_of refusal.Exhausted = codes "no-incarnation"
 word_of refusal.LongBody = codes "long-body"
 word_of refusal.ManyKeys = codes "many-keys"
+word_of refusal.LongRequest = codes "long-request"
+word_of refusal.NotPassed = codes "not-passed"
 word_of refusal.ApplicationFailed = codes "application-failed"
 word_of (refusal.Unanswered failure.NotAccepted) = codes "application-not-accepting"
 word_of (refusal.Unanswered failure.HungUp) = codes "application-hung-up"
@@ -129,6 +171,7 @@ word_of (refusal.OwnerBusy owner) = codes "owner-busy"
 word_of refusal.Spent = codes "no-calls"
 word_of refusal.Memory = codes "memory"
 word_of refusal.OwnerSilent = codes "owner-unresponsive"
+word_of refusal.AnswerLost = codes "answer-lost"
 
 -- whether an answer with this status and this body is a refusal's
 abbrev pub is_answer : ℕ → List ℕ → Refusal → Bool

@@ -1,6 +1,7 @@
 -- The action that a request asks for, by its method, path, query and body.
-use Rattle.std.specs.Prelude.{◌≡◌, ◌⊎◌, ℕ, ◌&&◌, nat_lt, nat_le, ◌==◌, Bool, cond, List, [], ◌∷◌, length, true, false, Option, Some, None, Result, Ok, Err, IsSome, ok_or, bytes_eq, codes}
-use Rattle.std.specs.List.{after_first, before_first, position_or_len}
+use Rattle.std.specs.Prelude.{◌≡◌, ◌⊎◌, ◌+◌, ℕ, ◌&&◌, nat_lt, nat_le, ◌==◌, Bool, cond, not, ◌||◌, get_or, position, List, [], ◌∷◌, length, true, false, Option, Some, None, Result, Ok, Err, IsSome, is_some, ok_or, bytes_eq, codes}
+use Rattle.std.specs.Result.{result_ok}
+use Rattle.std.specs.List.{after_first, before_first, list_all, position_or_len}
 use Rattle.std.specs.Str.{all_ascii_digits, is_utf8}
 use Rattle.std.specs.Str.Lines.{lines}
 use Rattle.std.specs.Str.Parse.{digits_value}
@@ -12,9 +13,11 @@ use Rattle.agent_core.specs.declared.verbs.Verb.{Verb}
 use Rattle.agent_core.specs.declared.verbs.Verb.TheVariants.{Get, Post}
 use Rattle.agent_core.specs.declared.actions.Action.{Action}
 use Rattle.agent_core.specs.declared.actions.Action.TheVariants as action
-use Rattle.agent_core.specs.declared.refusals.Part.TheVariants.{Key, Count, Body, Keys, After}
+use Rattle.agent_core.specs.declared.refusals.KeyFault.TheVariants.{NotText, NotUtf8, Empty, Long}
+use Rattle.agent_core.specs.declared.refusals.Part.{Part}
+use Rattle.agent_core.specs.declared.refusals.Part.TheVariants.{Key, Count, Body, Keys, NotMine, After, Wait, OwnerQuery, OwnersQuery, RingQuery}
 use Rattle.agent_core.specs.declared.refusals.Refusal.{Refusal}
-use Rattle.agent_core.specs.declared.refusals.Refusal.TheVariants.{Malformed, NotFound, BadMethod, LongBody, ManyKeys}
+use Rattle.agent_core.specs.declared.refusals.Refusal.TheVariants.{Malformed, NotFound, BadMethod, BadKey, LongBody, ManyKeys}
 
 -- the name of a method of HTTP (RFC 9110, section 9)
 abbrev pub verb_name : Verb → List ℕ
@@ -61,15 +64,19 @@ is_count n = nat_lt 0 n && nat_le n 4096
 abbrev pub count_of : List ℕ → Option ℕ
 count_of digits = cond (all_ascii_digits digits && is_count (digits_value 10 digits)) (Some (digits_value 10 digits)) None
 
--- that number, if there is a text that writes one
-abbrev pub count_after : Option (List ℕ) → Result ℕ Refusal
-count_after None = Err (Malformed Count)
-count_after (Some digits) = ok_or (count_of digits) (Malformed Count)
+-- that number, if there is a text that writes one; else this part is malformed
+abbrev pub count_after : Part → Option (List ℕ) → Result ℕ Refusal
+count_after part None = Err (Malformed part)
+count_after part (Some digits) = ok_or (count_of digits) (Malformed Count)
 
--- the number of owners that a query asks for: one if there is no query
+-- the number of owners that a parameter `n` asks for; this part is malformed if it is another parameter
+abbrev pub count_by : Part → List ℕ → Result ℕ Refusal
+count_by part parameter = count_after part (after (codes "n=") parameter)
+
+-- the number of owners that a query for one key asks for: one if there is no query
 abbrev pub count_in : Option (List ℕ) → Result ℕ Refusal
 count_in None = Ok 1
-count_in (Some query) = count_after (after (codes "n=") query)
+count_in (Some query) = count_by OwnerQuery query
 
 -- the action of a request for a key with a body
 abbrev pub handled : Result (List ℕ) Refusal → Result (List ℕ) Refusal → Result Action Refusal
@@ -89,73 +96,118 @@ key_before (Err e) keys = Err e
 key_before (Ok key) (Err e) = Err e
 key_before (Ok key) (Ok keys) = Ok (key ∷ keys)
 
--- the keys that these things are, one each, or the first fault
-abbrev pub keys_by : {A : Type 0} → (A → Result (List ℕ) Refusal) → List A → Result (List (List ℕ)) Refusal
-keys_by key [] = Ok []
-keys_by key (x ∷ xs) = key_before (key x) (keys_by key xs)
+-- the keys that these things are, one each, the first at this place; or the first fault
+abbrev pub keys_from : {A : Type 0} → (ℕ → A → Result (List ℕ) Refusal) → ℕ → List A → Result (List (List ℕ)) Refusal
+keys_from key place [] = Ok []
+keys_from key place (x ∷ xs) = key_before (key place x) (keys_from key (place + 1) xs)
 
--- the key that a text is, if there is one: 1 to 1,024 bytes
-abbrev pub key_of_text : Option (List ℕ) → Result (List ℕ) Refusal
-key_of_text None = Err (Malformed Key)
-key_of_text (Some text) = cond (nat_lt 0 (length text) && nat_le (length text) 1024) (Ok text) (Err (Malformed Key))
+-- the key at this place of many that a text is: 1 to 1,024 bytes
+abbrev pub text_at : ℕ → List ℕ → Result (List ℕ) Refusal
+text_at place text =
+    cond (length text == 0) (Err (BadKey place Empty)) (cond (nat_lt 1024 (length text)) (Err (BadKey place Long)) (Ok text))
 
--- the key that an element of a JSON list is
-abbrev pub key_of_element : Data → Result (List ℕ) Refusal
-key_of_element element = key_of_text (as_str element)
+-- the key at this place that bytes are: such a text in UTF-8
+abbrev pub bytes_at : ℕ → List ℕ → Result (List ℕ) Refusal
+bytes_at place bytes = cond (is_utf8 bytes) (text_at place bytes) (Err (BadKey place NotUtf8))
+
+-- the key at this place that a line encodes, percent-decoded
+abbrev pub line_at : ℕ → List ℕ → Result (List ℕ) Refusal
+line_at place line = bytes_at place (percent_decode line)
+
+-- the key at this place that an element of a JSON list is, by its text, if it is one
+abbrev pub element_of : ℕ → Option (List ℕ) → Result (List ℕ) Refusal
+element_of place None = Err (BadKey place NotText)
+element_of place (Some text) = text_at place text
+
+-- the key at this place that an element of a JSON list is
+abbrev pub element_at : ℕ → Data → Result (List ℕ) Refusal
+element_at place element = element_of place (as_str element)
 
 -- the elements of a JSON list
 abbrev pub elements : Items → List Data
 elements no_items = []
 elements (item d ds) = d ∷ elements ds
 
--- at most 4,096 keys
-abbrev pub few_keys : {A : Type 0} → (A → Result (List ℕ) Refusal) → List A → Result (List (List ℕ)) Refusal
-few_keys key xs = cond (nat_le (length xs) 4096) (keys_by key xs) (Err ManyKeys)
+-- at most 4,096 keys, the first at place 1
+abbrev pub few_keys : {A : Type 0} → (ℕ → A → Result (List ℕ) Refusal) → List A → Result (List (List ℕ)) Refusal
+few_keys key xs = cond (nat_le (length xs) 4096) (keys_from key 1 xs) (Err ManyKeys)
 
 -- the keys of a JSON list, if it is one
 abbrev pub keys_of_items : Option Items → Result (List (List ℕ)) Refusal
 keys_of_items None = Err (Malformed Keys)
-keys_of_items (Some items) = few_keys key_of_element (elements items)
+keys_of_items (Some items) = few_keys element_at (elements items)
 
 -- the keys of JSON, if it is JSON
 abbrev pub keys_of_data : Option Data → Result (List (List ℕ)) Refusal
 keys_of_data None = Err (Malformed Keys)
 keys_of_data (Some value) = keys_of_items (as_array value)
 
--- whether a text starts as a JSON list does
+-- whether a byte is white space of JSON (RFC 8259, section 2)
+abbrev pub is_space : ℕ → Bool
+is_space b = (b == 32) || ((b == 10) || ((b == 13) || (b == 9)))
+
+-- whether a text has `[` at this place, if there is one
+abbrev pub opens_at : List ℕ → Option ℕ → Bool
+opens_at text None = false
+opens_at text (Some i) = get_or text i 0 == 91
+
+-- whether a text starts as a JSON list does: its first byte that is no white space is `[`
 abbrev pub is_list : List ℕ → Bool
-is_list [] = false
-is_list (x ∷ xs) = x == 91
+is_list text = opens_at text (position (λ b. not (is_space b)) text)
 
 -- the keys of a body, at most 4,096: a JSON list of them, or lines, each of which encodes one as the path of a request for it
 abbrev pub keys_in : List ℕ → Result (List (List ℕ)) Refusal
 keys_in body =
-    cond (is_utf8 body) (cond (is_list body) (keys_of_data (read body)) (few_keys key_in (lines body)))
+    cond (is_utf8 body) (cond (is_list body) (keys_of_data (read body)) (few_keys line_at (lines body)))
     (Err (Malformed Body))
+
+-- whether a query has more than one parameter
+abbrev pub has_more : List ℕ → Bool
+has_more query = nat_lt (position_or_len (λ b. b == 38) query) (length query)
 
 -- the parts of a query before and after its first `&`, if it has one
 abbrev pub cut : List ℕ → Option (List ℕ × List ℕ)
 cut query =
-    cond (nat_lt (position_or_len (λ b. b == 38) query) (length query))
+    cond (has_more query)
     (Some (before_first (λ b. b == 38) query, after_first (λ b. b == 38) query)) None
+
+-- whether a parameter has this name, which ends with `=`
+abbrev pub is_named : List ℕ → List ℕ → Bool
+is_named name parameter = is_some (after name parameter)
+
+-- these things, if a parameter is `not-mine=1`
+abbrev pub with_others : Option (List ℕ) → Result (Bool × ℕ) Refusal → Result (Bool × ℕ) Refusal
+with_others None wanted = Err (Malformed OwnersQuery)
+with_others (Some value) wanted = cond (bytes_eq value (codes "1")) wanted (Err (Malformed NotMine))
+
+-- the same, of a parameter as it stands in the query
+abbrev pub if_others : List ℕ → Result (Bool × ℕ) Refusal → Result (Bool × ℕ) Refusal
+if_others parameter wanted = with_others (after (codes "not-mine=") parameter) wanted
 
 -- whether keys of the node itself are left out, and the number of owners
 abbrev pub with_count : Bool → Result ℕ Refusal → Result (Bool × ℕ) Refusal
 with_count only_others (Err e) = Err e
 with_count only_others (Ok count) = Ok (only_others, count)
 
--- the same, of a query with these parts: `not-mine=1` is its first or its last
+-- the same, if a parameter is `not-mine=1` and the number of owners is this one
+abbrev pub with_both : Result ℕ Refusal → List ℕ → Result (Bool × ℕ) Refusal
+with_both (Err e) parameter = Err e
+with_both (Ok count) parameter = if_others parameter (Ok (true, count))
+
+-- the same, of a query with these parts before and after its first `&`: each parameter at most once, in any order
 abbrev pub wanted_at : List ℕ → Option (List ℕ × List ℕ) → Result (Bool × ℕ) Refusal
-wanted_at query None = with_count false (count_in (Some query))
+wanted_at query None =
+    cond (is_named (codes "not-mine=") query) (if_others query (Ok (true, 1)))
+    (with_count false (count_by OwnersQuery query))
 wanted_at query (Some parts) =
-    cond (bytes_eq parts.0 (codes "not-mine=1")) (with_count true (count_in (Some parts.1)))
-    (cond (bytes_eq parts.1 (codes "not-mine=1")) (with_count true (count_in (Some parts.0)))
-    (with_count false (count_in (Some query))))
+    cond (has_more parts.1) (Err (Malformed OwnersQuery))
+    (cond (is_named (codes "not-mine=") parts.0) (with_both (count_by OwnersQuery parts.1) parts.0)
+    (with_both (count_by OwnersQuery parts.0) parts.1))
 
 -- the same, of the query of a request for the owners of keys
 abbrev pub wanted_in : Option (List ℕ) → Result (Bool × ℕ) Refusal
 wanted_in None = Ok (false, 1)
-wanted_in (Some query) = cond (bytes_eq query (codes "not-mine=1")) (Ok (true, 1)) (wanted_at query (cut query))
+wanted_in (Some query) = wanted_at query (cut query)
 
 -- the action of a request for the owners of keys
 abbrev pub listed : Result (List (List ℕ)) Refusal → Result (Bool × ℕ) Refusal → Result Action Refusal
@@ -168,34 +220,54 @@ abbrev pub seconds_of : Option ℕ → Option ℕ
 seconds_of None = None
 seconds_of (Some n) = cond (nat_le n 60) (Some n) None
 
--- the same, if there is a text that writes one
-abbrev pub seconds_after : Option (List ℕ) → Option ℕ
-seconds_after None = None
-seconds_after (Some digits) = seconds_of (count_of digits)
+-- whether a byte is a digit of the text of a digest
+abbrev pub is_digit : ℕ → Bool
+is_digit b = (nat_le 48 b && nat_le b 57) || (nat_le 97 b && nat_le b 102)
 
--- a text and this number, if there is one
-abbrev pub paired : List ℕ → Option ℕ → Option (List ℕ × ℕ)
-paired text None = None
-paired text (Some n) = Some (text, n)
+-- whether a text is that of a digest: 64 hexadecimal digits, the letters small
+abbrev pub is_digest : List ℕ → Bool
+is_digest text = (length text == 64) && list_all is_digit text
 
--- the digest that a question knows, and the seconds that it may wait: none if it names no number
-abbrev pub awaited_at : List ℕ → Option (List ℕ × List ℕ) → Option (List ℕ × ℕ)
-awaited_at rest None = Some (rest, 0)
-awaited_at rest (Some parts) = paired parts.0 (seconds_after (after (codes "wait=") parts.1))
+-- the digest of a parameter `after`
+abbrev pub digest_after : Option (List ℕ) → Result (List ℕ) Refusal
+digest_after None = Err (Malformed RingQuery)
+digest_after (Some text) = cond (is_digest text) (Ok text) (Err (Malformed After))
 
--- the same, of the rest of a query after `after=`
-abbrev pub awaited_after : Option (List ℕ) → Option (List ℕ × ℕ)
-awaited_after None = None
-awaited_after (Some rest) = awaited_at rest (cut rest)
+-- the same, of a parameter as it stands in the query
+abbrev pub digest_by : List ℕ → Result (List ℕ) Refusal
+digest_by parameter = digest_after (after (codes "after=") parameter)
+
+-- the seconds of a parameter `wait`
+abbrev pub seconds_after : Option (List ℕ) → Result ℕ Refusal
+seconds_after None = Err (Malformed RingQuery)
+seconds_after (Some digits) = ok_or (seconds_of (count_of digits)) (Malformed Wait)
+
+-- the same, of a parameter as it stands in the query
+abbrev pub seconds_by : List ℕ → Result ℕ Refusal
+seconds_by parameter = seconds_after (after (codes "wait=") parameter)
+
+-- the digest that a question knows, and the seconds that it may wait
+abbrev pub awaited_by : Result (List ℕ) Refusal → Result ℕ Refusal → Result (List ℕ × ℕ) Refusal
+awaited_by (Err e) seconds = Err e
+awaited_by (Ok digest) (Err e) = Err e
+awaited_by (Ok digest) (Ok seconds) = Ok (digest, seconds)
+
+-- the same, of a query with these parts before and after its first `&`: each parameter at most once, in any order
+abbrev pub awaited_at : List ℕ → Option (List ℕ × List ℕ) → Result (List ℕ × ℕ) Refusal
+awaited_at query None = awaited_by (digest_by query) (Ok 0)
+awaited_at query (Some parts) =
+    cond (has_more parts.1) (Err (Malformed RingQuery))
+    (cond (is_named (codes "wait=") parts.0) (awaited_by (digest_by parts.1) (seconds_by parts.0))
+    (awaited_by (digest_by parts.0) (seconds_by parts.1)))
 
 -- the same, of the query of a request for the ring
-abbrev pub awaited_in : List ℕ → Option (List ℕ × ℕ)
-awaited_in query = awaited_after (after (codes "after=") query)
+abbrev pub awaited_in : List ℕ → Result (List ℕ × ℕ) Refusal
+awaited_in query = awaited_at query (cut query)
 
 -- the action of a request for the ring, by what its query awaits
-abbrev pub ring_after : Option (List ℕ × ℕ) → Result Action Refusal
-ring_after None = Err (Malformed After)
-ring_after (Some awaited) = Ok (action.Ring (Some awaited.0))
+abbrev pub ring_after : Result (List ℕ × ℕ) Refusal → Result Action Refusal
+ring_after (Err e) = Err e
+ring_after (Ok awaited) = Ok (action.Ring (Some awaited.0))
 
 -- the action of a request for the ring
 abbrev pub ring_of : Option (List ℕ) → Result Action Refusal
@@ -256,10 +328,10 @@ AsksForKey method path =
 abbrev pub first_word : List ℕ → Option (List ℕ)
 first_word text = cond (nat_lt (position_or_len (λ b. b == 32) text) (length text)) (Some (before_first (λ b. b == 32) text)) None
 
--- what a query awaits, if there is one
-abbrev pub awaited_by : Option (List ℕ) → Option (List ℕ × ℕ)
-awaited_by None = None
-awaited_by (Some query) = awaited_in query
+-- what a query awaits, if there is one, and it is well formed
+abbrev pub awaited_of : Option (List ℕ) → Option (List ℕ × ℕ)
+awaited_of None = None
+awaited_of (Some query) = result_ok (awaited_in query)
 
 -- the query of a request for the ring, by the rest of its text after the path, if it has one
 abbrev pub query_of : Option (List ℕ) → Option (List ℕ)
@@ -268,4 +340,4 @@ query_of (Some rest) = first_word rest
 
 -- what the request awaits whose text starts so, if it is one for the ring
 abbrev pub question_at : List ℕ → Option (List ℕ × ℕ)
-question_at head = awaited_by (query_of (after (codes "GET /ring?") head))
+question_at head = awaited_of (query_of (after (codes "GET /ring?") head))

@@ -1,5 +1,5 @@
 -- The watch over the service of a node: what it has the node do at each observation, and over a run of them.
-use Rattle.std.specs.Prelude.{◌≡◌, ◌+◌, ◌≤◌, ◌&&◌, ◌||◌, nat_le, nat_lt, max, Bool, true, false, not, cond, IsTrue, List, [], ◌∷◌}
+use Rattle.std.specs.Prelude.{◌≡◌, ◌+◌, ◌≤◌, ◌&&◌, ◌||◌, nat_le, nat_lt, max, Bool, false, not, cond, IsTrue, List, [], ◌∷◌}
 use Rattle.std.specs.List.{All}
 use Rattle.agent_core.specs.declared.services.Move.{Move}
 use Rattle.agent_core.specs.declared.services.Move.TheVariants as move

@@ -45,6 +45,10 @@ longer pause = cond (nat_lt pause 4000) (pause * 2) 8000
 abbrev pub failed : Telling → ℕ → Telling
 failed t now = record { told = t.told; next = t.next; pause = longer t.pause; until = min (now + t.pause) 18446744073709551615 }
 
+-- once it is in a hurry: the notice is due now
+abbrev pub hurried : Telling → Telling
+hurried t = record { told = t.told; next = t.next; pause = 250; until = 0 }
+
 -- how long it is from one moment to another, if there is a ring to be told
 abbrev pub left_until : Option Ring → ℕ → ℕ → Option ℕ
 left_until None until now = None
@@ -75,17 +79,19 @@ moved_text own replicas now before = moved_head own replicas ++ ring_part now ++
 abbrev pub notice_of : ℕ → ℕ → Telling → Option (List ℕ)
 notice_of own replicas t = option_map (λ next. moved_text own replicas next t.told) t.next
 
--- An event of a telling: a ring is noted, the application takes the notice, or it does not at a moment.
+-- An event of a telling: a ring is noted, the application takes the notice, or it does not at a moment, or the telling is in a hurry.
 pub data Event : Type 0 where
   Noted : Ring → Event
   Taken : Event
   Failed : ℕ → Event
+  Hurried : Event
 
 -- what an event makes of a telling
 abbrev pub after : Telling → Event → Telling
 after t (Noted ring) = noted t ring
 after t Taken = taken t
 after t (Failed now) = failed t now
+after t Hurried = hurried t
 
 -- what events make of it, one after the other
 abbrev pub after_all : Telling → List Event → Telling
@@ -102,6 +108,7 @@ last_noted known [] = known
 last_noted known (Noted ring ∷ events) = last_noted (Some ring.digest.bytes) events
 last_noted known (Taken ∷ events) = last_noted known events
 last_noted known (Failed now ∷ events) = last_noted known events
+last_noted known (Hurried ∷ events) = last_noted known events
 
 -- the digest of the last ring that was noted before the last notice that is taken among events: so far the one noted last, and the one taken last
 abbrev pub last_taken : Option (List ℕ) → Option (List ℕ) → List Event → Option (List ℕ)
@@ -109,3 +116,4 @@ last_taken known told [] = told
 last_taken known told (Noted ring ∷ events) = last_taken (Some ring.digest.bytes) told events
 last_taken known told (Taken ∷ events) = last_taken known known events
 last_taken known told (Failed now ∷ events) = last_taken known told events
+last_taken known told (Hurried ∷ events) = last_taken known told events

@@ -8,6 +8,10 @@ use Rattle.agent_core.specs.declared.warnings.Notice.{Notice}
 abbrev pub are_many : ℕ → ℕ → Bool
 are_many before now = nat_le 3000 now && (nat_lt (before / 100) (now / 100) || ((now == most_members) && nat_lt before now))
 
+-- whether a node that holds this number of addresses lets one join: it knows the address, or holds fewer than 4,000
+abbrev pub may_join : ℕ → Bool → Bool
+may_join addresses is_known = is_known || nat_lt addresses 4000
+
 -- the window to which the next round belongs: after 50 rounds another begins
 abbrev pub window : Refutations → Refutations
 window r = cond (nat_le 50 r.rounds) (record { rounds = 0; refuted = 0 }) r

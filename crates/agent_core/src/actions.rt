@@ -1,5 +1,6 @@
 //! The actions that requests ask for.
 use crate::key_lists::KeyList;
+use crate::passing::Outgoing;
 use message_core::Text;
 
 /// An action that a request asks for.
@@ -9,6 +10,13 @@ pub enum Action {
     Handle {
         key: Text,
         body: Text,
+    },
+    /// The key's owner handles this request. It is sent again, though the owner may have performed it, only if it may be
+    /// performed twice.
+    Pass {
+        key: Text,
+        request: Outgoing,
+        is_repeatable: bool,
     },
     /// The answer has the first `count` owners of a key, 1 to 4,096, or all serving members if there are fewer.
     Owners {

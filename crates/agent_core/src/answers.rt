@@ -1,9 +1,8 @@
 //! Answers over HTTP: a status, a kind of content and a body.
-ghost use Rattle.std.specs.Prelude.{◌≡◌, ◌≤◌};
-ghost use Rattle.agent_core.specs.Refusals.{kind_name, line_of, status_of};
+ghost use Rattle.std.specs.Prelude.{◌≡◌};
+ghost use Rattle.agent_core.specs.Refusals.{kind_name};
 
 use crate::pages::PAGE;
-use crate::refusals::Refusal;
 
 /// The kind of a body's content.
 #[derive(Clone, Copy, Debug, PartialEq, Eq)]
@@ -45,20 +44,6 @@ impl Answer<'static> {
             status: 200,
             kind: Kind::Text,
             body: line,
-        }
-    }
-
-    /// Makes the answer to a refused request: the refusal's status and its line of text.
-    pub fn refused(refusal: &Refusal) -> Self
-        ensures status { result.status ≡ status_of refusal.now }
-        ensures range { (400 ≤ result.status) × (result.status ≤ 599) }
-        ensures kind { result.kind ≡ Kind.Text }
-        ensures body { result.body.now ≡ line_of refusal.now }
-    {
-        Answer {
-            status: refusal.status(),
-            kind: Kind::Text,
-            body: refusal.line(),
         }
     }
 

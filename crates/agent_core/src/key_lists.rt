@@ -1,13 +1,14 @@
 //! The keys of a request for the owners of many.
-ghost use Rattle.std.specs.Prelude.{◌≡◌, ◌≢◌, IfOk, IfErr, map, take};
+ghost use Rattle.std.specs.Prelude.{◌≡◌, ◌≢◌, IfOk, IfErr, map, not, position, take};
 ghost use Rattle.std.specs.Str.Lines.{lines};
 ghost use Rattle.serde_json.specs.Read.{read};
 ghost use Rattle.serde_json.specs.View.{view};
-ghost use Rattle.agent_core.specs.Requests.{few_keys, is_list, key_in, key_of_element, keys_by, keys_in, keys_of_data};
+ghost use Rattle.agent_core.specs.Requests.{element_at, few_keys, is_list, is_space, keys_from, keys_in, keys_of_data, line_at, text_at};
 
-use crate::refusals::{Part, Refusal};
-use crate::routes::{MAX_KEY_BYTES, key_of, text_of};
+use crate::refusals::{KeyFault, Part, Refusal};
+use crate::routes::{MAX_KEY_BYTES, text_of};
 use message_core::Text;
+use percent_encoding::{DecodeError, percent_decode};
 use serde_json::Value;
 use std::alloc::{AllocError, Global};
 use std::marker::Model;
@@ -45,38 +46,71 @@ fn lines_of(alloc: Global, text: &str) -> Result<Vec<&str>, AllocError>
     text.lines().take(MAX_LISTED + 1).collect(alloc)
 }
 
+/// Returns the refusal of the key at a place for a fault.
+fn bad(place: usize, fault: KeyFault) -> Refusal
+    ensures { result ≡ Refusal.BadKey place fault }
+{
+    Refusal::BadKey { place, fault }
+}
+
+/// Returns the key at a place that a text is.
+fn key_of_text(alloc: Global, place: usize, text: &str) -> Result<Text, Refusal>
+    ensures key { IfOk result (λ key. text_at place text.now ≡ Ok key) }
+    ensures refused { IfErr result (λ e. e ≢ Refusal.Memory → text_at place text.now ≡ Err e) }
+{
+    if text.is_empty() {
+        return Err(bad(place, KeyFault::Empty));
+    }
+    if text.len() > MAX_KEY_BYTES {
+        return Err(bad(place, KeyFault::Long));
+    }
+    text_of(alloc, text)
+}
+
+/// Returns the key at a place that a line encodes.
+fn key_of_line(alloc: Global, place: usize, line: &str) -> Result<Text, Refusal>
+    ensures key { IfOk result (λ key. line_at place line.now ≡ Ok key) }
+    ensures refused { IfErr result (λ e. e ≢ Refusal.Memory → line_at place line.now ≡ Err e) }
+{
+    match percent_decode(line.as_bytes()).decode_utf8(alloc) {
+        Ok(decoded) => key_of_text(alloc, place, &decoded),
+        Err(DecodeError::OutOfMemory) => Err(Refusal::Memory),
+        Err(DecodeError::Utf8(_)) => Err(bad(place, KeyFault::NotUtf8)),
+    }
+}
+
 /// Returns the keys that lines encode.
 fn keys_of_lines(alloc: Global, lines: &[&str]) -> Result<KeyList, Refusal>
-    ensures keys { IfOk result (λ keys. keys_by key_in (map (λ line. line.now) lines.now) ≡ Ok keys) }
-    ensures refused { IfErr result (λ e. e ≢ Refusal.Memory → keys_by key_in (map (λ line. line.now) lines.now) ≡ Err e) }
+    ensures keys { IfOk result (λ keys. keys_from line_at 1 (map (λ line. line.now) lines.now) ≡ Ok keys) }
+    ensures refused { IfErr result (λ e. e ≢ Refusal.Memory → keys_from line_at 1 (map (λ line. line.now) lines.now) ≡ Err e) }
 {
     let mut items = Vec::with_capacity(alloc, lines.len())?;
     for line in lines {
-        let key = key_of(alloc, line)?;
+        let key = key_of_line(alloc, items.len() + 1, line)?;
         items.push(key)?;
     }
     Ok(KeyList { items })
 }
 
-/// Returns the key that an element of a JSON list is.
-fn key_of_element(alloc: Global, element: &Value) -> Result<Text, Refusal>
-    ensures key { IfOk result (λ key. key_of_element (view element.now) ≡ Ok key) }
-    ensures refused { IfErr result (λ e. e ≢ Refusal.Memory → key_of_element (view element.now) ≡ Err e) }
+/// Returns the key at a place that an element of a JSON list is.
+fn key_of_element(alloc: Global, place: usize, element: &Value) -> Result<Text, Refusal>
+    ensures key { IfOk result (λ key. element_at place (view element.now) ≡ Ok key) }
+    ensures refused { IfErr result (λ e. e ≢ Refusal.Memory → element_at place (view element.now) ≡ Err e) }
 {
     match element.as_str() {
-        Some(text) if !text.is_empty() && text.len() <= MAX_KEY_BYTES => text_of(alloc, text),
-        _ => Err(Refusal::Malformed(Part::Key)),
+        Some(text) => key_of_text(alloc, place, text),
+        None => Err(bad(place, KeyFault::NotText)),
     }
 }
 
 /// Returns the keys that the elements of a JSON list are.
 fn keys_of_elements(alloc: Global, elements: &[Value]) -> Result<KeyList, Refusal>
-    ensures keys { IfOk result (λ keys. keys_by key_of_element (map view elements.now) ≡ Ok keys) }
-    ensures refused { IfErr result (λ e. e ≢ Refusal.Memory → keys_by key_of_element (map view elements.now) ≡ Err e) }
+    ensures keys { IfOk result (λ keys. keys_from element_at 1 (map view elements.now) ≡ Ok keys) }
+    ensures refused { IfErr result (λ e. e ≢ Refusal.Memory → keys_from element_at 1 (map view elements.now) ≡ Err e) }
 {
     let mut items = Vec::with_capacity(alloc, elements.len())?;
     for element in elements {
-        let key = key_of_element(alloc, element)?;
+        let key = key_of_element(alloc, items.len() + 1, element)?;
         items.push(key)?;
     }
     Ok(KeyList { items })
@@ -103,8 +137,8 @@ fn keys_of_list(alloc: Global, text: &str) -> Result<KeyList, Refusal>
 
 /// Returns the keys of lines.
 fn keys_of_text(alloc: Global, text: &str) -> Result<KeyList, Refusal>
-    ensures keys { IfOk result (λ keys. few_keys key_in (lines text.now) ≡ Ok keys) }
-    ensures refused { IfErr result (λ e. e ≢ Refusal.Memory → few_keys key_in (lines text.now) ≡ Err e) }
+    ensures keys { IfOk result (λ keys. few_keys line_at (lines text.now) ≡ Ok keys) }
+    ensures refused { IfErr result (λ e. e ≢ Refusal.Memory → few_keys line_at (lines text.now) ≡ Err e) }
 {
     let lines = lines_of(alloc, text)?;
     if lines.len() > MAX_LISTED {
@@ -113,26 +147,40 @@ fn keys_of_text(alloc: Global, text: &str) -> Result<KeyList, Refusal>
     keys_of_lines(alloc, lines.as_slice())
 }
 
-/// Returns whether a body starts as a JSON list does.
+/// Returns whether a byte is white space of JSON (RFC 8259, section 2).
+fn is_space(byte: u8) -> bool
+    ensures { result ≡ is_space byte }
+{
+    matches!(byte, b' ' | b'\n' | b'\r' | b'\t')
+}
+
+/// Returns the place of the first byte of a body that is no white space.
+fn start_of(body: &[u8]) -> Option<usize>
+    ensures { result ≡ position (λ b. not (is_space b)) body.now }
+{
+    body.iter().position(|byte| !is_space(*byte))
+}
+
+/// Returns whether a body starts as a JSON list does, perhaps after white space.
 fn is_list(body: &[u8]) -> bool
     ensures { result ≡ is_list body.now }
 {
-    match body {
-        [first, ..] => *first == b'[',
-        [] => false,
+    match start_of(body) {
+        Some(start) => body.get(start) == Some(&b'['),
+        None => false,
     }
 }
 
-/// Returns the keys of a body: a JSON list of them, or one on each line, as the path of a request for one key encodes it.
+/// Returns the keys of a body: a JSON list of them, perhaps after white space, or one on each line, as the path of a request for one key encodes it.
 ///
 /// # Errors
 ///
 /// If several apply, the first of them, except that `Memory` can replace any but the first.
 ///
 /// - `Malformed(Part::Body)`: the body is not UTF-8.
-/// - `Malformed(Part::Keys)`: it starts with `[`, and is not a JSON list.
+/// - `Malformed(Part::Keys)`: its first byte that is no white space is `[`, and it is not a JSON list.
 /// - `ManyKeys`: there are more than 4,096.
-/// - `Malformed(Part::Key)`: one is not 1 to 1,024 bytes of UTF-8.
+/// - `BadKey`: one is not 1 to 1,024 bytes of UTF-8.
 /// - `Memory`: out of memory.
 pub(crate) fn keys_in(alloc: Global, body: &[u8]) -> Result<KeyList, Refusal>
     ensures keys { IfOk result (λ keys. keys_in body.now ≡ Ok keys) }

@@ -5,6 +5,7 @@
 
 mod actions;
 mod answers;
+mod counts;
 mod key_lists;
 pub mod laws;
 mod metrics;
@@ -15,6 +16,7 @@ mod passing;
 mod questions;
 mod refusals;
 mod routes;
+mod samples;
 mod services;
 mod shares;
 mod tellings;
@@ -24,23 +26,29 @@ mod warnings;
 
 pub use actions::Action;
 pub use answers::{Answer, Kind};
-pub use key_lists::{KeyList, MAX_LISTED};
-pub use metrics::{
-    BUCKETS, Counts, PortCounts, RefusalCounts, WaitingCounts, bucket_of, metrics_text,
+pub use counts::{
+    BUCKETS, LogCounts, PortCounts, ProcessCounts, RefusalCounts, StatusCounts, TimeCounts,
+    WaitingCounts, bucket_of,
 };
+pub use key_lists::{KeyList, MAX_LISTED};
+pub use metrics::{Counts, metrics_text};
 pub use packs::{MAX_BODY_BYTES, MAX_STATUS, MIN_STATUS, Packed, pack, unpack};
 pub use pages::PAGE;
-pub use parts::{MAX_REQUEST_BYTES, pack_body, pack_bytes, parts_in, push_part, unpack_bytes};
+pub use parts::{
+    MAX_REQUEST_BYTES, body_in, pack_body, pack_bytes, parts_in, push_part, unpack_bytes,
+};
 pub use passing::{
-    Field, PassedAnswer, PassedRequest, answer_of, is_of_connection, is_repeatable, pack_answer,
-    pack_request, push_field, request_of,
+    Field, Outgoing, PassedAnswer, PassedRequest, answer_in, answer_of, is_of_connection,
+    is_repeatable, join_request, pack_answer, pack_request, push_field, request_in, request_of,
 };
 pub use questions::{MAX_SECONDS, question_at};
-pub use refusals::{Failure, Part, Refusal};
+pub use refusals::{Failure, KeyFault, Part, Refusal};
 pub use routes::{MAX_KEY_BYTES, MAX_OWNERS, key_of, key_text, route};
 pub use services::{Move, Sight, Watch};
 pub use shares::{MAX_OWN, MAX_WAITING, OWNER_SHARE, Shares};
 pub use tellings::{Ring, Telling};
 pub use texts::{digest_line, members_text, on_ring, owners_text, push_owners, ring_text};
 pub use verbs::Verb;
-pub use warnings::{MANY_ADDRESSES, Notice, Refutations, are_many_addresses, is_live};
+pub use warnings::{
+    MANY_ADDRESSES, MAX_ADMITTED, Notice, Refutations, are_many_addresses, is_admitted, is_live,
+};

@@ -1,57 +1,16 @@
 //! The counts of an agent, in the text format of Prometheus (version 0.0.4).
-ghost use Rattle.std.specs.Prelude.{◌≡◌, ◌<◌, ◌++◌, IfOk, OnOk, count_by, length, string_bytes};
+ghost use Rattle.std.specs.Prelude.{◌≡◌, ◌++◌, IfOk, OnOk, count_by, length, string_bytes};
 ghost use Rattle.change_core.specs.Status.{rank};
-ghost use Rattle.agent_core.specs.Metrics.{address_samples, bucket_of, bucket_sample, bucket_samples, connection_samples, holds, metrics_text, notice_samples, other_samples, question_samples, refusal_samples, request_samples, round_samples, sample, service_samples, status_sample, status_samples, time_samples, waiting_samples, within, worker_samples};
+ghost use Rattle.agent_core.specs.Metrics.{address_samples, answer_samples, build_samples, connection_samples, histogram_samples, holds, limit_texts, link_texts, log_samples, metrics_text, node_samples, node_texts, notice_samples, other_samples, process_samples, question_samples, refusal_samples, request_samples, round_samples, service_samples, status_sample, status_samples, waiting_samples, work_texts, worker_samples};
 
+use crate::counts::{
+    LogCounts, PortCounts, ProcessCounts, RefusalCounts, StatusCounts, TimeCounts, WaitingCounts,
+};
+use crate::samples::{push_head, push_metric, push_millis, push_sample, push_times};
 use crate::shares::{MAX_OWN, MAX_WAITING, OWNER_SHARE};
 use change_core::{Change, MAX_MEMBERS, Status};
 use std::alloc::{AllocError, Global};
 use std::fmt::Write;
-
-/// The number of buckets in which the times of requests are counted. A time is in the first bucket whose bound is not
-/// below it. The bounds are 1, 5, 10, 50, 100 and 500 milliseconds, and 1, 5 and 10 seconds; the last bucket has none.
-pub const BUCKETS: usize = 10;
-
-/// The connections at a port of an agent.
-#[derive(Clone, Copy, Debug, Default, PartialEq, Eq)]
-pub struct PortCounts {
-    /// Those that are open.
-    pub used: u64,
-    /// The most that are open at a time.
-    pub max: u64,
-    /// Those that were closed for others, since no place was free.
-    pub evicted: u64,
-    /// How often the system let none be accepted.
-    pub failures: u64,
-}
-
-/// The numbers of what was refused at an agent.
-#[derive(Clone, Copy, Debug, Default, PartialEq, Eq)]
-pub struct RefusalCounts {
-    /// Joins that a host answered by letting the node join.
-    pub joined: u64,
-    /// Joins that a host refused.
-    pub join_refused: u64,
-    /// Joins that no answer came to.
-    pub join_failed: u64,
-    /// Messages of this node that another node refused.
-    pub messages: u64,
-    /// Lines at the node's port that were refused since they were no message.
-    pub malformed: u64,
-    /// Lines at the node's port that were refused since memory ran out.
-    pub memory: u64,
-}
-
-/// The requests of keys that wait at an agent for the application of the key's owner.
-#[derive(Clone, Copy, Debug, Default, PartialEq, Eq)]
-pub struct WaitingCounts {
-    /// Those of keys of this node.
-    pub own: u64,
-    /// Those of keys of other nodes.
-    pub others: u64,
-    /// Those that found no place since the agent started.
-    pub refused: u64,
-}
 
 /// The counts of an agent since it started.
 #[derive(Clone, Copy, Debug, PartialEq, Eq)]
@@ -62,10 +21,20 @@ pub struct Counts {
     pub refused: u64,
     /// Requests of keys that were refused with a status from 500 to 599.
     pub failed: u64,
-    /// The sum of the times of requests of keys, in microseconds.
-    pub micros: u64,
-    /// The number of requests of keys whose time is in each bucket.
-    pub buckets: [u64; BUCKETS],
+    /// Answers to requests of keys over HTTP that a service gave, of this node or of another.
+    pub by_services: StatusCounts,
+    /// Those that an agent gave itself, this one or the owner's.
+    pub by_agents: StatusCounts,
+    /// The times of requests of keys over HTTP.
+    pub requests: TimeCounts,
+    /// The times in which this node's application answered, or did not.
+    pub application: TimeCounts,
+    /// The times of rounds of gossip.
+    pub rounds: TimeCounts,
+    /// The incarnation of the node's own entry at the last change of its members.
+    pub incarnation: u64,
+    /// The first six bytes of the digest of the members at their last change, as a number.
+    pub digest: u64,
     /// Requests of keys that this node's application or echo was to handle, those of other nodes among them.
     pub handled: u64,
     /// Sends of a request of a key to another node, repeated ones and those passed on among them.
@@ -109,25 +78,8 @@ pub struct Counts {
     /// 1 while it is still to be told of the ring, else 0.
     pub notices_untold: u64,
     pub refusals: RefusalCounts,
-}
-
-/// Returns the bucket of a time in microseconds, from 0 to 9.
-pub fn bucket_of(micros: u64) -> usize
-    ensures bucket { result ≡ bucket_of micros }
-    ensures range { result < BUCKETS }
-{
-    match micros {
-        ..=1_000 => 0,
-        ..=5_000 => 1,
-        ..=10_000 => 2,
-        ..=50_000 => 3,
-        ..=100_000 => 4,
-        ..=500_000 => 5,
-        ..=1_000_000 => 6,
-        ..=5_000_000 => 7,
-        ..=10_000_000 => 8,
-        _ => 9,
-    }
+    pub log: LogCounts,
+    pub process: ProcessCounts,
 }
 
 /// Returns the number of members with the status.
@@ -140,26 +92,6 @@ fn count_of(members: &[Change], status: Status) -> usize
         .count()
 }
 
-/// Returns the number of requests that took no longer than the bucket's bound, or 2^64 - 1 if there are more.
-fn within(buckets: &[u64; BUCKETS], bucket: usize) -> u64
-    requires { bucket < BUCKETS }
-    ensures { result ≡ within buckets.now bucket }
-{
-    let mut sum: u64 = 0;
-    for count in &buckets[..bucket + 1] {
-        sum = sum.saturating_add(*count);
-    }
-    sum
-}
-
-/// Appends a sample: its name, a space, the number and a newline.
-fn push_sample(text: &mut String, name: &str, number: u64) -> Result<(), AllocError>
-    ensures { OnOk result (string_bytes text.new ≡ string_bytes text.old ++ sample name.now number) }
-{
-    write!(text, "{name} {number}\n")?;
-    Ok(())
-}
-
 /// Appends the number of members with the status.
 fn push_status(text: &mut String, members: &[Change], status: Status) -> Result<(), AllocError>
     ensures { OnOk result (string_bytes text.new ≡ string_bytes text.old ++ status_sample members.now status) }
@@ -169,11 +101,30 @@ fn push_status(text: &mut String, members: &[Change], status: Status) -> Result<
     Ok(())
 }
 
+/// Appends the version.
+fn push_build(text: &mut String) -> Result<(), AllocError>
+    ensures { OnOk result (string_bytes text.new ≡ string_bytes text.old ++ build_samples) }
+{
+    push_head(
+        text,
+        "ringpop_build_info",
+        "gauge",
+        "The version of the program, as a label.",
+    )?;
+    push_sample(text, "ringpop_build_info{version=\"1.0.0-dev\"}", 1)?;
+    Ok(())
+}
+
 /// Appends the number of members with each status.
 fn push_statuses(text: &mut String, members: &[Change]) -> Result<(), AllocError>
     ensures { OnOk result (string_bytes text.new ≡ string_bytes text.old ++ status_samples members.now) }
 {
-    text.push_str("# TYPE ringpop_members gauge\n")?;
+    push_head(
+        text,
+        "ringpop_members",
+        "gauge",
+        "Members that the node holds, by status.",
+    )?;
     push_status(text, members, Status::Alive)?;
     push_status(text, members, Status::Suspect)?;
     push_status(text, members, Status::Faulty)?;
@@ -186,10 +137,41 @@ fn push_statuses(text: &mut String, members: &[Change]) -> Result<(), AllocError
 fn push_addresses(text: &mut String, addresses: usize) -> Result<(), AllocError>
     ensures { OnOk result (string_bytes text.new ≡ string_bytes text.old ++ address_samples addresses) }
 {
-    text.push_str("# TYPE ringpop_addresses_used gauge\n")?;
-    push_sample(text, "ringpop_addresses_used", addresses as u64)?;
-    text.push_str("# TYPE ringpop_addresses_max gauge\n")?;
-    push_sample(text, "ringpop_addresses_max", MAX_MEMBERS as u64)?;
+    push_metric(
+        text,
+        "ringpop_addresses_used",
+        "gauge",
+        "Addresses that the node holds, those of members that left or died included.",
+        addresses as u64,
+    )?;
+    push_metric(
+        text,
+        "ringpop_addresses_max",
+        "gauge",
+        "Addresses that a node can hold.",
+        MAX_MEMBERS as u64,
+    )?;
+    Ok(())
+}
+
+/// Appends the node's own incarnation, and the digest of its members.
+fn push_node(text: &mut String, counts: &Counts) -> Result<(), AllocError>
+    ensures { OnOk result (string_bytes text.new ≡ string_bytes text.old ++ node_samples counts.now) }
+{
+    push_metric(
+        text,
+        "ringpop_incarnation",
+        "gauge",
+        "The incarnation of the node, in its own entry at the last change of its members.",
+        counts.incarnation,
+    )?;
+    push_metric(
+        text,
+        "ringpop_digest",
+        "gauge",
+        "The first six bytes of the digest of the members at their last change: nodes that agree have one number.",
+        counts.digest,
+    )?;
     Ok(())
 }
 
@@ -197,7 +179,12 @@ fn push_addresses(text: &mut String, addresses: usize) -> Result<(), AllocError>
 fn push_requests(text: &mut String, counts: &Counts) -> Result<(), AllocError>
     ensures { OnOk result (string_bytes text.new ≡ string_bytes text.old ++ request_samples counts.now) }
 {
-    text.push_str("# TYPE ringpop_requests_total counter\n")?;
+    push_head(
+        text,
+        "ringpop_requests_total",
+        "counter",
+        "Requests of keys that this agent answered over HTTP, by outcome.",
+    )?;
     push_sample(
         text,
         "ringpop_requests_total{outcome=\"answered\"}",
@@ -213,60 +200,80 @@ fn push_requests(text: &mut String, counts: &Counts) -> Result<(), AllocError>
         "ringpop_requests_total{outcome=\"failed\"}",
         counts.failed,
     )?;
-    text.push_str("# TYPE ringpop_handled_total counter\n")?;
-    push_sample(text, "ringpop_handled_total", counts.handled)?;
-    text.push_str("# TYPE ringpop_forwards_total counter\n")?;
-    push_sample(text, "ringpop_forwards_total", counts.forwards)?;
-    text.push_str("# TYPE ringpop_passed_on_total counter\n")?;
-    push_sample(text, "ringpop_passed_on_total", counts.passed_on)?;
-    Ok(())
-}
-
-/// Appends the number of requests that took no longer than the bucket's bound, with that bound in seconds.
-fn push_bucket(
-    text: &mut String,
-    buckets: &[u64; BUCKETS],
-    bucket: usize,
-    bound: &str,
-) -> Result<(), AllocError>
-    requires { bucket < BUCKETS }
-    ensures { OnOk result (string_bytes text.new ≡ string_bytes text.old ++ bucket_sample buckets.now bucket bound.now) }
-{
-    let count = within(buckets, bucket);
-    write!(
+    push_metric(
         text,
-        "ringpop_request_seconds_bucket{{le=\"{bound}\"}} {count}\n"
+        "ringpop_handled_total",
+        "counter",
+        "Requests of keys that the service of this agent was to handle, those of other nodes included.",
+        counts.handled,
+    )?;
+    push_metric(
+        text,
+        "ringpop_forwards_total",
+        "counter",
+        "Sends of a request of a key to another node, repeated ones and those passed on included.",
+        counts.forwards,
+    )?;
+    push_metric(
+        text,
+        "ringpop_passed_on_total",
+        "counter",
+        "Requests of other nodes that were passed on to the owner.",
+        counts.passed_on,
     )?;
     Ok(())
 }
 
-/// Appends the histogram's buckets.
-fn push_buckets(text: &mut String, buckets: &[u64; BUCKETS]) -> Result<(), AllocError>
-    ensures { OnOk result (string_bytes text.new ≡ string_bytes text.old ++ bucket_samples buckets.now) }
+/// Appends the numbers of answers to requests of keys, by who made them and by status.
+fn push_answers(text: &mut String, counts: &Counts) -> Result<(), AllocError>
+    ensures { OnOk result (string_bytes text.new ≡ string_bytes text.old ++ answer_samples counts.now) }
 {
-    push_bucket(text, buckets, 0, "0.001")?;
-    push_bucket(text, buckets, 1, "0.005")?;
-    push_bucket(text, buckets, 2, "0.01")?;
-    push_bucket(text, buckets, 3, "0.05")?;
-    push_bucket(text, buckets, 4, "0.1")?;
-    push_bucket(text, buckets, 5, "0.5")?;
-    push_bucket(text, buckets, 6, "1")?;
-    push_bucket(text, buckets, 7, "5")?;
-    push_bucket(text, buckets, 8, "10")?;
-    push_bucket(text, buckets, 9, "+Inf")?;
-    Ok(())
-}
-
-/// Appends the histogram of the times of requests, their sum and their number.
-fn push_times(text: &mut String, counts: &Counts) -> Result<(), AllocError>
-    ensures { OnOk result (string_bytes text.new ≡ string_bytes text.old ++ time_samples counts.now) }
-{
-    let micros = counts.micros;
-    let requests = within(&counts.buckets, BUCKETS - 1);
-    text.push_str("# TYPE ringpop_request_seconds histogram\n")?;
-    push_buckets(text, &counts.buckets)?;
-    write!(text, "ringpop_request_seconds_sum {micros}e-6\n")?;
-    push_sample(text, "ringpop_request_seconds_count", requests)?;
+    push_head(
+        text,
+        "ringpop_answers_total",
+        "counter",
+        "Answers to requests of keys over HTTP, by who made them and by status.",
+    )?;
+    push_sample(
+        text,
+        "ringpop_answers_total{from=\"service\",status=\"2xx\"}",
+        counts.by_services.successes,
+    )?;
+    push_sample(
+        text,
+        "ringpop_answers_total{from=\"service\",status=\"3xx\"}",
+        counts.by_services.redirections,
+    )?;
+    push_sample(
+        text,
+        "ringpop_answers_total{from=\"service\",status=\"4xx\"}",
+        counts.by_services.client_errors,
+    )?;
+    push_sample(
+        text,
+        "ringpop_answers_total{from=\"service\",status=\"5xx\"}",
+        counts.by_services.server_errors,
+    )?;
+    push_sample(
+        text,
+        "ringpop_answers_total{from=\"agent\",status=\"2xx\"}",
+        counts.by_agents.successes,
+    )?;
+    push_sample(
+        text,
+        "ringpop_answers_total{from=\"agent\",status=\"3xx\"}",
+        counts.by_agents.redirections,
+    )?;
+    push_sample(
+        text,
+        "ringpop_answers_total{from=\"agent\",status=\"4xx\"}",
+        counts.by_agents.client_errors,
+    )?;
+    push_sample(
+        text,
+        "ringpop_answers_total{from=\"agent\",status=\"5xx\"}",
+        counts.by_agents.server_errors,
+    )?;
     Ok(())
 }
 
@@ -274,7 +281,12 @@ fn push_times(text: &mut String, counts: &Counts) -> Result<(), AllocError>
 fn push_rounds(text: &mut String, counts: &Counts) -> Result<(), AllocError>
     ensures { OnOk result (string_bytes text.new ≡ string_bytes text.old ++ round_samples counts.now) }
 {
-    text.push_str("# TYPE ringpop_rounds_total counter\n")?;
+    push_head(
+        text,
+        "ringpop_rounds_total",
+        "counter",
+        "Rounds of gossip, by outcome.",
+    )?;
     push_sample(text, "ringpop_rounds_total{outcome=\"idle\"}", counts.idle)?;
     push_sample(
         text,
@@ -303,18 +315,25 @@ fn push_rounds(text: &mut String, counts: &Counts) -> Result<(), AllocError>
 fn push_others(text: &mut String, counts: &Counts) -> Result<(), AllocError>
     ensures { OnOk result (string_bytes text.new ≡ string_bytes text.old ++ other_samples counts.now) }
 {
-    text.push_str("# TYPE ringpop_application_failures_total counter\n")?;
-    push_sample(
+    push_metric(
         text,
         "ringpop_application_failures_total",
+        "counter",
+        "Requests that the service did not answer, or by no answer that can be passed on.",
         counts.application_failures,
     )?;
-    text.push_str("# TYPE ringpop_link_failures_total counter\n")?;
-    push_sample(text, "ringpop_link_failures_total", counts.link_failures)?;
-    text.push_str("# TYPE ringpop_allocation_failures_total counter\n")?;
-    push_sample(
+    push_metric(
+        text,
+        "ringpop_link_failures_total",
+        "counter",
+        "Messages to other nodes whose sending failed, or that got no answer.",
+        counts.link_failures,
+    )?;
+    push_metric(
         text,
         "ringpop_allocation_failures_total",
+        "counter",
+        "Requests and rounds that ran out of memory.",
         counts.allocation_failures,
     )?;
     Ok(())
@@ -324,24 +343,44 @@ fn push_others(text: &mut String, counts: &Counts) -> Result<(), AllocError>
 fn push_waiting(text: &mut String, waiting: &WaitingCounts) -> Result<(), AllocError>
     ensures { OnOk result (string_bytes text.new ≡ string_bytes text.old ++ waiting_samples waiting.now) }
 {
-    text.push_str("# TYPE ringpop_waiting_used gauge\n")?;
+    push_head(
+        text,
+        "ringpop_waiting_used",
+        "gauge",
+        "Requests of keys that wait for their owner.",
+    )?;
     push_sample(text, "ringpop_waiting_used{owner=\"self\"}", waiting.own)?;
     push_sample(
         text,
         "ringpop_waiting_used{owner=\"others\"}",
         waiting.others,
     )?;
-    text.push_str("# TYPE ringpop_waiting_max gauge\n")?;
+    push_head(
+        text,
+        "ringpop_waiting_max",
+        "gauge",
+        "Requests of keys that may wait for their owner.",
+    )?;
     push_sample(text, "ringpop_waiting_max{owner=\"self\"}", MAX_OWN)?;
     push_sample(
         text,
         "ringpop_waiting_max{owner=\"others\"}",
         MAX_WAITING as u64,
     )?;
-    text.push_str("# TYPE ringpop_waiting_share gauge\n")?;
-    push_sample(text, "ringpop_waiting_share", OWNER_SHARE as u64)?;
-    text.push_str("# TYPE ringpop_waiting_refused_total counter\n")?;
-    push_sample(text, "ringpop_waiting_refused_total", waiting.refused)?;
+    push_metric(
+        text,
+        "ringpop_waiting_share",
+        "gauge",
+        "Requests that may wait for one other owner while many wait for others.",
+        OWNER_SHARE as u64,
+    )?;
+    push_metric(
+        text,
+        "ringpop_waiting_refused_total",
+        "counter",
+        "Requests of keys that found no place among those that wait.",
+        waiting.refused,
+    )?;
     Ok(())
 }
 
@@ -349,17 +388,37 @@ fn push_waiting(text: &mut String, waiting: &WaitingCounts) -> Result<(), AllocE
 fn push_connections(text: &mut String, http: &PortCounts) -> Result<(), AllocError>
     ensures { OnOk result (string_bytes text.new ≡ string_bytes text.old ++ connection_samples http.now) }
 {
-    text.push_str("# TYPE ringpop_connections_used gauge\n")?;
+    push_head(
+        text,
+        "ringpop_connections_used",
+        "gauge",
+        "Connections that are open.",
+    )?;
     push_sample(text, "ringpop_connections_used{port=\"http\"}", http.used)?;
-    text.push_str("# TYPE ringpop_connections_max gauge\n")?;
+    push_head(
+        text,
+        "ringpop_connections_max",
+        "gauge",
+        "Connections that may be open.",
+    )?;
     push_sample(text, "ringpop_connections_max{port=\"http\"}", http.max)?;
-    text.push_str("# TYPE ringpop_connections_evicted_total counter\n")?;
+    push_head(
+        text,
+        "ringpop_connections_evicted_total",
+        "counter",
+        "Connections that were closed for others.",
+    )?;
     push_sample(
         text,
         "ringpop_connections_evicted_total{port=\"http\"}",
         http.evicted,
     )?;
-    text.push_str("# TYPE ringpop_accept_failures_total counter\n")?;
+    push_head(
+        text,
+        "ringpop_accept_failures_total",
+        "counter",
+        "How often the system let no connection be accepted.",
+    )?;
     push_sample(
         text,
         "ringpop_accept_failures_total{port=\"http\"}",
@@ -372,10 +431,20 @@ fn push_connections(text: &mut String, http: &PortCounts) -> Result<(), AllocErr
 fn push_workers(text: &mut String, counts: &Counts) -> Result<(), AllocError>
     ensures { OnOk result (string_bytes text.new ≡ string_bytes text.old ++ worker_samples counts.now) }
 {
-    text.push_str("# TYPE ringpop_workers_used gauge\n")?;
-    push_sample(text, "ringpop_workers_used", counts.workers_used)?;
-    text.push_str("# TYPE ringpop_workers_max gauge\n")?;
-    push_sample(text, "ringpop_workers_max", counts.workers_max)?;
+    push_metric(
+        text,
+        "ringpop_workers_used",
+        "gauge",
+        "Threads that serve an HTTP connection.",
+        counts.workers_used,
+    )?;
+    push_metric(
+        text,
+        "ringpop_workers_max",
+        "gauge",
+        "Threads for HTTP connections.",
+        counts.workers_max,
+    )?;
     Ok(())
 }
 
@@ -383,10 +452,20 @@ fn push_workers(text: &mut String, counts: &Counts) -> Result<(), AllocError>
 fn push_questions(text: &mut String, counts: &Counts) -> Result<(), AllocError>
     ensures { OnOk result (string_bytes text.new ≡ string_bytes text.old ++ question_samples counts.now) }
 {
-    text.push_str("# TYPE ringpop_questions_used gauge\n")?;
-    push_sample(text, "ringpop_questions_used", counts.questions_used)?;
-    text.push_str("# TYPE ringpop_questions_max gauge\n")?;
-    push_sample(text, "ringpop_questions_max", counts.questions_max)?;
+    push_metric(
+        text,
+        "ringpop_questions_used",
+        "gauge",
+        "Questions about the ring that wait.",
+        counts.questions_used,
+    )?;
+    push_metric(
+        text,
+        "ringpop_questions_max",
+        "gauge",
+        "Questions about the ring that may wait.",
+        counts.questions_max,
+    )?;
     Ok(())
 }
 
@@ -394,8 +473,13 @@ fn push_questions(text: &mut String, counts: &Counts) -> Result<(), AllocError>
 fn push_service(text: &mut String, counts: &Counts) -> Result<(), AllocError>
     ensures { OnOk result (string_bytes text.new ≡ string_bytes text.old ++ service_samples counts.now) }
 {
-    text.push_str("# TYPE ringpop_service_up gauge\n")?;
-    push_sample(text, "ringpop_service_up", counts.service_up)?;
+    push_metric(
+        text,
+        "ringpop_service_up",
+        "gauge",
+        "Whether the service took a connection when the agent last looked.",
+        counts.service_up,
+    )?;
     Ok(())
 }
 
@@ -403,7 +487,12 @@ fn push_service(text: &mut String, counts: &Counts) -> Result<(), AllocError>
 fn push_notices(text: &mut String, counts: &Counts) -> Result<(), AllocError>
     ensures { OnOk result (string_bytes text.new ≡ string_bytes text.old ++ notice_samples counts.now) }
 {
-    text.push_str("# TYPE ringpop_notices_total counter\n")?;
+    push_head(
+        text,
+        "ringpop_notices_total",
+        "counter",
+        "Notices of the ring to the service, by outcome.",
+    )?;
     push_sample(
         text,
         "ringpop_notices_total{outcome=\"taken\"}",
@@ -414,8 +503,13 @@ fn push_notices(text: &mut String, counts: &Counts) -> Result<(), AllocError>
         "ringpop_notices_total{outcome=\"failed\"}",
         counts.notices_failed,
     )?;
-    text.push_str("# TYPE ringpop_notices_untold gauge\n")?;
-    push_sample(text, "ringpop_notices_untold", counts.notices_untold)?;
+    push_metric(
+        text,
+        "ringpop_notices_untold",
+        "gauge",
+        "Whether a ring is still to be told to the service.",
+        counts.notices_untold,
+    )?;
     Ok(())
 }
 
@@ -423,7 +517,12 @@ fn push_notices(text: &mut String, counts: &Counts) -> Result<(), AllocError>
 fn push_refusals(text: &mut String, refusals: &RefusalCounts) -> Result<(), AllocError>
     ensures { OnOk result (string_bytes text.new ≡ string_bytes text.old ++ refusal_samples refusals.now) }
 {
-    text.push_str("# TYPE ringpop_joins_total counter\n")?;
+    push_head(
+        text,
+        "ringpop_joins_total",
+        "counter",
+        "Joins that this node asked for, by outcome.",
+    )?;
     push_sample(
         text,
         "ringpop_joins_total{outcome=\"joined\"}",
@@ -439,9 +538,19 @@ fn push_refusals(text: &mut String, refusals: &RefusalCounts) -> Result<(), Allo
         "ringpop_joins_total{outcome=\"failed\"}",
         refusals.join_failed,
     )?;
-    text.push_str("# TYPE ringpop_messages_refused_total counter\n")?;
-    push_sample(text, "ringpop_messages_refused_total", refusals.messages)?;
-    text.push_str("# TYPE ringpop_lines_refused_total counter\n")?;
+    push_metric(
+        text,
+        "ringpop_messages_refused_total",
+        "counter",
+        "Messages of this node that another one refused.",
+        refusals.messages,
+    )?;
+    push_head(
+        text,
+        "ringpop_lines_refused_total",
+        "counter",
+        "Lines at the node's port that were refused, by reason.",
+    )?;
     push_sample(
         text,
         "ringpop_lines_refused_total{reason=\"malformed\"}",
@@ -452,6 +561,147 @@ fn push_refusals(text: &mut String, refusals: &RefusalCounts) -> Result<(), Allo
         "ringpop_lines_refused_total{reason=\"memory\"}",
         refusals.memory,
     )?;
+    Ok(())
+}
+
+/// Appends the numbers of log lines that wait, the most that may, and those that were dropped.
+fn push_log(text: &mut String, log: &LogCounts) -> Result<(), AllocError>
+    ensures { OnOk result (string_bytes text.new ≡ string_bytes text.old ++ log_samples log.now) }
+{
+    push_metric(
+        text,
+        "ringpop_log_lines_used",
+        "gauge",
+        "Lines of the log that wait to be written.",
+        log.used,
+    )?;
+    push_metric(
+        text,
+        "ringpop_log_lines_max",
+        "gauge",
+        "Lines of the log that may wait.",
+        log.max,
+    )?;
+    push_metric(
+        text,
+        "ringpop_log_lines_dropped_total",
+        "counter",
+        "Lines of the log that were dropped.",
+        log.dropped,
+    )?;
+    Ok(())
+}
+
+/// Appends what the process uses of the machine, and when it started.
+fn push_process(text: &mut String, process: &ProcessCounts) -> Result<(), AllocError>
+    ensures { OnOk result (string_bytes text.new ≡ string_bytes text.old ++ process_samples process.now) }
+{
+    push_metric(
+        text,
+        "process_resident_memory_bytes",
+        "gauge",
+        "Memory that the process holds.",
+        process.memory,
+    )?;
+    push_metric(
+        text,
+        "process_open_fds",
+        "gauge",
+        "Descriptors that are open.",
+        process.descriptors,
+    )?;
+    push_metric(
+        text,
+        "process_max_fds",
+        "gauge",
+        "Descriptors that may be open.",
+        process.max_descriptors,
+    )?;
+    push_metric(
+        text,
+        "process_start_time_seconds",
+        "gauge",
+        "When the process started, in seconds since 1970.",
+        process.started,
+    )?;
+    push_head(
+        text,
+        "process_cpu_seconds_total",
+        "counter",
+        "Processor time that the process used.",
+    )?;
+    push_millis(text, "process_cpu_seconds_total", process.cpu_millis)?;
+    Ok(())
+}
+
+/// Appends the times of requests, of the application and of rounds.
+fn push_histograms(text: &mut String, counts: &Counts) -> Result<(), AllocError>
+    ensures { OnOk result (string_bytes text.new ≡ string_bytes text.old ++ histogram_samples counts.now) }
+{
+    push_times(
+        text,
+        "ringpop_request_seconds",
+        "Time of requests of keys over HTTP, those to other nodes included.",
+        &counts.requests,
+    )?;
+    push_times(
+        text,
+        "ringpop_application_seconds",
+        "Time in which the service of this agent answered, or did not.",
+        &counts.application,
+    )?;
+    push_times(
+        text,
+        "ringpop_round_seconds",
+        "Time of rounds of gossip, without the pauses between them.",
+        &counts.rounds,
+    )?;
+    Ok(())
+}
+
+/// Appends what a node is, and what it knows of others.
+fn push_nodes(text: &mut String, counts: &Counts, members: &[Change]) -> Result<(), AllocError>
+    ensures { OnOk result (string_bytes text.new ≡ string_bytes text.old ++ node_texts counts.now members.now) }
+{
+    push_build(text)?;
+    push_statuses(text, members)?;
+    push_addresses(text, members.len())?;
+    push_node(text, counts)?;
+    push_process(text, &counts.process)?;
+    Ok(())
+}
+
+/// Appends what was asked and done.
+fn push_work(text: &mut String, counts: &Counts) -> Result<(), AllocError>
+    ensures { OnOk result (string_bytes text.new ≡ string_bytes text.old ++ work_texts counts.now) }
+{
+    push_requests(text, counts)?;
+    push_answers(text, counts)?;
+    push_histograms(text, counts)?;
+    push_rounds(text, counts)?;
+    push_others(text, counts)?;
+    Ok(())
+}
+
+/// Appends what is held, and of how much.
+fn push_limits(text: &mut String, counts: &Counts) -> Result<(), AllocError>
+    ensures { OnOk result (string_bytes text.new ≡ string_bytes text.old ++ limit_texts counts.now) }
+{
+    push_waiting(text, &counts.waiting)?;
+    push_connections(text, &counts.http)?;
+    push_workers(text, counts)?;
+    push_questions(text, counts)?;
+    push_log(text, &counts.log)?;
+    Ok(())
+}
+
+/// Appends what goes between the node, its service and other nodes.
+fn push_links(text: &mut String, counts: &Counts) -> Result<(), AllocError>
+    ensures { OnOk result (string_bytes text.new ≡ string_bytes text.old ++ link_texts counts.now) }
+{
+    push_service(text, counts)?;
+    push_notices(text, counts)?;
+    push_refusals(text, &counts.refusals)?;
     Ok(())
 }
 
@@ -468,18 +718,9 @@ pub fn metrics_text(
     ensures { IfOk result (λ text. string_bytes text ≡ metrics_text counts.now members.now) }
 {
     let mut text = String::new(alloc);
-    push_statuses(&mut text, members)?;
-    push_addresses(&mut text, members.len())?;
-    push_requests(&mut text, counts)?;
-    push_times(&mut text, counts)?;
-    push_rounds(&mut text, counts)?;
-    push_others(&mut text, counts)?;
-    push_waiting(&mut text, &counts.waiting)?;
-    push_connections(&mut text, &counts.http)?;
-    push_workers(&mut text, counts)?;
-    push_questions(&mut text, counts)?;
-    push_service(&mut text, counts)?;
-    push_notices(&mut text, counts)?;
-    push_refusals(&mut text, &counts.refusals)?;
+    push_nodes(&mut text, counts, members)?;
+    push_work(&mut text, counts)?;
+    push_limits(&mut text, counts)?;
+    push_links(&mut text, counts)?;
     Ok(text)
 }

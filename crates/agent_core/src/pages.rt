@@ -1,8 +1,9 @@
-//! The page that shows the ring. It requests `/members` each second and `/healthz` every fifth, and draws the servers' points
-//! at their places on the ring: each point owns the keys between the point before it and itself. It links each member to the
-//! page of its agent, whose port it takes to be as far from the node's as this agent's is.
+//! The page that shows the ring. It requests `/members` and the head of `/ring` each second and `/healthz` every fifth, and draws the servers'
+//! points at their places on the ring: each point owns the keys between the point before it and itself. It links each member to the
+//! page of its agent, whose port it takes to be as far from the node's as this agent's is, and marks each whose agent has
+//! another digest in two looks one after the other. While this agent does not answer, what it told is grey.
 
-/// The page that shows the ring, as HTML. It loads nothing from another site.
+/// The page that shows the ring, as HTML. From elsewhere it loads the digests of other agents alone.
 pub const PAGE: &str = r#"<!doctype html>
 <html lang="en"><head><meta charset="utf-8"><meta name="viewport" content="width=device-width">
 <title>ringpop</title><link rel="icon" href="data:,">
@@ -17,25 +18,28 @@ input{font:inherit;color:inherit;background:var(--page);border:1px solid var(--f
 output{margin-left:.5rem;font-weight:600}
 p{margin:.3rem 0 1rem;color:var(--faint)}
 main{display:flex;flex-wrap:wrap;gap:2rem;align-items:flex-start}
-svg.ring{width:320px;max-width:100%;height:auto;flex:none}
+svg.ring{flex:1 1 15rem;max-width:320px;height:auto}
 svg text{fill:var(--text);font-size:15px;text-anchor:middle}
 svg text.small{fill:var(--faint);font-size:12px}
-.list{overflow-x:auto}
+.list{max-width:100%;overflow-x:auto}
 table{border-collapse:collapse}
-th,td{text-align:left;padding:.2rem .9rem .2rem 0;border-bottom:1px solid var(--line);white-space:nowrap}
+th,td{text-align:left;padding:.2rem .8rem .2rem 0;border-bottom:1px solid var(--line);white-space:nowrap}
 th{color:var(--faint);font-weight:normal}
 .number{text-align:right;font-variant-numeric:tabular-nums}
 .own{font-weight:600}
 .suspect{color:var(--warn)}.faulty,.tombstone,.fault{color:var(--bad)}.leave{color:var(--faint)}
 .mark{display:inline-block;width:.75rem;height:.75rem;border-radius:2px;background:var(--line)}
+.other{color:var(--bad);margin-left:.4rem}
 code{font-size:.85em;word-break:break-all}
+.gone :is(form,main,#digest,#changed){opacity:.35;filter:grayscale(1)}
+@media(max-width:40rem){table{font-size:.85rem}th,td{padding-right:.6rem}.other{display:block;margin:0}}
 </style></head><body>
 <h1>ringpop <span id="own"></span></h1>
-<p><span id="sum" role="status">asking for the members</span><br><span id="well"></span><span id="changed"></span></p>
+<p><span id="sum" role="status">asking for the members</span><br><span id="well"></span><br><span id="changed"></span></p>
 <form id="ask"><label for="key">owner of key</label> <input id="key" autocomplete="off" spellcheck="false"><output id="owner" for="key"></output></form>
 <main>
 <svg class="ring" id="ring" viewBox="-160 -160 320 320" role="img" aria-label="the ring, with the keys that each member owns"></svg>
-<div class="list"><table><thead><tr><th></th><th>member</th><th>status</th><th class="number">incarnation</th><th class="number">weight</th><th class="number">share of keys</th></tr></thead><tbody id="rows"></tbody></table></div>
+<div class="list"><table><thead><tr><th></th><th>member</th><th>status</th><th class="number">share of keys</th><th class="number">weight</th><th class="number">incarnation</th></tr></thead><tbody id="rows"></tbody></table></div>
 </main>
 <p>digest <code id="digest"></code></p>
 <script>
@@ -43,6 +47,8 @@ code{font-size:.85em;word-break:break-all}
 const by=id=>document.getElementById(id);
 const serves=m=>m.status==='alive'||m.status==='suspect';
 const most=60000;
+// What the agent answers; a failure if it takes longer than three seconds.
+const get=(path,method)=>fetch(path,{method,cache:'no-store',signal:AbortSignal.timeout(3000)});
 // SHA-256 (FIPS 180-4) of a text of less than 56 bytes of ASCII, as a place on the ring from 0 to 1: a page that was not
 // asked for at the machine itself has no crypto.subtle.
 const K=[],H=[];
@@ -109,9 +115,11 @@ function drawRows(members,own,known){
     mark.className='mark';
     if(m.color)mark.style.background=m.color;
     row.insertCell().append(mark);
-    row.insertCell().append(m.address===own?own:link(m.address,own));
+    const name=row.insertCell();
+    name.append(m.address===own?own:link(m.address,own));
+    name.append(otherMark(m.address));
     row.insertCell().textContent=m.status;
-    for(const text of [m.incarnation,m.weight,!serves(m)?'':known?(100*m.share).toFixed(1)+' %':'?']){
+    for(const text of [!serves(m)?'':known?(100*m.share).toFixed(1)+' %':'?',m.weight,m.incarnation]){
       const cell=row.insertCell();
       cell.className='number';
       cell.textContent=text;
@@ -134,25 +142,45 @@ function link(address,own){
   made.textContent=address;
   return made;
 }
+// What the agents of other members answered: their digests, and since how many looks in a row these are not this agent's.
+const others=new Map();
+function otherMark(address){
+  const made=document.createElement('span'),told=others.get(address);
+  made.dataset.of=address;
+  made.className='other';
+  if(told&&told.looks>1){made.textContent='\u2260 digest';made.title=`its agent holds other members: ${told.digest}`}
+  return made;
+}
+// Each page looks for itself: a digest is all that an agent tells the page of another one.
+async function lookAtOther(address,own){
+  const told=others.get(address)||{looks:0};
+  try{
+    const answer=await fetch(new URL('digest',link(address,own).href),{cache:'no-store',signal:AbortSignal.timeout(2000)});
+    told.digest=(await answer.text()).trim();
+    told.looks=answer.ok&&told.digest!==by('digest').textContent?told.looks+1:0;
+  }catch{told.looks=0}
+  others.set(address,told);
+  for(const mark of document.querySelectorAll('.other'))if(mark.dataset.of===address)mark.replaceWith(otherMark(address));
+}
+let turnOf=0;
+// Eight of the members that serve are looked at in turn, so that a page on a large cluster asks no more than that each second.
+function lookAtOthers(members,own){
+  const asked=members.filter(m=>serves(m)&&m.address!==own);
+  for(let i=0;i<Math.min(8,asked.length);i++)lookAtOther(asked[turnOf++%asked.length].address,own);
+}
 const say=(id,text,isFault)=>{by(id).textContent=text;by(id).className=isFault?'fault':''};
 function ago(since){
-  const seconds=Math.round((Date.now()-since)/1000);
+  const seconds=Math.max(0,Math.round((Date.now()-since)/1000));
   return seconds<120?seconds+' s':seconds<7200?Math.round(seconds/60)+' min':Math.round(seconds/3600)+' h';
 }
-let ring='',since=Date.now(),hasChanged=false;
-// When the ring changed: suspicions and refutations do not change it.
-function note(members){
-  const now=members.filter(serves).map(m=>m.address+'*'+m.weight).join(';');
-  if(ring&&now!==ring){since=Date.now();hasChanged=true}
-  ring=now;
-  say('changed',hasChanged?`; the ring changed ${ago(since)} ago`:`; no change of the ring in the ${ago(since)} that this page is open`);
-}
+// A time of today, or of another day with its date.
+const clock=time=>(time.toDateString()===new Date().toDateString()?'':time.toLocaleDateString()+' ')+time.toTimeString().slice(0,8);
 let asked=0;
 async function askOwner(){
   const key=by('key').value,mine=++asked;
   if(!key)return say('owner','');
   try{
-    const answer=await fetch('owner/'+encodeURIComponent(key),{cache:'no-store'});
+    const answer=await get('owner/'+encodeURIComponent(key));
     const text=answer.ok?(await answer.json()).owners[0]:await answer.text();
     if(mine===asked)say('owner',text,!answer.ok);
   }catch(error){say('owner',error.message,true)}
@@ -161,26 +189,43 @@ by('key').addEventListener('input',askOwner);
 by('ask').addEventListener('submit',event=>event.preventDefault());
 async function lookAtHealth(){
   try{
-    const answer=await fetch('healthz',{cache:'no-store'}),text=(await answer.text()).trim();
+    const answer=await get('healthz'),text=(await answer.text()).trim();
     say('well',answer.ok?'the node serves, and its service is up':text,!answer.ok);
   }catch{say('well','')}
   setTimeout(lookAtHealth,5000);
 }
 let drawn='';
+function show(view){
+  const counts={};
+  for(const m of view.members)counts[m.status]=(counts[m.status]||0)+1;
+  if(drawn!==view.digest){draw(view);drawn=view.digest;askOwner()}
+  lookAtOthers(view.members,view.address);
+  by('own').textContent=view.address;
+  by('digest').textContent=view.digest;
+  document.title='ringpop '+view.address;
+  say('sum',Object.entries(counts).map(([status,n])=>n+' '+status).join(', ')+'; '+view.replicas+' points for a unit of weight');
+}
+let changed=null;
+// When the ring last changed, as the agent said: suspicions and refutations do not change it.
+function showChange(){
+  const since=new Date(changed);
+  say('changed',changed?`the ring last changed at ${clock(since)}, ${ago(since)} ago`:'');
+}
+async function ask(){
+  const [members,ring]=await Promise.all([get('members'),get('ring','HEAD')]);
+  return {ok:members.ok,members:await (members.ok?members.json():members.text()),changed:ring.headers.get('last-modified')};
+}
+let lost=null;
 async function look(){
-  try{
-    const answer=await fetch('members',{cache:'no-store'});
-    if(!answer.ok)throw new Error(await answer.text());
-    const view=await answer.json(),counts={};
-    for(const m of view.members)counts[m.status]=(counts[m.status]||0)+1;
-    if(drawn!==view.digest){draw(view);drawn=view.digest;askOwner()}
-    note(view.members);
-    by('own').textContent=view.address;
-    by('digest').textContent=view.digest;
-    document.title='ringpop '+view.address;
-    say('sum',Object.entries(counts).map(([status,n])=>n+' '+status).join(', ')+'; '+view.replicas+' points for a unit of weight');
-  }catch(error){say('sum','no answer from the agent: '+error.message,true)}
+  const at=new Date(),told=await ask().catch(()=>null);
   setTimeout(look,1000);
+  lost=told?null:lost||at;
+  document.body.className=told?'':'gone';
+  if(told)changed=told.changed;
+  showChange();
+  if(!told){say('well','');say('sum','this agent does not answer since '+clock(lost),true)}
+  else if(told.ok)show(told.members);
+  else say('sum',told.members,true);
 }
 look();
 lookAtHealth();

@@ -86,6 +86,7 @@ pub fn pack_bytes(alloc: Global, bytes: &[u8]) -> Result<Text, WireError>
 /// - `AllocError`: out of memory.
 pub fn unpack_bytes(alloc: Global, text: &str) -> Result<Option<Vec<u8>>, AllocError>
     ensures bytes { IfOk result (λ r. IfSome r (λ bytes. text.now ≡ packed_bytes bytes.items)) }
+    ensures octets { IfOk result (λ r. IfSome r (λ bytes. IsBytes bytes.items)) }
     ensures none { result ≡ Ok None → (bytes : List ℕ) → IsBytes bytes → text.now ≢ packed_bytes bytes }
 {
     let Some(encoded) = text.strip_prefix("\u{3}") else {
@@ -125,4 +126,16 @@ pub fn pack_body(alloc: Global, body: Text) -> Result<Text, WireError>
     let mut bytes = Vec::new(alloc);
     push_part(&mut bytes, part)?;
     pack_bytes(alloc, bytes.as_slice())
+}
+
+/// Returns the body whose one part these bytes are; None if they are not one part.
+#[tactic(auto, using(crate::proofs::Parting::alone, crate::proofs::Parting::not_alone, crate::proofs::Parting::none_alone))]
+pub fn body_in(bytes: &[u8]) -> Option<&[u8]>
+    ensures body { IfSome result (λ body. bytes.now ≡ part_of body.now) }
+    ensures none { IfNone result ((body : List ℕ) → bytes.now ≢ part_of body) }
+{
+    let Some((body, rest)) = first_part(bytes) else {
+        return None;
+    };
+    if rest.is_empty() { Some(body) } else { None }
 }

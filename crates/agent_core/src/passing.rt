@@ -2,10 +2,11 @@
 //! passed on.
 ghost use Rattle.std.specs.Prelude.{◌≡◌, ◌≢◌, ◌≤◌, ◌++◌, ℕ, List, IfNone, IfOk, IfSome, IsOkUnless, None, Ok, OnOk, decimal, map};
 ghost use Rattle.agent_core.specs.Parts.{joined, part_of};
-ghost use Rattle.agent_core.specs.Passing.{answer_parts, answer_text, flat, is_of_connection, is_repeatable, named, request_parts, request_text, status_in};
+ghost use Rattle.agent_core.specs.Passing.{answer_parts, answer_text, flat, is_of_connection, is_repeatable, named, next_fields, request_parts, sent_text, status_in};
 
 use crate::packs::{MAX_STATUS, MIN_STATUS};
-use crate::parts::{pack_bytes, push_part};
+use crate::parts::{pack_bytes, parts_in, push_part};
+use change_core::Address;
 use message_core::{Text, WireError};
 use std::alloc::{AllocError, Global};
 
@@ -35,6 +36,15 @@ pub struct PassedAnswer<'a> {
     pub fields: Vec<Field<'a>>,
 }
 
+/// A request of a key, as it goes to the key's owner.
+#[derive(Debug, Drop)]
+pub enum Outgoing {
+    /// The text of a request that is a body alone.
+    Body(Text),
+    /// The parts of a request that is passed on whole, one after another, but for the field that names the next owner.
+    Whole(Vec<u8>),
+}
+
 /// Appends the name and the value of a field, as two parts.
 ///
 /// # Errors
@@ -47,28 +57,62 @@ pub fn push_field(fields: &mut Vec<u8>, name: &[u8], value: &[u8]) -> Result<(),
     push_part(fields, value)
 }
 
-/// Returns the text of a request whose fields were appended to `fields` by [`push_field`].
+/// Returns the parts of a request, one after another, whose fields were appended to `fields` by [`push_field`].
 ///
 /// # Errors
 ///
-/// - `Memory`: out of memory.
+/// - `AllocError`: out of memory.
 #[tactic(auto, using(crate::proofs::Passed::request_bytes))]
-pub fn pack_request(
+pub fn join_request(
     alloc: Global,
     method: &[u8],
     target: &[u8],
     body: &[u8],
     fields: &[u8],
-) -> Result<Text, WireError>
-    ensures text { IfOk result (λ text. (all : List (List ℕ × List ℕ)) → fields.now ≡ joined (flat all) → text ≡ request_text method.now target.now body.now all) }
-    ensures refusal { IsOkUnless result WireError.Memory }
+) -> Result<Vec<u8>, AllocError>
+    ensures { IfOk result (λ bytes. (all : List (List ℕ × List ℕ)) → fields.now ≡ joined (flat all) → bytes.items ≡ joined (request_parts method.now target.now body.now all)) }
 {
     let mut bytes = Vec::with_capacity(alloc, body.len().saturating_add(fields.len()))?;
     push_part(&mut bytes, method)?;
     push_part(&mut bytes, target)?;
     push_part(&mut bytes, body)?;
     bytes.extend_from_slice(fields)?;
-    pack_bytes(alloc, bytes.as_slice())
+    Ok(bytes)
+}
+
+/// Appends the field that names the next owner of a key, if there is one.
+#[tactic(auto, using(crate::proofs::Passed::no_next))]
+fn push_next(alloc: Global, bytes: &mut Vec<u8>, next: Option<Address>) -> Result<(), AllocError>
+    ensures { OnOk result (bytes.new.items ≡ bytes.old.items ++ joined (flat (next_fields next))) }
+{
+    let Some(next) = next else {
+        return Ok(());
+    };
+    let text = format!(in alloc; "{next}")?;
+    push_field(bytes, b"x-ringpop-next", text.as_bytes())
+}
+
+/// Returns the text by which a request goes to its key's owner. One that is passed on whole tells the application the node
+/// that would own the key next, if there is one.
+///
+/// # Errors
+///
+/// - `Memory`: out of memory. Never for a body alone.
+pub fn pack_request(
+    alloc: Global,
+    request: Outgoing,
+    next: Option<Address>,
+) -> Result<Text, WireError>
+    ensures text { IfOk result (λ text. text ≡ sent_text next request) }
+    ensures refusal { IsOkUnless result WireError.Memory }
+{
+    match request {
+        Outgoing::Body(text) => Ok(text),
+        Outgoing::Whole(mut bytes) => {
+            push_next(alloc, &mut bytes, next)?;
+            pack_bytes(alloc, bytes.as_slice())
+        }
+    }
 }
 
 /// Returns the text of an answer with a status from 200 to 599, whose fields were appended to `fields` by [`push_field`].
@@ -198,6 +242,40 @@ pub fn answer_of<'a>(
     }))
 }
 
+/// Returns the request whose parts these bytes are, one after another; None if they are no request's.
+///
+/// # Errors
+///
+/// - `AllocError`: out of memory.
+pub fn request_in<'a>(
+    alloc: Global,
+    bytes: &'a [u8],
+) -> Result<Option<PassedRequest<'a>>, AllocError>
+    ensures request { IfOk result (λ r. IfSome r (λ q. bytes.now ≡ joined (request_parts q.method.now q.target.now q.body.now (map named q.fields.items)))) }
+    ensures none { result ≡ Ok None → (method target body : List ℕ) (fields : List (List ℕ × List ℕ)) → bytes.now ≢ joined (request_parts method target body fields) }
+{
+    let Some(parts) = parts_in(alloc, bytes)? else {
+        return Ok(None);
+    };
+    request_of(alloc, parts.as_slice())
+}
+
+/// Returns the answer whose parts these bytes are, one after another; None if they are not those of an answer.
+///
+/// # Errors
+///
+/// - `AllocError`: out of memory.
+pub fn answer_in<'a>(alloc: Global, bytes: &'a [u8]) -> Result<Option<PassedAnswer<'a>>, AllocError>
+    ensures answer { IfOk result (λ r. IfSome r (λ a. bytes.now ≡ joined (answer_parts a.status a.body.now (map named a.fields.items)))) }
+    ensures range { IfOk result (λ r. IfSome r (λ a. (200 ≤ a.status) × (a.status ≤ 599))) }
+    ensures none { result ≡ Ok None → (status : ℕ) (body : List ℕ) (fields : List (List ℕ × List ℕ)) → 200 ≤ status → status ≤ 599 → bytes.now ≢ joined (answer_parts status body fields) }
+{
+    let Some(parts) = parts_in(alloc, bytes)? else {
+        return Ok(None);
+    };
+    answer_of(alloc, parts.as_slice())
+}
+
 /// Returns whether a field of this name, in lower case, is not passed on: it is for one connection alone (RFC 9110, section
 /// 7.6.1), or the agent makes it itself.
 pub fn is_of_connection(name: &str) -> bool
@@ -214,6 +292,7 @@ pub fn is_of_connection(name: &str) -> bool
             | "upgrade"
             | "expect"
             | "x-ringpop-key"
+            | "x-ringpop-next"
             | "x-ringpop-error"
             | "x-ringpop-owner"
     )

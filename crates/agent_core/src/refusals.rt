@@ -1,26 +1,49 @@
 //! The refusals of requests, and the status and the text of each.
-ghost use Rattle.std.specs.Prelude.{◌≡◌, ◌≤◌, ◌∷◌, ◌++◌, []};
-ghost use Rattle.agent_core.specs.Refusals.{failure_text, is_answer, join_text, line_of, sent, status_of, word_of};
-ghost use Rattle.agent_core.specs.declared.refusals.Refusal.TheVariants.{Memory as no_memory};
+ghost use Rattle.std.specs.Prelude.{◌≡◌, ◌≤◌, ◌∷◌, ◌++◌, [], IfOk, string_bytes};
+ghost use Rattle.agent_core.specs.Refusals.{failure_text, fault_text, is_answer, join_text, line_of, part_text, sent, status_of, text_of, word_of};
+ghost use Rattle.agent_core.specs.declared.refusals.Refusal.TheVariants.{Busy as crowded, Memory as no_memory, Unanswered as unanswered};
 
 use crate::verbs::Verb;
 use change_core::Address;
 use message_core::Reason;
-use std::alloc::{AllocError, AllocFailed};
+use std::alloc::{AllocError, AllocFailed, Global};
 
 /// A part of a request that is malformed.
 #[derive(Clone, Copy, Debug, PartialEq, Eq)]
 pub enum Part {
     /// The key is not 1 to 1,024 bytes of UTF-8.
     Key,
-    /// The query is not `n=` and a number from 1 to 4,096.
+    /// The parameter `n` is not a number from 1 to 4,096.
     Count,
     /// The body is not UTF-8.
     Body,
     /// The body of a request for the owners of keys starts with `[` and is not a JSON list.
     Keys,
-    /// The query is not `after=` and a digest, or that, `&wait=` and a number from 1 to 60.
+    /// The parameter `not-mine` is not 1.
+    NotMine,
+    /// The parameter `after` is not the digest of a ring.
     After,
+    /// The parameter `wait` is not a number from 1 to 60.
+    Wait,
+    /// The query of a request for a key's owners has another parameter than `n`.
+    OwnerQuery,
+    /// The query of a request for the owners of keys has another parameter than `n` and `not-mine`, or one of them twice.
+    OwnersQuery,
+    /// The query of a request for the ring has another parameter than `after` and `wait`, one of them twice, or `wait` alone.
+    RingQuery,
+    /// The field that names the key comes twice, or is not ASCII.
+    KeyField,
+}
+
+/// A reason why one of many keys is none.
+#[derive(Clone, Copy, Debug, PartialEq, Eq)]
+pub enum KeyFault {
+    /// The element of the JSON list is not a text.
+    NotText,
+    NotUtf8,
+    Empty,
+    /// It has more than 1,024 bytes.
+    Long,
 }
 
 /// A reason why a request to the application has no answer that can be passed on.
@@ -42,6 +65,8 @@ pub enum Failure {
 pub enum Refusal {
     /// A part of the request is malformed.
     Malformed(Part),
+    /// One of the keys of a request for the owners of keys is none, the first such, at this place among them, from 1.
+    BadKey { place: usize, fault: KeyFault },
     /// A page of another site asks for a change (the request is not a GET, and has an `Origin` field).
     CrossSite,
     /// The path is not one that is served.
@@ -58,6 +83,10 @@ pub enum Refusal {
     LongBody,
     /// A request for the owners of keys has more than 4,096.
     ManyKeys,
+    /// The body of a request that is passed on whole has more than 524,288 bytes.
+    LongRequest,
+    /// The request is a CONNECT, or asks for an upgrade of the connection.
+    NotPassed,
     /// The application failed, and no more is known.
     ApplicationFailed,
     /// The application of the key's owner gave no answer that can be passed on.
@@ -90,6 +119,8 @@ pub enum Refusal {
     Memory,
     /// The owner of the key answered none of the sends.
     OwnerSilent,
+    /// The owner may have performed a request that is not to be performed twice, and its answer did not come.
+    AnswerLost,
 }
 
 /// Returns the text of a refused join, one line with its newline.
@@ -103,6 +134,47 @@ fn refused_line(reason: Reason) -> &'static str
         Reason::Malformed => "a host refused this node: malformed\n",
         Reason::Diverged | Reason::Nobody | Reason::Failed | Reason::Unexpected => {
             "a host refused this node\n"
+        }
+    }
+}
+
+impl Part {
+    /// Returns the text of a refusal for this part, one line with its newline.
+    pub fn line(self) -> &'static str
+        ensures { result.now ≡ part_text self ++ 10 ∷ [] }
+    {
+        match self {
+            Part::Key => "bad key: not 1 to 1024 bytes of UTF-8\n",
+            Part::Count => "bad count: not n=1 to n=4096\n",
+            Part::Body => "bad body: not UTF-8\n",
+            Part::Keys => "bad keys: not a JSON list of texts\n",
+            Part::NotMine => "bad not-mine: not not-mine=1\n",
+            Part::After => {
+                "bad after: not the digest of a ring, 64 digits of 0 to 9 and a to f\n"
+            }
+            Part::Wait => "bad wait: not wait=1 to wait=60, in seconds\n",
+            Part::OwnerQuery => "bad query: this path takes n=COUNT alone\n",
+            Part::OwnersQuery => {
+                "bad query: this path takes n=COUNT and not-mine=1, each once\n"
+            }
+            Part::RingQuery => {
+                "bad query: this path takes after=DIGEST and, only with it, wait=SECONDS, each once\n"
+            }
+            Part::KeyField => "bad key field: it comes twice, or is not ASCII\n",
+        }
+    }
+}
+
+impl KeyFault {
+    /// Returns the text of a refusal for this fault, one line with its newline.
+    pub fn line(self) -> &'static str
+        ensures { result.now ≡ fault_text self ++ 10 ∷ [] }
+    {
+        match self {
+            KeyFault::NotText => "not a text\n",
+            KeyFault::NotUtf8 => "not UTF-8\n",
+            KeyFault::Empty => "empty\n",
+            KeyFault::Long => "more than 1024 bytes\n",
         }
     }
 }
@@ -121,7 +193,17 @@ impl Failure {
             }
         }
     }
+
+    /// Returns whether an answer with this status and this body is the refusal for this failure.
+    fn is_answer(self, status: u16, body: &str) -> bool
+        ensures { result ≡ is_answer status body.now (unanswered self) }
+    {
+        status == 502 && body == self.line()
+    }
 }
+
+/// The text of the refusal of a request that finds no place.
+const BUSY: &str = "too many requests wait\n";
 
 impl From<AllocError> for Refusal {
     ghost from_gives = { λ _ e. e ≡ no_memory };
@@ -146,12 +228,13 @@ impl Refusal {
         ensures range { (400 ≤ result) × (result ≤ 599) }
     {
         match self {
-            Refusal::Malformed(_) => 400,
+            Refusal::Malformed(_) | Refusal::BadKey { .. } => 400,
             Refusal::CrossSite => 403,
             Refusal::NotFound => 404,
             Refusal::BadMethod(_) => 405,
             Refusal::AlreadyLeft | Refusal::NotLeft | Refusal::Exhausted => 409,
-            Refusal::LongBody | Refusal::ManyKeys => 413,
+            Refusal::LongBody | Refusal::ManyKeys | Refusal::LongRequest => 413,
+            Refusal::NotPassed => 501,
             Refusal::ApplicationFailed | Refusal::Unanswered(_) => 502,
             Refusal::ApplicationDown
             | Refusal::NotJoined
@@ -166,7 +249,7 @@ impl Refusal {
             | Refusal::OwnerBusy(_)
             | Refusal::Spent
             | Refusal::Memory => 503,
-            Refusal::OwnerSilent => 504,
+            Refusal::OwnerSilent | Refusal::AnswerLost => 504,
         }
     }
 
@@ -176,10 +259,17 @@ impl Refusal {
     {
         match self {
             Refusal::Malformed(Part::Key) => "bad-key",
+            Refusal::BadKey { .. } => "bad-listed-key",
             Refusal::Malformed(Part::Count) => "bad-count",
             Refusal::Malformed(Part::Body) => "bad-body",
             Refusal::Malformed(Part::Keys) => "bad-keys",
-            Refusal::Malformed(Part::After) => "bad-query",
+            Refusal::Malformed(Part::NotMine) => "bad-not-mine",
+            Refusal::Malformed(Part::After) => "bad-after",
+            Refusal::Malformed(Part::Wait) => "bad-wait",
+            Refusal::Malformed(Part::OwnerQuery) => "bad-owner-query",
+            Refusal::Malformed(Part::OwnersQuery) => "bad-owners-query",
+            Refusal::Malformed(Part::RingQuery) => "bad-ring-query",
+            Refusal::Malformed(Part::KeyField) => "bad-key-field",
             Refusal::CrossSite => "cross-site",
             Refusal::NotFound => "not-found",
             Refusal::BadMethod(_) => "bad-method",
@@ -188,6 +278,8 @@ impl Refusal {
             Refusal::Exhausted => "no-incarnation",
             Refusal::LongBody => "long-body",
             Refusal::ManyKeys => "many-keys",
+            Refusal::LongRequest => "long-request",
+            Refusal::NotPassed => "not-passed",
             Refusal::ApplicationFailed => "application-failed",
             Refusal::Unanswered(Failure::NotAccepted) => "application-not-accepting",
             Refusal::Unanswered(Failure::HungUp) => "application-hung-up",
@@ -207,14 +299,8 @@ impl Refusal {
             Refusal::Spent => "no-calls",
             Refusal::Memory => "memory",
             Refusal::OwnerSilent => "owner-unresponsive",
+            Refusal::AnswerLost => "answer-lost",
         }
-    }
-
-    /// Returns whether an answer with this status and this body is the refusal's.
-    fn is_answer(self, status: u16, body: &str) -> bool
-        ensures { result ≡ is_answer status body.now self }
-    {
-        status == self.status() && body == self.line()
     }
 
     /// Returns the refusal that an agent sends in place of an answer of its application, if an answer with this status and this
@@ -222,35 +308,43 @@ impl Refusal {
     pub fn sent(status: u16, body: &str) -> Option<Refusal>
         ensures { result ≡ sent status body.now }
     {
-        if Refusal::Unanswered(Failure::NotAccepted).is_answer(status, body) {
+        if Failure::NotAccepted.is_answer(status, body) {
             return Some(Refusal::Unanswered(Failure::NotAccepted));
         }
-        if Refusal::Unanswered(Failure::HungUp).is_answer(status, body) {
+        if Failure::HungUp.is_answer(status, body) {
             return Some(Refusal::Unanswered(Failure::HungUp));
         }
-        if Refusal::Unanswered(Failure::NoAnswer).is_answer(status, body) {
+        if Failure::NoAnswer.is_answer(status, body) {
             return Some(Refusal::Unanswered(Failure::NoAnswer));
         }
-        if Refusal::Unanswered(Failure::BadAnswer).is_answer(status, body) {
+        if Failure::BadAnswer.is_answer(status, body) {
             return Some(Refusal::Unanswered(Failure::BadAnswer));
         }
-        Refusal::Busy
-            .is_answer(status, body)
-            .then_some(Refusal::Busy)
+        (status == 503 && body == BUSY).then_some(Refusal::Busy)
     }
 
     /// Returns the refusal's text, one line with its newline.
-    pub fn line(&self) -> &'static str
-        ensures { result.now ≡ line_of self.now }
+    ///
+    /// # Errors
+    ///
+    /// - `AllocError`: out of memory.
+    pub fn line(&self, alloc: Global) -> Result<String, AllocError>
+        ensures { IfOk result (λ line. string_bytes line ≡ line_of self.now) }
+    {
+        let text = self.text();
+        match self {
+            Refusal::BadKey { place, .. } => format!(in alloc; "bad key {place}: {text}"),
+            _ => String::from_str(alloc, text),
+        }
+    }
+
+    /// Returns the refusal's text with its newline, without the place of a bad key.
+    fn text(&self) -> &'static str
+        ensures { result.now ≡ text_of self.now ++ 10 ∷ [] }
     {
         match self {
-            Refusal::Malformed(Part::Key) => "bad key: not 1 to 1024 bytes of UTF-8\n",
-            Refusal::Malformed(Part::Count) => "bad count: not n=1 to n=4096\n",
-            Refusal::Malformed(Part::Body) => "bad body: not UTF-8\n",
-            Refusal::Malformed(Part::Keys) => "bad keys: not a JSON list of texts\n",
-            Refusal::Malformed(Part::After) => {
-                "bad query: not after=DIGEST, or after=DIGEST&wait=1 to wait=60\n"
-            }
+            Refusal::Malformed(part) => part.line(),
+            Refusal::BadKey { fault, .. } => fault.line(),
             Refusal::CrossSite => "refused: asked by a page of another site\n",
             Refusal::NotFound => "nothing at this path\n",
             Refusal::BadMethod(Verb::Get) => "bad method: this path takes GET\n",
@@ -260,6 +354,8 @@ impl Refusal {
             Refusal::Exhausted => "no incarnation is left\n",
             Refusal::LongBody => "bad body: more than 131072 bytes\n",
             Refusal::ManyKeys => "bad keys: more than 4096\n",
+            Refusal::LongRequest => "bad body: more than 524288 bytes\n",
+            Refusal::NotPassed => "not passed on: a CONNECT, or a request with Upgrade\n",
             Refusal::ApplicationFailed => "the application failed\n",
             Refusal::Unanswered(failure) => failure.line(),
             Refusal::ApplicationDown => "the application does not answer\n",
@@ -272,7 +368,7 @@ impl Refusal {
             Refusal::CannotAccept => "no HTTP connection can be accepted\n",
             Refusal::NoRounds => "no round of gossip ended in the last ten seconds\n",
             Refusal::Nobody => "nobody serves\n",
-            Refusal::Busy => "too many requests wait\n",
+            Refusal::Busy => BUSY,
             Refusal::ManyQuestions => {
                 "too many questions wait: 1000, or half of the connections; ask again after a second, or without wait\n"
             }
@@ -282,6 +378,8 @@ impl Refusal {
             Refusal::Spent => "the node takes no more calls\n",
             Refusal::Memory => "out of memory\n",
             Refusal::OwnerSilent => "the owner does not answer\n",
+            Refusal::AnswerLost =>
+                "the answer was lost: the owner may have performed the request\n",
         }
     }
 }

@@ -1,6 +1,6 @@
 //! The action that a request asks for, by its method, path, query and body.
 ghost use Rattle.std.specs.Prelude.{◌≡◌, ◌≢◌, IfOk, IfErr, OnOk, option_copied};
-ghost use Rattle.agent_core.specs.Requests.{AsksForKey, AsksForRing, asked, body_in, count_in, count_of, handled, key_in, key_text, named, open_at, place_of, plain, segment, verb_name};
+ghost use Rattle.agent_core.specs.Requests.{AsksForKey, AsksForRing, asked, body_in, count_by, count_in, count_of, handled, key_in, key_text, named, open_at, place_of, plain, segment, verb_name};
 
 use crate::actions::Action;
 use crate::packs::MAX_BODY_BYTES;
@@ -77,17 +77,24 @@ pub(crate) fn count_of(digits: &str) -> Option<usize>
     }
 }
 
-/// Returns the number of owners that a query asks for: one if there is no query.
-pub(crate) fn count_in(query: Option<&str>) -> Result<usize, Refusal>
-    ensures { result ≡ count_in (option_copied query.entry) }
+/// Returns the number of owners that a parameter `n` asks for. If it is another parameter, the query is malformed, which is this part.
+pub(crate) fn count_by(parameter: &str, query: Part) -> Result<usize, Refusal>
+    ensures { result ≡ count_by query parameter.now }
 {
-    let Some(query) = query else {
-        return Ok(1);
-    };
-    let Some(digits) = query.strip_prefix("n=") else {
-        return Err(Refusal::Malformed(Part::Count));
+    let Some(digits) = parameter.strip_prefix("n=") else {
+        return Err(Refusal::Malformed(query));
     };
     count_of(digits).ok_or(Refusal::Malformed(Part::Count))
+}
+
+/// Returns the number of owners that a query for one key asks for: one if there is no query.
+fn count_in(query: Option<&str>) -> Result<usize, Refusal>
+    ensures { result ≡ count_in (option_copied query.entry) }
+{
+    match query {
+        Some(query) => count_by(query, Part::OwnerQuery),
+        None => Ok(1),
+    }
 }
 
 /// Refuses a method other than the path's.
@@ -188,25 +195,27 @@ fn open(
 
 /// Returns the action that a request asks for. The paths with a key are `POST /keys/KEY`, which reads the body and no
 /// query, and `GET /owner/KEY`, which reads the query (`n=COUNT`, or none for 1) and no body. `POST /owners` reads the keys in the
-/// body and the query (`n=COUNT`, `not-mine=1`, or both), `GET /ring` the query (`after=DIGEST&wait=SECONDS`, or the first part). The
-/// others read neither.
+/// body and the query (`n=COUNT`, `not-mine=1`, or both), `GET /ring` the query (`after=DIGEST&wait=SECONDS`, or the first of them). Two
+/// parameters may come in any order. The others read neither.
 ///
 /// # Errors
 ///
-/// If several apply, the first of them, except that `Memory` can replace any but the first two.
+/// If several apply, the first of them, except that `Memory` can replace any but the first two. Of several faults of a query one is named.
 ///
 /// - `NotFound`: the path is not one that is served.
 /// - `BadMethod`: the path takes another method, which the error names.
 /// - `Malformed(Part::Key)`: the rest of the path, percent-decoded, is not 1 to 1,024 bytes of UTF-8.
 /// - `LongBody`: the body of a request for a key has more than 131,072 bytes.
 /// - `Malformed(Part::Body)`: that body is not UTF-8, or that of a request for the owners of keys.
-/// - `Malformed(Part::Keys)`: the body of a request for the owners of keys starts with `[`, and is not a JSON list.
+/// - `Malformed(Part::Keys)`: the body of a request for the owners of keys starts with `[`, perhaps after white space, and is not a JSON list.
 /// - `ManyKeys`: it has more than 4,096 keys.
-/// - `Malformed(Part::Key)`: one of them is not 1 to 1,024 bytes of UTF-8.
-/// - `Malformed(Part::Count)`: the query for the owners of one key is not `n=` and a number from 1 to 4,096 without a sign, or that
-///   for the owners of many is not that, `not-mine=1`, or both joined by `&`.
-/// - `Malformed(Part::After)`: the query of a request for the ring is not `after=` and a digest, perhaps with `&wait=` and a number from
-///   1 to 60 without a sign after that.
+/// - `BadKey`: one of them is not 1 to 1,024 bytes of UTF-8.
+/// - `Malformed(Part::OwnerQuery)`, `Malformed(Part::OwnersQuery)`, `Malformed(Part::RingQuery)`: the query for the owners of one key, of many, or for
+///   the ring has a parameter that the path does not take, one too many, or `wait` alone.
+/// - `Malformed(Part::Count)`: `n` is not a number from 1 to 4,096 without a sign.
+/// - `Malformed(Part::NotMine)`: `not-mine` is not 1.
+/// - `Malformed(Part::After)`: `after` is not 64 digits of 0 to 9 and a to f.
+/// - `Malformed(Part::Wait)`: `wait` is not a number from 1 to 60 without a sign.
 /// - `Memory`: out of memory for a key, the body or a digest; never at another path.
 pub fn route(
     alloc: Global,

@@ -1,6 +1,6 @@
 //! The ring as the application is told it: the text of a notice, and which one is to be told when.
 ghost use Rattle.std.specs.Prelude.{◌≡◌, ◌++◌, IfOk, OnOk, option_map, string_bytes};
-ghost use Rattle.agent_core.specs.Tellings.{before_text, failed, is_latest, is_of, millis_left, moved_text, new_telling, noted, notice_of, ring_part, taken};
+ghost use Rattle.agent_core.specs.Tellings.{before_text, failed, hurried, is_latest, is_of, millis_left, moved_text, new_telling, noted, notice_of, ring_part, taken};
 
 use crate::texts::push_servers;
 use change_core::{Address, Change, Digest, DigestText, Moment};
@@ -113,6 +113,14 @@ impl Telling {
         if let Some(ring) = self.next.take() {
             self.told = Some(ring);
         }
+        self.pause = FIRST_PAUSE;
+        self.until = 0;
+    }
+
+    /// Has the notice be due now, whatever failed before.
+    pub fn hurry(&mut self)
+        ensures { self.new ≡ hurried self.old }
+    {
         self.pause = FIRST_PAUSE;
         self.until = 0;
     }

@@ -1,11 +1,14 @@
 //! The conditions of the log's warnings.
 ghost use Rattle.std.specs.Prelude.{◌≡◌, ◌+◌, ◌≤◌, ◌<◌, ◌/◌, ◌↔◌, IsTrue, false};
-ghost use Rattle.agent_core.specs.Warnings.{are_many, is_news, is_often, is_over, noted, told};
+ghost use Rattle.agent_core.specs.Warnings.{are_many, is_news, is_often, is_over, may_join, noted, told};
 
 use change_core::{MAX_MEMBERS, Moment};
 
 /// The number of addresses from which on a node warns that they may run out.
 pub const MANY_ADDRESSES: usize = 3_000;
+
+/// The number of addresses that a node holds from which on it lets none join that it does not know.
+pub const MAX_ADMITTED: usize = 4_000;
 
 /// The number of rounds in which refutations are counted together.
 const WINDOW: u32 = 50;
@@ -33,6 +36,13 @@ pub fn are_many_addresses(before: usize, now: usize) -> bool
     ensures { result ≡ are_many before now }
 {
     now >= MANY_ADDRESSES && (before / 100 < now / 100 || (now == MAX_MEMBERS && before < now))
+}
+
+/// Returns whether a node lets an address join while it holds this number of them: it knows the address, or holds fewer than 4,000.
+pub fn is_admitted(addresses: usize, is_known: bool) -> bool
+    ensures { result ≡ may_join addresses is_known }
+{
+    is_known || addresses < MAX_ADMITTED
 }
 
 /// The rounds of the present window, 50 at most, and how many of them were refuted: the node's own entry changed in them

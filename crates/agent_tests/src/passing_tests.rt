@@ -1,6 +1,7 @@
 //! Requests and answers that are passed on whole, against texts that another program made.
 use agent_core::laws::passing;
 use agent_core::*;
+use change_core::Address;
 use message_core::{Text, WireError};
 use std::alloc::{AllocError, Global};
 
@@ -8,14 +9,23 @@ use std::alloc::{AllocError, Global};
 const REQUEST: &str =
     "\u{3}AAAAAAAAAANQVVQAAAAAAAAACS9zaG9wP2E9MQAAAAAAAAACAP8AAAAAAAAABGhvc3QAAAAAAAAAAXgAAAAAAAAABXgtdHdvAAAAAAAAAAA=";
 
+/// The text of that request with the next owner 127.0.0.1:7946.
+const REQUEST_WITH_NEXT: &str =
+    "\u{3}AAAAAAAAAANQVVQAAAAAAAAACS9zaG9wP2E9MQAAAAAAAAACAP8AAAAAAAAABGhvc3QAAAAAAAAAAXgAAAAAAAAABXgtdHdvAAAAAAAAAAAAAAAAAAAADngtcmluZ3BvcC1uZXh0AAAAAAAAAA4xMjcuMC4wLjE6Nzk0Ng==";
+
 /// The text of an answer 599 without a body and with the field `set-cookie: a=1`.
 const ANSWER: &str = "\u{3}AAAAAAAAAAM1OTkAAAAAAAAAAAAAAAAAAAAKc2V0LWNvb2tpZQAAAAAAAAADYT0x";
 
-fn request(alloc: Global) -> Result<Text, WireError> {
+fn request(alloc: Global, next: Option<Address>) -> Result<Text, WireError> {
     let mut fields = Vec::new(alloc);
     push_field(&mut fields, b"host", b"x")?;
     push_field(&mut fields, b"x-two", b"")?;
-    pack_request(alloc, b"PUT", b"/shop?a=1", &[0, 255], fields.as_slice())
+    let bytes = join_request(alloc, b"PUT", b"/shop?a=1", &[0, 255], fields.as_slice())?;
+    pack_request(alloc, Outgoing::Whole(bytes), next)
+}
+
+fn body(alloc: Global, next: Option<Address>) -> Result<Text, WireError> {
+    pack_request(alloc, Outgoing::Body(Text::new(alloc, "hello")?), next)
 }
 
 fn answer(alloc: Global) -> Result<Text, WireError> {
@@ -66,7 +76,7 @@ fn status_of(alloc: Global, digits: &[u8]) -> Result<Option<u16>, AllocError> {
 #[test]
 fn packs_a_request_and_reads_it_again(rt: HostRuntime) {
     passing();
-    let text = again!(&rt, WireError::Memory, request(rt.alloc()))
+    let text = again!(&rt, WireError::Memory, request(rt.alloc(), None))
         .ok()
         .expect(&rt, "a text");
     assert!(rt; text.as_str() == REQUEST);
@@ -74,6 +84,15 @@ fn packs_a_request_and_reads_it_again(rt: HostRuntime) {
         let read = again!(&rt, AllocError, reads_request(rt.alloc(), REQUEST, *is_cut)).ok();
         assert!(rt; read.expect(&rt, "memory") == *wanted);
     }
+}
+
+#[test]
+fn names_the_next_owner_to_a_whole_request_alone(rt: HostRuntime) {
+    let next = Address::new(0x7f00_0001, 7946);
+    let whole = again!(&rt, WireError::Memory, request(rt.alloc(), next)).ok();
+    assert!(rt; whole.expect(&rt, "a text").as_str() == REQUEST_WITH_NEXT);
+    let alone = again!(&rt, WireError::Memory, body(rt.alloc(), next)).ok();
+    assert!(rt; alone.expect(&rt, "a text").as_str() == "hello");
 }
 
 #[test]
@@ -105,6 +124,8 @@ fn says_what_passes_and_what_is_repeated(rt: HostRuntime) {
         "transfer-encoding",
         "upgrade",
         "expect",
+        "x-ringpop-key",
+        "x-ringpop-next",
     ] {
         assert!(rt; is_of_connection(*name), "{name}");
     }
@@ -123,5 +144,32 @@ fn says_what_passes_and_what_is_repeated(rt: HostRuntime) {
     }
     for method in &["POST", "PATCH", "CONNECT", "get", ""] {
         assert!(rt; !is_repeatable(*method), "{method}");
+    }
+}
+
+/// Returns whether a text is that of a request, of an answer, and of a body alone; None if it is that of no bytes.
+fn forms_of(alloc: Global, text: &str) -> Result<Option<(bool, bool, bool)>, AllocError> {
+    let Some(bytes) = unpack_bytes(alloc, text)? else {
+        return Ok(None);
+    };
+    let bytes = bytes.as_slice();
+    let request = request_in(alloc, bytes)?.is_some();
+    let answer = answer_in(alloc, bytes)?.is_some();
+    Ok(Some((request, answer, body_in(bytes).is_some())))
+}
+
+#[test]
+fn reads_each_form_as_itself_alone(rt: HostRuntime) {
+    for (text, wanted) in &[
+        (REQUEST, Some((true, false, false))),
+        (ANSWER, Some((false, true, false))),
+        ("\u{3}AAAAAAAAAAIDeA==", Some((false, false, true))),
+        ("\u{3}AAAAAAAAAAIDeAA=", Some((false, false, false))),
+        ("\u{3}", Some((false, false, false))),
+        ("\u{3}A", None),
+        ("hello", None),
+    ] {
+        let forms = again!(&rt, AllocError, forms_of(rt.alloc(), *text)).ok();
+        assert!(rt; forms.expect(&rt, "memory") == *wanted);
     }
 }

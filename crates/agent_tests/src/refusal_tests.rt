@@ -1,12 +1,21 @@
 use agent_core::*;
+use std::alloc::{AllocError, Global};
+use std::env::Env;
+use std::process::Abort;
 
 /// A refusal, its status and the start of its line.
-const ROWS: [(Refusal, u16, &str); 30] = rows! {
+const ROWS: [(Refusal, u16, &str); 39] = rows! {
     Refusal::Malformed(Part::Key), 400, "bad key";
     Refusal::Malformed(Part::Count), 400, "bad count";
     Refusal::Malformed(Part::Body), 400, "bad body";
     Refusal::Malformed(Part::Keys), 400, "bad keys: not a JSON";
-    Refusal::Malformed(Part::After), 400, "bad query";
+    Refusal::Malformed(Part::NotMine), 400, "bad not-mine";
+    Refusal::Malformed(Part::After), 400, "bad after: not the digest";
+    Refusal::Malformed(Part::Wait), 400, "bad wait: not wait=1 to wait=60";
+    Refusal::Malformed(Part::OwnerQuery), 400, "bad query: this path takes n=COUNT alone";
+    Refusal::Malformed(Part::OwnersQuery), 400, "bad query: this path takes n=COUNT and";
+    Refusal::Malformed(Part::RingQuery), 400, "bad query: this path takes after=DIGEST";
+    Refusal::Malformed(Part::KeyField), 400, "bad key field: it comes twice, or is not ASCII";
     Refusal::CrossSite, 403, "refused";
     Refusal::NotFound, 404, "nothing";
     Refusal::BadMethod(Verb::Get), 405, "bad method: this path takes GET";
@@ -16,6 +25,8 @@ const ROWS: [(Refusal, u16, &str); 30] = rows! {
     Refusal::Exhausted, 409, "no incarnation";
     Refusal::LongBody, 413, "bad body";
     Refusal::ManyKeys, 413, "bad keys: more than";
+    Refusal::LongRequest, 413, "bad body: more than 524288";
+    Refusal::NotPassed, 501, "not passed on: a CONNECT";
     Refusal::ApplicationFailed, 502, "the application failed";
     Refusal::Unanswered(Failure::NotAccepted), 502, "the owner's application accepts no connection";
     Refusal::Unanswered(Failure::HungUp), 502, "the owner's application hung up";
@@ -32,25 +43,43 @@ const ROWS: [(Refusal, u16, &str); 30] = rows! {
     Refusal::Spent, 503, "the node takes no more calls";
     Refusal::Memory, 503, "out of memory";
     Refusal::OwnerSilent, 504, "the owner does not answer";
+    Refusal::AnswerLost, 504, "the answer was lost";
 };
+
+/// Returns the line of a refusal.
+fn line_of(rt: &(impl Env + Abort), alloc: Global, refusal: &Refusal) -> String {
+    let line = again!(rt, AllocError, refusal.line(alloc));
+    line.ok().expect(rt, "a line")
+}
+
+#[test]
+fn says_which_key_of_many_is_bad(rt: HostRuntime) {
+    for (place, fault, wanted) in &[
+        (1usize, KeyFault::Empty, "bad key 1: empty\n"),
+        (17, KeyFault::Long, "bad key 17: more than 1024 bytes\n"),
+        (4_095, KeyFault::NotUtf8, "bad key 4095: not UTF-8\n"),
+        (4_096, KeyFault::NotText, "bad key 4096: not a text\n"),
+    ] {
+        let refusal = Refusal::BadKey {
+            place: *place,
+            fault: *fault,
+        };
+        let line = line_of(&rt, rt.alloc(), &refusal);
+        assert!(rt; line.as_str() == *wanted, "{wanted}");
+        assert!(rt;
+            refusal.status() == 400 && refusal.word() == "bad-listed-key",
+            "{wanted}"
+        );
+    }
+}
 
 #[test]
 fn answers_each_refusal_with_its_status_and_a_line(rt: HostRuntime) {
     for (refusal, status, start) in &ROWS {
-        let answer = Answer::refused(refusal);
-        assert!(rt; answer.status == *status, "{start}");
-        assert!(rt;
-            answer.kind.name() == "text/plain; charset=utf-8",
-            "{start}"
-        );
-        assert!(rt;
-            answer.body.starts_with(*start) && answer.body.ends_with('\n'),
-            "{start}"
-        );
-        assert!(rt;
-            answer.body.find('\n') == Some(answer.body.len() - 1),
-            "{start}"
-        );
+        let line = line_of(&rt, rt.alloc(), refusal);
+        assert!(rt; refusal.status() == *status, "{start}");
+        assert!(rt; line.starts_with(*start), "{start}");
+        assert!(rt; line.find('\n') == line.len().checked_sub(1), "{start}");
     }
     assert!(rt; Verb::Get.name() == "GET" && Verb::Post.name() == "POST");
     assert!(rt; Answer::line("ok\n").status == 200 && Answer::line("ok\n").body == "ok\n");
@@ -67,12 +96,14 @@ fn tells_refusals_apart(rt: HostRuntime) {
     ] {
         assert!(rt; refusal.word() == *word, "{word}");
     }
-    assert!(rt; Refusal::sent(502, silent.line()) == Some(silent));
-    assert!(rt; Refusal::sent(503, Refusal::Busy.line()) == Some(Refusal::Busy));
+    let lost = line_of(&rt, rt.alloc(), &silent);
+    let busy = line_of(&rt, rt.alloc(), &Refusal::Busy);
+    assert!(rt; Refusal::sent(502, &lost) == Some(silent));
+    assert!(rt; Refusal::sent(503, &busy) == Some(Refusal::Busy));
     for (status, body) in &[
-        (200u16, silent.line()),
-        (503, silent.line()),
-        (502, Refusal::Busy.line()),
+        (200u16, lost.as_str()),
+        (503, lost.as_str()),
+        (502, busy.as_str()),
         (502, "no whole answer of the owner's application came"),
         (502, ""),
     ] {

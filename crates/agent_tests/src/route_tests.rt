@@ -27,6 +27,7 @@ enum Wanted {
 #[derive(Clone, Copy, Debug)]
 enum Reason {
     Malformed(Part),
+    BadKey(usize, KeyFault),
     BadMethod(Verb),
     NotFound,
     LongBody,
@@ -36,6 +37,9 @@ enum Reason {
 fn is_refused(refusal: &Refusal, reason: Reason) -> bool {
     match (refusal, reason) {
         (Refusal::Malformed(part), Reason::Malformed(wanted)) => *part == wanted,
+        (Refusal::BadKey { place, fault }, Reason::BadKey(nth, wanted)) => {
+            *place == nth && *fault == wanted
+        }
         (Refusal::BadMethod(verb), Reason::BadMethod(wanted)) => *verb == wanted,
         (Refusal::NotFound, Reason::NotFound)
         | (Refusal::LongBody, Reason::LongBody)
@@ -100,7 +104,20 @@ const COUNT: Wanted = Wanted::Refused(Reason::Malformed(Part::Count));
 
 const KEYS: Wanted = Wanted::Refused(Reason::Malformed(Part::Keys));
 
+const NOT_MINE: Wanted = Wanted::Refused(Reason::Malformed(Part::NotMine));
+
 const AFTER: Wanted = Wanted::Refused(Reason::Malformed(Part::After));
+
+const WAIT: Wanted = Wanted::Refused(Reason::Malformed(Part::Wait));
+
+const OWNER_QUERY: Wanted = Wanted::Refused(Reason::Malformed(Part::OwnerQuery));
+
+const OWNERS_QUERY: Wanted = Wanted::Refused(Reason::Malformed(Part::OwnersQuery));
+
+const RING_QUERY: Wanted = Wanted::Refused(Reason::Malformed(Part::RingQuery));
+
+/// The text of a digest.
+const DIGEST: &str = "00000000000000000000000000000000000000000000000000000000000000af";
 
 const GET_ONLY: Wanted = Wanted::Refused(Reason::BadMethod(Verb::Get));
 
@@ -108,7 +125,7 @@ const POST_ONLY: Wanted = Wanted::Refused(Reason::BadMethod(Verb::Post));
 
 const NOWHERE: Wanted = Wanted::Refused(Reason::NotFound);
 
-static ROWS: [Row; 81] = rows! {
+static ROWS: [Row; 108] = rows! {
     "POST", "/keys/a", None, b"hello", Wanted::Handle("a", "hello");
     "POST", "/keys/a", None, b"", Wanted::Handle("a", "");
     "POST", "/keys/a%20b%2Fc%C3%BC", None, b"x", Wanted::Handle("a b/c\u{fc}", "x");
@@ -140,8 +157,9 @@ static ROWS: [Row; 81] = rows! {
     "GET", "/owner/a", Some("n=-3"), b"", COUNT;
     "GET", "/owner/a", Some("n=3 "), b"", COUNT;
     "GET", "/owner/a", Some("n=3&n=4"), b"", COUNT;
-    "GET", "/owner/a", Some("N=3"), b"", COUNT;
-    "GET", "/owner/a", Some(""), b"", COUNT;
+    "GET", "/owner/a", Some("N=3"), b"", OWNER_QUERY;
+    "GET", "/owner/a", Some(""), b"", OWNER_QUERY;
+    "GET", "/owner/a", Some("not-mine=1"), b"", OWNER_QUERY;
     "GET", "/owner/a", Some("n=18446744073709551617"), b"", COUNT;
     "GET", "/owner/", Some("n=0"), b"", KEY;
     "POST", "/owner/a", None, b"", GET_ONLY;
@@ -162,22 +180,48 @@ static ROWS: [Row; 81] = rows! {
     "POST", "/owners", Some("not-mine=1&n=3"), b"%5B\n", Wanted::AllOwners("[", "[", 1, 3, true);
     "POST", "/owners", Some("not-mine=1"), b"", Wanted::AllOwners("", "", 0, 1, true);
     "POST", "/owners", None, b"[]", Wanted::AllOwners("", "", 0, 1, false);
-    "POST", "/owners", None, b"a\n\nb", KEY;
-    "POST", "/owners", None, b"[\"a\",1]", KEY;
-    "POST", "/owners", None, b"[\"\"]", KEY;
+    "POST", "/owners", None, b" \r\n\t[\"a\",\"b\"] \n", Wanted::AllOwners("a", "b", 2, 1, false);
+    "POST", "/owners", None, b" a\n[", Wanted::AllOwners(" a", "[", 2, 1, false);
+    "POST", "/owners", None, b" ", Wanted::AllOwners(" ", " ", 1, 1, false);
+    "POST", "/owners", None, b" [", KEYS;
+    "POST", "/owners", None, b"a\n\nb", Wanted::Refused(Reason::BadKey(2, KeyFault::Empty));
+    "POST", "/owners", None, b"a\nb\n%ff\n\n", Wanted::Refused(Reason::BadKey(3, KeyFault::NotUtf8));
+    "POST", "/owners", None, b"[\"a\",1]", Wanted::Refused(Reason::BadKey(2, KeyFault::NotText));
+    "POST", "/owners", None, b"[\"\"]", Wanted::Refused(Reason::BadKey(1, KeyFault::Empty));
     "POST", "/owners", Some("n=0"), b"a", COUNT;
-    "POST", "/owners", Some("not-mine=0"), b"a", COUNT;
+    "POST", "/owners", Some("not-mine=1&n=0"), b"a", COUNT;
+    "POST", "/owners", Some("not-mine=0"), b"a", NOT_MINE;
+    "POST", "/owners", Some("not-mine="), b"a", NOT_MINE;
+    "POST", "/owners", Some("n=2&not-mine=true"), b"a", NOT_MINE;
+    "POST", "/owners", Some(""), b"a", OWNERS_QUERY;
+    "POST", "/owners", Some("x=1"), b"a", OWNERS_QUERY;
+    "POST", "/owners", Some("n=2&x=1"), b"a", OWNERS_QUERY;
+    "POST", "/owners", Some("x=1&not-mine=1"), b"a", OWNERS_QUERY;
+    "POST", "/owners", Some("n=2&n=3"), b"a", OWNERS_QUERY;
+    "POST", "/owners", Some("not-mine=1&not-mine=1"), b"a", OWNERS_QUERY;
+    "POST", "/owners", Some("n=2&not-mine=1&x"), b"a", OWNERS_QUERY;
+    "POST", "/owners", Some("n=2&"), b"a", OWNERS_QUERY;
     "POST", "/owners", None, b"[\"a\"", KEYS;
     "POST", "/owners", None, b"[] []", KEYS;
     "POST", "/owners", None, b"\xc3", Wanted::Refused(Reason::Malformed(Part::Body));
     "GET", "/owners", None, b"", POST_ONLY;
     "GET", "/ring", None, b"", Wanted::Ring(None);
-    "GET", "/ring", Some("after=x"), b"", Wanted::Ring(Some("x"));
-    "GET", "/ring", Some("after=x&wait=60"), b"", Wanted::Ring(Some("x"));
-    "GET", "/ring", Some("after=x&wait=61"), b"", AFTER;
-    "GET", "/ring", Some("after=x&wait=0"), b"", AFTER;
-    "GET", "/ring", Some("after=x&n=1"), b"", AFTER;
-    "GET", "/ring", Some("wait=1"), b"", AFTER;
+    "GET", "/ring", Some("after=00000000000000000000000000000000000000000000000000000000000000af"), b"", Wanted::Ring(Some(DIGEST));
+    "GET", "/ring", Some("after=00000000000000000000000000000000000000000000000000000000000000af&wait=60"), b"", Wanted::Ring(Some(DIGEST));
+    "GET", "/ring", Some("wait=1&after=00000000000000000000000000000000000000000000000000000000000000af"), b"", Wanted::Ring(Some(DIGEST));
+    "GET", "/ring", Some("after=00000000000000000000000000000000000000000000000000000000000000af&wait=61"), b"", WAIT;
+    "GET", "/ring", Some("after=00000000000000000000000000000000000000000000000000000000000000af&wait=0"), b"", WAIT;
+    "GET", "/ring", Some("wait=&after=00000000000000000000000000000000000000000000000000000000000000af"), b"", WAIT;
+    "GET", "/ring", Some("after=00000000000000000000000000000000000000000000000000000000000000af&n=1"), b"", RING_QUERY;
+    "GET", "/ring", Some("after=00000000000000000000000000000000000000000000000000000000000000af&wait=1&wait=1"), b"", RING_QUERY;
+    "GET", "/ring", Some("after=00000000000000000000000000000000000000000000000000000000000000aF"), b"", AFTER;
+    "GET", "/ring", Some("after=0000000000000000000000000000000000000000000000000000000000000af"), b"", AFTER;
+    "GET", "/ring", Some("after=0000000000000000000000000000000000000000000000000000000000000000af"), b"", AFTER;
+    "GET", "/ring", Some("after=00000000000000000000000000000000000000000000000000000000000000ag"), b"", AFTER;
+    "GET", "/ring", Some("after=&wait=5"), b"", AFTER;
+    "GET", "/ring", Some("wait=1"), b"", RING_QUERY;
+    "GET", "/ring", Some("wait=1&wait=2"), b"", RING_QUERY;
+    "GET", "/ring", Some(""), b"", RING_QUERY;
     "POST", "/ring", None, b"", GET_ONLY;
     "POST", "/members", None, b"", GET_ONLY;
     "HEAD", "/digest", None, b"", GET_ONLY;
@@ -232,6 +276,19 @@ fn takes_key(rt: &(impl Env + Abort), alloc: Global, len: usize, fits: bool) -> 
     asked.is_ok() == fits && (fits || is_wanted(&asked, KEY))
 }
 
+/// Returns whether a line of `len` bytes is taken for one of many keys, or else refused.
+fn takes_line(rt: &(impl Env + Abort), alloc: Global, len: usize, fits: bool) -> bool {
+    let line = again!(rt, _, vec![in alloc; b'k'; len]);
+    let line = line.ok().expect(rt, "a line");
+    let asked = again!(
+        rt,
+        Refusal::Memory,
+        route(alloc, "POST", "/owners", None, &line)
+    );
+    let long = Wanted::Refused(Reason::BadKey(1, KeyFault::Long));
+    asked.is_ok() == fits && (fits || is_wanted(&asked, long))
+}
+
 /// Returns whether a body of `len` bytes is taken, or else refused.
 fn takes_body(rt: &(impl Env + Abort), alloc: Global, len: usize, fits: bool) -> bool {
     let body = again!(rt, _, vec![in alloc; b'b'; len]);
@@ -248,6 +305,7 @@ fn takes_body(rt: &(impl Env + Abort), alloc: Global, len: usize, fits: bool) ->
 fn takes_keys_and_bodies_up_to_their_length(rt: HostRuntime) {
     for (len, fits) in &[(1_024usize, true), (1_025, false)] {
         assert!(rt; takes_key(&rt, rt.alloc(), *len, *fits), "{len}");
+        assert!(rt; takes_line(&rt, rt.alloc(), *len, *fits), "{len}");
     }
     for (len, fits) in &[(131_072usize, true), (131_073, false)] {
         assert!(rt; takes_body(&rt, rt.alloc(), *len, *fits), "{len}");
@@ -255,12 +313,29 @@ fn takes_keys_and_bodies_up_to_their_length(rt: HostRuntime) {
 }
 
 /// The start of a request, and the digest and the seconds of the question that waits.
-static QUESTIONS: [(&str, Option<(&str, usize)>); 5] = [
-    ("GET /ring?after=ab&wait=5 HTTP/1.1\r\n", Some(("ab", 5))),
-    ("GET /ring?after=ab HTTP/1.1\r\n", Some(("ab", 0))),
-    ("GET /ring?after=ab&wait=5", None),
+static QUESTIONS: [(&str, Option<(&str, usize)>); 7] = [
+    (
+        "GET /ring?after=00000000000000000000000000000000000000000000000000000000000000af&wait=5 HTTP/1.1\r\n",
+        Some((DIGEST, 5)),
+    ),
+    (
+        "GET /ring?wait=5&after=00000000000000000000000000000000000000000000000000000000000000af HTTP/1.1\r\n",
+        Some((DIGEST, 5)),
+    ),
+    (
+        "GET /ring?after=00000000000000000000000000000000000000000000000000000000000000af HTTP/1.1\r\n",
+        Some((DIGEST, 0)),
+    ),
+    (
+        "GET /ring?after=00000000000000000000000000000000000000000000000000000000000000af&wait=5",
+        None,
+    ),
+    ("GET /ring?after=ab&wait=5 HTTP/1.1\r\n", None),
     ("GET /ring HTTP/1.1\r\n", None),
-    ("GET /members?after=ab&wait=5 HTTP/1.1\r\n", None),
+    (
+        "GET /members?after=00000000000000000000000000000000000000000000000000000000000000af&wait=5 HTTP/1.1\r\n",
+        None,
+    ),
 ];
 
 #[test]
@@ -288,6 +363,7 @@ fn refuses_lines(rt: &(impl Env + Abort), alloc: Global, count: usize, wanted: W
 /// 4,096 lines are keys, and one more is too many. (The first has a byte more.)
 #[test]
 fn takes_keys_up_to_their_number(rt: HostRuntime) {
-    assert!(rt; refuses_lines(&rt, rt.alloc(), 4_097, KEY));
+    let second = Wanted::Refused(Reason::BadKey(2, KeyFault::Empty));
+    assert!(rt; refuses_lines(&rt, rt.alloc(), 4_097, second));
     assert!(rt; refuses_lines(&rt, rt.alloc(), 4_098, Wanted::Refused(Reason::ManyKeys)));
 }

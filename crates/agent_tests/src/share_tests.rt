@@ -1,4 +1,4 @@
-use agent_core::{Answer, MAX_WAITING, OWNER_SHARE, Refusal, Shares};
+use agent_core::{MAX_WAITING, OWNER_SHARE, Refusal, Shares};
 use change_core::Address;
 use std::alloc::AllocError;
 use std::process::Abort;
@@ -41,11 +41,9 @@ fn spares_the_others(rt: HostRuntime) {
 
 #[test]
 fn refuses_for_an_owner(rt: HostRuntime) {
-    let answer = Answer::refused(&Refusal::OwnerBusy(owner(&rt, 1)));
-    assert!(rt;
-        answer.status == 503
-            && answer
-                .body
-                .starts_with("too many requests wait for the owner of this key: ")
-    );
+    let refusal = Refusal::OwnerBusy(owner(&rt, 1));
+    let line = again!(&rt, AllocError, refusal.line(rt.alloc()));
+    let line = line.ok().expect(&rt, "a line");
+    assert!(rt; refusal.status() == 503);
+    assert!(rt; line.starts_with("too many requests wait for the owner of this key: "));
 }

@@ -1,3 +1,4 @@
+use agent_core::laws::tellings;
 use agent_core::{Ring, Telling};
 use change_core::{Address, Change, Digest, Incarnation, Moment, Status, Weight};
 use std::alloc::{AllocError, Global};
@@ -65,9 +66,10 @@ const FAILURES: [(u64, u64); 7] = [
 ];
 
 /// A ring is told once it is noted, and not again if the next one has its digest. After failures the next try comes 0.25, 0.5, 1, 2, 4, 8 and 8 seconds
-/// later. A newer ring replaces one that was not told; one that comes back is told again.
+/// later. A newer ring replaces one that was not told; one that comes back is told again. A telling in a hurry is due at once.
 #[test]
 fn tells_the_last_change(rt: HostRuntime) {
+    tellings();
     let alloc = rt.alloc();
     let mut telling = Telling::new();
     let start = Moment::beginning();
@@ -87,6 +89,11 @@ fn tells_the_last_change(rt: HostRuntime) {
     // A newer ring replaces the one that was not told, and waits as that would have.
     note(&rt, alloc, &mut telling, 3);
     assert!(rt; tells(&rt, alloc, &telling, 3, 1) && telling.millis_left(start) == Some(15_000));
+    // In a hurry it is due now, and after the next failure the first pause comes again.
+    telling.hurry();
+    assert!(rt; tells(&rt, alloc, &telling, 3, 1) && telling.millis_left(start) == Some(0));
+    telling.fail(start);
+    assert!(rt; telling.millis_left(start) == Some(250));
     // The application may have taken a notice that failed, so the ring of before is told again.
     note(&rt, alloc, &mut telling, 1);
     assert!(rt; tells(&rt, alloc, &telling, 1, 1));

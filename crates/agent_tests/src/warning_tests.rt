@@ -1,4 +1,4 @@
-use agent_core::{Notice, Refutations, are_many_addresses, is_live};
+use agent_core::{Notice, Refutations, are_many_addresses, is_admitted, is_live};
 use change_core::Moment;
 
 /// A number of addresses, a later one, and whether the later one is reason for a warning.
@@ -13,10 +13,25 @@ const ADDRESSES: [(usize, usize, bool); 8] = [
     (4_096, 4_096, false),
 ];
 
+/// How many addresses a node holds, whether it knows the one that joins, and whether it lets it.
+const JOINS: [(usize, bool, bool); 5] = [
+    (1, false, true),
+    (3_999, false, true),
+    (4_000, false, false),
+    (4_000, true, true),
+    (4_096, true, true),
+];
+
 #[test]
 fn warns(rt: HostRuntime) {
     for (before, now, wanted) in &ADDRESSES {
         assert!(rt; are_many_addresses(*before, *now) == *wanted, "{now}");
+    }
+    for (addresses, is_known, wanted) in &JOINS {
+        assert!(rt;
+            is_admitted(*addresses, *is_known) == *wanted,
+            "{addresses}"
+        );
     }
     let mut refutations = Refutations::new();
     for round in 1..=60u32 {

@@ -3,14 +3,16 @@ ghost use Rattle.std.specs.Prelude.{◌≡◌, IfOk, OnOk};
 ghost use Rattle.std.specs.Io.KnownBytes.{Appends};
 ghost use Rattle.std.specs.Option.{unwrap_or};
 ghost use Rattle.agent.specs.Texts.{agent_text};
-ghost use Rattle.cli_run.specs.Agents.{filter_of, other_hosts};
+ghost use Rattle.cli_run.specs.Agents.{filter_of, key_field_of, other_hosts};
 ghost use Rattle.wire_json.specs.Input.{AppendsPrefix};
 
 use agent::{AgentError, Following, Settings, System, run};
 use change_core::Address;
 use cli_words::{AgentWords, LogLevel};
+use http::HeaderName;
 use log::LevelFilter;
 use std::alloc::{AllocError, Global};
+use std::fs::Files;
 use std::io::Write;
 
 /// Returns the log's filter for a level of the arguments.
@@ -35,6 +37,17 @@ fn other_hosts(alloc: Global, hosts: &[Address], own: Address) -> Result<Vec<Add
     Ok(others)
 }
 
+/// Returns the field that may name the key of a request, if any request of a key is passed on.
+fn key_field_of(words: &AgentWords) -> Result<Option<HeaderName>, AllocError>
+    ensures { IfOk result (λ field. field ≡ key_field_of words.now) }
+{
+    if words.any_request {
+        Ok(Some(words.key_field.clone()?))
+    } else {
+        Ok(None)
+    }
+}
+
 /// Returns the settings of the arguments.
 fn settings_of(alloc: Global, words: &AgentWords) -> Result<Settings, AgentError>
     ensures address { IfOk result (λ s. s.address ≡ words.now.address) }
@@ -45,6 +58,7 @@ fn settings_of(alloc: Global, words: &AgentWords) -> Result<Settings, AgentError
     ensures no_wait { IfOk result (λ s. s.following.no_wait ≡ words.now.following.no_wait) }
     ensures leave_after { IfOk result (λ s. s.following.leave_after ≡ words.now.following.leave_after) }
     ensures tell_app { IfOk result (λ s. s.tell_app ≡ words.now.tell_app) }
+    ensures key_field { IfOk result (λ s. s.key_field ≡ key_field_of words.now) }
     ensures hands { IfOk result (λ s. s.hands ≡ words.now.hands) }
     ensures http_connections { IfOk result (λ s. s.http_connections ≡ words.now.http_connections) }
     ensures period { IfOk result (λ s. s.period ≡ words.now.period) }
@@ -66,6 +80,7 @@ fn settings_of(alloc: Global, words: &AgentWords) -> Result<Settings, AgentError
             leave_after: words.following.leave_after,
         },
         tell_app: words.tell_app,
+        key_field: key_field_of(words)?,
         hands: words.hands,
         http_connections: words.http_connections,
         period: words.period,
@@ -95,7 +110,7 @@ fn settings_of(alloc: Global, words: &AgentWords) -> Result<Settings, AgentError
 /// - `CannotWrite`: the writer failed.
 /// - `Spent`: a thread needs a pass of the node, and none is left.
 /// - `Memory`: out of memory before `serving` was written.
-pub fn agent_run<R: System, W: Write>(
+pub fn agent_run<R: System + Files, W: Write>(
     rt: &R,
     alloc: Global,
     words: &AgentWords,

@@ -11,6 +11,7 @@ use cli_net::cluster_command_run;
 use cli_words::Words;
 use cluster_core::Dial;
 use std::alloc::Global;
+use std::fs::Files;
 use std::io::{Read, Write};
 use std::sync::Wait;
 use std::time::Clock;
@@ -21,7 +22,7 @@ use std::time::Clock;
 /// # Errors
 ///
 /// - The error of that function.
-pub fn words_run<R: System, D: Dial + Clock + Wait + Copy, I: Read, W: Write>(
+pub fn words_run<R: System + Files, D: Dial + Clock + Wait + Copy, I: Read, W: Write>(
     rt: &R,
     network: &D,
     alloc: Global,

@@ -78,6 +78,13 @@ refused_of whole more bad worse as_whole as_bad (Err f) is = refusal_of whole mo
 pub absent_of : (whole bad : Type 0) → (whole → ⊥) → (f : WordsError) → IsRefusalOf ⊥ ⊥ f → IsRefusalOf whole bad f
 absent_of whole bad lacks = refusal_of ⊥ whole ⊥ bad lacks (λ x. absurd x)
 
+-- so it is of `agent`'s
+pub absent_of_agent : (whole : Type 0) (rows : List Row) → (whole → ⊥) → (f : WordsError) → IsRefusalOf ⊥ ⊥ f → IsAgentRefusal whole rows f
+absent_of_agent whole rows lacks (Usage e) is = lacks
+absent_of_agent whole rows lacks BadAddress is = absurd is
+absent_of_agent whole rows lacks (BadAddressAt argument) is = absurd is
+absent_of_agent whole rows lacks OutOfMemory is = tt
+
 -- a word that is the text of no address is refused as one
 pub bad_address : (rows : List Row) (name text : Text) (whole : Type 0) → first_of name rows ≡ Some text → (f : WordsError) → (f ≡ BadAddress) × IsNoAddress text
     → IsRefusalOf whole (IsNoAddressAt rows name) f

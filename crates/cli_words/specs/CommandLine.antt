@@ -142,13 +142,21 @@ http_connections = option (codes "http-connections") (codes "10000") 1 65536
 abbrev pub tell_app : Rule
 tell_app = with_another (flag (codes "tell-app"))
 
+-- the field that names the key of any HTTP request; X-Ringpop-Key by default
+abbrev pub key_field_option : Rule
+key_field_option = record (new_rule (codes "key-field")) { long = Some (codes "key-field"); value_names = 1; defaults = codes "X-Ringpop-Key" ∷ [] }
+
+-- `--key-field`: that field; it needs `--any-request`
+abbrev pub key_field : Rule
+key_field = with_another key_field_option
+
 -- `--period` of an agent: the milliseconds between two rounds of gossip, from 1 to 60,000; 200 by default
 abbrev pub agent_period : Rule
 agent_period = option (codes "period") (codes "200") 1 60000
 
--- `--per-message` of an agent: how many changes a message carries, from 1 to `most_members`; 256 by default
+-- `--per-message` of an agent: how many changes a message carries, from 1 to `most_members`; 1,024 by default
 abbrev pub agent_per_message : Rule
-agent_per_message = option (codes "per-message") (codes "256") 1 most_members
+agent_per_message = option (codes "per-message") (codes "1024") 1 most_members
 
 -- `--incarnation`: the incarnation of the node, up to 2^53 - 1; none by default
 abbrev pub incarnation_option : Rule
@@ -166,7 +174,7 @@ leave_after = option (codes "leave-after") (codes "10") 0 86400
 abbrev pub agent_words : Shape
 agent_words = subcommand (codes "agent")
     (address_option (codes "bind") ∷ address_option (codes "http") ∷ flag (codes "http-any") ∷ address_option (codes "app")
-    ∷ flag (codes "no-wait-app") ∷ leave_after ∷ tell_app ∷ hands ∷ http_connections ∷ agent_period ∷ agent_per_message ∷ replicas ∷ weight ∷ incarnation_option ∷ log ∷ word (codes "address") ∷ hosts ∷ [])
+    ∷ flag (codes "no-wait-app") ∷ leave_after ∷ tell_app ∷ flag (codes "any-request") ∷ key_field ∷ hands ∷ http_connections ∷ agent_period ∷ agent_per_message ∷ replicas ∷ weight ∷ incarnation_option ∷ log ∷ word (codes "address") ∷ hosts ∷ [])
 
 -- a command with no subcommand
 abbrev pub leaf : Shape → App

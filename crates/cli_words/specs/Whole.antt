@@ -2,6 +2,7 @@
 use Rattle.std.specs.Prelude.{◌≡◌, ◌≢◌, ◌⊎◌, ◌<◌, ◌≤◌, ◌^◌, ℕ, true, List, Option, Some, IfSome, IsSome, IsSomeAnd, codes, length}
 use Rattle.std.specs.List.{Any}
 use Rattle.clap.specs.Words.{Row, Text, all_of, first_of}
+use Rattle.http_header.specs.FieldName.{IsFieldName}
 use Rattle.change_core.specs.Address.{IsAddress, address_text}
 use Rattle.change_core.specs.Numbers.{IsWeight, greatest_number, most_members}
 use Rattle.hash_ring.specs.Points.{IsReplicas}
@@ -47,6 +48,10 @@ HasLevel rows = (level : LogLevel) × (first_of (codes "log") rows ≡ Some (lev
 abbrev pub HasLeaveAfter : List Row → Type 0
 HasLeaveAfter rows = HasNumber rows (codes "leave-after") (λ n. n ≤ 86400)
 
+-- the argument for the field that names keys is there, and it is the name of a field of HTTP
+abbrev pub HasKeyField : List Row → Type 0
+HasKeyField rows = IsSomeAnd (first_of (codes "key-field") rows) IsFieldName
+
 -- each number of `agent` but its incarnation is there and in its range, and the level of its log is there
 pub record HasAgentNumbers (rows : List Row) : Type 0 where
   pub hands : HasNumber rows (codes "hands") (λ n. (1 ≤ n) × (n ≤ 256))
@@ -58,9 +63,10 @@ pub record HasAgentNumbers (rows : List Row) : Type 0 where
   pub level : HasLevel rows
   pub leave_after : HasLeaveAfter rows
 
--- and its address is there
+-- and its address is there, and the field that names keys
 pub record HasAgent (rows : List Row) : Type 0 where
   pub address : IsSome (first_of (codes "address") rows)
+  pub key_field : HasKeyField rows
   pub numbers : HasAgentNumbers rows
 
 -- each argument of `ask` is there

@@ -1,9 +1,10 @@
 -- The argument of the command line for each part of a command. A `Row` is what `clap` found for a name: its values and how they came.
-use Rattle.std.specs.Prelude.{◌≡◌, ◌⊎◌, ◌≤◌, ℕ, Bool, true, false, List, [], Option, Some, None, Ok, map, codes}
+use Rattle.std.specs.Prelude.{◌≡◌, ◌⊎◌, ◌≤◌, ℕ, Bool, true, false, List, [], Option, Some, None, IsSomeAnd, Ok, map, codes}
 use Rattle.std.specs.Str.Parse.{ParsesUnsigned}
 use Rattle.std.specs.declared.num.ParseIntError.{ParseIntError}
 use Rattle.clap.specs.Words.{Row, Text, all_of, first_of, found_of, one_of, rows_of}
 use Rattle.clap.specs.declared.parser.matches.ArgMatches.{ArgMatches}
+use Rattle.http_header.specs.Token.{lowercase}
 use Rattle.change_core.specs.Address.{address_text}
 use Rattle.change_core.specs.Numbers.{greatest_number}
 use Rattle.cli_core.specs.declared.words.OwnerWords.{OwnerWords}
@@ -121,6 +122,10 @@ abbrev pub IsNumberIfAt : List Row → Text → (ℕ → Type 0) → Option ℕ 
 IsNumberIfAt rows name IsIn None = ((n : ℕ) × IsNumberAt rows name n × IsIn n) → ⊥
 IsNumberIfAt rows name IsIn (Some n) = IsNumberAt rows name n
 
+-- the argument for the field that names keys is this name, in any case
+abbrev pub IsKeyFieldAt : List Row → Text → Type 0
+IsKeyFieldAt rows name = IsSomeAnd (first_of (codes "key-field") rows) (λ text. name ≡ lowercase text)
+
 -- how an agent follows its application is what the arguments of these names say
 pub record IsFollowingAt (rows : List Row) (words : FollowingWords) : Type 0 where
   pub no_wait : IsFlagAt rows (codes "no-wait-app") words.no_wait
@@ -138,15 +143,17 @@ pub record AreAgentNumbersAt (rows : List Row) (words : AgentWords) : Type 0 whe
   pub http_any : IsFlagAt rows (codes "http-any") words.http_any
   pub following : IsFollowingAt rows words.following
   pub tell_app : IsFlagAt rows (codes "tell-app") words.tell_app
+  pub any_request : IsFlagAt rows (codes "any-request") words.any_request
   pub level : first_of (codes "log") rows ≡ Some (level_name words.level)
 
--- and its addresses are, too
+-- and its addresses are, too, and the field that names keys
 pub record IsAgentAt (rows : List Row) (words : AgentWords) : Type 0 where
   pub address : IsAddressAt rows (codes "address") words.address
   pub bind : IsOptionAt rows (codes "bind") words.bind
   pub http : IsOptionAt rows (codes "http") words.http
   pub app : IsOptionAt rows (codes "app") words.app
   pub hosts : AreAddressesAt rows (codes "host") words.hosts.items
+  pub key_field : IsKeyFieldAt rows words.key_field
   pub numbers : AreAgentNumbersAt rows words
 
 -- the command of a subcommand of this name over lines, by the arguments after it

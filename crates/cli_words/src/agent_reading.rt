@@ -3,8 +3,8 @@ ghost use Rattle.std.specs.Prelude.{◌≡◌, ◌≤◌, Ok, Some, codes, IfErr
 ghost use Rattle.clap.specs.Words.{first_of};
 ghost use Rattle.change_core.specs.Numbers.{greatest_number};
 ghost use Rattle.cli_words.specs.Faults.{IsRefusalOf, IsUsageFault, fault_at};
-ghost use Rattle.cli_words.specs.Whole.{HasAgent, HasAgentNumbers, HasLeaveAfter, HasLevel, HasNumber, IsAgentRefusal, IsNoAddressAt};
-ghost use Rattle.cli_words.specs.Words.{AreAddressesAt, AreAgentNumbersAt, IsAddressAt, IsAgentAt, IsFollowingAt, IsNumberAt, IsNumberIfAt, IsOptionAt, level_name, rows_in};
+ghost use Rattle.cli_words.specs.Whole.{HasAgent, HasAgentNumbers, HasKeyField, HasLeaveAfter, HasLevel, HasNumber, IsAgentRefusal, IsNoAddressAt};
+ghost use Rattle.cli_words.specs.Words.{AreAddressesAt, AreAgentNumbersAt, IsAddressAt, IsAgentAt, IsFollowingAt, IsKeyFieldAt, IsNumberAt, IsNumberIfAt, IsOptionAt, level_name, rows_in};
 
 use crate::agent_words::{
     AgentWords, FollowingWords, LogLevel, MAX_HANDS, MAX_HTTP_CONNECTIONS, MAX_LEAVE_AFTER,
@@ -12,13 +12,14 @@ use crate::agent_words::{
 };
 use crate::cluster_words::{address_at, address_of, hosts_at, incarnation, weight};
 use crate::commands::{
-    ADDRESS, APP, BIND, HANDS, HTTP, HTTP_ANY, HTTP_CONNECTIONS, LEAVE_AFTER, LOG, NO_WAIT_APP,
-    PER_MESSAGE, PERIOD, TELL_APP, agent_alone,
+    ADDRESS, ANY_REQUEST, APP, BIND, HANDS, HTTP, HTTP_ANY, HTTP_CONNECTIONS, KEY_FIELD,
+    LEAVE_AFTER, LOG, NO_WAIT_APP, PER_MESSAGE, PERIOD, TELL_APP, agent_alone,
 };
 use crate::faults::WordsError;
 use crate::words::{absent, flag, number, refusal, replicas};
 use change_core::{Address, Incarnation, MAX_MEMBERS};
 use clap::ArgMatches;
+use http_header::{HeaderName, HeaderNameError};
 use std::alloc::Global;
 
 /// Returns the level of this name, if and only if there is one.
@@ -129,14 +130,19 @@ fn following(matches: &ArgMatches<'_>) -> Option<FollowingWords>
     })
 }
 
-/// Returns the arguments of `agent` with these addresses, if and only if each number is there and in its range, and the
-/// level of the log is there.
-fn words_with(matches: &ArgMatches<'_>, addresses: Addresses) -> Option<AgentWords>
+/// Returns the arguments of `agent` with these addresses and this field, if and only if each number is there and in its range,
+/// and the level of the log is there.
+fn words_with(
+    matches: &ArgMatches<'_>,
+    addresses: Addresses,
+    key_field: HeaderName,
+) -> Option<AgentWords>
     ensures address { IfSome result (λ w. w.address ≡ addresses.address) }
     ensures bind { IfSome result (λ w. w.bind ≡ addresses.bind) }
     ensures http { IfSome result (λ w. w.http ≡ addresses.http) }
     ensures app { IfSome result (λ w. w.app ≡ addresses.app) }
     ensures hosts { IfSome result (λ w. w.hosts ≡ addresses.hosts) }
+    ensures key_field { IfSome result (λ w. w.key_field ≡ key_field) }
     ensures numbers { IfSome result (AreAgentNumbersAt (rows_in matches.now)) }
     ensures taken { HasAgentNumbers (rows_in matches.now) → IsSome result }
 {
@@ -163,6 +169,8 @@ fn words_with(matches: &ArgMatches<'_>, addresses: Addresses) -> Option<AgentWor
         app,
         following,
         tell_app: flag(matches, TELL_APP),
+        any_request: flag(matches, ANY_REQUEST),
+        key_field,
         hands: hands as u32,
         http_connections: http_connections as u32,
         period,
@@ -198,12 +206,40 @@ fn refusal_of(alloc: Global, matches: &ArgMatches<'_>) -> WordsError
     }
 }
 
-/// Returns the arguments of `agent`. The addresses are read before the numbers.
+/// Makes the refusal of a text that is no name of a field, in the form of `clap`'s errors.
+fn no_field(alloc: Global, name: &str) -> WordsError
+    ensures { IsUsageFault result }
+{
+    let text = format!(in alloc;
+        "invalid value '{name}' for '--key-field <NAME>': give the name of a field of HTTP, as X-Ringpop-Key"
+    );
+    match text {
+        Ok(text) => refusal(agent_alone(alloc), text.as_str()),
+        Err(_) => WordsError::OutOfMemory,
+    }
+}
+
+/// Returns the field that names keys. If its argument is absent or is no name of a field, the error is `Usage`.
+fn key_field_in(alloc: Global, matches: &ArgMatches<'_>) -> Result<HeaderName, WordsError>
+    ensures ok { IfOk result (IsKeyFieldAt (rows_in matches.now)) }
+    ensures fault { IfErr result (IsAgentRefusal (HasKeyField (rows_in matches.now)) (rows_in matches.now)) }
+{
+    let Some(text) = matches.get_str(KEY_FIELD) else {
+        return Err(absent(alloc));
+    };
+    match HeaderName::from_bytes(alloc, text.as_bytes()) {
+        Ok(name) => Ok(name),
+        Err(HeaderNameError::OutOfMemory) => Err(WordsError::OutOfMemory),
+        Err(HeaderNameError::Invalid) => Err(no_field(alloc, text)),
+    }
+}
+
+/// Returns the arguments of `agent`. The addresses are read first, then the field that names keys, then the numbers.
 ///
 /// # Errors
 ///
-/// - `Usage`: an argument is absent or not in its range, or no level of the log has the name that is given; in the form
-///   of `clap`'s errors.
+/// - `Usage`: an argument is absent or not in its range, no level of the log has the name that is given, or the field that
+///   names keys is none of HTTP; in the form of `clap`'s errors.
 /// - `BadAddressAt`: an argument that has to be an address is not one, the first such in the order of the fields.
 /// - `OutOfMemory`: out of memory.
 pub fn agent_words(alloc: Global, matches: &ArgMatches<'_>) -> Result<AgentWords, WordsError>
@@ -211,7 +247,8 @@ pub fn agent_words(alloc: Global, matches: &ArgMatches<'_>) -> Result<AgentWords
     ensures fault { IfErr result (IsAgentRefusal (HasAgent (rows_in matches.now)) (rows_in matches.now)) }
 {
     let addresses = addresses_in(alloc, matches)?;
-    match words_with(matches, addresses) {
+    let key_field = key_field_in(alloc, matches)?;
+    match words_with(matches, addresses, key_field) {
         Some(words) => Ok(words),
         None => Err(refusal_of(alloc, matches)),
     }

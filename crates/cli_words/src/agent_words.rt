@@ -3,6 +3,7 @@ ghost use Rattle.std.specs.Prelude.{◌≤◌};
 ghost use Rattle.hash_ring.specs.Points.{IsReplicas};
 
 use change_core::{Address, Incarnation, Weight};
+use http_header::HeaderName;
 
 /// The greatest number of requests of other nodes that the application is given at a time.
 pub const MAX_HANDS: u64 = 256;
@@ -58,6 +59,10 @@ pub struct AgentWords {
     pub following: FollowingWords,
     /// Whether the application is told of the ring.
     pub tell_app: bool,
+    /// Whether any HTTP request of a key is passed on to its owner's application.
+    pub any_request: bool,
+    /// The field that may name the key of such a request.
+    pub key_field: HeaderName,
     /// The most requests of other nodes that the application is given at a time, 1 to 256.
     pub hands: u32,
     /// The most HTTP connections that are open at a time, 1 to 65,536.

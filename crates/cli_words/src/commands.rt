@@ -94,6 +94,12 @@ pub const LEAVE_AFTER: &str = "leave-after";
 /// The argument for telling the application of the ring.
 pub const TELL_APP: &str = "tell-app";
 
+/// The argument for passing on any HTTP request of a key.
+pub const ANY_REQUEST: &str = "any-request";
+
+/// The argument for the name of the field that names the key of any HTTP request.
+pub const KEY_FIELD: &str = "key-field";
+
 /// The argument for the most requests of other nodes that the application is given at a time.
 pub const HANDS: &str = "hands";
 
@@ -576,6 +582,34 @@ fn tell_flag<'a>(alloc: Global) -> Arg<'a>
         )
 }
 
+/// The flag for passing on any HTTP request of a key.
+fn any_request_flag<'a>(alloc: Global) -> Arg<'a>
+    ensures { rule_of result ≡ line.flag (codes "any-request") }
+{
+    Arg::new(alloc, ANY_REQUEST)
+        .long(ANY_REQUEST)
+        .action(ArgAction::SetTrue)
+        .help(
+            "Pass any HTTP request below /keys/KEY, or with the field of\n\
+             --key-field, on to the application of the key's owner, as the client\n\
+             made it; all agents have to know this option",
+        )
+}
+
+/// The option for the name of the field that names the key of any HTTP request, before `--any-request` is required.
+fn key_field_option<'a>(alloc: Global) -> Arg<'a>
+    ensures { rule_of result ≡ line.key_field_option }
+{
+    Arg::new(alloc, KEY_FIELD)
+        .long(KEY_FIELD)
+        .value_name("NAME")
+        .default_value("X-Ringpop-Key")
+        .help(
+            "The field that names the key of a request, percent-encoded, on any\n\
+             path; it needs --any-request",
+        )
+}
+
 /// The option for the most requests of other nodes that the application is given at a time.
 fn hands_option<'a>(alloc: Global) -> Arg<'a>
     ensures { rule_of result ≡ line.hands }
@@ -612,8 +646,9 @@ fn agent_period_option<'a>(alloc: Global) -> Arg<'a>
 fn agent_per_message_option<'a>(alloc: Global) -> Arg<'a>
     ensures { rule_of result ≡ line.agent_per_message }
 {
-    option(alloc, PER_MESSAGE, "N", "256", 1, MAX_MEMBERS as u64).help(
-        "How many changes a message carries at most, from 1 to 4096",
+    option(alloc, PER_MESSAGE, "N", "1024", 1, MAX_MEMBERS as u64).help(
+        "How many changes a message carries at most, from 1 to 4096: with as\n\
+         many as there are members, those that start together agree soonest",
     )
 }
 
@@ -656,9 +691,15 @@ fn agent_address<'a>(alloc: Global) -> Arg<'a>
     )
 }
 
-/// The subcommand `agent` with this flag for telling the application of the ring.
-fn agent_command_with<'a>(alloc: Global, tell: Arg<'a>) -> Result<Command<'a>, AllocError>
-    requires { rule_of tell ≡ line.tell_app }
+/// The subcommand `agent` with this flag for telling the application of the ring, and this option for the field that names
+/// keys.
+fn agent_command_with<'a>(
+    alloc: Global,
+    tell: Arg<'a>,
+    key_field: Arg<'a>,
+) -> Result<Command<'a>, AllocError>
+    requires tell { rule_of tell ≡ line.tell_app }
+    requires key_field { rule_of key_field ≡ line.key_field }
     ensures { IfOk result (λ c. app_of c ≡ leaf line.agent_words) }
 {
     let hosts = "Nodes that are asked to admit this one: the same list for all\n\
@@ -671,6 +712,8 @@ fn agent_command_with<'a>(alloc: Global, tell: Arg<'a>) -> Result<Command<'a>, A
         no_wait_app_flag(alloc),
         leave_after_option(alloc),
         tell,
+        any_request_flag(alloc),
+        key_field,
         hands_option(alloc),
         http_connections_option(alloc),
         agent_period_option(alloc),
@@ -695,7 +738,8 @@ fn agent_command<'a>(alloc: Global) -> Result<Command<'a>, AllocError>
     ensures { IfOk result (λ c. app_of c ≡ leaf line.agent_words) }
 {
     let tell = tell_flag(alloc).requires_arg(APP)?;
-    agent_command_with(alloc, tell)
+    let key_field = key_field_option(alloc).requires_arg(ANY_REQUEST)?;
+    agent_command_with(alloc, tell, key_field)
 }
 
 /// Returns `agent` as it stands in the usage line of its refusals.

@@ -1,3 +1,3 @@
 //! The tests of `forward_core`.
 mod tests;
-mod views;
+pub(crate) mod views;

@@ -1,9 +1,8 @@
 -- How often a handler is called for a message and for a request.
-use Rattle.std.proofs.Common.{◌≡◌, ◌∙◌, ℕ, ◌<◌, Bool, true, false, cond, refl, sym, ap, subst, inl, inr, arith, rules, Some, None, Result, Ok, Err, List, [], ◌∷◌, ◌++◌, length, map}
-use Rattle.std.specs.Prelude.{◌⊎◌, ◌==◌, Contains, IfOk}
-use Rattle.std.specs.List.{All}
+use Rattle.std.proofs.Common.{◌≡◌, ◌≢◌, ◌∙◌, ℕ, ◌<◌, Bool, true, false, cond, refl, sym, ap, subst, inl, inr, arith, rules, Some, None, Result, Ok, Err, List, [], ◌∷◌, ◌++◌, length, append-nil}
+use Rattle.std.specs.Prelude.{◌⊎◌, ◌==◌, Contains}
 use Rattle.std.proofs.lemmas.Bool.{eqb-true}
-use Rattle.std.proofs.lemmas.List.Elements.{All-cons, All-nil, Contains-append_cases, Contains-push_cases}
+use Rattle.std.proofs.lemmas.List.Elements.{All-nil, Contains-append_cases, Contains-push_cases}
 use Rattle.change_core.specs.declared.addresses.Address.{Address}
 use Rattle.message_core.specs.declared.kinds.Reason.TheVariants as reason
 use Rattle.message_core.specs.declared.messages.Content.{Content}
@@ -17,21 +16,21 @@ use Rattle.forward_core.specs.declared.errors.ForwardError.{ForwardError}
 use Rattle.forward_core.specs.declared.errors.ForwardError.TheVariants as refusal
 use Rattle.forward_core.specs.declared.routes.Route.{Route}
 use Rattle.forward_core.specs.declared.routes.Route.TheVariants as route
+use Rattle.forward_core.specs.Attempts.{most_sends}
 use Rattle.forward_core.specs.Routes.{AllOwnedBy, IsRouteOf, route_to}
 use Rattle.forward_core.proofs.DecidedLaws.{routes_are_one}
 use Rattle.peer_core.specs.declared.errors.ClusterError.{ClusterError}
 use Rattle.peer_core.specs.declared.errors.ClusterError.TheVariants as error
-use Rattle.peer_core.specs.declared.errors.HandlerFault.{HandlerFault}
-use Rattle.peer_core.specs.declared.errors.LinkError.{LinkError}
 use Rattle.peer_core.specs.Acts.{Act, did, looked}
 use Rattle.peer_core.specs.Forwarding.{IsFailure}
 use Rattle.peer_core.specs.Handling.{Handled, MayHandle, between, handled_shared, shared}
-use Rattle.peer_core.specs.Handlings.{IsHandledSo, IsReplied, OwnsAll, RequestsHandled, ServingsHandled}
+use Rattle.peer_core.specs.Handlings.{Ends, FailsOver, IsHandledSo, OwnsAll, RequestsHandled, ServingsHandled}
 use Rattle.peer_core.specs.Links.{MayAnswer, Went}
-use Rattle.peer_core.specs.Resending.{EndsBy, Failed, ForwardsOver, GoesToOwner, IsResultOf, Sending, result_of_handler}
+use Rattle.peer_core.specs.Resending.{EndsBy, Failed, Sending}
 use Rattle.peer_core.specs.Serving.{Forwards, IsRouted, Says, Serves, message_from}
+use Rattle.peer_core.proofs.Resent.{failed_count}
 use Rattle.peer_core.proofs.Served.{serves_as}
-use Rattle.peer_core.proofs.Servings.{has_first, has_later}
+use Rattle.peer_core.proofs.Servings.{has_first}
 
 -- an act that is another than the only one, or that is in neither part, is not among them
 not_one : {H : Type 0} (act other : Act H) (acts : List (Act H)) → acts ≡ act ∷ [] → (act ≡ other → ⊥) → Contains acts other → ⊥
@@ -67,7 +66,7 @@ module _ {H : Type 0} (hash_of : H → List ℕ → ℕ) (keys : List (List ℕ)
   leads_here view owned =
       let same : (view.own == view.own) ≡ true = search rules in (Some view.own, owned, sym (ap (λ (b : Bool). cond b route.Here (route.To view.own)) same))
 
-  here_owns : (view : Viewed H) → IsRouteOf hash_of view keys (Ok route.Here) → AllOwnedBy hash_of view keys (Some view.own)
+  pub here_owns : (view : Viewed H) → IsRouteOf hash_of view keys (Ok route.Here) → AllOwnedBy hash_of view keys (Some view.own)
   here_owns view (None, owned, is) = absurd cc
   here_owns view (Some a, owned, is) = subst (λ (o : Address). AllOwnedBy hash_of view keys (Some o)) (is_own a view.own is) owned
 
@@ -162,42 +161,47 @@ serves_shared hash_of Came Handles start is message now r acts h = (
     unmoved content.NotOwner e = e
     unmoved (content.Refused why) e = e
 
--- the last act is the view
-has_last : {H : Type 0} (view : Viewed H) (acts xs ys : List (Act H)) → acts ≡ xs ++ ys → ys ≡ looked (Ok view) ∷ [] → Contains acts (looked (Ok view))
-has_last view acts xs ys e just =
-    has_later (looked (Ok view)) acts xs ys e (subst (λ (zs : List (Act _)). Contains zs (looked (Ok view))) (sym just) (0, omega arith, refl))
-
 module _ {L H A : Type 0} (hash_of : H → List ℕ → ℕ) (went : Went L) (handled : Handled A) (keys : List (List ℕ)) (body : List ℕ) where
-  -- the Forwards that failed
-  failed_over : (n : ℕ) (old new : L) (acts : List (Act H)) → Failed hash_of went keys body n old new acts
-      → (sends : List (Sending H)) × All IsFailure (map (λ (s : Sending H). s.1) sends) × ForwardsOver hash_of went keys body sends old new
-  failed_over n old new acts Failed.is_over = ([], All-nil IsFailure, refl)
-  failed_over n old new acts (Failed.stays {acts = rest} act h) = failed_over n old new rest h
-  failed_over n old new acts (Failed.sent {n = k} {mid = mid} {acts = rest} view answer gone fails h) =
-      let (sends, all, over) = failed_over k mid new rest h in
-      ((view, answer) ∷ sends, All-cons IsFailure answer (map (λ (s : Sending H). s.1) sends) fails all, (mid, gone, over))
+  -- the Forwards that failed, by views among these acts, and so among more
+  failures : (n : ℕ) (old new : L) (acts more : List (Act H)) → Failed hash_of went keys body n old new acts
+      → (failed : List (Sending H)) × (length failed ≡ n) × FailsOver hash_of went keys body failed old new (acts ++ more)
+  failures n old new acts more h =
+      let (failed, many, counted, all) = failed_count hash_of went keys body n old new new acts more [] h (record { part = tt; failed = tt; over = refl }) in
+      (failed, omega (arith, many), (counted.part, all (All-nil IsFailure), counted.over))
 
-  replied : (r : Result (List ℕ) ClusterError) (view : Viewed H) (answer : Result Message LinkError) (mid new : L) (acts : List (Act H)) → Contains acts (looked (Ok view))
-      → GoesToOwner hash_of went keys body view answer mid new → IsResultOf answer r → IfOk r (λ text. IsReplied hash_of went keys body text acts)
-  replied (Err e) view answer mid new acts has gone h = tt
-  replied (Ok text) view answer mid new acts has gone (message, is, told) =
-      (message, told, (view, has, (mid, new, subst (λ (x : Result Message LinkError). GoesToOwner hash_of went keys body view x mid new) is gone)))
+  failures_alone : (n : ℕ) (old new : L) (acts : List (Act H)) → Failed hash_of went keys body n old new acts
+      → (failed : List (Sending H)) × (length failed ≡ n) × FailsOver hash_of went keys body failed old new acts
+  failures_alone n old new acts h =
+      let (failed, many, over) = failures n old new acts [] h in
+      (failed, many, subst (λ (zs : List (Act H)). FailsOver hash_of went keys body failed old new zs) (append-nil acts) over)
 
-  abbrev Asked : Result (List ℕ) ClusterError → A → A → L → L → List (Act H) → Type 0
-  Asked r was is old new acts =
-      (OwnsAll hash_of keys acts × ((answer : Result (List ℕ) HandlerFault) × handled keys body answer was is × (r ≡ result_of_handler answer))
-      × ((sends : List (Sending H)) × All IsFailure (map (λ (s : Sending H). s.1) sends) × ForwardsOver hash_of went keys body sends old new))
-      ⊎ ((is ≡ was) × IfOk r (λ text. IsReplied hash_of went keys body text acts))
-
-  ends_asked : (r : Result (List ℕ) ClusterError) (was is : A) (n : ℕ) (old mid new : L) (acts xs ys : List (Act H)) → acts ≡ xs ++ ys
-      → Failed hash_of went keys body n old mid xs → EndsBy hash_of went handled keys body r was is mid new ys → Asked r was is old new acts
-  ends_asked r was is n old mid new acts xs ys e failed (EndsBy.by_error why) = inr (refl, tt)
-  ends_asked r was is n old mid new acts xs ys e failed (EndsBy.by_handler answer (view, just, owned, called) same) =
-      inl ((view, has_last view acts xs ys e just, owned), (answer, called, same), failed_over n old mid xs failed)
-  ends_asked r was is n old mid new acts xs ys e failed (EndsBy.by_owner view answer just gone h) =
-      inr (refl, replied r view answer mid new acts (has_last view acts xs ys e just) gone h)
+  ends_so : (r : Result (List ℕ) ClusterError) (was is : A) (n : ℕ) (old mid new : L) (acts xs ys : List (Act H)) → acts ≡ xs ++ ys → n < most_sends
+      → r ≢ Err error.RetriesSpent → Failed hash_of went keys body n old mid xs → EndsBy hash_of went handled keys body r was is mid new ys
+      → Ends hash_of went handled keys body r was is old new acts
+  ends_so r was is n old mid new acts xs ys e few unspent h (EndsBy.by_error why) =
+      let (failed, many, over) = failures n old mid xs ys h in (
+        failed,
+        mid,
+        inr (
+          why,
+          refl,
+          refl,
+          refl,
+          subst (λ (zs : List (Act H)). FailsOver hash_of went keys body failed old mid zs) (sym e) over,
+          omega (arith, few, many),
+          ((λ spent. absurd (unspent (ap (λ (x : ClusterError). Err x) spent))), (λ four. absurd (omega (arith, few, many, four)))),
+        ),
+      )
+  ends_so r was is n old mid new acts xs ys e few unspent h (EndsBy.by_handler answer (view, just, owned, called) same) =
+      let (failed, many, over) = failures_alone n old mid xs h in
+      (failed, mid, inl (omega (arith, few, many), (xs, ys, e, over, (view, just, inl (owned, (answer, called, same), refl)))))
+  ends_so r was is n old mid new acts xs ys e few unspent h (EndsBy.by_owner view answer just gone is_so) =
+      let (failed, many, over) = failures_alone n old mid xs h in
+      (failed, mid, inl (omega (arith, few, many), (xs, ys, e, over, (view, just, inr (refl, (answer, gone, is_so))))))
 
 pub requests_handled : {L H A : Type 0} (hash_of : H → List ℕ → ℕ) (went : Went L) (handled : Handled A) → RequestsHandled hash_of went handled
-requests_handled hash_of went handled keys body (Err error.RetriesSpent) was is old new acts h = inr (h.0, tt)
+requests_handled hash_of went handled keys body (Err error.RetriesSpent) was is old new acts h =
+    let (failed, many, over) = failures_alone hash_of went handled keys body most_sends old new acts h.1 in
+    (failed, new, inr (error.RetriesSpent, refl, h.0, refl, over, omega (arith, many), ((λ spent. many), (λ four. refl))))
 requests_handled hash_of went handled keys body r was is old new acts (n, lt, (mid, (xs, ys, e, failed, ends))) =
-    ends_asked hash_of went handled keys body r was is n old mid new acts xs ys e failed ends
+    ends_so hash_of went handled keys body r was is n old mid new acts xs ys e lt (λ spent. absurd cc) failed ends

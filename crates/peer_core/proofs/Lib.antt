@@ -19,4 +19,5 @@ pub mod Servings
 pub mod Forwarded
 pub mod Requested
 pub mod Resent
+pub mod Requesting
 pub mod HandlingCounts

@@ -2,7 +2,7 @@
 use Rattle.std.proofs.Common.{◌≡◌, ◌≢◌, ℕ, ◌+◌, ◌<◌, ◌≤◌, refl, sym, ap, ◌∙◌, subst, inl, inr, arith, Result, Ok, Err, Some, List, [], ◌∷◌, ◌++◌, length, map, append-nil}
 use Rattle.std.proofs.lemmas.List.Elements.{All-cons, All-nil}
 use Rattle.std.specs.List.{All}
-use Rattle.std.specs.Prelude.{◌⊎◌, IsErrAnd}
+use Rattle.std.specs.Prelude.{IsErrAnd}
 use Rattle.change_core.specs.declared.addresses.Address.{Address}
 use Rattle.message_core.specs.declared.messages.Content.TheVariants as content
 use Rattle.message_core.specs.declared.messages.Message.{Message}
@@ -346,13 +346,13 @@ all_but_more answer (next ∷ answers) h k = (h, k)
 
 module _ {L H : Type 0} (hash_of : H → List ℕ → ℕ) (went : Went L) (keys : List (List ℕ)) (body : List ℕ) where
   -- These Forwards were made by some of the views among acts, and each but the last failed.
-  record Counted (old new : L) (acts : List (Act H)) (sends : List (Sending H)) : Type 0 where
-    part : IsPart (map (λ (s : Sending H). s.0) sends) (viewed_in acts)
-    failed : AllButLastFailed (map (λ (s : Sending H). s.1) sends)
-    over : ForwardsOver hash_of went keys body sends old new
+  pub record Counted (old new : L) (acts : List (Act H)) (sends : List (Sending H)) : Type 0 where
+    pub part : IsPart (map (λ (s : Sending H). s.0) sends) (viewed_in acts)
+    pub failed : AllButLastFailed (map (λ (s : Sending H). s.1) sends)
+    pub over : ForwardsOver hash_of went keys body sends old new
 
   -- this number of Forwards failed, and then come others
-  failed_count : (n : ℕ) (old mid new : L) (acts ends : List (Act H)) (last : List (Sending H)) → Failed hash_of went keys body n old mid acts → Counted mid new ends last
+  pub failed_count : (n : ℕ) (old mid new : L) (acts ends : List (Act H)) (last : List (Sending H)) → Failed hash_of went keys body n old mid acts → Counted mid new ends last
       → (sends : List (Sending H)) × (length sends ≡ n + length last) × Counted old new (acts ++ ends) sends
       × (All IsFailure (map (λ (s : Sending H). s.1) last) → All IsFailure (map (λ (s : Sending H). s.1) sends))
   failed_count n old mid new acts ends last Failed.is_over done = (last, omega arith, done, λ h. h)

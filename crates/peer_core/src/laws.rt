@@ -85,9 +85,11 @@ pub fn resendings<H: PointHash, L: Link, A: HandlerMut>()
 {}
 
 /// Calls of the handler. For a message: one, with its keys and its body, if it is a Forward and a view of the node shows
-/// that the node owns all keys, and the answer is its result; for any other none. For a request: one at most, by a view in
-/// which the node owns all keys; then the result is the handler's, and each Forward before it failed. If there was none,
-/// a text is that of a Reply which came for a Forward. So also if the request ends with an error.
+/// that the node owns all keys, and the answer is its result; for any other none. For a request: one at most, and how the request
+/// ends. First fewer than four Forwards fail, each by another view. Then the view that the node gave last decides: by it the node owns
+/// all keys, and the handler is called, once, and has the result; or one Forward more goes to the owner of the keys by it, from the state
+/// in which the last of the others left the link, and the text is that of its Reply, or memory ran out for it. Or the request ends by an
+/// error, and nothing more is sent: `RetriesSpent`, if and only if four Forwards failed. In the last two the handler is not called.
 pub fn handlings<H: PointHash, L: Link, A: HandlerMut>()
     ensures served { ServingsHandled H.hash_of A.handled L.may_answer }
     ensures requested { RequestsHandled H.hash_of L.went A.handled }

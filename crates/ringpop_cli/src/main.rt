@@ -110,6 +110,7 @@ fn run<
         + Wait
         + Clock
         + RandomSource
+        + Files
         + Eprint
         + Copy
         + Send

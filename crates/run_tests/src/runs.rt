@@ -6,6 +6,7 @@ use cli_run::words_run;
 use cli_words::{Words, WordsError, read_words};
 use std::alloc::Global;
 use std::env::Env;
+use std::fs::Files;
 use std::net::{Net, TcpListener, TcpStream};
 use std::process::Abort;
 use std::random::RandomSource;
@@ -42,6 +43,7 @@ fn come_to<
         + Wait
         + Clock
         + RandomSource
+        + Files
         + Eprint
         + Copy
         + Send
@@ -91,6 +93,7 @@ fn check<
         + Wait
         + Clock
         + RandomSource
+        + Files
         + Eprint
         + Copy
         + Send

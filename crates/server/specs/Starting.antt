@@ -25,7 +25,7 @@ use Rattle.server.specs.declared.starting.StartError.TheVariants as error
 pub record AreStandardFor (a i : ℕ) (settings : Settings) : Type 0 where
   pub address : settings.address ≡ a
   pub incarnation : settings.incarnation ≡ i
-  pub config : settings.config ≡ record standard { per_message = 256 }
+  pub config : settings.config ≡ record standard { per_message = 1024 }
   pub counts : (settings.workers ≡ 4) × (settings.handles ≡ 1)
   pub period : settings.period ≡ 200
   pub heals : settings.heals ≡ true

@@ -53,7 +53,7 @@ pub struct Settings<'a> {
 }
 
 impl<'a> Settings<'a> {
-    /// The standard configuration, but up to 256 changes a message; 4 workers, one handle, a round each 200 milliseconds, the
+    /// The standard configuration, but up to 1,024 changes a message; 4 workers, one handle, a round each 200 milliseconds, the
     /// standard timeouts, healing, and no hosts. More changes a message let a cluster whose nodes start together agree sooner.
     pub fn new(address: Address, incarnation: Incarnation) -> Self
         ensures { AreStandardFor address incarnation result }
@@ -62,7 +62,7 @@ impl<'a> Settings<'a> {
             address,
             incarnation,
             config: Config {
-                per_message: 256,
+                per_message: 1_024,
                 ..Config::standard()
             },
             workers: 4,

@@ -2,7 +2,7 @@
 ghost use Rattle.system_laws.specs.Closing.{ClosedNodesAreShared, PassesReadForward};
 ghost use Rattle.std.specs.Prelude.{ℕ, List};
 ghost use Rattle.system_laws.specs.Completeness.{MembersAreProbed, PassesProbe};
-ghost use Rattle.system_laws.specs.Ending.{RepliesAreHandled, RequestsEnd, TextsAreDone};
+ghost use Rattle.system_laws.specs.Ending.{RepliesAreDone, TextsAreDone};
 ghost use Rattle.system_laws.specs.Owning.{HandlersDiffer, OneHandles, OthersDoNot};
 ghost use Rattle.system_laws.specs.Reading.{HistoriesReadForward};
 ghost use Rattle.system_laws.specs.Scripts.{RunsArePlays, ScriptsAgree};
@@ -51,30 +51,29 @@ pub fn script_agreement<H>()
     ensures agree { (hash_of : H → List ℕ → ℕ) → ScriptsAgree hash_of }
 {}
 
-/// One owner, whichever node a request enters at. A node that is given a request, by a Forward or by its own service, leaves its
-/// handler unchanged unless it owns each of the keys among the servers that its views name. So of all nodes whose views name owners
-/// by the same hash, number of points and servers, at most one calls its handler for a key, however often each is asked. And two
-/// nodes that both do know different things of one of the two: the first has less weight in the other's list than in its own, or
-/// the second in the first's.
+/// One owner, whichever node a request enters at. A node that is given a request, by a Forward or by its own service, does not call its
+/// handler unless it owns each of the keys among the servers that its views name. So of all nodes whose views name owners by the same
+/// hash, number of points and servers, at most one calls its handler for a key, however often each is asked. And two nodes that both
+/// do know different things of one of the two: the first has less weight in the other's list than in its own, or the second in the first's.
 ///
-/// That a handler was not called is seen by its state, as of each `HandlerMut`.
+/// That a handler was not called is seen in two ways: it is unchanged, and what the node did, all its calls of itself and over its link
+/// with its answer, is also what it does with a handler of which no call can be shown. The second says so of a handler, too, that
+/// others share, and that is never seen to change.
 pub fn one_owner<H: PointHash, L: Link, A: HandlerMut>()
     ensures others { OthersDoNot H.hash_of L.may_answer L.went A.handled }
     ensures one { OneHandles H.hash_of L.may_answer L.went A.handled }
     ensures differ { HandlersDiffer H.hash_of L.may_answer L.went A.handled }
 {}
 
-/// The end of a request, whichever node it enters at. First at most four Forwards of it fail. Then it ends in one of three ways: the
-/// node owns the keys by a view, and its handler is called once, with that result; one more Forward goes to the owner of the keys by
-/// a view, and its Reply is the answer, or memory ran out; or it ends by an error, and nothing else is sent. In the last two the
-/// node's own handler is not called.
+/// The end of a request that has a text, whichever node it enters at, over any link. First fewer than four Forwards of it fail. Then
+/// either the node owns the keys by its last view, and its handler is called, once, and gives the text; or its handler is not called, and
+/// one Forward more goes to the owner of the keys by that view, for which a Reply with the text comes. If no Forward failed, no other was
+/// sent.
 ///
-/// A node that answers a Forward by a Reply owns its keys, and called its handler once, which gave that text. So a text was given by
-/// one call of one handler: of the node that the request entered at, or of one that owned the keys by a view of its own, and that the owner
-/// to which the Forward went reaches, which is itself if it passes nothing on. That is if each answer that comes over the link was made
-/// by such a node, which served a message of that content. If no Forward failed, no other was sent: the request was done exactly once.
-pub fn done_once<H: PointHash, L: Link, A: HandlerMut>()
-    ensures ends { RequestsEnd H.hash_of L.may_answer L.went A.handled }
-    ensures replies { RepliesAreHandled H.hash_of L.may_answer L.went A.handled }
-    ensures texts { TextsAreDone H.hash_of L.may_answer L.went A.handled }
+/// A node that answers a Forward by a Reply owns its keys by a view of its own, and calls its handler for it, once, which gives that text. So
+/// whichever node made the Reply for such a Forward, the one that was called or one that passed it on as its own, did the request so. Its
+/// handler may be of another kind, `B`. That the Reply was made by a node at all, and for this Forward, is for the link to say.
+pub fn done_once<H: PointHash, L: Link, A: HandlerMut, B: HandlerMut>()
+    ensures replies { RepliesAreDone H.hash_of L.may_answer B.handled }
+    ensures texts { TextsAreDone H.hash_of L.may_answer L.went A.handled B.handled }
 {}

@@ -1,10 +1,10 @@
 use crate::forward::views::{Views, keys, view_of, views_of};
-use crate::shared::{A, B, C, CountingHash, Ip, LIMIT, address, moment};
+use crate::shared::{A, B, C, CountingHash, Ip, LIMIT, address, again, moment};
 use change_core::Status;
 use cluster_laws::laws::confined_disagreement;
 use forward_core::{Attempt, ForwardError, MAX_SENDS, Route, Step, route_keys};
 use hash_ring::SumHash;
-use node_core::View;
+use node_core::{NodeError, View};
 use std::alloc::Global;
 use std::env::Env;
 use std::process::Abort;
@@ -61,15 +61,31 @@ fn check_owner(rt: &impl Abort, view: &View<SumHash>, key: &[u8], ip: Ip) {
     assert!(rt; view.owner(key) == Some(address(rt, ip)));
 }
 
+/// Checks that C and then A are the owners of a key by a view, apart from B.
+fn check_others(rt: &(impl Env + Abort), view: &View<SumHash>, key: &[u8]) {
+    let named = again!(rt, view.owners(key, 3)).ok().expect(rt, "owners");
+    let mut rest = [C, A].iter();
+    for owner in named.as_slice() {
+        if *owner != address(rt, B) {
+            let next = rest.next().copied().expect(rt, "another");
+            assert!(rt; *owner == address(rt, next));
+        }
+    }
+    drop(named);
+    assert!(rt; rest.next().is_none());
+}
+
 /// Checks two views of which one holds B as alive, the other as faulty.
-fn check_disagreement(rt: &impl Abort, views: &Views) {
+fn check_disagreement(rt: &(impl Env + Abort), views: &Views) {
     check_owner(rt, &views.three, b"zzzz1", B);
     check_owner(rt, &views.at_c, b"zzzz1", C);
     check_owner(rt, &views.three, b"zzzz0", A);
     check_owner(rt, &views.at_c, b"zzzz0", A);
+    check_others(rt, &views.three, b"zzzz1");
+    check_others(rt, &views.at_c, b"zzzz1");
 }
 
-/// A holds B as alive, C as faulty. They name different owners of `zzzz1`, of which one is B, and one owner of `zzzz0`.
+/// A holds B as alive, C as faulty. They name different owners of `zzzz1`, of which one is B, and one owner of `zzzz0`. The others have one order.
 #[test]
 fn views_that_name_two_owners_differ_about_one_of_them(rt: HostRuntime) {
     confined_disagreement::<SumHash>();

@@ -60,7 +60,7 @@ pub(crate) fn views_of(rt: &(impl Env + Abort), alloc: Global, status: Status) -
     }
 }
 
-fn text(rt: &(impl Env + Abort), alloc: Global, text: &str) -> Text {
+pub(crate) fn text(rt: &(impl Env + Abort), alloc: Global, text: &str) -> Text {
     match Text::new(alloc, text) {
         Ok(text) => text,
         Err(_) => {

@@ -13,8 +13,14 @@ use system_laws::laws::completeness;
 
 /// A link that reaches no node.
 #[derive(Drop)]
-struct Cut {
+pub(crate) struct Cut {
     failures: u64,
+}
+
+impl Cut {
+    pub(crate) fn new() -> Cut {
+        Cut { failures: 0 }
+    }
 }
 
 impl Link for Cut {
@@ -87,7 +93,7 @@ fn check_rounds<R: Wait + Env + Abort>(rt: &R, alloc: Global, node: &Shared, pas
     requires { Fits node.now pass.old }
     ensures { Fits node.now pass.new }
 {
-    let mut link = Cut { failures: 0 };
+    let mut link = Cut::new();
     let sought = [address(rt, B), address(rt, C), address(rt, D)];
     let mut found = [false; 3];
     for i in 0..5u64 {

@@ -6,10 +6,10 @@ use crate::node::reconciling::{all_of, take_all_of};
 use crate::shared::{
     A, B, C, D, E, F, Ip, Row, address, again, check_refused, hear, moment, node, put, vec_of,
 };
-use change_core::{Moment, Status};
+use change_core::{Change, Moment, Status};
 use cluster_laws::laws::convergence;
 use hash_ring::{PointHash, SumHash};
-use message_core::Message;
+use message_core::{Content, Message};
 use node_core::{NodeError, NodeState, Received, StopCause, Stopped, Taken};
 use std::alloc::Global;
 use std::env::Env;
@@ -17,6 +17,12 @@ use std::process::Abort;
 
 /// The nodes of a cluster, the first of them or all.
 const MEMBERS: [Ip; 5] = [A, B, C, D, E];
+
+/// How many messages a table has at most.
+const MOST_MESSAGES: usize = 6;
+
+/// How many changes are counted at most.
+const MOST_CHANGES: usize = 18;
 
 /// What happens in a cluster. Nodes are numbered from 0.
 #[derive(Clone, Copy)]
@@ -27,6 +33,13 @@ enum Step {
     Sweep,
     /// Every node pings every other, and takes its ack; this many times.
     Rounds(usize),
+    /// The first node answers a Join of the second by all that it holds: by the message of the next number, from 0.
+    Tells(usize, usize),
+    /// A node receives the message of this number.
+    Receives(usize, usize),
+    /// This many different entries are held. Of them and of what the nodes answer to those about themselves this many are news to a node; and it
+    /// has this many changes to pass on.
+    Counts(usize, usize, usize, usize),
     /// A node receives a rumour.
     Hears(usize, Row),
     Leaves(usize),
@@ -38,7 +51,9 @@ enum Step {
     AllHold(&'static str),
 }
 
-use Step::{AllHold, Hears, Holds, Leaves, Restarts, Rounds, Sweep, Takes};
+use Step::{
+    AllHold, Counts, Hears, Holds, Leaves, Receives, Restarts, Rounds, Sweep, Takes, Tells,
+};
 
 /// What three nodes hear at first: each of both others, and of a fourth.
 const RUMOURS: &[Step] = &[
@@ -69,6 +84,13 @@ const RING: &[Step] = &[
     AllHold("10.0.0.1:1alive10;10.0.0.2:1alive5;10.0.0.3:1alive6;10.0.0.4:1alive2"),
 ];
 
+/// How much there is to hear for three nodes before their rounds of pings: at most twice as many changes as there are entries.
+const NEWS: &[Step] = &[
+    Counts(0, 12, 10, 4),
+    Counts(1, 12, 11, 4),
+    Counts(2, 12, 6, 4),
+];
+
 /// Three nodes in rounds of pings: no rumour is sent back to the node that it came from, so a node hears a rumour against itself only
 /// by an ack of all members, and there is none while other changes are passed on. They need 13 rounds, and `enough_rounds` gives 272: 11
 /// changes are news to the second node, each has 4 pending, and passes a change on 15 times.
@@ -79,6 +101,34 @@ const ROUNDS: &[Step] = &[
         "10.0.0.1:1alive1;10.0.0.2:1alive5;10.0.0.3:1suspect5;10.0.0.4:1alive2",
     ),
     Rounds(1),
+    AllHold("10.0.0.1:1alive10;10.0.0.2:1alive5;10.0.0.3:1alive6;10.0.0.4:1alive2"),
+];
+
+/// Messages come in another order, again, late, to another node than the one that asked, or never. The first node hears of all and is then heard
+/// by both others; after that each of them is.
+const MESSAGES: &[Step] = &[
+    Tells(1, 0),
+    Tells(2, 0),
+    Tells(2, 1),
+    Receives(0, 1),
+    Receives(0, 0),
+    Receives(0, 1),
+    Tells(0, 1),
+    Receives(2, 3),
+    Receives(1, 3),
+    Tells(1, 0),
+    Tells(2, 0),
+    Holds(
+        0,
+        "10.0.0.1:1alive10;10.0.0.2:1faulty4;10.0.0.3:1suspect5;10.0.0.4:1alive2",
+    ),
+    Receives(2, 4),
+    Receives(0, 4),
+    Receives(0, 5),
+    Receives(1, 5),
+    AllHold("10.0.0.1:1alive10;10.0.0.2:1alive5;10.0.0.3:1alive6;10.0.0.4:1alive2"),
+    Receives(1, 1),
+    Receives(2, 0),
     AllHold("10.0.0.1:1alive10;10.0.0.2:1alive5;10.0.0.3:1alive6;10.0.0.4:1alive2"),
 ];
 
@@ -194,10 +244,10 @@ fn sweep(rt: &(impl Env + Abort), alloc: Global, nodes: &mut [NodeState<SumHash>
     }
 }
 
-/// The ack of a message, if it has one.
-fn ack_in(received: Received) -> Option<Message> {
+/// The answer to a message, if it has one.
+fn answer_in(received: Received) -> Option<Message> {
     match received {
-        Received::Answer(_, ack) => Some(ack),
+        Received::Answer(_, answer) => Some(answer),
         _ => None,
     }
 }
@@ -207,26 +257,40 @@ fn is_done(received: Received) -> bool {
     matches!(received, Received::Done(_))
 }
 
-/// What a node answers to a ping. What memory refuses is tried again.
-fn answer(rt: &(impl Env + Abort), node: &mut NodeState<SumHash>, ping: &Message) -> Message {
+/// What a node answers to a ping or a Join. What memory refuses is tried again.
+fn answer(rt: &(impl Env + Abort), node: &mut NodeState<SumHash>, asked: &Message) -> Message {
     let now = moment(rt, 1);
-    match ack_in(node.receive(ping, now)) {
-        Some(ack) => ack,
+    match answer_in(node.receive(asked, now)) {
+        Some(answer) => answer,
         None => {
             check_refused(rt);
-            ack_in(node.receive(ping, now)).expect(rt, "an ack")
+            answer_in(node.receive(asked, now)).expect(rt, "an answer")
         }
     }
 }
 
-/// A node takes an ack. What memory refuses is tried again.
-fn take_ack(rt: &(impl Env + Abort), node: &mut NodeState<SumHash>, ack: &Message) {
+/// A node takes an answer. What memory refuses is tried again.
+fn take_answer(rt: &(impl Env + Abort), node: &mut NodeState<SumHash>, answer: &Message) {
     let now = moment(rt, 1);
-    if !is_done(node.receive(ack, now)) {
+    if !is_done(node.receive(answer, now)) {
         check_refused(rt);
-        let is_taken = is_done(node.receive(ack, now));
+        let is_taken = is_done(node.receive(answer, now));
         assert!(rt; is_taken);
     }
+}
+
+/// All that a node holds, as its answer to a Join of another.
+fn told(
+    rt: &(impl Env + Abort),
+    nodes: &mut [NodeState<SumHash>],
+    teller: usize,
+    asker: usize,
+) -> Message {
+    let asker = nodes.get_mut(asker).expect(rt, "an asker");
+    let join = again!(rt, asker.join_message()).ok().expect(rt, "a Join");
+    let answer = answer(rt, nodes.get_mut(teller).expect(rt, "a teller"), &join);
+    drop(join);
+    answer
 }
 
 /// One node pings another, and takes its ack.
@@ -236,7 +300,7 @@ fn ping(rt: &(impl Env + Abort), nodes: &mut [NodeState<SumHash>], pinger: usize
     let message = again!(rt, caller.ping_to(target)).ok().expect(rt, "a ping");
     let ack = answer(rt, nodes.get_mut(pinged).expect(rt, "a pinged"), &message);
     drop(message);
-    take_ack(rt, nodes.get_mut(pinger).expect(rt, "a pinger"), &ack);
+    take_answer(rt, nodes.get_mut(pinger).expect(rt, "a pinger"), &ack);
     drop(ack);
 }
 
@@ -250,14 +314,136 @@ fn round(rt: &(impl Env + Abort), nodes: &mut [NodeState<SumHash>]) {
     }
 }
 
+/// Puts a change into a list that has room for it, if it is not there.
+fn note(rt: &impl Abort, list: &mut Vec<Change>, change: Change) {
+    for noted in list.as_slice() {
+        if *noted == change {
+            return;
+        }
+    }
+    put(rt, list, change);
+}
+
+/// Puts all that a node holds into a list.
+fn note_held(rt: &(impl Env + Abort), list: &mut Vec<Change>, node: &NodeState<SumHash>) {
+    let members = again!(rt, node.members()).ok().expect(rt, "members");
+    for change in members.as_slice() {
+        note(rt, list, *change);
+    }
+    drop(members);
+}
+
+/// Puts what a node answers to an entry into a list, if the entry is about itself and wrong.
+fn note_answer(rt: &impl Abort, list: &mut Vec<Change>, node: &NodeState<SumHash>, heard: Change) {
+    let own = node.own();
+    if heard.address == own.address && heard.status != own.status {
+        let incarnation = heard.incarnation.next().expect(rt, "one more");
+        note(rt, list, Change { incarnation, ..own });
+    }
+}
+
+/// Puts what a node answers to the first entries of a list, this many, into the list.
+fn note_answers(
+    rt: &impl Abort,
+    list: &mut Vec<Change>,
+    node: &NodeState<SumHash>,
+    entries: usize,
+) {
+    for place in 0..entries {
+        let heard = *list.get(place).expect(rt, "an entry");
+        note_answer(rt, list, node, heard);
+    }
+}
+
+/// The different entries that nodes hold, and behind them what the nodes answer to those about themselves; and how many entries there are.
+fn changes_of(
+    rt: &(impl Env + Abort),
+    alloc: Global,
+    nodes: &[NodeState<SumHash>],
+) -> (Vec<Change>, usize) {
+    let mut list = vec_of(rt, alloc, MOST_CHANGES);
+    for node in nodes {
+        note_held(rt, &mut list, node);
+    }
+    let entries = list.len();
+    for node in nodes {
+        note_answers(rt, &mut list, node, entries);
+    }
+    (list, entries)
+}
+
+/// Whether a change would alter what a node holds.
+fn is_news(node: &NodeState<SumHash>, change: &Change) -> bool {
+    let Some(entry) = node.member(change.address) else {
+        return true;
+    };
+    change.overrides(&Change {
+        address: change.address,
+        incarnation: entry.incarnation,
+        status: entry.status,
+        weight: entry.weight,
+    })
+}
+
+/// How many of these changes are news to a node.
+fn count_news(node: &NodeState<SumHash>, changes: &[Change]) -> usize {
+    let mut count: usize = 0;
+    for change in changes {
+        if is_news(node, change) {
+            count = count.saturating_add(1);
+        }
+    }
+    count
+}
+
+/// How many changes a node has to pass on to one that said none of them.
+fn count_pending(rt: &(impl Env + Abort), node: &mut NodeState<SumHash>) -> usize {
+    let stranger = address(rt, F);
+    let ping = again!(rt, node.ping_to(stranger)).ok().expect(rt, "a ping");
+    let count = match &ping.content {
+        Content::Ping(news) => news.changes.as_slice().len(),
+        _ => 0,
+    };
+    drop(ping);
+    count
+}
+
+/// How many different entries are held, how many changes are news to a node, and how many it has to pass on.
+fn counts(
+    rt: &(impl Env + Abort),
+    alloc: Global,
+    nodes: &mut [NodeState<SumHash>],
+    at: usize,
+) -> (usize, usize, usize) {
+    let (changes, entries) = changes_of(rt, alloc, nodes);
+    let node = nodes.get_mut(at).expect(rt, "a node");
+    let news = count_news(node, changes.as_slice());
+    drop(changes);
+    (entries, news, count_pending(rt, node))
+}
+
 /// Whether a node holds these members.
 fn holds(rt: &(impl Env + Abort), node: &NodeState<SumHash>, members: &str) -> bool {
     let text = again!(rt, node.digest_text()).ok().expect(rt, "a text");
     text.as_str() == members
 }
 
-fn play(rt: &(impl Env + Abort), alloc: Global, nodes: &mut [NodeState<SumHash>], step: Step) {
+fn play(
+    rt: &(impl Env + Abort),
+    alloc: Global,
+    nodes: &mut [NodeState<SumHash>],
+    messages: &mut Vec<Message>,
+    step: Step,
+) {
     match step {
+        Tells(teller, asker) => put(rt, messages, told(rt, nodes, teller, asker)),
+        Receives(at, number) => {
+            let message = messages.get(number).expect(rt, "a message");
+            take_answer(rt, nodes.get_mut(at).expect(rt, "a node"), message);
+        }
+        Counts(at, entries, news, pending) => {
+            assert!(rt; counts(rt, alloc, nodes, at) == (entries, news, pending));
+        }
         Takes(taker, giver) => take_all(rt, alloc, nodes, taker, giver),
         Sweep => sweep(rt, alloc, nodes),
         Rounds(count) => {
@@ -288,15 +474,17 @@ fn play(rt: &(impl Env + Abort), alloc: Global, nodes: &mut [NodeState<SumHash>]
 /// Plays the steps of these tables, one after another, with this many new nodes.
 fn play_all(rt: &(impl Env + Abort), alloc: Global, count: usize, tables: &[&[Step]]) {
     let mut nodes = vec_of(rt, alloc, count);
+    let mut messages = vec_of(rt, alloc, MOST_MESSAGES);
     for own in MEMBERS.iter().take(count) {
         put(rt, &mut nodes, node(rt, alloc, *own, 1));
     }
     for steps in tables {
         for step in *steps {
-            play(rt, alloc, &mut nodes, *step);
+            play(rt, alloc, &mut nodes, &mut messages, *step);
         }
     }
     drop(nodes);
+    drop(messages);
 }
 
 #[test]
@@ -307,6 +495,16 @@ fn three_nodes_converge_round_a_ring(rt: HostRuntime) {
 #[test]
 fn three_nodes_converge_in_rounds_of_pings(rt: HostRuntime) {
     play_all(&rt, rt.alloc(), 3, &[RUMOURS, ROUNDS]);
+}
+
+#[test]
+fn news_are_at_most_twice_the_entries(rt: HostRuntime) {
+    play_all(&rt, rt.alloc(), 3, &[RUMOURS, NEWS]);
+}
+
+#[test]
+fn three_nodes_converge_by_late_and_repeated_messages(rt: HostRuntime) {
+    play_all(&rt, rt.alloc(), 3, &[RUMOURS, MESSAGES]);
 }
 
 #[test]

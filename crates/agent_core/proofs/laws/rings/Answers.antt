@@ -1,7 +1,6 @@
-use Rattle.std.proofs.Common.{ap, sym, ◌∙◌}
+use Rattle.std.proofs.Common.{ap}
 use Rattle.change_core.specs.Members.{members}
 use Rattle.hash_ring.specs.Points.{owners}
-use Rattle.agent_core.specs.Texts.{on_ring}
 use Rattle.agent_core.proofs.Ringing.{ring_once, servers_once}
 use Rattle.agent_core.proofs.laws.rings.Goals as goal
 

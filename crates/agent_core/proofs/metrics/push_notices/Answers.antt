@@ -5,8 +5,7 @@ use Rattle.agent_core.proofs.metrics.push_notices.Goals as goal
 pub returns : goal.returns
 returns c =
     let text = string_bytes c.args.text.now in
-    let a0 = c.in_ok-push_str.ensures.bytes in
+    let a0 = c.in_ok-push_head.ensures in
     let a1 = grown text _ _ _ _ a0 c.in_ok-push_sample.ensures in
     let a2 = grown text _ _ _ _ a1 c.in_ok-push_sample-2.ensures in
-    let a3 = grown text _ _ _ _ a2 c.in_ok-push_str-2.ensures.bytes in
-    grown text _ _ _ _ a3 c.in_ok-push_sample-3.ensures
+    grown text _ _ _ _ a2 c.in_ok-push_metric.ensures

@@ -5,7 +5,7 @@ use Rattle.agent_core.proofs.metrics.push_statuses.Goals as goal
 pub returns : goal.returns
 returns c =
     let text = string_bytes c.args.text.now in
-    let a0 = c.in_ok-push_str.ensures.bytes in
+    let a0 = c.in_ok-push_head.ensures in
     let a1 = grown text _ _ _ _ a0 c.in_ok-push_status.ensures in
     let a2 = grown text _ _ _ _ a1 c.in_ok-push_status-2.ensures in
     let a3 = grown text _ _ _ _ a2 c.in_ok-push_status-3.ensures in

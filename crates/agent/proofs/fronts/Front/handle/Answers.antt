@@ -1,25 +1,17 @@
-use Rattle.std.proofs.Common.{Err, Ok, inl, refl}
+use Rattle.std.proofs.Common.{Err, inl, inr, refl}
 use Rattle.agent_core.specs.declared.actions.Action.TheVariants as action
-use Rattle.agent_core.specs.declared.refusals.Refusal.TheVariants.{NotJoined}
-use Rattle.agent.specs.Performing.{AsksIfPlaced, Performs}
-use Rattle.agent.proofs.Performed.{made_handled, made_none}
+use Rattle.agent_core.specs.declared.refusals.Refusal.TheVariants.{Memory}
+use Rattle.agent.specs.Performing.{Performs}
+use Rattle.agent.proofs.Performed.{made_body, made_none}
 use Rattle.agent.proofs.fronts.Front.handle.Goals as goal
-
-pub returns-then-get-clause-performed : goal.returns-then-get-clause-performed
-returns-then-get-clause-performed g c =
-    let agent = c.args.self.now.agent.now in
-    made_none (Performs agent.own agent.replicas (action.Handle c.args.key c.args.body) (Err NotJoined)) c.args.self.now.caller.now c.args.self.now.caller.now refl (inl (refl, refl))
 
 pub returns-in-Ok-clause-performed : goal.returns-in-Ok-clause-performed
 returns-in-Ok-clause-performed g c =
     let agent = c.args.self.now.agent.now in
-    let asked = rw c.owner_of.ensures.agent at c.ask_if_placed.ensures.asked in
-    made_handled agent.own agent.replicas c.args.key c.args.body (Ok c.in-Ok.owner) c.ask_if_placed.result _ _ _ c.in-Ok.ensures.found asked
+    let performed = rw c.in-Ok.ensures.text at c.pass.ensures.performed in
+    made_body agent.own agent.replicas c.args.key c.args.body c.pass.result _ _ performed
 
 pub returns-in-Err-clause-performed : goal.returns-in-Err-clause-performed
 returns-in-Err-clause-performed g c =
     let agent = c.args.self.now.agent.now in
-    let why = c.in-Err.refusal in
-    let caller = c.owner_of.new.self.caller.now in
-    made_handled agent.own agent.replicas c.args.key c.args.body (Err why) (Err why) _ _ _ c.in-Err.ensures.found
-    (made_none (AsksIfPlaced agent.own c.args.key c.args.body (Err why) (Err why)) caller caller refl (refl, refl))
+    made_none (Performs agent.own agent.replicas (action.Handle c.args.key c.args.body) (Err Memory)) c.args.self.now.caller.now c.args.self.now.caller.now refl (inl (inr (refl, refl)))

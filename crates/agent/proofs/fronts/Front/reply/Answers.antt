@@ -6,5 +6,5 @@ use Rattle.agent.proofs.fronts.Front.reply.Goals as goal
 pub returns-in-Err-clause-settled : goal.returns-in-Err-clause-settled
 returns-in-Err-clause-settled g c =
     let agent = c.args.self.now.agent.now in
-    made_none (Settles agent.own agent.replicas c.args.request.now (Err c.in-Err.refusal)) c.args.self.now.caller.now c.args.self.now.caller.now refl
+    made_none (Settles agent.own agent.replicas agent.key_field c.args.request.now (Err c.in-Err.refusal)) c.args.self.now.caller.now c.args.self.now.caller.now refl
     (inr (c.in-Err.refusal, c.in-Err.ensures.refused, (refl, refl)))

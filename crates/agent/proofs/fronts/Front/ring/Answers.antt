@@ -23,7 +23,7 @@ returns-in-Ok-clause-performed g c =
     let own = c.args.self.now.agent.now.own in
     let replicas = c.args.self.now.agent.now.replicas in
     let after = option_copied c.args.after in
-    made_as (Performs own replicas (action.Ring after) c.ring_by.result) (After (Tries call.Members reply.Members) (ComesOf (ShowsRing own replicas after)) c.ring_by.result) _ _
+    made_as (Performs own replicas (action.Ring after) c.show_ring.result) (After (Tries call.Members reply.Members) (ComesOf (ShowsRing own replicas after)) c.show_ring.result) _ _
     (λ acts done. inr done)
-    (made_after (Tries call.Members reply.Members) (ComesOf (ShowsRing own replicas after)) (Ok c.in-Ok.members) c.ring_by.result _ _ c.members.ensures.node c.in-Ok.ensures.did
-    (subst (λ held. ShowsRing own replicas after held c.ring_by.result) c.as_slice.ensures c.ring_by.ensures))
+    (made_after (Tries call.Members reply.Members) (ComesOf (ShowsRing own replicas after)) (Ok c.in-Ok.members) c.show_ring.result _ _ c.members.ensures.node c.in-Ok.ensures.did
+    (subst (λ held. ShowsRing own replicas after held c.show_ring.result) c.as_slice.ensures c.show_ring.ensures))

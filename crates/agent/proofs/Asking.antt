@@ -1,0 +1,167 @@
+-- Whether the application is asked, and which node answers.
+use Rattle.std.proofs.Common.{◌≡◌, ◌∙◌, ℕ, ◌<◌, Bool, true, false, not, refl, sym, ap, subst, inl, inr, Some, None, Option, Result, Ok, Err, List, [], ◌∷◌, ◌++◌, append-nil}
+use Rattle.std.specs.Prelude.{IfNone, IfSome, Vec}
+use Rattle.std.specs.Global.{Global}
+use Rattle.change_core.specs.declared.addresses.Address.{Address}
+use Rattle.forward_core.specs.Attempts.{most_sends}
+use Rattle.hash_ring.specs.declared.hash.Sha256Hash.{Sha256Hash}
+use Rattle.locked_node.specs.declared.node.LockedNode.{LockedNode}
+use Rattle.locked_node.specs.Passes.{NodePass}
+use Rattle.message_core.specs.declared.messages.Content.TheVariants as content
+use Rattle.message_core.specs.declared.messages.Message.{Message}
+use Rattle.peer_core.specs.Acts.{Act, Makes, Nothing, Then}
+use Rattle.peer_core.specs.Forwarding.{IsRequest}
+use Rattle.peer_core.specs.Handling.{Handled, MayHandle, between}
+use Rattle.peer_core.specs.Links.{Went}
+use Rattle.peer_core.specs.Parts.{Does, let_in}
+use Rattle.peer_core.specs.Resending.{EndsBy, Failed, SendsRequest}
+use Rattle.peer_core.specs.Serving.{message_from}
+use Rattle.peer_core.specs.declared.errors.ClusterError.{ClusterError}
+use Rattle.peer_core.specs.declared.errors.ClusterError.TheVariants as error
+use Rattle.peer_core.specs.declared.errors.HandlerFault.{HandlerFault}
+use Rattle.peer_core.specs.declared.errors.LinkError.{LinkError}
+use Rattle.peer_core.proofs.Acts.{makes_as, makes_none}
+use Rattle.peer_core.proofs.Requesting.{requested_as}
+use Rattle.peer_core.proofs.Served.{serves_as}
+use Rattle.line_service.specs.Answering.{AnswersInput, IsSilent, Responds, StaysSilent}
+use Rattle.line_service.specs.declared.inputs.Input.{Input}
+use Rattle.line_service.specs.declared.inputs.Input.TheVariants as input
+use Rattle.agent.specs.Asking.{AsksFor, answerer, notes_call, notes_source}
+use Rattle.agent.specs.Calling.{AnyAnswer, AnyHandling, AnyTimes, Calling, HasMade, hash_of}
+use Rattle.agent.specs.Performing.{AsksOwner, IsRequested, Outcome, Settled}
+use Rattle.agent.proofs.Performed.{made_as, settled_as}
+use Rattle.agent.proofs.Relaying.{made_both}
+
+-- one call of a handler whose calls are noted so
+abbrev pub noting : {A : Type 0} → (A → Bool) → Handled A
+noting asked_of keys body answer was is = notes_call keys body answer (asked_of was) (asked_of is) × AnyHandling keys body answer
+
+-- a handler that notes each of its calls, as far as a request or a line says
+module _ {A : Type 0} (handled : Handled A) (asked_of : A → Bool)
+    (notes : (keys : List (List ℕ)) (body : List ℕ) (answer : Result (List ℕ) HandlerFault) (was is : A) → handled keys body answer was is → asked_of is ≡ true) where
+  -- and a link that notes the node that gave its last answer
+  module _ {L : Type 0} (went : Went L) (noted_of : L → Option Address)
+      (marks : (to : Address) (message : Message) (answer : Result Message LinkError) (old new : L) → went to message answer old new
+      → notes_source to message answer (noted_of old) (noted_of new))
+      (keys : List (List ℕ)) (body : List ℕ) where
+    failed_as : (n : ℕ) (old new : L) (acts : List (Act Sha256Hash)) → Failed hash_of went keys body n old new acts
+        → Failed hash_of notes_source keys body n (noted_of old) (noted_of new) acts
+    failed_as n old new acts Failed.is_over = Failed.is_over
+    failed_as n old new acts (Failed.stays {acts = rest} act h) = Failed.stays act (failed_as n old new rest h)
+    failed_as n old new acts (Failed.sent {n = k} {mid = mid} {acts = rest} view answer (owner, owned, other, goes) fails h) =
+        Failed.sent view answer (owner, owned, other, marks owner (message_from view (content.Forward keys body)) answer old mid goes) fails (failed_as k mid new rest h)
+
+    ends_as : (r : Result (List ℕ) ClusterError) (was is : A) (old new : L) (acts : List (Act Sha256Hash)) → EndsBy hash_of went handled keys body r was is old new acts
+        → EndsBy hash_of notes_source notes_call keys body r (asked_of was) (asked_of is) (noted_of old) (noted_of new) acts
+    ends_as r was is old new acts (EndsBy.by_error e) = EndsBy.by_error e
+    ends_as r was is old new acts (EndsBy.by_handler answer (view, just, owned, called) same) =
+        EndsBy.by_handler answer (view, just, owned, notes keys body answer was is called) same
+    ends_as r was is old new acts (EndsBy.by_owner view answer just (owner, owned, other, goes) says) =
+        EndsBy.by_owner view answer just (owner, owned, other, marks owner (message_from view (content.Forward keys body)) answer old new goes) says
+
+    few_as : (r : Result (List ℕ) ClusterError) (was is : A) (old new : L) (acts : List (Act Sha256Hash))
+        → (n : ℕ) × (n < most_sends) × ((mid : L) × Then (Failed hash_of went keys body n old mid) (EndsBy hash_of went handled keys body r was is mid new) acts)
+        → (n : ℕ) × (n < most_sends) × ((mid : Option Address) × Then (Failed hash_of notes_source keys body n (noted_of old) mid)
+        (EndsBy hash_of notes_source notes_call keys body r (asked_of was) (asked_of is) mid (noted_of new)) acts)
+    few_as r was is old new acts (n, few, (mid, (first, last, e, failed, ends))) =
+        (n, few, (noted_of mid, (first, last, e, failed_as n old mid first failed, ends_as r was is mid new last ends)))
+
+    -- what goes over the link for a request
+    sends_as : (r : Result (List ℕ) ClusterError) (was is : A) (old new : L) (acts : List (Act Sha256Hash))
+        → SendsRequest hash_of went handled keys body r was is old new acts
+        → SendsRequest hash_of notes_source notes_call keys body r (asked_of was) (asked_of is) (noted_of old) (noted_of new) acts
+    sends_as (Err error.RetriesSpent) was is old new acts (same, failed) = (ap asked_of same, failed_as most_sends old new acts failed)
+    sends_as r was is old new acts h = few_as r was is old new acts h
+
+    -- the same of a handler that was not called before, and of a link that had no answer
+    pub makes_noted : (r : Result (List ℕ) ClusterError) (was is : A) (old new : L) → asked_of was ≡ false → noted_of old ≡ None
+        → (node : LockedNode Sha256Hash) (before after : NodePass Sha256Hash) → Makes node (SendsRequest hash_of went handled keys body r was is old new) before after
+        → Makes node (SendsRequest hash_of notes_source notes_call keys body r false (asked_of is) None (noted_of new)) before after
+    makes_noted r was is old new unasked unnoted node before after makes =
+        makes_as (SendsRequest hash_of notes_source notes_call keys body r false (asked_of is) None (noted_of new))
+        (λ acts h. subst (λ (b : Bool). SendsRequest hash_of notes_source notes_call keys body r b (asked_of is) None (noted_of new) acts) unasked
+        (subst (λ (last : Option Address). SendsRequest hash_of notes_source notes_call keys body r (asked_of was) (asked_of is) last (noted_of new) acts) unnoted
+        (sends_as r was is old new acts h))) makes
+
+  module _ (was is : A) (unasked : asked_of was ≡ false) (now : ℕ) where
+    unchanged : is ≡ was → asked_of is ≡ false
+    unchanged same = ap asked_of same ∙ unasked
+
+    by_input : (heard : Input) (r : Result Message ClusterError) (acts first rest : List (Act Sha256Hash)) → acts ≡ first ++ rest
+        → AnswersInput hash_of AnyAnswer (between handled was is) now heard r first → AsksFor heard (asked_of is) acts
+    by_input (input.Message message) r acts first rest e h = (
+      first,
+      rest,
+      e,
+      (
+        now,
+        r,
+        serves_as hash_of (between handled was is) (between notes_call false (asked_of is)) (λ keys body answer called. notes keys body answer was is called)
+            unchanged AnyAnswer message now message.content r first h,
+      ),
+      tt,
+    )
+    by_input (input.Refused why) r acts first rest e h = unchanged h.0
+    by_input input.Nothing r acts first rest e h = absurd h
+
+    responded : (heard : Input) (line : List ℕ) (acts : List (Act Sha256Hash)) → Responds hash_of AnyAnswer (between handled was is) now heard line acts
+        → AsksFor heard (asked_of is) acts
+    responded heard line acts (answer, (first, rest, e, h, sent)) = by_input heard (Ok answer) acts first rest e h
+
+    stayed : (heard : Input) (r : Result (Unit {0}) ClusterError) (acts : List (Act Sha256Hash)) → StaysSilent hash_of AnyAnswer (between handled was is) now heard r acts
+        → AsksFor heard (asked_of is) acts
+    stayed heard (Ok x) acts (inl h) = absurd h
+    stayed heard (Err e) acts (inl h) = by_input heard (Err e) acts acts [] (sym (append-nil acts)) h
+    stayed heard r acts (inr (answer, (first, rest, e, h, sent))) = by_input heard (Ok answer) acts first rest e h
+
+    silent : (heard : Input) (a b : Calling) → b.node ≡ a.node → IsSilent hash_of AnyAnswer (between handled was is) now heard a.node a.pass b.pass
+        → HasMade (AsksFor heard (asked_of is)) a b
+    silent input.Nothing a b same (never, still) = record {
+      node = same;
+      makes = makes_as (AsksFor input.Nothing (asked_of is)) (λ acts none. unchanged never)
+          (subst (λ (pass : NodePass Sha256Hash). Makes a.node Nothing a.pass pass) (sym still) (makes_none a.node a.pass));
+    }
+    silent (input.Message message) a b same (r, does) =
+        record { node = same; makes = makes_as (AsksFor (input.Message message) (asked_of is)) (stayed (input.Message message) (let_in r)) does.makes }
+    silent (input.Refused why) a b same (r, does) =
+        record { node = same; makes = makes_as (AsksFor (input.Refused why) (asked_of is)) (stayed (input.Refused why) (let_in r)) does.makes }
+
+    -- whether such a handler is asked for an input
+    pub asked_for : (heard : Input) (line : Option (Vec ℕ Global)) (a b : Calling) → b.node ≡ a.node
+        → IfSome line (λ it. Makes a.node (Responds hash_of AnyAnswer (between handled was is) now heard it.items) a.pass b.pass)
+        → IfNone line (IsSilent hash_of AnyAnswer (between handled was is) now heard a.node a.pass b.pass) → HasMade (AsksFor heard (asked_of is)) a b
+    asked_for heard (Some line) a b same sent none =
+        record { node = same; makes = makes_as (AsksFor heard (asked_of is)) (responded heard line.items) sent }
+    asked_for heard None a b same sent none = silent heard a b same none
+
+-- a request of keys, and what went over the link for it
+module _ (keys : List (List ℕ)) (request : List ℕ) (r : Result (List ℕ) ClusterError) (asked : Bool) (noted : Option Address) (old new : Calling) where
+  -- what was requested of a handler that notes its calls was requested of one that may answer anything
+  pub made_requested : (Noted : MayHandle) → new.node ≡ old.node → Does old.node (IsRequest hash_of AnyAnswer Noted AnyTimes keys request) r old.pass new.pass
+      → Makes old.node (SendsRequest hash_of notes_source notes_call keys request r false asked None noted) old.pass new.pass
+      → HasMade (IsRequested asked noted keys request r) old new
+  made_requested Noted same does sent =
+      made_both (IsRequest hash_of AnyAnswer AnyHandling AnyTimes keys request r) (SendsRequest hash_of notes_source notes_call keys request r false asked None noted)
+      old new
+      (record {
+        node = same;
+        makes = makes_as (IsRequest hash_of AnyAnswer AnyHandling AnyTimes keys request r)
+            (λ acts h. requested_as hash_of AnyAnswer Noted AnyHandling AnyTimes (λ ks body answer one. tt) keys request r acts h) does.makes;
+      })
+      (record { node = same; makes = sent })
+
+  -- so the owner of a key was asked, and this came of it
+  pub made_asked : (own : Address) (key : List ℕ) (is_repeatable is_over : Bool) (outcome : Outcome) → keys ≡ key ∷ [] → (is_repeatable ≡ true → is_over ≡ false)
+      → HasMade (IsRequested asked noted keys request r) old new → Settled (answerer own asked noted) (not is_over) r outcome
+      → HasMade (AsksOwner own key request is_repeatable outcome) old new
+  made_asked own key is_repeatable is_over outcome one never made comes =
+      made_as (AsksOwner own key request is_repeatable outcome) (IsRequested asked noted keys request r) old new
+      (λ acts both. inr (
+        asked,
+        noted,
+        (
+          r,
+          subst (λ (ks : List (List ℕ)). IsRequested asked noted ks request r acts) one both,
+          settled_as (answerer own asked noted) is_repeatable is_over r outcome never comes,
+        ),
+      )) made

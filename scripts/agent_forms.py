@@ -1,0 +1,104 @@
+"""Requests that another node passes on whole, for `scripts/agent forms`: each is a Forward that this script sends itself."""
+import base64
+import json
+import sys
+
+from agents import running, wait_until
+from nodes import PATIENCE, ROOT, Wrong, call, request
+
+SERVICE = (sys.executable, f"{ROOT}/scripts/any_service.py")
+BINARY = bytes(range(256)) * 40
+# what a service gets, and what it answers with: the method, the target, the fields and the body of each
+ASKED = [
+    ("PUT", "/keys/k/files/a?b=1", [("host", "shop.example"), ("content-type", "image/png")], BINARY),
+    ("GET", "/keys/k/files/a?b=1", [("host", "shop.example")], b""),
+    ("HEAD", "/keys/k/files/a?b=1", [("host", "shop.example")], b""),
+    ("DELETE", "/other/path/files/none", [("host", "x"), ("x-empty", "")], b""),
+    ("PROPFIND", "/keys/k/status/404", [("host", "x")], b"\x00\xff"),
+    ("POST", "/keys/k/cookies", [("host", "x"), ("x-many", "1"), ("x-many", "2")], b"a"),
+    ("PATCH", "/keys/k/chunks", [("host", "x")], BINARY),
+    ("OPTIONS", "/keys/k/status/204", [("host", "x")], b""),
+]
+
+
+def packed(parts):
+    """The text of parts: each is its length in eight bytes and its bytes."""
+    return "\x03" + base64.b64encode(b"".join(len(part).to_bytes(8, "big") + part for part in parts)).decode()
+
+
+def unpacked(text):
+    """The parts of a text; none if it is not that of parts."""
+    if not text.startswith("\x03"):
+        return []
+    data, parts = base64.b64decode(text[1:], validate=True), []
+    while data:
+        size = 8 + int.from_bytes(data[:8], "big")
+        parts, data = [*parts, data[8:size]], data[size:]
+    return parts
+
+
+def told(agent, text):
+    """The text of the Reply to a Forward of this text."""
+    answer = call(agent.port, request("k", text))
+    if not answer or answer["kind"] != "reply":
+        raise Wrong(f"a Forward is answered {answer}")
+    return answer["body"]
+
+
+def ask(agent, method, target, fields, body):
+    """The status, the body and the fields of the answer to a request that is passed on whole."""
+    flat = [part.encode("latin-1") for field in fields for part in field]
+    parts = unpacked(told(agent, packed([method.encode(), target.encode(), body, *flat])))
+    if len(parts) < 2 or len(parts) % 2:
+        raise Wrong(f"{method} {target} is answered {parts}")
+    named = [part.decode("latin-1") for part in parts[2:]]
+    return int(parts[0]), parts[1], list(zip(named[::2], named[1::2]))
+
+
+def check_asked(agent):
+    """A service gets each request unchanged, and so does its answer come back."""
+    answers = [ask(agent, *asked) for asked in ASKED]
+    if [answer[0] for answer in answers] != [201, 200, 200, 404, 404, 200, 200, 204]:
+        raise Wrong(f"the statuses are {[answer[0] for answer in answers]}")
+    for number, body in ((0, b"kept"), (1, BINARY), (2, b""), (5, b"c"), (6, BINARY + b"end"), (7, b"")):
+        if answers[number][1] != body:
+            raise Wrong(f"{ASKED[number][:2]} is answered {answers[number]}")
+    for number, field in ((0, ("location", "/keys/k/files/a?b=1")), (2, ("content-length", str(len(BINARY)))), (4, ("www-authenticate", 'Basic realm="x"'))):
+        if field not in answers[number][2]:
+            raise Wrong(f"{ASKED[number][:2]} is answered the fields {answers[number][2]}")
+    cookies = [field for field in answers[5][2] if field[0] in ("set-cookie", "x-odd")]
+    if cookies != [("set-cookie", "a=1; Path=/"), ("x-odd", "caf\xe9"), ("set-cookie", "b=2")]:
+        raise Wrong(f"fields that repeat come back as {cookies}")
+    status, body, _ = ask(agent, "QUERY", "/keys/k/?q", [("host", "h"), ("cookie", "a=1")], BINARY)
+    got = json.loads(body)
+    if (status, got["method"], got["target"], got["length"]) != (200, "QUERY", "/keys/k/?q", len(BINARY)) or ["cookie", "a=1"] not in got["fields"]:
+        raise Wrong(f"a service was asked {got}")
+
+
+def check_bodies(agent):
+    """A text that is a body reaches the service as one, also if it starts as a whole request does."""
+    for text, length in (("hello", 5), (packed([b"\x03hello"]), 6), ("\x03hello", 6), (packed([b"DELETE", b"/", b"", b"odd"]), None)):
+        got = json.loads(told(agent, text)[5:])
+        if (got["method"], got["target"]) != ("POST", "/keys/k") or got["length"] != (length or len(text)):
+            raise Wrong(f"the text {text} reached the service as {got}")
+    status, body = agent.ask("POST", "/keys/k", packed([b"DELETE", b"/", b""]))
+    got = json.loads(body)
+    if status != 200 or (got["method"], got["target"]) != ("POST", "/keys/k"):
+        raise Wrong(f"a client's body reached the service as {got}")
+
+
+def check_down(agent):
+    """A service that is down is told in the same form, with a field that says so."""
+    agent.application.kill()
+    agent.application.wait()
+    status, body, fields = ask(agent, "GET", "/keys/k", [("host", "x")], b"")
+    if (status, body) != (502, b"the owner's application accepts no connection\n") or ("x-ringpop-error", "application-not-accepting") not in fields:
+        raise Wrong(f"a service that is down is told as {status} {body} {fields}")
+
+
+def check(program, port):
+    with running(program, port, app=SERVICE) as agents:
+        wait_until("well", PATIENCE, agents[0].is_well)
+        check_asked(agents[0])
+        check_bodies(agents[0])
+        check_down(agents[0])

@@ -1,0 +1,113 @@
+"""What an agent does whose standard error is a pipe that is not read, for `scripts/agent unread`."""
+import fcntl
+import os
+import re
+import signal
+import threading
+import time
+
+from agents import Agent, agree, counted, wait_until
+from nodes import NOBODY, Wrong, call, message
+
+SECONDS = 60
+# the most lines that wait to be written
+MOST = 1_024
+MEMBERS = [f"10.0.1.{number + 1}:1" for number in range(200)]
+DROPPED = re.compile(rb"\[WARN \] (\d+) lines of the log were dropped here: standard error was not read in time\n")
+ROUNDS = [f'ringpop_rounds_total{{outcome="{it}"}}' for it in ("idle", "reached", "suspected", "inconclusive", "error")]
+
+
+def raise_lines(agent, incarnation):
+    """Has an agent log a line for each of some members that left."""
+    for start in range(0, len(MEMBERS), 50):
+        changes = [{"address": it, "incarnationNumber": incarnation, "source": it, "sourceIncarnationNumber": 0, "status": "leave"} for it in MEMBERS[start : start + 50]]
+        if not call(agent.port, message("ping", checksum=NOBODY, changes=changes)):
+            raise Wrong("an agent whose log is not read does not answer a ping")
+
+
+def rounds_of(agent):
+    return sum(counted([agent], it) for it in ROUNDS)
+
+
+def check_unread(agent, other):
+    """For a minute, in which another agent stands still three times, an agent makes rounds and answers."""
+    begun, before, slowest = time.monotonic(), rounds_of(agent), 1_000
+    for second in range(1, SECONDS + 1):
+        if second % 20 in (5, 12):
+            os.kill(other.process.pid, signal.SIGSTOP if second % 20 == 5 else signal.SIGCONT)
+        raise_lines(agent, second)
+        for path in ("/livez", "/members", "/digest"):
+            asked = time.monotonic()
+            status = agent.ask("GET", path)[0]
+            if status != 200 or time.monotonic() - asked > 1:
+                raise Wrong(f"an agent whose log is not read answers GET {path} by {status} after {time.monotonic() - asked:.1f} s")
+        if second % 10 == 0:
+            rounds = rounds_of(agent)
+            before, slowest = rounds, min(slowest, rounds - before)
+        time.sleep(max(0, begun + second - time.monotonic()))
+    used, dropped = (counted([agent], f"ringpop_log_lines_{it}") for it in ("used", "dropped_total"))
+    print(f"not read for {SECONDS} s: {slowest} rounds or more in ten seconds, {used} lines wait, {dropped} were dropped")
+    if slowest < 3 or used != MOST or dropped < 500:
+        raise Wrong("an agent whose log is not read makes no rounds, or counts no lines")
+
+
+class Reader:
+    """A thread that reads a pipe."""
+
+    def __init__(self, pipe):
+        self.read, self.is_over = b"", False
+        self.thread = threading.Thread(target=self.work, args=(pipe,), daemon=True)
+        self.thread.start()
+
+    def work(self, pipe):
+        os.set_blocking(pipe, False)
+        while not self.is_over:
+            try:
+                self.read += os.read(pipe, 65_536)
+            except BlockingIOError:
+                time.sleep(0.01)
+
+    def end(self):
+        self.is_over = True
+        self.thread.join()
+
+
+def check_read(agent, pipe):
+    """Once somebody reads, the log says how many lines were dropped, and where."""
+    reader = Reader(pipe)
+    wait_until("written", 10, lambda: counted([agent], "ringpop_log_lines_used") == 0)
+    raise_lines(agent, SECONDS + 1)
+    dropped = counted([agent], "ringpop_log_lines_dropped_total")
+    wait_until("told how many were dropped", 10, lambda: sum(map(int, DROPPED.findall(reader.read))) == dropped)
+    wait_until("told of the last", 10, lambda: f"{MEMBERS[-1]} is still leave, incarnation {SECONDS + 1}".encode() in reader.read)
+    reader.end()
+    lines = reader.read.decode().splitlines()
+    if not all(re.fullmatch(rf"\d{{4}}-\d\d-\d\dT\d\d:\d\d:\d\d\.\d{{3}}Z {re.escape(agent.own)} \[.*", it) for it in lines):
+        raise Wrong("a line of the log is torn")
+    print(f"{len(lines)} lines were read, which tell of {dropped} that were dropped")
+
+
+def check_end(agent):
+    """An agent whose log is not read stops all the same."""
+    for number in range(20):
+        raise_lines(agent, SECONDS + 2 + number)
+        time.sleep(0.3)
+    wait_until("full", 10, lambda: counted([agent], "ringpop_log_lines_used") == MOST)
+    begun = time.monotonic()
+    agent.ask("POST", "/stop")
+    status = agent.process.wait(timeout=20)
+    print(f"stopped with status {status} after {time.monotonic() - begun:.1f} s")
+    if status != 0 or time.monotonic() - begun > 12:
+        raise Wrong("an agent whose log is not read does not stop")
+
+
+def check(program, agents, port):
+    pipe, end = os.pipe()
+    fcntl.fcntl(pipe, fcntl.F_SETPIPE_SZ, 4_096)
+    agent = Agent(program, port, [it.port for it in agents], log=end)
+    os.close(end)
+    agents.append(agent)
+    wait_until("agreed", 20, lambda: agree(agents))
+    check_unread(agent, agents[0])
+    check_read(agent, pipe)
+    check_end(agent)

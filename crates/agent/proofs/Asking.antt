@@ -53,7 +53,7 @@ module _ {A : Type 0} (handled : Handled A) (asked_of : A → Bool)
 
     ends_as : (r : Result (List ℕ) ClusterError) (was is : A) (old new : L) (acts : List (Act Sha256Hash)) → EndsBy hash_of went handled keys body r was is old new acts
         → EndsBy hash_of notes_source notes_call keys body r (asked_of was) (asked_of is) (noted_of old) (noted_of new) acts
-    ends_as r was is old new acts (EndsBy.by_error e) = EndsBy.by_error e
+    ends_as r was is old new acts (EndsBy.by_error e refused) = EndsBy.by_error e refused
     ends_as r was is old new acts (EndsBy.by_handler answer (view, just, owned, called) same) =
         EndsBy.by_handler answer (view, just, owned, notes keys body answer was is called) same
     ends_as r was is old new acts (EndsBy.by_owner view answer just (owner, owned, other, goes) says) =

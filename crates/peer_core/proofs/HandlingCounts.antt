@@ -176,9 +176,9 @@ module _ {L H A : Type 0} (hash_of : H → List ℕ → ℕ) (went : Went L) (ha
       (failed, many, subst (λ (zs : List (Act H)). FailsOver hash_of went keys body failed old new zs) (append-nil acts) over)
 
   ends_so : (r : Result (List ℕ) ClusterError) (was is : A) (n : ℕ) (old mid new : L) (acts xs ys : List (Act H)) → acts ≡ xs ++ ys → n < most_sends
-      → r ≢ Err error.RetriesSpent → Failed hash_of went keys body n old mid xs → EndsBy hash_of went handled keys body r was is mid new ys
+      → Failed hash_of went keys body n old mid xs → EndsBy hash_of went handled keys body r was is mid new ys
       → Ends hash_of went handled keys body r was is old new acts
-  ends_so r was is n old mid new acts xs ys e few unspent h (EndsBy.by_error why) =
+  ends_so r was is n old mid new acts xs ys e few h (EndsBy.by_error why refused) =
       let (failed, many, over) = failures n old mid xs ys h in (
         failed,
         mid,
@@ -188,20 +188,19 @@ module _ {L H A : Type 0} (hash_of : H → List ℕ → ℕ) (went : Went L) (ha
           refl,
           refl,
           subst (λ (zs : List (Act H)). FailsOver hash_of went keys body failed old mid zs) (sym e) over,
-          omega (arith, few, many),
-          ((λ spent. absurd (unspent (ap (λ (x : ClusterError). Err x) spent))), (λ four. absurd (omega (arith, few, many, four)))),
+          inr (refused, omega (arith, few, many)),
         ),
       )
-  ends_so r was is n old mid new acts xs ys e few unspent h (EndsBy.by_handler answer (view, just, owned, called) same) =
+  ends_so r was is n old mid new acts xs ys e few h (EndsBy.by_handler answer (view, just, owned, called) same) =
       let (failed, many, over) = failures_alone n old mid xs h in
       (failed, mid, inl (omega (arith, few, many), (xs, ys, e, over, (view, just, inl (owned, (answer, called, same), refl)))))
-  ends_so r was is n old mid new acts xs ys e few unspent h (EndsBy.by_owner view answer just gone is_so) =
+  ends_so r was is n old mid new acts xs ys e few h (EndsBy.by_owner view answer just gone is_so) =
       let (failed, many, over) = failures_alone n old mid xs h in
       (failed, mid, inl (omega (arith, few, many), (xs, ys, e, over, (view, just, inr (refl, (answer, gone, is_so))))))
 
 pub requests_handled : {L H A : Type 0} (hash_of : H → List ℕ → ℕ) (went : Went L) (handled : Handled A) → RequestsHandled hash_of went handled
 requests_handled hash_of went handled keys body (Err error.RetriesSpent) was is old new acts h =
     let (failed, many, over) = failures_alone hash_of went handled keys body most_sends old new acts h.1 in
-    (failed, new, inr (error.RetriesSpent, refl, h.0, refl, over, omega (arith, many), ((λ spent. many), (λ four. refl))))
+    (failed, new, inr (error.RetriesSpent, refl, h.0, refl, over, inl (refl, many)))
 requests_handled hash_of went handled keys body r was is old new acts (n, lt, (mid, (xs, ys, e, failed, ends))) =
-    ends_so hash_of went handled keys body r was is n old mid new acts xs ys e lt (λ spent. absurd cc) failed ends
+    ends_so hash_of went handled keys body r was is n old mid new acts xs ys e lt failed ends

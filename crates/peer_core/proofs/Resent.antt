@@ -30,7 +30,7 @@ use Rattle.peer_core.specs.declared.forwarding.Tried.TheVariants.{Answered, Agai
 use Rattle.peer_core.specs.Acts.{Act, OfActs, Then, looked, Makes}
 use Rattle.peer_core.specs.Errors.{error_of_forward, error_of_lock}
 use Rattle.peer_core.specs.Exchanges.{IsPart}
-use Rattle.peer_core.specs.Forwarding.{IsFailure, IsHandled, IsJudged, LooksUp}
+use Rattle.peer_core.specs.Forwarding.{IsFailure, IsHandled, IsJudged, IsLookupRefusal, LooksUp}
 use Rattle.peer_core.specs.Handling.{Handled, MayHandle, between}
 use Rattle.peer_core.specs.Links.{Went}
 use Rattle.peer_core.specs.Parts.{Does}
@@ -50,23 +50,27 @@ once_lent went view owner request keys lent message answer now r a b e made gone
     made ∙ ap (λ (ks : List (List ℕ)). message_from view (content.Forward ks request.body)) same in
     (answer, subst (λ (m : Message). went owner m answer a b) is gone, (now, h))
 
--- the retries of a request are not spent by looking up its next step, while it is neither spent nor in flight
-of_lock : (l : LockError) → error_of_lock l ≢ error.RetriesSpent
-of_lock lock.ForeignPass is = absurd cc
-of_lock lock.PassSpent is = absurd cc
+-- looking up the next step of a request that is neither spent nor in flight is refused so
+of_lock : (l : LockError) → IsLookupRefusal (error_of_lock l)
+of_lock lock.ForeignPass = tt
+of_lock lock.PassSpent = tt
 
 of_ready : {H : Type 0} (hash_of : H → List ℕ → ℕ) (view : Viewed H) (now : ℕ) (old new : AttemptState) (f : ForwardError) → IsOpen old.stage
-    → ReadyStep hash_of view now old (Err f) new → error_of_forward f ≢ error.RetriesSpent
-of_ready hash_of view now old new forward.RetriesSpent is_open h is = absurd (subst IsOpen h.0 is_open)
-of_ready hash_of view now old new f is_open h is = absurd cc
+    → ReadyStep hash_of view now old (Err f) new → IsLookupRefusal (error_of_forward f)
+of_ready hash_of view now old new forward.RetriesSpent is_open h = absurd (subst IsOpen h.0 is_open)
+of_ready hash_of view now old new forward.InFlight is_open h = absurd (subst IsOpen h.0 is_open)
+of_ready hash_of view now old new forward.NotInFlight is_open h = absurd h
+of_ready hash_of view now old new forward.Diverged is_open h = tt
+of_ready hash_of view now old new forward.Nobody is_open h = tt
 
-pub unspent_step : {H : Type 0} (hash_of : H → List ℕ → ℕ) (now : ℕ) (old new : AttemptState) (e : ClusterError) (acts : List (Act H)) → IsOpen old.stage
-    → LooksUp hash_of now old new (Err e) acts → e ≢ error.RetriesSpent
-unspent_step hash_of now old new e acts is_open (inl (none, (l, of))) is = of_lock l (sym of ∙ is)
-unspent_step hash_of now old new e acts is_open (inr (Ok view, t)) is = of_ready hash_of view now old new t.4.1.0 is_open t.4.1.2 (sym t.4.1.1 ∙ is)
-unspent_step hash_of now old new e acts is_open (inr (Err n, t)) is = absurd (let out : Err e ≡ Err error.Memory = t.4.1 in cc)
+pub refused_step : {H : Type 0} (hash_of : H → List ℕ → ℕ) (now : ℕ) (old new : AttemptState) (e : ClusterError) (acts : List (Act H)) → IsOpen old.stage
+    → LooksUp hash_of now old new (Err e) acts → IsLookupRefusal e
+refused_step hash_of now old new e acts is_open (inl (none, (l, of))) = subst IsLookupRefusal (sym of) (of_lock l)
+refused_step hash_of now old new e acts is_open (inr (Ok view, t)) = subst IsLookupRefusal (sym t.4.1.1) (of_ready hash_of view now old new t.4.1.0 is_open t.4.1.2)
+refused_step hash_of now old new e acts is_open (inr (Err n, t)) =
+    subst IsLookupRefusal (let out : Err error.Memory ≡ Err e = sym t.4.1 in (let same : error.Memory ≡ e = cc in same)) tt
 
--- nor by a handler
+-- the retries of a request are not spent by a handler
 pub unspent_handled : (Handled : MayHandle) (keys : List (List ℕ)) (body : List ℕ) (e : ClusterError) → IsHandled Handled keys body (Err e) → e ≢ error.RetriesSpent
 unspent_handled Handled keys body error.RetriesSpent h is = absurd h
 unspent_handled Handled keys body e h is = absurd cc
@@ -246,10 +250,11 @@ module _ {L H A : Type 0} (hash_of : H → List ℕ → ℕ) (went : Went L) (ha
 
     -- or by an error, with no call of the handler
     pub try_fails : {B : Type 0} {P : Result B ClusterError → OfActs H} (request : Request) (r : Result B ClusterError) (known : Result Tried ClusterError) (e : ClusterError) (w : A) (a : L)
-        → IsErrAnd known (λ x. x ≡ e) → e ≢ error.RetriesSpent → Does locked P r p q → Makes locked (TrySends hash_of went handled request w w a a known) p q
-    try_fails request r (Ok t) e w a is unspent d = absurd is
-    try_fails request r (Err x) e w a is unspent d =
-        makes_as (TrySends hash_of went handled request w w a a (Err x)) (λ acts h. ends_try request x w w a a acts (λ spent. unspent (sym is ∙ spent)) (EndsBy.by_error x)) d.makes
+        → IsErrAnd known (λ x. x ≡ e) → IsLookupRefusal e → Does locked P r p q → Makes locked (TrySends hash_of went handled request w w a a known) p q
+    try_fails request r (Ok t) e w a is refused d = absurd is
+    try_fails request r (Err x) e w a is refused d =
+        makes_as (TrySends hash_of went handled request w w a a (Err x))
+        (λ acts h. ends_try request x w w a a acts (λ spent. subst IsLookupRefusal (sym is ∙ spent) refused) (EndsBy.by_error x (subst IsLookupRefusal (sym is) refused))) d.makes
 
     -- one that lets the request rest
     pub try_rests : (now : ℕ) (request : Request) (attempt : AttemptState) (view : Viewed H) (step : Step) (until : ℕ) (w : A) (a : L) → request.attempt.sends < most_sends
@@ -382,7 +387,7 @@ module _ {L H : Type 0} (hash_of : H → List ℕ → ℕ) (went : Went L) (keys
   -- the last, if there is one
   ends_count : {A : Type 0} (handled : Handled A) (r : Result (List ℕ) ClusterError) (was is : A) (old new : L) (acts : List (Act H))
       → EndsBy hash_of went handled keys body r was is old new acts → (last : List (Sending H)) × (length last ≤ 1) × Counted old new acts last
-  ends_count handled r was is old new acts (EndsBy.by_error e) = ([], omega arith, record { part = tt; failed = tt; over = refl })
+  ends_count handled r was is old new acts (EndsBy.by_error e refused) = ([], omega arith, record { part = tt; failed = tt; over = refl })
   ends_count handled r was is old new acts (EndsBy.by_handler answer here same) = ([], omega arith, record { part = tt; failed = tt; over = refl })
   ends_count handled r was is old new acts (EndsBy.by_owner view answer e gone ends) = (
     (view, answer) ∷ [],

@@ -45,6 +45,15 @@ IsRequestRefusal error.PassSpent = Unit {0}
 IsRequestRefusal error.Memory = Unit {0}
 IsRequestRefusal other = ⊥
 
+-- the errors of looking up the next step of a request, while it is neither spent nor in flight
+abbrev pub IsLookupRefusal : ClusterError → Type 0
+IsLookupRefusal error.Diverged = Unit {0}
+IsLookupRefusal error.Nobody = Unit {0}
+IsLookupRefusal error.ForeignPass = Unit {0}
+IsLookupRefusal error.PassSpent = Unit {0}
+IsLookupRefusal error.Memory = Unit {0}
+IsLookupRefusal other = ⊥
+
 -- an answer that is a failure of the send: any but a Reply and out of memory
 abbrev pub IsFailure : Result Message LinkError → Type 0
 IsFailure (Ok message) = kind_of message.content ≢ kind.Reply

@@ -1,6 +1,6 @@
 -- How often a handler is called, once for a Forward whose keys the node owns by its view, once at most for a request, and else never; and how a request
 -- ends, after which Forwards.
-use Rattle.std.specs.Prelude.{◌≡◌, ◌⊎◌, ◌↔◌, ℕ, ◌<◌, ◌≤◌, length, map, List, Contains, Some, Result, Ok, Err}
+use Rattle.std.specs.Prelude.{◌≡◌, ◌⊎◌, ℕ, ◌<◌, length, map, List, Contains, Some, Result, Ok, Err}
 use Rattle.std.specs.List.{All}
 use Rattle.message_core.specs.declared.messages.Content.{Content}
 use Rattle.message_core.specs.declared.messages.Content.TheVariants as content
@@ -14,7 +14,7 @@ use Rattle.peer_core.specs.declared.errors.HandlerFault.{HandlerFault}
 use Rattle.peer_core.specs.declared.errors.LinkError.{LinkError}
 use Rattle.peer_core.specs.Acts.{Act, OfActs, Just, Then, looked}
 use Rattle.peer_core.specs.Exchanges.{IsPart}
-use Rattle.peer_core.specs.Forwarding.{IsFailure}
+use Rattle.peer_core.specs.Forwarding.{IsFailure, IsLookupRefusal}
 use Rattle.peer_core.specs.Handling.{Handled, between, handled_as}
 use Rattle.peer_core.specs.Links.{MayAnswer, Went}
 use Rattle.peer_core.specs.Resending.{ForwardsOver, GoesToOwner, IsResultOf, Sending, SendsRequest, result_of_handler, viewed_in}
@@ -58,14 +58,14 @@ module _ {L H A : Type 0} (hash_of : H → List ℕ → ℕ) (went : Went L) (ha
   EndsThere view r was is old new = (is ≡ was) × ((answer : Result Message LinkError) × GoesToOwner hash_of went keys body view answer old new × IsResultOf answer r)
 
   -- After Forwards that failed, fewer than four, the last view of the node ends the request, here or there. Or the request ends by an error, nothing more is
-  -- sent and the handler is not called; and the error is that the retries are spent, if and only if four failed.
+  -- sent and the handler is not called: four failed, and the retries are spent; or fewer, and the look-up of the owner is refused.
   abbrev pub Ends : Result (List ℕ) ClusterError → A → A → L → L → OfActs H
   Ends r was is old new acts =
       (failed : List (Sending H)) × (mid : L)
       × (((length failed < most_sends) × Then (FailsOver hash_of went keys body failed old mid)
       (λ ends. (view : Viewed H) × Just (looked (Ok view)) ends × (EndsHere view r was is mid new ⊎ EndsThere view r was is mid new)) acts)
       ⊎ ((e : ClusterError) × (r ≡ Err e) × (is ≡ was) × (new ≡ mid) × FailsOver hash_of went keys body failed old mid acts
-      × (length failed ≤ most_sends) × (e ≡ error.RetriesSpent ↔ length failed ≡ most_sends)))
+      × (((e ≡ error.RetriesSpent) × (length failed ≡ most_sends)) ⊎ (IsLookupRefusal e × (length failed < most_sends)))))
 
 module _ {L H A : Type 0} (hash_of : H → List ℕ → ℕ) (went : Went L) (handled : Handled A) where
   -- so ends a request, whatever its result

@@ -21,7 +21,7 @@ use Rattle.peer_core.specs.Exchanges.{IsPart}
 use Rattle.peer_core.specs.declared.errors.HandlerFault.{HandlerFault}
 use Rattle.peer_core.specs.declared.errors.HandlerFault.TheVariants as fault
 use Rattle.peer_core.specs.declared.errors.LinkError.TheVariants as link
-use Rattle.peer_core.specs.Forwarding.{IsFailure, IsJudged}
+use Rattle.peer_core.specs.Forwarding.{IsFailure, IsJudged, IsLookupRefusal}
 use Rattle.peer_core.specs.Handling.{Handled}
 use Rattle.peer_core.specs.Links.{Went}
 use Rattle.peer_core.specs.Serving.{message_from}
@@ -58,10 +58,10 @@ module _ {L H A : Type 0} (hash_of : H → List ℕ → ℕ) (went : Went L) (ha
   HandlesHere answer was is acts =
       (view : Viewed H) × Just (looked (Ok view)) acts × AllOwnedBy hash_of view keys (Some view.own) × handled keys body answer was is
 
-  -- The end of a request with this result, over the link and by the handler: an error, without a call of either; the handler's result, without a
-  -- Forward; or that of a Forward by the last view, without a call of the handler.
+  -- The end of a request with this result, over the link and by the handler: an error of the look-up of its owner, without a call of either;
+  -- the handler's result, without a Forward; or that of a Forward by the last view, without a call of the handler.
   pub data EndsBy : Result (List ℕ) ClusterError → A → A → L → L → List (Act H) → Type 0 where
-    by_error : {was : A} {now : L} {acts : List (Act H)} (e : ClusterError) → EndsBy (Err e) was was now now acts
+    by_error : {was : A} {now : L} {acts : List (Act H)} (e : ClusterError) → IsLookupRefusal e → EndsBy (Err e) was was now now acts
     by_handler : {r : Result (List ℕ) ClusterError} {was is : A} {now : L} {acts : List (Act H)} (answer : Result (List ℕ) HandlerFault)
         → HandlesHere answer was is acts → r ≡ result_of_handler answer → EndsBy r was is now now acts
     by_owner : {r : Result (List ℕ) ClusterError} {was : A} {old new : L} {acts : List (Act H)} (view : Viewed H) (answer : Result Message LinkError)

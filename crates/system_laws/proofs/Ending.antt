@@ -105,4 +105,4 @@ texts_are_done hash_of Came went here there keys body text was is old new acts s
         ),
       ),
     )
-    go (failed, mid, inr (why, is, same, stays, over, few, spent)) = absurd (let no : Ok text ≡ Err why = is in cc)
+    go (failed, mid, inr (why, is, same, stays, over, how)) = absurd (let no : Ok text ≡ Err why = is in cc)

@@ -64,7 +64,7 @@ module _ {L H A : Type 0} (hash_of : H → List ℕ → ℕ) (went : Went L) (ha
   -- and so for a request
   ends_so : (r : Result (List ℕ) ClusterError) (was is : A) (old new : L) (acts xs ys : List (Act H)) → acts ≡ xs ++ ys → EndsBy hash_of went handled keys body r was is old new ys
       → OwnsAll hash_of keys acts ⊎ ((is ≡ was) × EndsBy hash_of went uncalled keys body r was is old new ys)
-  ends_so r was is old new acts xs ys e (EndsBy.by_error why) = inr (refl, EndsBy.by_error why)
+  ends_so r was is old new acts xs ys e (EndsBy.by_error why refused) = inr (refl, EndsBy.by_error why refused)
   ends_so r was is old new acts xs ys e (EndsBy.by_owner view answer just gone is_so) = inr (refl, EndsBy.by_owner view answer just gone is_so)
   ends_so r was is old new acts xs ys e (EndsBy.by_handler answer (view, just, owned, called) same) =
       let has : Contains acts (looked (Ok view)) =

@@ -3,7 +3,7 @@ use Rattle.forward_core.specs.declared.attempts.Step.{Step}
 use Rattle.peer_core.specs.Handling.{between}
 use Rattle.peer_core.proofs.Parts.{does_give, does_next, does_next_is, does_stop_at}
 use Rattle.peer_core.proofs.Forwarded.{does_rest, handled_for, handles_so, sends_so, tries_at}
-use Rattle.peer_core.proofs.Resent.{try_answers, try_fails, try_refuses, try_rests, try_sends, unspent_step}
+use Rattle.peer_core.proofs.Resent.{try_answers, try_fails, try_refuses, try_rests, try_sends, refused_step}
 use Rattle.peer_core.proofs.forwarding.try_once.Goals as goal
 
 pub returns-in_err-view-clause-did : goal.returns-in_err-view-clause-did
@@ -40,7 +40,7 @@ returns-in-Send-clause-did g c =
 
 pub returns-in_err-view-clause-sent : goal.returns-in_err-view-clause-sent
 returns-in_err-view-clause-sent g c = try_fails g.H.PointHash.hash_of g.L.Link.went g.A.HandlerMut.handled c.args.request _ c.from_residual.result c.in_err-view.field-0.0 _ _ c.from_residual.ensures.1
-    (unspent_step g.H.PointHash.hash_of c.now.result _ _ _ _ c.requires.open c.in_err-view.ensures.did.makes.so) c.in_err-view.ensures.did
+    (refused_step g.H.PointHash.hash_of c.now.result _ _ _ _ c.requires.open c.in_err-view.ensures.did.makes.so) c.in_err-view.ensures.did
 
 pub returns-in-Wait-clause-sent : goal.returns-in-Wait-clause-sent
 returns-in-Wait-clause-sent g c = try_rests g.H.PointHash.hash_of g.L.Link.went g.A.HandlerMut.handled c.now.result c.args.request c.plan_attempt.new.attempt c.in_ok-view.view c.in_ok-view.step c.in-Wait.until _ _ c.requires.few c.in_ok-view.ensures.did c.in-Wait.is

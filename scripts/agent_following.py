@@ -4,7 +4,7 @@ import time
 from urllib.parse import quote
 
 from agents import Agent, Load, agree, counted, said, wait_until
-from nodes import Wrong
+from nodes import Wrong, is_late
 
 KEYS = [f"order {number}" for number in range(500)]
 # the seconds after which an agent of these trials leaves, and by when a ring of three has heard of it on a busy machine
@@ -143,6 +143,6 @@ def check(program, agents, port):
         check_loss(others, late, log)
         check_told(others, late)
         begun = time.monotonic()
-        if late.ask("POST", "/stop")[0] != 200 or late.process.wait(10) != 0 or time.monotonic() - begun > 8:
+        if late.ask("POST", "/stop")[0] != 200 or late.process.wait(40) != 0 or is_late(time.monotonic() - begun, 8):
             raise Wrong("a node that is out of the ring is not stopped")
     check_without(program, port + 4, ports)

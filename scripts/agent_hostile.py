@@ -23,7 +23,7 @@ import time
 from urllib.parse import quote
 
 from agents import Agent, agree, wait_until
-from nodes import NOBODY, ROOT, STEP, Wrong, call, message, rest
+from nodes import NOBODY, ROOT, STEP, Wrong, call, connect, hears, is_late, message
 
 # the longest key, body and body that is read, in bytes, and after how many seconds a request that does not end is cut
 MAX_KEY_BYTES, MAX_BODY_BYTES, MAX_READ_BYTES, PATIENCE = 1_024, 131_072, 1_048_576, 30
@@ -82,9 +82,7 @@ class Hostile:
         self.agent, self.other, self.pings = agent, other, pings
 
     def connect(self, seconds=10.0):
-        stream = socket.create_connection(("127.0.0.1", self.agent.port + STEP), seconds)
-        stream.settimeout(seconds)
-        return stream
+        return connect(self.agent.port + STEP, seconds)
 
     def check_up(self, what, within=5.0):
         """The agent answers in time, so do pings, and the other holds it as alive."""
@@ -95,7 +93,7 @@ class Hostile:
         if told[0] != 200 or not told[1].endswith(" hello"):
             raise Wrong(f"{what}: then a request is answered by {told}")
         spent = time.monotonic() - begun
-        if spent > within:
+        if is_late(spent, within):
             raise Wrong(f"{what}: then others are answered after {spent:.1f} s")
         if self.pings.fault:
             raise Wrong(f"{what}: {self.pings.fault}")
@@ -105,13 +103,7 @@ class Hostile:
 
     def hears(self, sent):
         """All that comes for these bytes, and their end, until the agent hangs up."""
-        with self.connect() as stream:
-            try:
-                stream.sendall(sent)
-                stream.shutdown(socket.SHUT_WR)
-            except OSError:
-                pass  # it has hung up before all was sent
-            return rest(stream)
+        return hears(self.agent.port + STEP, sent, 10, is_all=True)
 
     def check(self, what, sent, *wanted):
         """The agent answers with these statuses, and then hangs up."""
@@ -219,7 +211,7 @@ class Hostile:
         self.check_up("slow clients")
         for thread in threads:
             thread.join()
-        if late := {what: spent for what, spent in self.cut.items() if spent > PATIENCE + 3}:
+        if late := {what: spent for what, spent in self.cut.items() if is_late(spent, PATIENCE + 3)}:
             raise Wrong(f"not cut in time: {late}")
         print("cut after", ", ".join(f"{spent:.0f} s ({what})" for what, spent in self.cut.items()), flush=True)
 
@@ -241,7 +233,7 @@ class Hostile:
         while self.agent.held_at_rest()[1] > before:
             with contextlib.suppress(OSError):
                 streams[0].recv(1_024)
-            if time.monotonic() > begun + 15:
+            if is_late(time.monotonic() - begun, 15):
                 raise Wrong("clients that do not take their answers keep their connections")
         print(f"ten that read nothing were cut within {time.monotonic() - begun:.0f} s", flush=True)
         for stream in streams:
@@ -326,10 +318,10 @@ class SlowService:
         failed = (502, "no whole answer of the owner's application came\n")
         for agent in (self.own, self.other):
             told, spent = self.ask(agent, 16, "6")
-            if set(told) != {failed} or not LIMIT - 0.1 < spent < LIMIT_IN_ALL + 1:
+            if set(told) != {failed} or spent < LIMIT - 0.1 or is_late(spent, LIMIT_IN_ALL + 1):
                 raise Wrong(f"16 requests to a service that takes 6 s: {told} after {spent:.1f} s")
         told, spent = self.ask(self.other, 64, "2")
-        if told[200, "2"] < 60 or set(told) - {(200, "2"), failed} or spent > LIMIT_IN_ALL + 1:
+        if told[200, "2"] < 60 or set(told) - {(200, "2"), failed} or is_late(spent, LIMIT_IN_ALL + 1):
             raise Wrong(f"64 requests of 2 s by another node: {told} after {spent:.1f} s")
 
     def failures(self):

@@ -5,7 +5,7 @@ import tempfile
 from urllib.parse import quote
 
 from agents import Agent, counted, keys_of, running, said, wait_until
-from nodes import NOBODY, Wrong, address, call, connect, message, rest
+from nodes import NOBODY, Wrong, address, call, hears, message
 
 # the most addresses that a node holds, and the number from which on an agent lets no new one join
 MOST, MARGIN = 4_096, 4_000
@@ -100,9 +100,7 @@ def check_newcomer(program, port, host, log):
 
 def check_line(agent, log):
     """A line at the port of the node that is not a message is refused, counted and logged."""
-    with contextlib.closing(connect(agent.port)) as link:
-        link.sendall(b"hello\n")
-        rest(link)
+    hears(agent.port, b"hello\n")
     wait_until("counted", 5, lambda: counted([agent], 'ringpop_lines_refused_total{reason="malformed"}') == 1)
     wait_until("logged", 5, lambda: "a line at this node's port was refused: malformed" in said(log))
 

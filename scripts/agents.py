@@ -10,7 +10,7 @@ import threading
 import time
 from urllib.parse import quote
 
-from nodes import NOBODY, ROOT, STEP, Wrong, address, call, message
+from nodes import NOBODY, ROOT, STEP, Wrong, address, call, is_late, message
 
 # within how many seconds an agent says that it is well
 PATIENCE = 30
@@ -101,9 +101,9 @@ def built(service, folder):
 
 def wait_until(what, seconds, is_so):
     """Waits until something is so."""
-    end = time.monotonic() + seconds
+    begun = time.monotonic()
     while not is_so():
-        if time.monotonic() > end:
+        if is_late(time.monotonic() - begun, seconds):
             raise Wrong(f"not {what} within {seconds} seconds")
         time.sleep(0.05)
 

@@ -3,12 +3,10 @@
 Each row has requests in bytes, the statuses of the answers to one of them, and the targets that the service is asked for. FRONT is below a key, and
 EVIL is a request that stands in a body or behind one: what asks for it, or gives the service a field `X-Evil`, was smuggled.
 """
-import contextlib
 import json
 import re
-import socket
 
-from nodes import Wrong, rest
+from nodes import Wrong, hears
 
 FRONT = b"POST /keys/a/front HTTP/1.1\r\nHost: x\r\n"
 EVIL = b"GET /keys/a/evil HTTP/1.1\r\nHost: x\r\n\r\n"
@@ -101,22 +99,13 @@ ROWS = [
 ]
 
 
-def hears(at, data):
-    """All that an agent answers to these bytes and their end."""
-    host, port = at.split(":")
-    with socket.create_connection((host, int(port)), timeout=10) as link:
-        with contextlib.suppress(OSError):  # (it may hang up before all is sent)
-            link.sendall(data)
-            link.shutdown(socket.SHUT_WR)
-        return rest(link)
-
-
 def check_smuggled(at, key, log):
     """Has an agent answer each request of the rows, below a key of one letter; the services append to the log what they are asked for."""
+    host, port = at.split(":")
     for requests, statuses, asked in ROWS:
         for data in requests:
             data, seen = data.replace(b"/keys/a", b"/keys/" + key.encode()), len(log.read_text().splitlines())
-            came = hears(at, data)
+            came = hears(int(port), data, 10, True, host)
             told = [json.loads(it) for it in re.findall(rb'{"method".*}', came)]
             names = [name for it in told for name, _ in it["fields"]]
             performed = [line.split(" ", 1)[1] for line in log.read_text().splitlines()[seen:]]

@@ -6,7 +6,7 @@ import subprocess
 import sys
 import time
 
-from nodes import Wrong
+from nodes import Wrong, is_late
 
 NEW_NETWORK = 0x40000000
 # the address of each half
@@ -78,7 +78,7 @@ def must(what, seconds, see, is_so):
     """Waits until it is so of what is seen, and says after how long; fails where it is not in time."""
     begun = time.monotonic()
     while not is_so(see()):
-        if time.monotonic() - begun > seconds:
+        if is_late(time.monotonic() - begun, seconds):
             raise Wrong(f"not {what} in time")
         time.sleep(0.1)
     print(f"{what} after {time.monotonic() - begun:.1f} s", flush=True)

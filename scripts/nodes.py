@@ -2,6 +2,7 @@
 import argparse
 import contextlib
 import errno
+import functools
 import itertools
 import json
 import os
@@ -23,10 +24,14 @@ MOST = 1_000_000
 PATIENCE = 30
 # the ports of a script's nodes; an agent has a port for HTTP this much above its own, and its application one twice as much
 STEP = 20
+# how far apart the first ports of two scripts are: one port more, at which a script listens; and for how many scripts there are ports
+APART, SCRIPTS = 3 * STEP + 1, 280
 # a busy machine can miss a node's limit for a line, half a second: what took nearly as long is tried again, this often at most
 LIMIT, TRIES = 0.4, 10
 # how many attempts a script made, and how many of them were repeats; two, and one in fifty attempts, may be
 ATTEMPTS, REPEATS = itertools.count(), itertools.count()
+# a limit of time is for a free processor: on a busy machine it is longer, this many times at most; and how many times it was
+MOST_LONGER, LONGER = 4.0, []
 
 
 class Wrong(Exception):
@@ -50,9 +55,27 @@ def address(port):
     return f"127.0.0.1:{port}"
 
 
+def listener(port):
+    """A socket that listens at a port, as a node does."""
+    stream = socket.socket()
+    stream.setsockopt(socket.SOL_SOCKET, socket.SO_REUSEADDR, 1)
+    stream.bind(("127.0.0.1", port))
+    stream.listen()
+    return stream
+
+
+@functools.cache
 def first_port():
-    """The first of three times STEP ports, below those that the system gives to connections, and hardly another script's."""
-    return 12_000 + os.getpid() % 300 * 3 * STEP
+    """The first of three times STEP ports that are free and no other script's, below those of serve_tests and those that the system gives out."""
+    for place in range(SCRIPTS):
+        first = 12_000 + (os.getpid() + place) % SCRIPTS * APART
+        with contextlib.suppress(OSError), listener(first + APART - 1) as last:
+            for port in range(first, first + APART - 1):
+                listener(port).close()
+            # (the script listens there as long as it runs)
+            last.detach()
+            return first
+    raise Wrong("no ports are free")
 
 
 def first_line(stream, seconds):
@@ -85,7 +108,7 @@ class Node:
         return self.process.poll() is None
 
     def view(self):
-        return view(self.port)
+        return in_time(lambda: view(self.port))
 
     def kill(self):
         self.process.send_signal(signal.SIGKILL)
@@ -123,8 +146,8 @@ class Node:
         raise Wrong(f"{self.address} has no memory")
 
 
-def connect(port, seconds=5.0):
-    stream = socket.create_connection(("127.0.0.1", port), seconds)
+def connect(port, seconds=5.0, host="127.0.0.1"):
+    stream = socket.create_connection((host, port), seconds)
     stream.settimeout(seconds)
     return stream
 
@@ -139,30 +162,61 @@ def check_listens_here(port):
 def rest(stream):
     """All that comes until the other side hangs up."""
     came = b""
-    try:
+    with contextlib.suppress(ConnectionResetError):
         while more := stream.recv(65_536):
             came += more
-    except ConnectionResetError:
-        pass
     return came
 
 
-def in_time(attempt, is_right):
-    """What an attempt gives. One that is not right is made again only if it took as long as the limit of a line, which is counted."""
+def hears(port, sent, seconds=5.0, is_all=False, host="127.0.0.1"):
+    """All that comes for these bytes, and for their end with `is_all`, until the other side hangs up, which it may do before it has read them."""
+    with connect(port, seconds, host) as stream:
+        with contextlib.suppress(OSError):
+            stream.sendall(sent)
+            if is_all:
+                stream.shutdown(socket.SHUT_WR)
+        return rest(stream)
+
+
+def in_time(attempt, is_right=lambda _: True):
+    """What an attempt gives. One that fails or is not right is made again only if it took as long as the limit of a line, which is counted."""
     for number in range(TRIES):
         next(REPEATS if number else ATTEMPTS)
-        begun = time.monotonic()
-        came = attempt()
-        if is_right(came) or time.monotonic() - begun < LIMIT:
+        begun, fault = time.monotonic(), None
+        try:
+            came = attempt()
+            if is_right(came):
+                return came
+        except (OSError, Wrong) as it:
+            fault = it
+        if time.monotonic() - begun < LIMIT:
             break
+    if fault:
+        raise fault
     return came
+
+
+def slowness():
+    """How many times as long as on a processor of its own a thread takes here now, seen for a twentieth of a second of its work."""
+    begun, used = time.monotonic(), time.thread_time()
+    while time.thread_time() < used + 0.05:
+        pass
+    return (time.monotonic() - begun) / 0.05
+
+
+def is_late(spent, limit):
+    """Whether this took longer than it may: on a busy machine it may take as much longer as work there does, up to a bound, which is told."""
+    if spent <= limit:
+        return False
+    if spent > limit * min(MOST_LONGER, slowness()):
+        return True
+    LONGER.append(spent / limit)
+    return False
 
 
 def call(port, message, seconds=5.0):
     """The answer to a message, or None where the other side hangs up without one."""
-    with connect(port, seconds) as stream:
-        stream.sendall(json.dumps(message).encode() + b"\n")
-        answer = rest(stream)
+    answer = hears(port, json.dumps(message).encode() + b"\n", seconds)
     return json.loads(answer) if answer else None
 
 
@@ -174,9 +228,9 @@ def request(key, body):
     return message("forward", keys=[key], body=body)
 
 
-def view(port, seconds=5.0):
+def view(port):
     """The digest that a node tells, and its members: address to incarnation and status."""
-    answer = call(port, message("join", checksum=NOBODY, changes=[]), seconds)
+    answer = call(port, message("join", checksum=NOBODY, changes=[]))
     if not answer or answer["kind"] != "joined":
         raise Wrong(f"{address(port)} answers {answer}")
     held = {told["address"]: (told["incarnationNumber"], told["status"]) for told in answer["changes"]}
@@ -184,20 +238,23 @@ def view(port, seconds=5.0):
 
 
 def run(program, *given, text=""):
-    """What a command writes."""
-    ran = subprocess.run([program, *given], input=text, capture_output=True, text=True, timeout=60)
-    if ran.returncode:
-        raise Wrong(f"{' '.join(given)}: {ran.stderr.strip()}")
-    return ran.stdout
+    """What a command writes. One that fails since it missed a node's limit is made again."""
+    def attempt():
+        ran = subprocess.run([program, *given], input=text, capture_output=True, text=True, timeout=60)
+        if ran.returncode:
+            raise Wrong(f"{' '.join(given)}: {ran.stderr.strip()}")
+        return ran.stdout
+
+    return in_time(attempt)
 
 
 def until(what, seconds, ports, is_so):
     """Waits until `is_so` holds of the views of the nodes at all ports, and prints how long that took."""
     begun = time.monotonic()
     while True:
-        views = [view(port) for port in ports]
+        views = [in_time(lambda: view(port)) for port in ports]
         spent = time.monotonic() - begun
-        if spent > seconds:
+        if is_late(spent, seconds):
             raise Wrong(f"not {what} within {seconds} s: {views}")
         if is_so(views):
             print(f"{what} after {spent:.2f} s", flush=True)
@@ -219,6 +276,8 @@ def judged(script, *given):
         attempts, repeats = next(ATTEMPTS), next(REPEATS)
         if attempts:
             print(f"{name}: {repeats} of {attempts} attempts were slow, failed and were made again")
+        if LONGER:
+            print(f"{name}: a limit of time was {max(LONGER):.1f} times as long, since the machine is busy")
         if repeats > 2 + attempts // 50:
             raise Wrong("too many attempts were made again")
     except Exception as fault:

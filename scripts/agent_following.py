@@ -3,8 +3,8 @@ import tempfile
 import time
 from urllib.parse import quote
 
-from agents import Agent, Load, agree, counted, said, wait_until
-from nodes import Wrong, is_late
+from agents import Agent, Load, agree, counted, running, said
+from nodes import Wrong, is_late, wait_until
 
 KEYS = [f"order {number}" for number in range(500)]
 # the seconds after which an agent of these trials leaves, and by when a ring of three has heard of it on a busy machine
@@ -23,15 +23,10 @@ class Follower(Agent):
     def serve(self):
         Agent.start_application(self)
 
-    def stop_serving(self):
-        self.application.kill()
-        self.application.wait()
+    def stop_application(self):
+        if self.application:
+            super().stop_application()
         self.application = None
-
-    def end(self):
-        if self.application is None:
-            self.serve()
-        Agent.end(self)
 
 
 def owns(agents, owner):
@@ -52,10 +47,8 @@ def check_join(agents, late, log):
     check_health(late, 503, OUT)
     if owns(agents, late) or counted([late], "ringpop_service_up") != 0 or late.ask("GET", "/livez")[0] != 200:
         raise Wrong("a node whose service is not up has joined, or counts its service as up, or its agent as hung")
-    begun = time.monotonic()
     late.serve()
-    wait_until("joined with its service", 10, lambda: owns(agents, late) > 0 and late.is_well())
-    spent = time.monotonic() - begun
+    spent = wait_until("joined with its service", 10, lambda: owns(agents, late) > 0 and late.is_well())
     time.sleep(2)
     load.end()
     if load.failed or load.lost or counted([late], "ringpop_service_up") != 1:
@@ -68,7 +61,7 @@ def check_join(agents, late, log):
 def check_loss(agents, late, log):
     """A node whose service was killed leaves some seconds after the last look at which that took a connection, and comes back with it."""
     begun = time.monotonic()
-    late.stop_serving()
+    late.stop_application()
     wait_until("out of the ring", AFTER + HEARD, lambda: owns(agents, late) == 0)
     spent = time.monotonic() - begun
     check_health(late, 503, OUT)
@@ -77,9 +70,7 @@ def check_loss(agents, late, log):
     load = Load([*agents, late], KEYS, threads=16)
     time.sleep(2)
     late.serve()
-    back = time.monotonic()
-    wait_until("back with its service", 10, lambda: owns(agents, late) > 0 and late.is_well())
-    back = time.monotonic() - back
+    back = wait_until("back with its service", 10, lambda: owns(agents, late) > 0 and late.is_well())
     time.sleep(1)
     load.end()
     if load.failed or load.lost:
@@ -91,7 +82,7 @@ def check_told(agents, late):
     """A node that was told to leave stays away whatever its service does, until it is told to rejoin."""
     if late.ask("POST", "/leave")[0] != 200:
         raise Wrong("no leave")
-    late.stop_serving()
+    late.stop_application()
     time.sleep(1)
     late.serve()
     time.sleep(3)
@@ -100,7 +91,7 @@ def check_told(agents, late):
         raise Wrong("no return")
     wait_until("back", 10, lambda: agree([*agents, late]) and owns(agents, late) > 0)
     # one that is out because of its service, too, once it is told to leave
-    late.stop_serving()
+    late.stop_application()
     wait_until("out of the ring", AFTER + HEARD, lambda: late.ask("GET", "/healthz") == (503, OUT))
     if late.ask("POST", "/leave") != (409, "the node has left already\n"):
         raise Wrong("a node that is out because of its service leaves")
@@ -108,7 +99,7 @@ def check_told(agents, late):
     time.sleep(3)
     check_health(late, 503, "the node has left\n")
     # and one that is told to rejoin while its service is down leaves again, not at once
-    late.stop_serving()
+    late.stop_application()
     begun = time.monotonic()
     if late.ask("POST", "/rejoin")[0] != 200:
         raise Wrong("no return")
@@ -120,15 +111,12 @@ def check_told(agents, late):
 
 def check_without(program, port, hosts):
     """An agent that does not wait, and never leaves, is in the ring without its service."""
-    bold = Follower(program, port, hosts, more=("--no-wait-app", "--leave-after", "0"))
-    try:
+    with running(program, port, hosts=hosts, kind=Follower, more=("--no-wait-app", "--leave-after", "0")) as (bold,):
         wait_until("answered over HTTP", 10, bold.is_up)
         wait_until("joined", 10, lambda: bold.ask("GET", "/healthz") == (503, "the application does not answer\n"))
         time.sleep(AFTER + 1)
         if bold.members()[bold.own] != "alive":
             raise Wrong("an agent with --leave-after 0 left")
-    finally:
-        bold.end()
 
 
 def check(program, agents, port):

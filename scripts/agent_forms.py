@@ -3,8 +3,8 @@ import base64
 import json
 import sys
 
-from agents import running, wait_until
-from nodes import PATIENCE, ROOT, Wrong, call, request
+from agents import running
+from nodes import PATIENCE, ROOT, Wrong, call, request, wait_until
 
 SERVICE = (sys.executable, f"{ROOT}/scripts/any_service.py")
 BINARY = bytes(range(256)) * 40
@@ -89,8 +89,7 @@ def check_bodies(agent):
 
 def check_down(agent):
     """A service that is down is told in the same form, with a field that says so."""
-    agent.application.kill()
-    agent.application.wait()
+    agent.stop_application()
     status, body, fields = ask(agent, "GET", "/keys/k", [("host", "x")], b"")
     if (status, body) != (502, b"the owner's application accepts no connection\n") or ("x-ringpop-error", "application-not-accepting") not in fields:
         raise Wrong(f"a service that is down is told as {status} {body} {fields}")

@@ -10,7 +10,6 @@ service and of a node that answer and fail in turn the log says no more than a l
 """
 import collections
 import contextlib
-import http.client
 import json
 import os
 import re
@@ -22,8 +21,8 @@ import threading
 import time
 from urllib.parse import quote
 
-from agents import Agent, agree, wait_until
-from nodes import NOBODY, ROOT, STEP, Wrong, call, connect, hears, is_late, message
+from agents import agree, counted, fetch, running
+from nodes import NOBODY, ROOT, STEP, Wrong, call, connect, hears, is_late, message, wait_until
 
 # the longest key, body and body that is read, in bytes, and after how many seconds a request that does not end is cut
 MAX_KEY_BYTES, MAX_BODY_BYTES, MAX_READ_BYTES, PATIENCE = 1_024, 131_072, 1_048_576, 30
@@ -298,9 +297,7 @@ class SlowService:
         self.keys = (key for key, owner in named if json.loads(owner)["owners"] == [own.own])
 
     def counts(self):
-        with contextlib.closing(http.client.HTTPConnection(self.own.app, timeout=10)) as link:
-            link.request("GET", "/")
-            return json.loads(link.getresponse().read())
+        return json.loads(fetch(self.own.app, "GET", "/")[1])
 
     def ask(self, agent, count, seconds):
         """Asks for keys of this agent at once; their answers, and after how many seconds the last came. Each was asked for once."""
@@ -325,7 +322,7 @@ class SlowService:
             raise Wrong(f"64 requests of 2 s by another node: {told} after {spent:.1f} s")
 
     def failures(self):
-        return int(re.search(r"\nringpop_application_failures_total (\d+)\n", self.own.ask("GET", "/metrics")[1])[1])
+        return counted([self.own], "ringpop_application_failures_total")
 
     def answers_again(self):
         """The service answers, the log says so, and may say more."""
@@ -401,8 +398,7 @@ class SlowService:
         """The first message that is not answered is logged, and the first that is again."""
         failed, back = f"{self.other.own} did not answer", f"{self.other.own} answers again"
         before = self.said(failed), self.said(back)
-        self.other.process.kill()
-        self.other.process.wait()
+        self.other.kill()
         self.wait_for(failed, before[0] + 1)
         time.sleep(3)
         self.other.start()
@@ -412,18 +408,12 @@ class SlowService:
 
 
 def check_slow_service(program, port):
-    agents, app = [], ("python3", str(ROOT / "scripts" / "slow_app.py"))
-    with tempfile.NamedTemporaryFile() as log:
-        try:
-            for own in (port, port + 1):
-                agents.append(Agent(program, own, [port, port + 1], app=app, log=log))
-            wait_until("agreed", 20, lambda: agree(agents))
-            service = SlowService(*agents, log)
-            for part in (service.check_slow, service.check_bad, service.check_in_turn, service.check_silent, service.check_stopped):
-                part()
-        finally:
-            for agent in agents:
-                agent.end()
+    app = "python3", str(ROOT / "scripts" / "slow_app.py")
+    with tempfile.NamedTemporaryFile() as log, running(program, port, port + 1, app=app, log=log) as agents:
+        wait_until("agreed", 20, lambda: agree(agents))
+        service = SlowService(*agents, log)
+        for part in (service.check_slow, service.check_bad, service.check_in_turn, service.check_silent, service.check_stopped):
+            part()
 
 
 def check_address(program, port):

@@ -6,8 +6,8 @@ import signal
 import threading
 import time
 
-from agents import Agent, agree, counted, wait_until
-from nodes import NOBODY, Wrong, call, is_late, message
+from agents import Agent, agree, counted
+from nodes import Wrong, is_late, wait_until
 
 SECONDS = 60
 # the most lines that wait to be written
@@ -20,9 +20,7 @@ ROUNDS = [f'ringpop_rounds_total{{outcome="{it}"}}' for it in ("idle", "reached"
 def raise_lines(agent, incarnation):
     """Has an agent log a line for each of some members that left."""
     for start in range(0, len(MEMBERS), 50):
-        changes = [{"address": it, "incarnationNumber": incarnation, "source": it, "sourceIncarnationNumber": 0, "status": "leave"} for it in MEMBERS[start : start + 50]]
-        if not call(agent.port, message("ping", checksum=NOBODY, changes=changes)):
-            raise Wrong("an agent whose log is not read does not answer a ping")
+        agent.tell(MEMBERS[start : start + 50], incarnation, "leave")
 
 
 def rounds_of(agent):

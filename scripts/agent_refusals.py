@@ -1,11 +1,9 @@
 """What agents say of what they and others refuse, for `scripts/agent refusals`."""
-import contextlib
-import http.client
 import tempfile
 from urllib.parse import quote
 
-from agents import Agent, counted, keys_of, running, said, wait_until
-from nodes import NOBODY, Wrong, address, call, hears, message
+from agents import counted, fetch, keys_of, running, said
+from nodes import Wrong, address, hears, wait_until
 
 # the most addresses that a node holds, and the number from which on an agent lets no new one join
 MOST, MARGIN = 4_096, 4_000
@@ -13,11 +11,8 @@ MOST, MARGIN = 4_096, 4_000
 
 def told_apart(agent, method, path, body=None):
     """The status of an answer, the word by which it is told from a service's, and after how many seconds to ask again."""
-    with contextlib.closing(http.client.HTTPConnection(agent.http, timeout=60)) as link:
-        link.request(method, path, body)
-        answer = link.getresponse()
-        answer.read()
-        return answer.status, answer.headers.get("x-ringpop-error"), answer.headers.get("retry-after")
+    status, _, fields = fetch(agent.http, method, path, body)
+    return status, fields.get("x-ringpop-error"), fields.get("retry-after")
 
 
 def check_words(agents):
@@ -33,8 +28,7 @@ def check_words(agents):
     for (method, path), told in wanted.items():
         if told_apart(agents[0], method, path) != told:
             raise Wrong(f"{method} {path} is told as {told_apart(agents[0], method, path)}, and not {told}")
-    agents[1].application.kill()
-    agents[1].application.wait()
+    agents[1].stop_application()
     if told_apart(agents[1], "GET", "/healthz") != (503, "application-down", "1"):
         raise Wrong("a refusal of the agent's health has no word, or no time to ask again")
     for agent in agents:
@@ -51,27 +45,22 @@ def check_margin(program, full, port):
         wait_until("at the margin", 10, lambda: counted([full], "ringpop_addresses_used") == MARGIN)
     with running(program, port, hosts=(full.port,)) as (last,):
         wait_until("admitted again", 20, last.is_well)
-    with tempfile.NamedTemporaryFile() as log:
-        check_newcomer(program, port + 1, full.port, log)
+    check_newcomer(program, port + 1, full.port)
     if counted([full], "ringpop_addresses_used") != MARGIN:
         raise Wrong("a node lets a newcomer join beyond the margin")
 
 
 def check_full(program, first, second):
     """A node that becomes full says so, and a newcomer that it refuses, too."""
-    with tempfile.NamedTemporaryFile() as log, tempfile.NamedTemporaryFile() as late_log:
-        full = Agent(program, first, (), log=log)
-        try:
-            wait_until("well", 10, full.is_well)
-            wait_until("in its third round", 10, lambda: counted([full], 'ringpop_rounds_total{outcome="idle"}') > 1)
-            check_margin(program, full, second + 1)
-            fill(full)
-            wait_until("full", 10, lambda: counted([full], "ringpop_addresses_used") == MOST)
-            wait_until("said to be full", 10, lambda: f"{MOST} of {MOST} addresses are used" in said(log))
-            check_newcomer(program, second, first, late_log)
-            check_line(full, log)
-        finally:
-            full.end()
+    with tempfile.NamedTemporaryFile() as log, running(program, first, hosts=(), log=log) as (full,):
+        wait_until("well", 10, full.is_well)
+        wait_until("in its third round", 10, lambda: counted([full], 'ringpop_rounds_total{outcome="idle"}') > 1)
+        check_margin(program, full, second + 1)
+        fill(full)
+        wait_until("full", 10, lambda: counted([full], "ringpop_addresses_used") == MOST)
+        wait_until("said to be full", 10, lambda: f"{MOST} of {MOST} addresses are used" in said(log))
+        check_newcomer(program, second, first)
+        check_line(full, log)
 
 
 def fill(agent, most=MOST):
@@ -79,23 +68,17 @@ def fill(agent, most=MOST):
     held = counted([agent], "ringpop_addresses_used")
     members = [f"10.0.{number // 250}.{number % 250 + 1}:1" for number in range(held, most)]
     for start in range(0, len(members), 500):
-        changes = [{"address": it, "incarnationNumber": 1, "source": it, "sourceIncarnationNumber": 0, "status": "leave"} for it in members[start : start + 500]]
-        answer = call(agent.port, message("ping", checksum=NOBODY, changes=changes))
-        if not answer or answer["kind"] == "refused":
-            raise Wrong(f"a node that is told of members answers {answer}")
+        agent.tell(members[start : start + 500], 1, "leave")
 
 
-def check_newcomer(program, port, host, log):
-    newcomer = Agent(program, port, (host,), log=log)
-    try:
+def check_newcomer(program, port, host):
+    with tempfile.NamedTemporaryFile() as log, running(program, port, hosts=(host,), log=log) as (newcomer,):
         refused = 503, "a host refused this node: full\n"
         wait_until("said to be refused", 20, lambda: newcomer.is_up() and newcomer.ask("GET", "/healthz") == refused)
         if f"{address(host)} refused a message of this node: full" not in said(log):
             raise Wrong(f"the log of a node that is refused: {said(log)}")
         if not counted([newcomer], 'ringpop_joins_total{outcome="refused"}') or not counted([newcomer], "ringpop_messages_refused_total"):
             raise Wrong("the metrics of a node that is refused do not count it")
-    finally:
-        newcomer.end()
 
 
 def check_line(agent, log):

@@ -6,11 +6,11 @@ import tempfile
 import threading
 import time
 
-from agents import Agent, counted, said, wait_until
-from nodes import Wrong, is_late
+from agents import Playing, counted, running, said
+from nodes import Wrong, is_late, wait_until
 
 
-class Told(Agent):
+class Told(Playing):
     """An agent whose application comes a second after it, keeps the notices of the ring, answers the first two 500, and each only once it may."""
 
     def start_application(self):
@@ -28,19 +28,7 @@ class Told(Agent):
                 self.send_response_only(500 if is_early else 204)
                 self.end_headers()
 
-        self.application = http.server.ThreadingHTTPServer(("127.0.0.1", self.port + self.above), Application, bind_and_activate=False)
-        threading.Timer(1, self.serve).start()
-
-    def serve(self):
-        self.application.server_bind()
-        self.application.server_activate()
-        self.application.serve_forever()
-
-    def end(self):
-        self.process.kill()
-        self.process.wait()
-        self.application.shutdown()
-        self.application.server_close()
+        threading.Timer(1, self.serve, [Application]).start()
 
     def ring(self):
         """The ring as it stands in a notice."""
@@ -66,16 +54,14 @@ def check(program, first, second):
         return [counted([agent], f"ringpop_notices_{it}") for it in ('total{outcome="taken"}', 'total{outcome="failed"}', "untold")]
 
     with tempfile.NamedTemporaryFile() as log, contextlib.ExitStack() as ends:
-        agent = Told(program, first, [], log=log, more=("--tell-app",))
-        ends.callback(agent.end)
+        agent, = ends.enter_context(running(program, first, hosts=(), kind=Told, log=log, more=("--tell-app",)))
         wait_until("told at the third time", 10, lambda: len(agent.notices) == 3)
         alone = agent.ring()
         wait_until("counted", 5, lambda: counts() == [1, 2, 0])
         is_logged = said(log).count("is not told of the ring: it answers 500") == 1
         if agent.notices[0] != agent.notices[2] or not agent.is_told(3, alone, None) or not is_logged:
             raise Wrong(f"an application that answers 500 twice gets {agent.notices}, and the log says {said(log)!r}")
-        other = Agent(program, second, [first])
-        ends.callback(other.end)
+        other, = ends.enter_context(running(program, second, hosts=[first]))
         wait_until("told of another node", 20, lambda: agent.is_told(4, agent.ring(), alone))
         both = agent.ring()
         agent.may_answer.clear()

@@ -2,6 +2,7 @@
 import concurrent.futures
 import contextlib
 import http.client
+import http.server
 import json
 import pathlib
 import re
@@ -10,10 +11,15 @@ import threading
 import time
 from urllib.parse import quote
 
-from nodes import NOBODY, ROOT, STEP, Wrong, address, call, is_late, message
+from nodes import NOBODY, ROOT, STEP, Wrong, address, call, change, ending, in_time, message
 
-# within how many seconds an agent says that it is well
-PATIENCE = 30
+
+def fetch(at, method, path, body=None, fields={}, seconds=60):
+    """The status, the bytes and the fields of an answer."""
+    with contextlib.closing(http.client.HTTPConnection(at, timeout=seconds)) as link:
+        link.request(method, path, body, fields)
+        answer = link.getresponse()
+        return answer.status, answer.read(), answer.headers
 
 
 class Agent:
@@ -38,10 +44,8 @@ class Agent:
 
     def ask(self, method, path, body=None):
         """The status and the text of an answer."""
-        with contextlib.closing(http.client.HTTPConnection(self.http, timeout=60)) as link:
-            link.request(method, path, body)
-            answer = link.getresponse()
-            return answer.status, answer.read().decode()
+        status, text, _ = fetch(self.http, method, path, body)
+        return status, text.decode()
 
     def is_ok(self, path):
         with contextlib.suppress(OSError, http.client.HTTPException):
@@ -55,10 +59,13 @@ class Agent:
         """Whether it answers HTTP, well or not."""
         return self.is_ok("/livez")
 
-    def tell(self, member, incarnation, status, source="0.0.0.0:1"):
-        """Tells the node a change; returns its answer."""
-        change = {"address": member, "incarnationNumber": incarnation, "source": source, "sourceIncarnationNumber": 0, "status": status}
-        return call(self.port, message("ping", checksum=NOBODY, changes=[change]))
+    def tell(self, members, incarnation, status, source=None):
+        """Tells the node that these members are so; returns its answer."""
+        told = message("ping", checksum=NOBODY, changes=[change(it, incarnation, status, source) for it in members])
+        answer = in_time(lambda: call(self.port, told), bool)
+        if not answer or answer["kind"] == "refused":
+            raise Wrong(f"a node that is told of members answers {answer}")
+        return answer
 
     def told(self, what):
         """This of each member, by its address."""
@@ -84,10 +91,40 @@ class Agent:
             time.sleep(0.1)
         return tuple(map(min, zip(*looks)))
 
+    def stop_application(self):
+        self.application.kill()
+        self.application.wait()
+
+    def kill(self):
+        """Ends it without its application."""
+        self.process.kill()
+        self.process.wait()
+
     def end(self):
-        for process in (self.process, self.application):
-            process.kill()
-            process.wait()
+        self.kill()
+        self.stop_application()
+
+
+class Server(http.server.ThreadingHTTPServer):
+    daemon_threads, request_queue_size = True, 128
+
+    def handle_error(self, *_):
+        """(an agent resets a connection over which more came than an answer)"""
+
+
+class Playing(Agent):
+    """An agent whose application is a handler of the script, once it serves."""
+
+    application = None
+
+    def serve(self, handler):
+        self.application = Server(("127.0.0.1", self.port + self.above), handler)
+        threading.Thread(target=self.application.serve_forever, daemon=True).start()
+
+    def stop_application(self):
+        if self.application:
+            self.application.shutdown()
+            self.application.server_close()
 
 
 def built(service, folder):
@@ -99,26 +136,13 @@ def built(service, folder):
     return (program,)
 
 
-def wait_until(what, seconds, is_so):
-    """Waits until something is so."""
-    begun = time.monotonic()
-    while not is_so():
-        if is_late(time.monotonic() - begun, seconds):
-            raise Wrong(f"not {what} within {seconds} seconds")
-        time.sleep(0.05)
-
-
 @contextlib.contextmanager
-def running(program, *ports, hosts=None, **more):
+def running(program, *ports, hosts=None, kind=Agent, **more):
     """Agents at these ports, which join one another if no hosts are given, and end with the block."""
-    agents = []
-    try:
+    with ending() as agents:
         for port in ports:
-            agents.append(Agent(program, port, ports if hosts is None else hosts, **more))
+            agents.append(kind(program, port, ports if hosts is None else hosts, **more))
         yield agents
-    finally:
-        for agent in agents:
-            agent.end()
 
 
 def said(log):

@@ -1,7 +1,6 @@
 """What any_service.py is, in aiohttp: `any_aiohttp.py PORT`."""
 import asyncio
 import hashlib
-import json
 import sys
 
 from aiohttp import web

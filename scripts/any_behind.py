@@ -1,12 +1,10 @@
 """An agent whose service sends more than the answer over a connection that is kept, for `scripts/any-request`."""
-import contextlib
-import http.client
 import http.server
-import threading
+import itertools
 import time
 
-from agents import Agent, wait_until
-from nodes import PATIENCE, Wrong
+from agents import Playing, fetch, running
+from nodes import PATIENCE, Wrong, wait_until
 
 # bytes behind an answer, which come while the connection is kept
 BEHIND = {
@@ -18,14 +16,7 @@ BEHIND = {
 LATE = 0.1
 
 
-class Server(http.server.ThreadingHTTPServer):
-    daemon_threads = True
-
-    def handle_error(self, *_):
-        """(the agent resets a connection over which more came)"""
-
-
-class Talking(Agent):
+class Talking(Playing):
     """An agent whose service answers with the target, and to a request with X-Behind with those bytes as well."""
 
     def start_application(self):
@@ -47,37 +38,22 @@ class Talking(Agent):
             def log_message(self, *_):
                 pass
 
-        self.application = Server(("127.0.0.1", self.port + self.above), Service)
-        threading.Thread(target=self.application.serve_forever, daemon=True).start()
-
-    def end(self):
-        self.process.kill()
-        self.process.wait()
-        self.application.shutdown()
-        self.application.server_close()
+        self.serve(Service)
 
 
 def answer(agent, method, target, fields={}):
-    with contextlib.closing(http.client.HTTPConnection(agent.http, timeout=10)) as link:
-        link.request(method, target, b"x" if method in ("PUT", "POST") else None, {"X-A": "1", **fields})
-        answered = link.getresponse()
-        return answered.status, answered.read()
+    return fetch(agent.http, method, target, b"x" if method in ("PUT", "POST") else None, {"X-A": "1", **fields})[:2]
 
 
 def check_behind(program, port):
     """No bytes that a service sends behind an answer become the answer of another request."""
-    agent = Talking(program, port, [port], more=("--any-request",))
-    try:
+    with running(program, port, kind=Talking, more=("--any-request",)) as (agent,):
         wait_until("well", PATIENCE, agent.is_well)
-        for behind in BEHIND:
-            for first in ("GET", "HEAD"):
-                for method in ("GET", "PUT", "POST"):
-                    answer(agent, first, "/keys/a/first", {"X-Behind": behind})
-                    time.sleep(3 * LATE)
-                    for number in range(3):
-                        target = f"/keys/a/{method}-{number}"
-                        told = answer(agent, method, target)
-                        if told != (200, target.encode()):
-                            raise Wrong(f"{method} {target} is answered {told} after {behind} came behind the answer to a {first}")
-    finally:
-        agent.end()
+        for behind, first, method in itertools.product(BEHIND, ("GET", "HEAD"), ("GET", "PUT", "POST")):
+            answer(agent, first, "/keys/a/first", {"X-Behind": behind})
+            time.sleep(3 * LATE)
+            for number in range(3):
+                target = f"/keys/a/{method}-{number}"
+                told = answer(agent, method, target)
+                if told != (200, target.encode()):
+                    raise Wrong(f"{method} {target} is answered {told} after {behind} came behind the answer to a {first}")

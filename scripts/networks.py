@@ -6,8 +6,6 @@ import subprocess
 import sys
 import time
 
-from nodes import Wrong, is_late
-
 NEW_NETWORK = 0x40000000
 # the address of each half
 SIDES = ("10.9.0.1", "10.9.0.2")
@@ -72,13 +70,3 @@ class Askers:
         """What the function gives for each node, which is its side and further words, asked in the network of its side."""
         asked = [self.sides[number].submit(function, number, *more) for number, *more in nodes]
         return [answer.result() for answer in asked]
-
-
-def must(what, seconds, see, is_so):
-    """Waits until it is so of what is seen, and says after how long; fails where it is not in time."""
-    begun = time.monotonic()
-    while not is_so(see()):
-        if is_late(time.monotonic() - begun, seconds):
-            raise Wrong(f"not {what} in time")
-        time.sleep(0.1)
-    print(f"{what} after {time.monotonic() - begun:.1f} s", flush=True)

@@ -115,6 +115,10 @@ class Node:
         self.process.wait()
         self.process.stdout.close()
 
+    def end(self):
+        if self.process.poll() is None:
+            self.kill()
+
     def open_descriptors(self):
         """The numbers of its open descriptors."""
         return [int(number) for number in os.listdir(f"/proc/{self.process.pid}/fd")]
@@ -150,6 +154,13 @@ def connect(port, seconds=5.0, host="127.0.0.1"):
     stream = socket.create_connection((host, port), seconds)
     stream.settimeout(seconds)
     return stream
+
+
+def is_open(port):
+    """Whether somebody listens at a port."""
+    with contextlib.suppress(OSError), connect(port):
+        return True
+    return False
 
 
 def check_listens_here(port):
@@ -214,10 +225,16 @@ def is_late(spent, limit):
     return False
 
 
-def call(port, message, seconds=5.0):
+def call(port, message, seconds=5.0, host="127.0.0.1"):
     """The answer to a message, or None where the other side hangs up without one."""
-    answer = hears(port, json.dumps(message).encode() + b"\n", seconds)
+    answer = hears(port, json.dumps(message).encode() + b"\n", seconds, host=host)
     return json.loads(answer) if answer else None
+
+
+def change(member, incarnation, status, source=None, **more):
+    """A change as a message has it; the member is its source if no other is given."""
+    return {"address": member, "incarnationNumber": incarnation, "source": source or member, "sourceIncarnationNumber": 0 if source else incarnation,
+            "status": status, **more}
 
 
 def message(kind, **more):
@@ -228,11 +245,11 @@ def request(key, body):
     return message("forward", keys=[key], body=body)
 
 
-def view(port):
+def view(port, host="127.0.0.1"):
     """The digest that a node tells, and its members: address to incarnation and status."""
-    answer = call(port, message("join", checksum=NOBODY, changes=[]))
+    answer = call(port, message("join", checksum=NOBODY, changes=[]), host=host)
     if not answer or answer["kind"] != "joined":
-        raise Wrong(f"{address(port)} answers {answer}")
+        raise Wrong(f"{host}:{port} answers {answer}")
     held = {told["address"]: (told["incarnationNumber"], told["status"]) for told in answer["changes"]}
     return answer["checksum"], held
 
@@ -248,18 +265,34 @@ def run(program, *given, text=""):
     return in_time(attempt)
 
 
-def until(what, seconds, ports, is_so):
-    """Waits until `is_so` holds of the views of the nodes at all ports, and prints how long that took."""
+def views(ports):
+    return [in_time(lambda: view(port)) for port in ports]
+
+
+def wait_until(what, seconds, is_so, told=str):
+    """Waits until something is so; returns after how long."""
     begun = time.monotonic()
-    while True:
-        views = [in_time(lambda: view(port)) for port in ports]
-        spent = time.monotonic() - begun
-        if is_late(spent, seconds):
-            raise Wrong(f"not {what} within {seconds} s: {views}")
-        if is_so(views):
-            print(f"{what} after {spent:.2f} s", flush=True)
-            return
-        time.sleep(0.01)
+    while not is_so():
+        if is_late(time.monotonic() - begun, seconds):
+            raise Wrong(f"not {what} within {seconds} seconds{told()}")
+        time.sleep(0.05)
+    return time.monotonic() - begun
+
+
+def must(what, seconds, see, is_so):
+    """Waits until it is so of what is seen, and prints after how long."""
+    print(f"{what} after {wait_until(what, seconds, lambda: is_so(see()), lambda: f': {see()}'):.2f} s", flush=True)
+
+
+@contextlib.contextmanager
+def ending():
+    """A list of nodes and agents, which end with the block."""
+    kept = []
+    try:
+        yield kept
+    finally:
+        for it in kept:
+            it.end()
 
 
 def agree(views):

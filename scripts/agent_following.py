@@ -1,4 +1,9 @@
-"""Agents that follow their services into the ring and out of it, for `scripts/agent following`."""
+"""Agents that follow their services into the ring and out of it, for `scripts/agent following`.
+
+Two agents are joined by a third under requests, whose service starts two seconds later: none fails. It leaves the ring two to four seconds after
+its service was killed, says so, and comes back with it; an agent that was told to leave stays away when its service comes back, until it is told
+to rejoin; one with `--no-wait-app` and `--leave-after 0` joins and stays without it.
+"""
 import tempfile
 import time
 from urllib.parse import quote

@@ -1,4 +1,8 @@
-"""Requests that another node passes on whole, for `scripts/agent forms`: each is a Forward that this script sends itself."""
+"""Requests that another node passes on whole, for `scripts/agent forms`: each is a Forward that this script sends itself.
+
+A Forward whose text is a whole request reaches the service unchanged: method, path, fields and a binary body; its answer comes back with its
+status, its fields and its body. Each other text reaches it as a body, a client's that looks so too.
+"""
 import base64
 import json
 import sys

@@ -9,20 +9,20 @@ another; one whose answer is not UTF-8 is counted and logged; a node that does n
 service and of a node that answer and fail in turn the log says no more than a line each ten seconds, and at last that they answer.
 """
 import collections
+import concurrent.futures
 import contextlib
 import json
 import os
 import re
 import signal
-import socket
 import subprocess
 import tempfile
 import threading
 import time
 from urllib.parse import quote
 
-from agents import agree, counted, fetch, running
-from nodes import NOBODY, ROOT, STEP, Wrong, call, connect, hears, is_late, message, wait_until
+from agents import agree, at_once, counted, fetch, running
+from nodes import NOBODY, ROOT, STEP, Wrong, call, connect, deaf, hears, is_late, knocking, message, wait_until
 
 # the longest key, body and body that is read, in bytes, and after how many seconds a request that does not end is cut
 MAX_KEY_BYTES, MAX_BODY_BYTES, MAX_READ_BYTES, PATIENCE = 1_024, 131_072, 1_048_576, 30
@@ -204,28 +204,19 @@ class Hostile:
             ("a body that drips", head("POST", "/keys/k", "content-length: 100000"), b"a"),
             ("chunks that drip", chunked(), b"1\r\na\r\n"), ("silence behind an answer", head("GET", "/digest"), b""),
         ]
-        threads = [threading.Thread(target=self.is_cut, args=(what, PATIENCE + 10, sent, drip)) for what, sent, drip in clients]
-        for thread in threads:
-            thread.start()
-        self.check_up("slow clients")
-        for thread in threads:
-            thread.join()
+        with concurrent.futures.ThreadPoolExecutor(len(clients)) as pool:
+            cut = [pool.submit(self.is_cut, what, PATIENCE + 10, sent, drip) for what, sent, drip in clients]
+            self.check_up("slow clients")
+            for it in cut:
+                it.result()
         if late := {what: spent for what, spent in self.cut.items() if is_late(spent, PATIENCE + 3)}:
             raise Wrong(f"not cut in time: {late}")
         print("cut after", ", ".join(f"{spent:.0f} s ({what})" for what, spent in self.cut.items()), flush=True)
 
     def deaf(self):
         """Clients that ask much and read nothing, or a KiB each two seconds."""
-        before, streams = self.agent.held_at_rest()[1], []
-        for _ in range(10):
-            stream = socket.socket()
-            stream.setsockopt(socket.SOL_SOCKET, socket.SO_RCVBUF, 2_048)
-            stream.settimeout(10)
-            stream.connect(("127.0.0.1", self.agent.port + STEP))
-            stream.setblocking(False)
-            with contextlib.suppress(BlockingIOError):
-                stream.send(head("GET", "/") * 500)
-            streams.append(stream)
+        before = self.agent.held_at_rest()[1]
+        streams = [deaf(self.agent.port + STEP, head("GET", "/") * 500) for _ in range(10)]
         begun = time.monotonic()
         time.sleep(1)
         self.check_up("ten that read nothing")
@@ -249,17 +240,10 @@ class Hostile:
             self.check_up(f"{count} that say nothing", 3.0)
             for stream in idle:
                 stream.close()
-        idle = []
-        for _ in range(1_000):
-            stream = socket.socket()
-            stream.setblocking(False)
-            stream.connect_ex(("127.0.0.1", self.agent.port + STEP))
-            idle.append(stream)
-        time.sleep(PATIENCE / 2)
-        if self.pings.fault or set(self.other.members().values()) != {"alive"}:
-            raise Wrong(f"1,000 that say nothing: {self.pings.fault}, {self.other.members()}")
-        for stream in idle:
-            stream.close()
+        with knocking(self.agent.port + STEP, 1_000):
+            time.sleep(PATIENCE / 2)
+            if self.pings.fault or set(self.other.members().values()) != {"alive"}:
+                raise Wrong(f"1,000 that say nothing: {self.pings.fault}, {self.other.members()}")
         self.check_up("1,000 that said nothing")
 
     def play(self):
@@ -277,17 +261,6 @@ class Hostile:
             raise Wrong("the agent holds more than at the start")
 
 
-def all_at_once(asks):
-    """What these calls return, each in a thread of its own, and after how many seconds the last did."""
-    told, begun = [], time.monotonic()
-    threads = [threading.Thread(target=lambda ask=ask: told.append(ask())) for ask in asks]
-    for thread in threads:
-        thread.start()
-    for thread in threads:
-        thread.join()
-    return collections.Counter(told), time.monotonic() - begun
-
-
 class SlowService:
     """An agent with a service that can be slow, and another agent."""
 
@@ -302,12 +275,13 @@ class SlowService:
     def ask(self, agent, count, seconds):
         """Asks for keys of this agent at once; their answers, and after how many seconds the last came. Each was asked for once."""
         keys = [next(self.keys) for _ in range(count)]
-        told = all_at_once([lambda key=key: agent.ask("POST", f"/keys/{key}", seconds.encode()) for key in keys])
-        counts = self.counts()
+        begun = time.monotonic()
+        told = collections.Counter(at_once(*(lambda key=key: agent.ask("POST", f"/keys/{key}", seconds.encode()) for key in keys)))
+        spent, counts = time.monotonic() - begun, self.counts()
         if often := {key: counts.get(f"/keys/{key}") for key in keys if counts.get(f"/keys/{key}") != 1}:
             raise Wrong(f"requests of {seconds} s are not asked once each: {often}")
-        print(f"{count} requests of {seconds} s by {agent.own}: {dict(told[0])} after {told[1]:.1f} s", flush=True)
-        return told
+        print(f"{count} requests of {seconds} s by {agent.own}: {dict(told)} after {spent:.1f} s", flush=True)
+        return told, spent
 
     def check_slow(self):
         """Each request is asked for once, over connections that were kept and from another node."""

@@ -1,4 +1,8 @@
-"""What an agent does whose standard error is a pipe that is not read, for `scripts/agent unread`."""
+"""What an agent does whose standard error is a pipe that is not read, for `scripts/agent unread`.
+
+It makes rounds and answers for a minute, while another one stands still now and then; it counts the lines that it drops, says how many once it is
+read, and stops though it is not read.
+"""
 import fcntl
 import os
 import re

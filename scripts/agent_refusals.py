@@ -1,4 +1,9 @@
-"""What agents say of what they and others refuse, for `scripts/agent refusals`."""
+"""What agents say of what they and others refuse, for `scripts/agent refusals`.
+
+Each answer that an agent makes itself has its word, and no answer of a service has one. A newcomer that is refused says why, in its health, log
+and metrics; a node that becomes full says so, and one that refuses a line at its port logs and counts it.
+"""
+import itertools
 import tempfile
 from urllib.parse import quote
 
@@ -19,10 +24,11 @@ def check_words(agents):
     """An agent's own answers have a word, those of services have none, whatever their status is."""
     keys = [key for owner in agents for key in keys_of(agents, owner, 1)]
     for key in keys:
-        for status in (200, 404, 502, 503):
-            told = told_apart(agents[0], "POST", f"/keys/{quote(key)}", f"status {status}".encode())
-            if told != (status, None, None):
-                raise Wrong(f"a service's answer {status} is told as {told}")
+        for status, agent in itertools.product((200, 404, 422, 502, 503), agents):
+            body = f"status {status}"
+            told, text, fields = fetch(agent.http, "POST", f"/keys/{quote(key)}", body)
+            if told != status or not text.decode().endswith(body) or "x-ringpop-error" in fields or "retry-after" in fields:
+                raise Wrong(f"{agent.own} tells a service's answer {status} as {told} {text}, with {fields.items()}")
     wanted = {("GET", "/nothing"): (404, "not-found", None), ("GET", "/keys/k"): (405, "bad-method", None),
               ("POST", "/rejoin"): (409, "not-left", None), ("GET", "/owner/"): (400, "bad-key", None)}
     for (method, path), told in wanted.items():

@@ -165,10 +165,9 @@ def keys_of(agents, owner, count):
 
 
 def at_once(*checks):
-    """Makes these checks side by side; the first that fails is told once all have ended."""
+    """What these checks give, side by side; the first that fails is told once all have ended."""
     with concurrent.futures.ThreadPoolExecutor(len(checks)) as pool:
-        for it in [pool.submit(check) for check in checks]:
-            it.result()
+        return [it.result() for it in [pool.submit(check) for check in checks]]
 
 
 def agree(agents):

@@ -55,11 +55,11 @@ def address(port):
     return f"127.0.0.1:{port}"
 
 
-def listener(port):
+def listener(port, host="127.0.0.1"):
     """A socket that listens at a port, as a node does."""
     stream = socket.socket()
     stream.setsockopt(socket.SOL_SOCKET, socket.SO_REUSEADDR, 1)
-    stream.bind(("127.0.0.1", port))
+    stream.bind((host, port))
     stream.listen()
     return stream
 
@@ -153,6 +153,29 @@ class Node:
 def connect(port, seconds=5.0, host="127.0.0.1"):
     stream = socket.create_connection((host, port), seconds)
     stream.settimeout(seconds)
+    return stream
+
+
+@contextlib.contextmanager
+def knocking(port, count):
+    """As many connections at once as may become of this number, over which nothing is sent."""
+    with contextlib.ExitStack() as ends:
+        for _ in range(count):
+            stream = ends.enter_context(socket.socket())
+            stream.setblocking(False)
+            stream.connect_ex(("127.0.0.1", port))
+        yield
+
+
+def deaf(port, sent):
+    """A connection over which this was sent, and that takes 2 KiB of the answer."""
+    stream = socket.socket()
+    stream.setsockopt(socket.SOL_SOCKET, socket.SO_RCVBUF, 2_048)
+    stream.settimeout(10)
+    stream.connect(("127.0.0.1", port))
+    stream.setblocking(False)
+    with contextlib.suppress(BlockingIOError):
+        stream.send(sent)
     return stream
 
 

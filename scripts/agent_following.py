@@ -9,7 +9,7 @@ import time
 from urllib.parse import quote
 
 from agents import Agent, Load, agree, counted, running, said
-from nodes import Wrong, is_late, wait_until
+from nodes import Wrong, expect, is_late, wait_until
 
 KEYS = [f"order {number}" for number in range(500)]
 # the seconds after which an agent of these trials leaves, and by when a ring of three has heard of it on a busy machine
@@ -41,8 +41,7 @@ def owns(agents, owner):
 
 def check_health(agent, status, line):
     told = agent.ask("GET", "/healthz")
-    if told != (status, line):
-        raise Wrong(f"{agent.own} says {told} of its health, and not {status} {line!r}")
+    expect(told == (status, line), f"{agent.own} says {told} of its health, and not {status} {line!r}")
 
 
 def check_join(agents, late, log):
@@ -56,8 +55,7 @@ def check_join(agents, late, log):
     spent = wait_until("joined with its service", 10, lambda: owns(agents, late) > 0 and late.is_well())
     time.sleep(2)
     load.end()
-    if load.failed or load.lost or counted([late], "ringpop_service_up") != 1:
-        raise Wrong(f"a node joined with its service: {load}")
+    expect(not load.failed and not load.lost and counted([late], "ringpop_service_up") == 1, f"a node joined with its service: {load}")
     if "this node joins once it does" not in said(log) or "this node comes into the ring" not in said(log):
         raise Wrong(f"the log does not say that the node waits for its service, or that it joins: {said(log)}")
     print(f"a node joined {spent:.1f} s after its service was started: {load}")
@@ -78,40 +76,34 @@ def check_loss(agents, late, log):
     back = wait_until("back with its service", 10, lambda: owns(agents, late) > 0 and late.is_well())
     time.sleep(1)
     load.end()
-    if load.failed or load.lost:
-        raise Wrong(f"a node came back with its service: {load}")
+    expect(not load.failed and not load.lost, f"a node came back with its service: {load}")
     print(f"a node left {spent:.1f} s after its service was killed, and was back {back:.1f} s after it was started: {load}")
 
 
 def check_told(agents, late):
     """A node that was told to leave stays away whatever its service does, until it is told to rejoin."""
-    if late.ask("POST", "/leave")[0] != 200:
-        raise Wrong("no leave")
+    expect(late.ask("POST", "/leave")[0] == 200, "no leave")
     late.stop_application()
     time.sleep(1)
     late.serve()
     time.sleep(3)
     check_health(late, 503, "the node has left\n")
-    if late.ask("POST", "/rejoin")[0] != 200:
-        raise Wrong("no return")
+    expect(late.ask("POST", "/rejoin")[0] == 200, "no return")
     wait_until("back", 10, lambda: agree([*agents, late]) and owns(agents, late) > 0)
     # one that is out because of its service, too, once it is told to leave
     late.stop_application()
     wait_until("out of the ring", AFTER + HEARD, lambda: late.ask("GET", "/healthz") == (503, OUT))
-    if late.ask("POST", "/leave") != (409, "the node has left already\n"):
-        raise Wrong("a node that is out because of its service leaves")
+    expect(late.ask("POST", "/leave") == (409, "the node has left already\n"), "a node that is out because of its service leaves")
     late.serve()
     time.sleep(3)
     check_health(late, 503, "the node has left\n")
     # and one that is told to rejoin while its service is down leaves again, not at once
     late.stop_application()
     begun = time.monotonic()
-    if late.ask("POST", "/rejoin")[0] != 200:
-        raise Wrong("no return")
+    expect(late.ask("POST", "/rejoin")[0] == 200, "no return")
     check_health(late, 503, "the application does not answer\n")
     wait_until("out of the ring again", AFTER + HEARD, lambda: late.ask("GET", "/healthz") == (503, OUT))
-    if time.monotonic() - begun < AFTER - 0.5:
-        raise Wrong("a node that came back by hand left at once")
+    expect(time.monotonic() - begun >= AFTER - 0.5, "a node that came back by hand left at once")
 
 
 def check_without(program, port, hosts):
@@ -120,8 +112,7 @@ def check_without(program, port, hosts):
         wait_until("answered over HTTP", 10, bold.is_up)
         wait_until("joined", 10, lambda: bold.ask("GET", "/healthz") == (503, "the application does not answer\n"))
         time.sleep(AFTER + 1)
-        if bold.members()[bold.own] != "alive":
-            raise Wrong("an agent with --leave-after 0 left")
+        expect(bold.members()[bold.own] == "alive", "an agent with --leave-after 0 left")
 
 
 def check(program, agents, port):

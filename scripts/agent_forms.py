@@ -8,7 +8,7 @@ import json
 import sys
 
 from agents import running
-from nodes import PATIENCE, ROOT, Wrong, call, request, wait_until
+from nodes import PATIENCE, ROOT, Wrong, call, expect, request, wait_until
 
 SERVICE = (sys.executable, f"{ROOT}/scripts/any_service.py")
 BINARY = bytes(range(256)) * 40
@@ -44,8 +44,7 @@ def unpacked(text):
 def told(agent, text):
     """The text of the Reply to a Forward of this text."""
     answer = call(agent.port, request("k", text))
-    if not answer or answer["kind"] != "reply":
-        raise Wrong(f"a Forward is answered {answer}")
+    expect(answer and answer["kind"] == "reply", f"a Forward is answered {answer}")
     return answer["body"]
 
 
@@ -53,8 +52,7 @@ def ask(agent, method, target, fields, body):
     """The status, the body and the fields of the answer to a request that is passed on whole."""
     flat = [part.encode("latin-1") for field in fields for part in field]
     parts = unpacked(told(agent, packed([method.encode(), target.encode(), body, *flat])))
-    if len(parts) < 2 or len(parts) % 2:
-        raise Wrong(f"{method} {target} is answered {parts}")
+    expect(len(parts) >= 2 and not len(parts) % 2, f"{method} {target} is answered {parts}")
     named = [part.decode("latin-1") for part in parts[2:]]
     return int(parts[0]), parts[1], list(zip(named[::2], named[1::2]))
 
@@ -62,17 +60,13 @@ def ask(agent, method, target, fields, body):
 def check_asked(agent):
     """A service gets each request unchanged, and so does its answer come back."""
     answers = [ask(agent, *asked) for asked in ASKED]
-    if [answer[0] for answer in answers] != [201, 200, 200, 404, 404, 200, 200, 204]:
-        raise Wrong(f"the statuses are {[answer[0] for answer in answers]}")
+    expect([answer[0] for answer in answers] == [201, 200, 200, 404, 404, 200, 200, 204], f"the statuses are {[answer[0] for answer in answers]}")
     for number, body in ((0, b"kept"), (1, BINARY), (2, b""), (5, b"c"), (6, BINARY + b"end"), (7, b"")):
-        if answers[number][1] != body:
-            raise Wrong(f"{ASKED[number][:2]} is answered {answers[number]}")
+        expect(answers[number][1] == body, f"{ASKED[number][:2]} is answered {answers[number]}")
     for number, field in ((0, ("location", "/keys/k/files/a?b=1")), (2, ("content-length", str(len(BINARY)))), (4, ("www-authenticate", 'Basic realm="x"'))):
-        if field not in answers[number][2]:
-            raise Wrong(f"{ASKED[number][:2]} is answered the fields {answers[number][2]}")
+        expect(field in answers[number][2], f"{ASKED[number][:2]} is answered the fields {answers[number][2]}")
     cookies = [field for field in answers[5][2] if field[0] in ("set-cookie", "x-odd")]
-    if cookies != [("set-cookie", "a=1; Path=/"), ("x-odd", "caf\xe9"), ("set-cookie", "b=2")]:
-        raise Wrong(f"fields that repeat come back as {cookies}")
+    expect(cookies == [("set-cookie", "a=1; Path=/"), ("x-odd", "caf\xe9"), ("set-cookie", "b=2")], f"fields that repeat come back as {cookies}")
     status, body, _ = ask(agent, "QUERY", "/keys/k/?q", [("host", "h"), ("cookie", "a=1")], BINARY)
     got = json.loads(body)
     if (status, got["method"], got["target"], got["length"]) != (200, "QUERY", "/keys/k/?q", len(BINARY)) or ["cookie", "a=1"] not in got["fields"]:
@@ -87,8 +81,7 @@ def check_bodies(agent):
             raise Wrong(f"the text {text} reached the service as {got}")
     status, body = agent.ask("POST", "/keys/k", packed([b"DELETE", b"/", b""]))
     got = json.loads(body)
-    if status != 200 or (got["method"], got["target"]) != ("POST", "/keys/k"):
-        raise Wrong(f"a client's body reached the service as {got}")
+    expect(status == 200 and (got["method"], got["target"]) == ("POST", "/keys/k"), f"a client's body reached the service as {got}")
 
 
 def check_down(agent):

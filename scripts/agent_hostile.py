@@ -22,7 +22,7 @@ import time
 from urllib.parse import quote
 
 from agents import agree, at_once, counted, fetch, running
-from nodes import NOBODY, ROOT, STEP, Wrong, call, connect, deaf, hears, is_late, knocking, message, wait_until
+from nodes import NOBODY, ROOT, STEP, Wrong, call, connect, deaf, expect, hears, is_late, knocking, message, wait_until
 
 # the longest key, body and body that is read, in bytes, and after how many seconds a request that does not end is cut
 MAX_KEY_BYTES, MAX_BODY_BYTES, MAX_READ_BYTES, PATIENCE = 1_024, 131_072, 1_048_576, 30
@@ -86,16 +86,12 @@ class Hostile:
     def check_up(self, what, within=5.0):
         """The agent answers in time, so do pings, and the other holds it as alive."""
         begun = time.monotonic()
-        if self.agent.ask("GET", "/healthz")[0] != 200:
-            raise Wrong(f"{what}: then it is not well")
+        expect(self.agent.ask("GET", "/healthz")[0] == 200, f"{what}: then it is not well")
         told = self.agent.ask("POST", "/keys/k", b"hello")
-        if told[0] != 200 or not told[1].endswith(" hello"):
-            raise Wrong(f"{what}: then a request is answered by {told}")
+        expect(told[0] == 200 and told[1].endswith(" hello"), f"{what}: then a request is answered by {told}")
         spent = time.monotonic() - begun
-        if is_late(spent, within):
-            raise Wrong(f"{what}: then others are answered after {spent:.1f} s")
-        if self.pings.fault:
-            raise Wrong(f"{what}: {self.pings.fault}")
+        expect(not is_late(spent, within), f"{what}: then others are answered after {spent:.1f} s")
+        expect(not self.pings.fault, f"{what}: {self.pings.fault}")
         if set(self.other.members().values()) != {"alive"}:
             raise Wrong(f"{what}: another agent holds {self.other.members()}")
         print(f"{what}: others are answered after {spent:.3f} s", flush=True)
@@ -107,8 +103,7 @@ class Hostile:
     def check(self, what, sent, *wanted):
         """The agent answers with these statuses, and then hangs up."""
         came = self.hears(sent)
-        if statuses(came) != list(wanted):
-            raise Wrong(f"{what}: {came[:300]} in place of {wanted}")
+        expect(statuses(came) == list(wanted), f"{what}: {came[:300]} in place of {wanted}")
         self.check_up(what)
 
     def keys(self):
@@ -120,12 +115,10 @@ class Hostile:
         self.check("half a character", head("GET", "/owner/%c3"), 400)
         for key in ("%", "%z", "%zz", "%0", "a%"):
             told = self.agent.ask("POST", "/keys/" + key, b"hello")
-            if told[0] != 200 or not told[1].startswith(f"{key}: "):
-                raise Wrong(f"the key {key} is answered by {told}")
+            expect(told[0] == 200 and told[1].startswith(f"{key}: "), f"the key {key} is answered by {told}")
         self.check_up("percent signs that encode nothing")
         told = self.agent.ask("POST", "/keys/" + quote("\0\r\n../..//?#", safe=""), b"hello")
-        if told[0] != 200 or not told[1].startswith("\0\r\n../..//?#: "):
-            raise Wrong(f"a key of controls is answered by {told}")
+        expect(told[0] == 200 and told[1].startswith("\0\r\n../..//?#: "), f"a key of controls is answered by {told}")
         for count in ("n=0", "n=-1", "n=4097", "n=99999999999999999999", "n=", "n=1&n=2", "m=1"):
             self.check(f"a count {count}", head("GET", "/owner/k?" + count), 400)
 
@@ -223,8 +216,7 @@ class Hostile:
         while self.agent.held_at_rest()[1] > before:
             with contextlib.suppress(OSError):
                 streams[0].recv(1_024)
-            if is_late(time.monotonic() - begun, 15):
-                raise Wrong("clients that do not take their answers keep their connections")
+            expect(not is_late(time.monotonic() - begun, 15), "clients that do not take their answers keep their connections")
         print(f"ten that read nothing were cut within {time.monotonic() - begun:.0f} s", flush=True)
         for stream in streams:
             stream.close()
@@ -257,8 +249,7 @@ class Hostile:
         after = self.agent.held_at_rest()
         print(f"descriptors {before[1]}, then {after[1]}; KiB {before[0]}, then {after[0]}")
         print(f"{self.pings.count} pings, the longest {self.pings.longest:.3f} s")
-        if after[0] > before[0] + GROWTH or after[1] > before[1]:
-            raise Wrong("the agent holds more than at the start")
+        expect(after[0] <= before[0] + GROWTH and after[1] <= before[1], "the agent holds more than at the start")
 
 
 class SlowService:
@@ -344,8 +335,7 @@ class SlowService:
         self.answers_again()
         said, spent = len(self.lines(self.own.app)) - before, time.monotonic() - begun
         print(f"{pairs} answers well and badly in turn: {said} lines in {spent:.0f} s", flush=True)
-        if pairs < 100 or not 2 <= said <= spent / QUIET + 1:
-            raise Wrong(f"{said} lines about {pairs} pairs of answers")
+        expect(pairs >= 100 and 2 <= said <= spent / QUIET + 1, f"{said} lines about {pairs} pairs of answers")
 
     def check_stopped(self):
         """A node that is stopped and goes on in turn: the log tells that not each time, and at last that it answers."""
@@ -360,8 +350,7 @@ class SlowService:
         wait_until("said at last that the node answers", 2 * QUIET + 5, lambda: self.last_of(kinds) == kinds[1])
         said, spent = sum(map(self.said, kinds)) - before, time.monotonic() - begun
         print(f"a node that stops {times} times: {said} lines in {spent:.0f} s", flush=True)
-        if not 2 <= said <= spent / QUIET + 1:
-            raise Wrong(f"{said} lines about a node that stopped {times} times")
+        expect(2 <= said <= spent / QUIET + 1, f"{said} lines about a node that stopped {times} times")
 
     def last_of(self, kinds):
         """Which of these lines the log said last."""

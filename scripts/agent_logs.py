@@ -11,7 +11,7 @@ import threading
 import time
 
 from agents import Agent, agree, counted
-from nodes import Wrong, is_late, wait_until
+from nodes import Wrong, expect, is_late, wait_until
 
 SECONDS = 60
 # the most lines that wait to be written
@@ -49,8 +49,7 @@ def check_unread(agent, other):
         time.sleep(max(0, begun + second - time.monotonic()))
     used, dropped = (counted([agent], f"ringpop_log_lines_{it}") for it in ("used", "dropped_total"))
     print(f"not read for {SECONDS} s: {slowest} rounds or more in ten seconds, {used} lines wait, {dropped} were dropped")
-    if slowest < 3 or used != MOST or dropped < 500:
-        raise Wrong("an agent whose log is not read makes no rounds, or counts no lines")
+    expect(slowest >= 3 and used == MOST and dropped >= 500, "an agent whose log is not read makes no rounds, or counts no lines")
 
 
 class Reader:
@@ -84,8 +83,7 @@ def check_read(agent, pipe):
     wait_until("told of the last", 10, lambda: f"{MEMBERS[-1]} is still leave, incarnation {SECONDS + 1}".encode() in reader.read)
     reader.end()
     lines = reader.read.decode().splitlines()
-    if not all(re.fullmatch(rf"\d{{4}}-\d\d-\d\dT\d\d:\d\d:\d\d\.\d{{3}}Z {re.escape(agent.own)} \[.*", it) for it in lines):
-        raise Wrong("a line of the log is torn")
+    expect(all(re.fullmatch(rf"\d{{4}}-\d\d-\d\dT\d\d:\d\d:\d\d\.\d{{3}}Z {re.escape(agent.own)} \[.*", it) for it in lines), "a line of the log is torn")
     print(f"{len(lines)} lines were read, which tell of {dropped} that were dropped")
 
 
@@ -99,8 +97,7 @@ def check_end(agent):
     agent.ask("POST", "/stop")
     status, spent = agent.process.wait(timeout=60), time.monotonic() - begun
     print(f"stopped with status {status} after {spent:.1f} s")
-    if status != 0 or is_late(spent, 12):
-        raise Wrong("an agent whose log is not read does not stop")
+    expect(status == 0 and not is_late(spent, 12), "an agent whose log is not read does not stop")
 
 
 def check(program, agents, port):

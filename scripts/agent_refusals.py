@@ -8,7 +8,7 @@ import tempfile
 from urllib.parse import quote
 
 from agents import counted, fetch, keys_of, running, said
-from nodes import Wrong, address, hears, wait_until
+from nodes import Wrong, address, expect, hears, wait_until
 
 # the most addresses that a node holds, and the number from which on an agent lets no new one join
 MOST, MARGIN = 4_096, 4_000
@@ -39,8 +39,7 @@ def check_words(agents):
         raise Wrong("a refusal of the agent's health has no word, or no time to ask again")
     for agent in agents:
         told = told_apart(agent, "POST", f"/keys/{quote(keys[1])}", b"x")
-        if told != (502, "application-not-accepting", None):
-            raise Wrong(f"a 502 of the owner's agent is told as {told}")
+        expect(told == (502, "application-not-accepting", None), f"a 502 of the owner's agent is told as {told}")
 
 
 def check_margin(program, full, port):
@@ -52,8 +51,7 @@ def check_margin(program, full, port):
     with running(program, port, hosts=(full.port,)) as (last,):
         wait_until("admitted again", 20, last.is_well)
     check_newcomer(program, port + 1, full.port)
-    if counted([full], "ringpop_addresses_used") != MARGIN:
-        raise Wrong("a node lets a newcomer join beyond the margin")
+    expect(counted([full], "ringpop_addresses_used") == MARGIN, "a node lets a newcomer join beyond the margin")
 
 
 def check_full(program, first, second):

@@ -7,7 +7,7 @@ import threading
 import time
 
 from agents import Playing, counted, running, said
-from nodes import Wrong, is_late, wait_until
+from nodes import Wrong, expect, is_late, wait_until
 
 
 class Told(Playing):
@@ -39,8 +39,7 @@ class Told(Playing):
         """Each notice has these fields and no others."""
         for version, fields, length in self.fields:
             wanted = [("connection", "close"), ("content-length", str(length)), ("content-type", "application/json"), ("host", self.app)]
-            if (version, fields) != ("HTTP/1.1", wanted):
-                raise Wrong(f"a notice is {version} with {fields}")
+            expect((version, fields) == ("HTTP/1.1", wanted), f"a notice is {version} with {fields}")
 
     def is_told(self, times, now, before):
         """Whether this number of notices came, and the last one tells these rings."""
@@ -84,6 +83,5 @@ def check(program, first, second):
         last = agent.notices[-1][1]
         if last["now"]["serving"] or last["before"] != both or agent.fails:
             raise Wrong(f"at a stop after failures the application is told {agent.notices[-1]}")
-        if is_late(time.monotonic() - begun, 9):
-            raise Wrong(f"a stop took {time.monotonic() - begun:.1f} s")
+        expect(not is_late(time.monotonic() - begun, 9), f"a stop took {time.monotonic() - begun:.1f} s")
         agent.check_fields()

@@ -11,7 +11,7 @@ import threading
 import time
 from urllib.parse import quote
 
-from nodes import NOBODY, ROOT, STEP, Wrong, address, call, change, ending, in_time, message
+from nodes import NOBODY, ROOT, STEP, address, call, change, ending, expect, in_time, message
 
 
 def fetch(at, method, path, body=None, fields={}, seconds=60):
@@ -63,8 +63,7 @@ class Agent:
         """Tells the node that these members are so; returns its answer."""
         told = message("ping", checksum=NOBODY, changes=[change(it, incarnation, status, source) for it in members])
         answer = in_time(lambda: call(self.port, told), bool)
-        if not answer or answer["kind"] == "refused":
-            raise Wrong(f"a node that is told of members answers {answer}")
+        expect(answer and answer["kind"] != "refused", f"a node that is told of members answers {answer}")
         return answer
 
     def told(self, what):
@@ -247,8 +246,7 @@ class Load:
                 self.is_over = True
         for thread in self.threads:
             thread.join()
-        if self.wrong:
-            raise Wrong(f"{len(self.wrong)} wrong answers, the first {self.wrong[0]}")
+        expect(not self.wrong, f"{len(self.wrong)} wrong answers, the first {self.wrong[:1]}")
         return self
 
     def __str__(self):

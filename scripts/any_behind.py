@@ -4,7 +4,7 @@ import itertools
 import time
 
 from agents import Playing, fetch, running
-from nodes import PATIENCE, Wrong, wait_until
+from nodes import PATIENCE, expect, wait_until
 
 # bytes behind an answer, which come while the connection is kept
 BEHIND = {
@@ -55,5 +55,4 @@ def check_behind(program, port):
             for number in range(3):
                 target = f"/keys/a/{method}-{number}"
                 told = answer(agent, method, target)
-                if told != (200, target.encode()):
-                    raise Wrong(f"{method} {target} is answered {told} after {behind} came behind the answer to a {first}")
+                expect(told == (200, target.encode()), f"{method} {target} is answered {told} after {behind} came behind the answer to a {first}")

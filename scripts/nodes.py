@@ -38,6 +38,12 @@ class Wrong(Exception):
     """What was to be seen was not seen."""
 
 
+def expect(is_so, fault):
+    """Ends the script, and says what is at fault, where something is not so."""
+    if not is_so:
+        raise Wrong(fault)
+
+
 def words(text):
     """The arguments of a script, the program among them; `text` is the script's."""
     given = argparse.ArgumentParser(description=text.splitlines()[0])

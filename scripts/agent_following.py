@@ -4,11 +4,9 @@ Two agents are joined by a third under requests, whose service starts two second
 its service was killed, says so, and comes back with it; an agent that was told to leave stays away when its service comes back, until it is told
 to rejoin; one with `--no-wait-app` and `--leave-after 0` joins and stays without it.
 """
-import tempfile
 import time
-from urllib.parse import quote
 
-from agents import Agent, Load, agree, counted, running, said
+from agents import Agent, Load, agree, counted, running
 from nodes import Wrong, expect, is_late, wait_until
 
 KEYS = [f"order {number}" for number in range(500)]
@@ -36,7 +34,7 @@ class Follower(Agent):
 
 def owns(agents, owner):
     """How many of the first keys an agent owns, as the first agent names it."""
-    return sum(owner.own in agents[0].ask("GET", "/owner/" + quote(key))[1] for key in KEYS[:40])
+    return sum(agents[0].owners(key) == [owner.own] for key in KEYS[:40])
 
 
 def check_health(agent, status, line):
@@ -44,7 +42,7 @@ def check_health(agent, status, line):
     expect(told == (status, line), f"{agent.own} says {told} of its health, and not {status} {line!r}")
 
 
-def check_join(agents, late, log):
+def check_join(agents, late):
     """A node whose service starts two seconds later joins under requests, and none fails."""
     load = Load(agents, KEYS, threads=16)
     time.sleep(2)
@@ -56,20 +54,20 @@ def check_join(agents, late, log):
     time.sleep(2)
     load.end()
     expect(not load.failed and not load.lost and counted([late], "ringpop_service_up") == 1, f"a node joined with its service: {load}")
-    if "this node joins once it does" not in said(log) or "this node comes into the ring" not in said(log):
-        raise Wrong(f"the log does not say that the node waits for its service, or that it joins: {said(log)}")
+    for text in ("this node joins once it does", "this node comes into the ring"):
+        expect(text in (said := late.said()), f"the log does not say that {text}: {said}")
     print(f"a node joined {spent:.1f} s after its service was started: {load}")
 
 
-def check_loss(agents, late, log):
+def check_loss(agents, late):
     """A node whose service was killed leaves some seconds after the last look at which that took a connection, and comes back with it."""
     begun = time.monotonic()
     late.stop_application()
     wait_until("out of the ring", AFTER + HEARD, lambda: owns(agents, late) == 0)
     spent = time.monotonic() - begun
     check_health(late, 503, OUT)
-    if spent < AFTER - BETWEEN_LOOKS or "this node leaves the ring, since its application accepts no connection" not in said(log):
-        raise Wrong(f"a node whose service was killed left after {spent:.1f} s: {said(log)}")
+    said, why = late.said(), "this node leaves the ring, since its application accepts no connection"
+    expect(spent >= AFTER - BETWEEN_LOOKS and why in said, f"a node whose service was killed left after {spent:.1f} s: {said}")
     load = Load([*agents, late], KEYS, threads=16)
     time.sleep(2)
     late.serve()
@@ -118,15 +116,14 @@ def check_without(program, port, hosts):
 def check(program, agents, port):
     ports = [port, port + 1, port + 2]
     late_port = port + 3
-    with tempfile.NamedTemporaryFile() as log:
-        late = Follower(program, late_port, ports, log=log, more=("--leave-after", str(AFTER)))
-        agents.append(late)
-        others = agents[:3]
-        wait_until("answered over HTTP", 10, late.is_up)
-        check_join(others, late, log)
-        check_loss(others, late, log)
-        check_told(others, late)
-        begun = time.monotonic()
-        if late.ask("POST", "/stop")[0] != 200 or late.process.wait(40) != 0 or is_late(time.monotonic() - begun, 8):
-            raise Wrong("a node that is out of the ring is not stopped")
+    late = Follower(program, late_port, ports, more=("--leave-after", str(AFTER)))
+    agents.append(late)
+    others = agents[:3]
+    wait_until("answered over HTTP", 10, late.is_up)
+    check_join(others, late)
+    check_loss(others, late)
+    check_told(others, late)
+    begun = time.monotonic()
+    if late.ask("POST", "/stop")[0] != 200 or late.process.wait(40) != 0 or is_late(time.monotonic() - begun, 8):
+        raise Wrong("a node that is out of the ring is not stopped")
     check_without(program, port + 4, ports)

@@ -255,20 +255,16 @@ class Hostile:
 class SlowService:
     """An agent with a service that can be slow, and another agent."""
 
-    def __init__(self, own, other, log):
-        self.own, self.other, self.log = own, other, log
-        named = ((f"{number}", own.ask("GET", f"/owner/{number}")[1]) for number in range(10_000))
-        self.keys = (key for key, owner in named if json.loads(owner)["owners"] == [own.own])
-
-    def counts(self):
-        return json.loads(fetch(self.own.app, "GET", "/")[1])
+    def __init__(self, own, other):
+        self.own, self.other = own, other
+        self.keys = (key for key in map(str, range(10_000)) if own.owners(key) == [own.own])
 
     def ask(self, agent, count, seconds):
         """Asks for keys of this agent at once; their answers, and after how many seconds the last came. Each was asked for once."""
         keys = [next(self.keys) for _ in range(count)]
         begun = time.monotonic()
         told = collections.Counter(at_once(*(lambda key=key: agent.ask("POST", f"/keys/{key}", seconds.encode()) for key in keys)))
-        spent, counts = time.monotonic() - begun, self.counts()
+        spent, counts = time.monotonic() - begun, json.loads(fetch(self.own.app, "GET", "/")[1])
         if often := {key: counts.get(f"/keys/{key}") for key in keys if counts.get(f"/keys/{key}") != 1}:
             raise Wrong(f"requests of {seconds} s are not asked once each: {often}")
         print(f"{count} requests of {seconds} s by {agent.own}: {dict(told)} after {spent:.1f} s", flush=True)
@@ -295,8 +291,8 @@ class SlowService:
         while time.monotonic() < end:
             self.own.ask("POST", f"/keys/{key}", b"0")
             time.sleep(0.5)
-        if self.last_said() != "answers again":
-            raise Wrong(f"the log says at last that a service {self.last_said()}")
+        last = self.lines()[-1:]
+        expect(last == ["answers again"], f"the log says at last that a service {last}")
 
     def check_bad(self):
         """An answer that can't be passed on is counted and logged."""
@@ -312,28 +308,24 @@ class SlowService:
         wait_until(f"{count} times {text!r} in the log", 20, lambda: self.said(text) == count)
 
     def said(self, text):
-        with open(self.log.name) as log:
-            return log.read().count(text)
+        """How often the log, which both agents write, has this text."""
+        return self.own.said().count(text)
 
-    def lines(self, of):
-        """What the log's lines say of this service."""
-        with open(self.log.name) as log:
-            return [line.partition(f"the application at {of} ")[2].strip() for line in log if f"the application at {of} " in line]
-
-    def last_said(self):
-        return (self.lines(self.own.app) or [None])[-1]
+    def lines(self):
+        """What the log's lines say of the service."""
+        return re.findall(f"the application at {re.escape(self.own.app)} (.*)", self.own.said())
 
     def check_in_turn(self):
         """A service that answers well and badly in turn: of some hundred pairs the log tells a few."""
         self.answers_again()
-        key, pairs, begun, before = next(self.keys), 0, time.monotonic(), len(self.lines(self.own.app))
+        key, pairs, begun, before = next(self.keys), 0, time.monotonic(), len(self.lines())
         while time.monotonic() < begun + 25:
             for asked in (b"bad", b"0"):
                 self.own.ask("POST", f"/keys/{key}", asked)
             time.sleep(0.05)
             pairs += 1
         self.answers_again()
-        said, spent = len(self.lines(self.own.app)) - before, time.monotonic() - begun
+        said, spent = len(self.lines()) - before, time.monotonic() - begun
         print(f"{pairs} answers well and badly in turn: {said} lines in {spent:.0f} s", flush=True)
         expect(pairs >= 100 and 2 <= said <= spent / QUIET + 1, f"{said} lines about {pairs} pairs of answers")
 
@@ -347,15 +339,10 @@ class SlowService:
                 self.other.process.send_signal(signal_number)
                 time.sleep(0.8)
             times += 1
-        wait_until("said at last that the node answers", 2 * QUIET + 5, lambda: self.last_of(kinds) == kinds[1])
+        wait_until("said at last that the node answers", 2 * QUIET + 5, lambda: self.own.said().rfind(kinds[1]) > self.own.said().rfind(kinds[0]))
         said, spent = sum(map(self.said, kinds)) - before, time.monotonic() - begun
         print(f"a node that stops {times} times: {said} lines in {spent:.0f} s", flush=True)
         expect(2 <= said <= spent / QUIET + 1, f"{said} lines about a node that stopped {times} times")
-
-    def last_of(self, kinds):
-        """Which of these lines the log said last."""
-        with open(self.log.name) as log:
-            return ([kind for line in log for kind in kinds if kind in line] or [None])[-1]
 
     def check_silent(self):
         """The first message that is not answered is logged, and the first that is again."""
@@ -374,7 +361,7 @@ def check_slow_service(program, port):
     app = "python3", str(ROOT / "scripts" / "slow_app.py")
     with tempfile.NamedTemporaryFile() as log, running(program, port, port + 1, app=app, log=log) as agents:
         wait_until("agreed", 20, lambda: agree(agents))
-        service = SlowService(*agents, log)
+        service = SlowService(*agents)
         for part in (service.check_slow, service.check_bad, service.check_in_turn, service.check_silent, service.check_stopped):
             part()
 

@@ -18,7 +18,6 @@ SECONDS = 60
 MOST = 1_024
 MEMBERS = [f"10.0.1.{number + 1}:1" for number in range(200)]
 DROPPED = re.compile(rb"\[WARN \] (\d+) lines of the log were dropped here: standard error was not read in time\n")
-ROUNDS = [f'ringpop_rounds_total{{outcome="{it}"}}' for it in ("idle", "reached", "suspected", "inconclusive", "error")]
 
 
 def raise_lines(agent, incarnation):
@@ -27,13 +26,9 @@ def raise_lines(agent, incarnation):
         agent.tell(MEMBERS[start : start + 50], incarnation, "leave")
 
 
-def rounds_of(agent):
-    return sum(counted([agent], it) for it in ROUNDS)
-
-
 def check_unread(agent, other):
     """For a minute, in which another agent stands still three times, an agent makes rounds and answers."""
-    begun, before, slowest = time.monotonic(), rounds_of(agent), 1_000
+    begun, before, slowest = time.monotonic(), agent.rounds(), 1_000
     for second in range(1, SECONDS + 1):
         if second % 20 in (5, 12):
             os.kill(other.process.pid, signal.SIGSTOP if second % 20 == 5 else signal.SIGCONT)
@@ -44,7 +39,7 @@ def check_unread(agent, other):
             if status != 200 or is_late(time.monotonic() - asked, 1):
                 raise Wrong(f"an agent whose log is not read answers GET {path} by {status} after {time.monotonic() - asked:.1f} s")
         if second % 10 == 0:
-            rounds = rounds_of(agent)
+            rounds = agent.rounds()
             before, slowest = rounds, min(slowest, rounds - before)
         time.sleep(max(0, begun + second - time.monotonic()))
     used, dropped = (counted([agent], f"ringpop_log_lines_{it}") for it in ("used", "dropped_total"))

@@ -4,10 +4,9 @@ Each answer that an agent makes itself has its word, and no answer of a service 
 and metrics; a node that becomes full says so, and one that refuses a line at its port logs and counts it.
 """
 import itertools
-import tempfile
 from urllib.parse import quote
 
-from agents import counted, fetch, keys_of, running, said
+from agents import counted, fetch, keys_of, running
 from nodes import Wrong, address, expect, hears, wait_until
 
 # the most addresses that a node holds, and the number from which on an agent lets no new one join
@@ -56,15 +55,15 @@ def check_margin(program, full, port):
 
 def check_full(program, first, second):
     """A node that becomes full says so, and a newcomer that it refuses, too."""
-    with tempfile.NamedTemporaryFile() as log, running(program, first, hosts=(), log=log) as (full,):
+    with running(program, first, hosts=()) as (full,):
         wait_until("well", 10, full.is_well)
-        wait_until("in its third round", 10, lambda: counted([full], 'ringpop_rounds_total{outcome="idle"}') > 1)
+        wait_until("in its third round", 10, lambda: full.rounds() > 1)
         check_margin(program, full, second + 1)
         fill(full)
         wait_until("full", 10, lambda: counted([full], "ringpop_addresses_used") == MOST)
-        wait_until("said to be full", 10, lambda: f"{MOST} of {MOST} addresses are used" in said(log))
+        wait_until("said to be full", 10, lambda: f"{MOST} of {MOST} addresses are used" in full.said())
         check_newcomer(program, second, first)
-        check_line(full, log)
+        check_line(full)
 
 
 def fill(agent, most=MOST):
@@ -76,20 +75,20 @@ def fill(agent, most=MOST):
 
 
 def check_newcomer(program, port, host):
-    with tempfile.NamedTemporaryFile() as log, running(program, port, hosts=(host,), log=log) as (newcomer,):
+    with running(program, port, hosts=(host,)) as (newcomer,):
         refused = 503, "a host refused this node: full\n"
         wait_until("said to be refused", 20, lambda: newcomer.is_up() and newcomer.ask("GET", "/healthz") == refused)
-        if f"{address(host)} refused a message of this node: full" not in said(log):
-            raise Wrong(f"the log of a node that is refused: {said(log)}")
+        said = newcomer.said()
+        expect(f"{address(host)} refused a message of this node: full" in said, f"the log of a node that is refused: {said}")
         if not counted([newcomer], 'ringpop_joins_total{outcome="refused"}') or not counted([newcomer], "ringpop_messages_refused_total"):
             raise Wrong("the metrics of a node that is refused do not count it")
 
 
-def check_line(agent, log):
+def check_line(agent):
     """A line at the port of the node that is not a message is refused, counted and logged."""
     hears(agent.port, b"hello\n")
     wait_until("counted", 5, lambda: counted([agent], 'ringpop_lines_refused_total{reason="malformed"}') == 1)
-    wait_until("logged", 5, lambda: "a line at this node's port was refused: malformed" in said(log))
+    wait_until("logged", 5, lambda: "a line at this node's port was refused: malformed" in agent.said())
 
 
 def check(program, agents, first, second):

@@ -2,11 +2,10 @@
 import contextlib
 import http.server
 import json
-import tempfile
 import threading
 import time
 
-from agents import Playing, counted, running, said
+from agents import Playing, counted, running
 from nodes import Wrong, expect, is_late, wait_until
 
 
@@ -32,7 +31,7 @@ class Told(Playing):
 
     def ring(self):
         """The ring as it stands in a notice."""
-        told = json.loads(self.ask("GET", "/ring")[1])
+        told = self.json("/ring")
         return {"ring": told["ring"], "serving": told["serving"]}
 
     def check_fields(self):
@@ -52,22 +51,22 @@ def check(program, first, second):
     def counts():
         return [counted([agent], f"ringpop_notices_{it}") for it in ('total{outcome="taken"}', 'total{outcome="failed"}', "untold")]
 
-    with tempfile.NamedTemporaryFile() as log, contextlib.ExitStack() as ends:
-        agent, = ends.enter_context(running(program, first, hosts=(), kind=Told, log=log, more=("--tell-app",)))
+    with running(program, first, hosts=(), kind=Told, more=("--tell-app",)) as (agent,), contextlib.ExitStack() as ends:
         wait_until("told at the third time", 10, lambda: len(agent.notices) == 3)
         alone = agent.ring()
         wait_until("counted", 5, lambda: counts() == [1, 2, 0])
-        is_logged = said(log).count("is not told of the ring: it answers 500") == 1
+        said = agent.said()
+        is_logged = said.count("is not told of the ring: it answers 500") == 1
         if agent.notices[0] != agent.notices[2] or not agent.is_told(3, alone, None) or not is_logged:
-            raise Wrong(f"an application that answers 500 twice gets {agent.notices}, and the log says {said(log)!r}")
+            raise Wrong(f"an application that answers 500 twice gets {agent.notices}, and the log says {said!r}")
         other, = ends.enter_context(running(program, second, hosts=[first]))
         wait_until("told of another node", 20, lambda: agent.is_told(4, agent.ring(), alone))
         both = agent.ring()
         agent.may_answer.clear()
         other.ask("POST", "/leave")
         wait_until("told that it left", 10, lambda: agent.is_told(5, alone, both))
-        rounds = counted([agent], 'ringpop_rounds_total{outcome="idle"}')
-        wait_until("two rounds later, while the application is slow", 1, lambda: counted([agent], 'ringpop_rounds_total{outcome="idle"}') > rounds + 1)
+        rounds = agent.rounds()
+        wait_until("two rounds later, while the application is slow", 1, lambda: agent.rounds() > rounds + 1)
         if counts() != [2, 2, 1]:
             raise Wrong(f"while the application is slow, the notice is not counted: {counts()}")
         other.ask("POST", "/rejoin")

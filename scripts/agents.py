@@ -7,6 +7,7 @@ import json
 import pathlib
 import re
 import subprocess
+import tempfile
 import threading
 import time
 from urllib.parse import quote
@@ -28,7 +29,8 @@ class Agent:
     above = 2 * STEP
 
     def __init__(self, program, port, hosts, app=("python3", str(ROOT / "examples" / "app.py")), log=None, more=()):
-        self.program, self.port, self.hosts, self.log, self.more = program, port, hosts, log, more
+        self.program, self.port, self.hosts, self.more = program, port, hosts, more
+        self.log = log or tempfile.NamedTemporaryFile()
         self.own, self.http, self.app = address(port), address(port + STEP), address(port + self.above)
         self.words = [*app, str(port + self.above)]
         self.start_application()
@@ -40,7 +42,7 @@ class Agent:
     def start(self):
         self.process = subprocess.Popen(
             [self.program, "agent", *self.more, "--http", self.http, "--app", self.app, self.own, *map(address, self.hosts)],
-            stdout=subprocess.DEVNULL, stderr=self.log or subprocess.DEVNULL)
+            stdout=subprocess.DEVNULL, stderr=self.log)
 
     def ask(self, method, path, body=None):
         """The status and the text of an answer."""
@@ -66,9 +68,25 @@ class Agent:
         expect(answer and answer["kind"] != "refused", f"a node that is told of members answers {answer}")
         return answer
 
+    def json(self, path):
+        """What it answers to a GET, as JSON."""
+        return json.loads(self.ask("GET", path)[1])
+
+    def owners(self, key, count=1):
+        """The owners of a key, as it names them."""
+        return self.json(f"/owner/{quote(key, safe='')}?n={count}")["owners"]
+
+    def said(self):
+        """What is in its log so far."""
+        return pathlib.Path(self.log.name).read_text()
+
+    def rounds(self):
+        """How many rounds its node has made."""
+        return sum(counted([self], f'ringpop_rounds_total{{outcome="{it}"}}') for it in ("idle", "reached", "suspected", "inconclusive", "error"))
+
     def told(self, what):
         """This of each member, by its address."""
-        return {member["address"]: member[what] for member in json.loads(self.ask("GET", "/members")[1])["members"]}
+        return {member["address"]: member[what] for member in self.json("/members")["members"]}
 
     def members(self):
         return self.told("status")
@@ -144,13 +162,6 @@ def running(program, *ports, hosts=None, kind=Agent, **more):
         yield agents
 
 
-def said(log):
-    """What is in a file so far."""
-    log.flush()
-    with open(log.name) as text:
-        return text.read()
-
-
 def counted(agents, name):
     """What these agents have counted under this name in all."""
     return sum(int(re.search(rf"\n{re.escape(name)} (\d+)\n", agent.ask("GET", "/metrics")[1])[1]) for agent in agents)
@@ -159,7 +170,7 @@ def counted(agents, name):
 def keys_of(agents, owner, count):
     """Keys that an agent owns, as the first agent names it."""
     keys = (f"key {number}" for number in range(100_000))
-    owned = (key for key in keys if json.loads(agents[0].ask("GET", "/owner/" + quote(key))[1])["owners"] == [owner.own])
+    owned = (key for key in keys if agents[0].owners(key) == [owner.own])
     return [next(owned) for _ in range(count)]
 
 

@@ -12,7 +12,7 @@ import threading
 import time
 from urllib.parse import quote
 
-from nodes import NOBODY, ROOT, STEP, address, call, change, ending, expect, in_time, message
+from nodes import NOBODY, ROOT, STEP, address, call, change, ending, expect, held, in_time, message
 
 
 def fetch(at, method, path, body=None, fields={}, seconds=60):
@@ -94,17 +94,11 @@ class Agent:
     def incarnations(self):
         return self.told("incarnation")
 
-    def held(self):
-        """How much memory in KiB, how many descriptors and how many threads it has."""
-        process = pathlib.Path(f"/proc/{self.process.pid}")
-        told = dict(line.split(":", 1) for line in (process / "status").read_text().splitlines())
-        return int(told["VmRSS"].split()[0]), len(list((process / "fd").iterdir())), int(told["Threads"])
-
     def held_at_rest(self):
         """The least of what it holds within two seconds."""
         looks = []
         for _ in range(20):
-            looks.append(self.held())
+            looks.append(held(self.process))
             time.sleep(0.1)
         return tuple(map(min, zip(*looks)))
 

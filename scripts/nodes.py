@@ -132,7 +132,7 @@ class Node:
     def counts(self):
         """How many descriptors it holds, seen 50 times in half a second."""
         for _ in range(50):
-            yield len(self.open_descriptors())
+            yield held(self.process)[1]
             time.sleep(0.01)
 
     def descriptors(self):
@@ -148,12 +148,12 @@ class Node:
         status = self.process.wait(seconds)
         return status, self.process.stdout.read().decode()
 
-    def memory(self):
-        """How many KiB of memory it holds."""
-        for line in pathlib.Path(f"/proc/{self.process.pid}/status").read_text().splitlines():
-            if line.startswith("VmRSS:"):
-                return int(line.split()[1])
-        raise Wrong(f"{self.address} has no memory")
+
+def held(process):
+    """How much memory in KiB, how many descriptors and how many threads a process has."""
+    folder = pathlib.Path(f"/proc/{process.pid}")
+    told = dict(line.split(":", 1) for line in (folder / "status").read_text().splitlines())
+    return int(told["VmRSS"].split()[0]), len(list((folder / "fd").iterdir())), int(told["Threads"])
 
 
 def connect(port, seconds=5.0, host="127.0.0.1"):

@@ -209,13 +209,15 @@ def rest(stream):
 
 
 def hears(port, sent, seconds=5.0, is_all=False, host="127.0.0.1"):
-    """All that comes for these bytes, and for their end with `is_all`, until the other side hangs up, which it may do before it has read them."""
-    with connect(port, seconds, host) as stream:
+    """All that comes for these bytes, and for their end with `is_all`, until the other side hangs up. It may do that before it has read them, and
+    a reset may come while the connection is made."""
+    with contextlib.suppress(ConnectionResetError), connect(port, seconds, host) as stream:
         with contextlib.suppress(OSError):
             stream.sendall(sent)
             if is_all:
                 stream.shutdown(socket.SHUT_WR)
         return rest(stream)
+    return b""
 
 
 def in_time(attempt, is_right=lambda _: True):

@@ -80,8 +80,8 @@ class Hostile:
     def __init__(self, agent, other, pings):
         self.agent, self.other, self.pings = agent, other, pings
 
-    def connect(self, seconds=10.0):
-        return connect(self.agent.port + STEP, seconds)
+    def connect(self):
+        return connect(self.agent.port + STEP, 10)
 
     def check_up(self, what, within=5.0):
         """The agent answers in time, so do pings, and the other holds it as alive."""
@@ -171,7 +171,8 @@ class Hostile:
     def is_cut(self, what, within, sent=b"", drip=b""):
         """The agent hangs up in time on a client that sends these bytes, and then more each second."""
         begun = time.monotonic()
-        with self.connect(1.0) as stream:
+        with self.connect() as stream:
+            stream.settimeout(1.0)
             stream.sendall(sent)
             while time.monotonic() < begun + within:
                 try:

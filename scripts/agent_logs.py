@@ -11,7 +11,7 @@ import threading
 import time
 
 from agents import Agent, agree, counted
-from nodes import Wrong, expect, is_late, wait_until
+from nodes import PATIENCE, Wrong, expect, is_late, wait_until
 
 SECONDS = 60
 # the most lines that wait to be written
@@ -101,7 +101,7 @@ def check(program, agents, port):
     agent = Agent(program, port, [it.port for it in agents], log=end)
     os.close(end)
     agents.append(agent)
-    wait_until("agreed", 20, lambda: agree(agents))
+    wait_until("agreed", PATIENCE, lambda: agree(agents))
     check_unread(agent, agents[0])
     check_read(agent, pipe)
     check_end(agent)

@@ -7,7 +7,7 @@ import itertools
 from urllib.parse import quote
 
 from agents import counted, fetch, keys_of, running
-from nodes import Wrong, address, expect, hears, wait_until
+from nodes import PATIENCE, Wrong, address, expect, hears, wait_until
 
 # the most addresses that a node holds, and the number from which on an agent lets no new one join
 MOST, MARGIN = 4_096, 4_000
@@ -56,7 +56,7 @@ def check_margin(program, full, port):
 def check_full(program, first, second):
     """A node that becomes full says so, and a newcomer that it refuses, too."""
     with running(program, first, hosts=()) as (full,):
-        wait_until("well", 10, full.is_well)
+        wait_until("well", PATIENCE, full.is_well)
         wait_until("in its third round", 10, lambda: full.rounds() > 1)
         check_margin(program, full, second + 1)
         fill(full)

@@ -20,7 +20,7 @@ PROGRAM = ROOT / "crates" / "ringpop_cli" / "out" / "ringpop_cli"
 NOBODY = "e3b0c44298fc1c149afbf4c8996fb92427ae41e4649b934ca495991b7852b855"
 # the greatest number of connections that a node serves
 MOST = 1_000_000
-# within how many seconds a node prints that it serves
+# within how many seconds a node prints that it serves, and an agent and its application are well
 PATIENCE = 30
 # the ports of a script's nodes; an agent has a port for HTTP this much above its own, and its application one twice as much
 STEP = 20

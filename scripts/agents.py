@@ -106,6 +106,11 @@ class Agent:
         self.application.kill()
         self.application.wait()
 
+    def tell_of_end(self):
+        """Prints for one who reads of a failure what has ended, and what the log says last."""
+        ended = {name: it.poll() for name, it in (("agent", self.process), ("application", self.application)) if isinstance(it, subprocess.Popen)}
+        print(f"{self.own}: {ended}", *self.said().splitlines()[-5:], sep="\n  ", flush=True)
+
     def kill(self):
         """Ends it without its application."""
         self.process.kill()
@@ -153,7 +158,12 @@ def running(program, *ports, hosts=None, kind=Agent, **more):
     with ending() as agents:
         for port in ports:
             agents.append(kind(program, port, ports if hosts is None else hosts, **more))
-        yield agents
+        try:
+            yield agents
+        except Exception:
+            for agent in agents:
+                agent.tell_of_end()
+            raise
 
 
 def counted(agents, name):

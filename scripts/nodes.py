@@ -238,6 +238,19 @@ def in_time(attempt, is_right=lambda _: True):
     return came
 
 
+def once_more(check, *given):
+    """Makes a check; and once more, which is counted, where it fails on a machine that has more to do than three threads for two processors."""
+    next(ATTEMPTS)
+    try:
+        return check(*given)
+    except (OSError, Wrong) as fault:
+        if os.getloadavg()[0] < 1.5 * os.cpu_count():
+            raise
+        print(f"made again, since the machine is busy: {fault}", flush=True)
+    next(REPEATS)
+    return check(*given)
+
+
 def slowness():
     """How many times as long as on a processor of its own a thread takes here now, seen for a twentieth of a second of its work."""
     begun, used = time.monotonic(), time.thread_time()

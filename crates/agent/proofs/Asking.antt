@@ -28,6 +28,7 @@ use Rattle.line_service.specs.declared.inputs.Input.{Input}
 use Rattle.line_service.specs.declared.inputs.Input.TheVariants as input
 use Rattle.agent.specs.Asking.{AsksFor, answerer, notes_call, notes_source}
 use Rattle.agent.specs.Calling.{AnyAnswer, AnyHandling, AnyTimes, Calling, HasMade, hash_of}
+use Rattle.agent.specs.Serving.{IsAnsweredHere, RespondsNoted}
 use Rattle.agent.specs.Performing.{AsksOwner, IsRequested, Outcome, Settled}
 use Rattle.agent.proofs.Performed.{made_as, settled_as}
 use Rattle.agent.proofs.Relaying.{made_both}
@@ -87,26 +88,27 @@ module _ {A : Type 0} (handled : Handled A) (asked_of : A → Bool)
     unchanged : is ≡ was → asked_of is ≡ false
     unchanged same = ap asked_of same ∙ unasked
 
+    answered : (heard : Input) (r : Result Message ClusterError) (acts : List (Act Sha256Hash)) → AnswersInput hash_of AnyAnswer (between handled was is) now heard r acts
+        → AnswersInput hash_of AnyAnswer (between notes_call false (asked_of is)) now heard r acts
+    answered (input.Message message) r acts h =
+        serves_as hash_of (between handled was is) (between notes_call false (asked_of is)) (λ keys body answer called. notes keys body answer was is called) unchanged
+        AnyAnswer message now message.content r acts h
+    answered (input.Refused why) r acts (never, h) = (unchanged never, h)
+    answered input.Nothing r acts h = h
+
     by_input : (heard : Input) (r : Result Message ClusterError) (acts first rest : List (Act Sha256Hash)) → acts ≡ first ++ rest
         → AnswersInput hash_of AnyAnswer (between handled was is) now heard r first → AsksFor heard (asked_of is) acts
-    by_input (input.Message message) r acts first rest e h = (
-      first,
-      rest,
-      e,
-      (
-        now,
-        r,
-        serves_as hash_of (between handled was is) (between notes_call false (asked_of is)) (λ keys body answer called. notes keys body answer was is called)
-            unchanged AnyAnswer message now message.content r first h,
-      ),
-      tt,
-    )
+    by_input (input.Message message) r acts first rest e h = (first, rest, e, (now, r, answered (input.Message message) r first h), tt)
     by_input (input.Refused why) r acts first rest e h = unchanged h.0
     by_input input.Nothing r acts first rest e h = absurd h
 
     responded : (heard : Input) (line : List ℕ) (acts : List (Act Sha256Hash)) → Responds hash_of AnyAnswer (between handled was is) now heard line acts
         → AsksFor heard (asked_of is) acts
     responded heard line acts (answer, (first, rest, e, h, sent)) = by_input heard (Ok answer) acts first rest e h
+
+    responded_noted : (heard : Input) (line : List ℕ) (acts : List (Act Sha256Hash)) → Responds hash_of AnyAnswer (between handled was is) now heard line acts
+        → RespondsNoted heard (asked_of is) line acts
+    responded_noted heard line acts (answer, (first, rest, e, h, sent)) = (now, (answer, (first, rest, e, answered heard (Ok answer) first h, sent)))
 
     stayed : (heard : Input) (r : Result (Unit {0}) ClusterError) (acts : List (Act Sha256Hash)) → StaysSilent hash_of AnyAnswer (between handled was is) now heard r acts
         → AsksFor heard (asked_of is) acts
@@ -126,13 +128,15 @@ module _ {A : Type 0} (handled : Handled A) (asked_of : A → Bool)
     silent (input.Refused why) a b same (r, does) =
         record { node = same; makes = makes_as (AsksFor (input.Refused why) (asked_of is)) (stayed (input.Refused why) (let_in r)) does.makes }
 
-    -- whether such a handler is asked for an input
-    pub asked_for : (heard : Input) (line : Option (Vec ℕ Global)) (a b : Calling) → b.node ≡ a.node
+    -- whether such a handler is asked for an input, and the line that goes back
+    pub answered_here : (heard : Input) (line : Option (Vec ℕ Global)) (a b : Calling) → b.node ≡ a.node
         → IfSome line (λ it. Makes a.node (Responds hash_of AnyAnswer (between handled was is) now heard it.items) a.pass b.pass)
-        → IfNone line (IsSilent hash_of AnyAnswer (between handled was is) now heard a.node a.pass b.pass) → HasMade (AsksFor heard (asked_of is)) a b
-    asked_for heard (Some line) a b same sent none =
-        record { node = same; makes = makes_as (AsksFor heard (asked_of is)) (responded heard line.items) sent }
-    asked_for heard None a b same sent none = silent heard a b same none
+        → IfNone line (IsSilent hash_of AnyAnswer (between handled was is) now heard a.node a.pass b.pass) → IsAnsweredHere heard line (asked_of is) a b
+    answered_here heard (Some line) a b same sent none = (
+      record { node = same; makes = makes_as (AsksFor heard (asked_of is)) (responded heard line.items) sent },
+      record { node = same; makes = makes_as (RespondsNoted heard (asked_of is) line.items) (responded_noted heard line.items) sent },
+    )
+    answered_here heard None a b same sent none = (silent heard a b same none, tt)
 
 -- a request of keys, and what went over the link for it
 module _ (keys : List (List ℕ)) (request : List ℕ) (r : Result (List ℕ) ClusterError) (asked : Bool) (noted : Option Address) (old new : Calling) where

@@ -11,4 +11,5 @@ pub mod Performing
 pub mod Relays
 pub mod Replies
 pub mod Requests
+pub mod Serving
 pub mod Texts

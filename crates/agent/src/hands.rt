@@ -1,6 +1,5 @@
 //! The hands of an agent, the threads that have the application answer the requests of other nodes.
-ghost use Rattle.agent.specs.Asking.{AsksFor};
-ghost use Rattle.agent.specs.Calling.{HasMade};
+ghost use Rattle.agent.specs.Serving.{IsAnsweredHere, IsServed};
 
 use crate::agents::Agent;
 use crate::applications::Limited;
@@ -11,6 +10,7 @@ use crate::relays::{line_after, millis_left, relay, relay_link};
 use crate::systems::Host;
 use cluster_core::TcpLink;
 use crossbeam_channel::Receiver;
+use peer_core::Link;
 use std::alloc::Global;
 use std::io::ErrorKind;
 use std::net::TcpStream;
@@ -25,7 +25,7 @@ fn own_answer<R: Host>(
     link: &mut TcpLink<R>,
     job: &Job,
 ) -> (Option<Vec<u8>>, bool)
-    ensures asked { HasMade (AsksFor job.now.input result.1) caller.old caller.new }
+    ensures answered { IsAnsweredHere job.now.input result.0 result.1 caller.old caller.new }
 {
     let application = Limited::new(&agent.application, millis_left(agent, job.since));
     let mut handler = NotedHandler::new(&application);
@@ -34,9 +34,33 @@ fn own_answer<R: Host>(
     (line, handler.was_asked)
 }
 
-/// Answers a request over its connection. One that this node does not own is passed on to the owner. If no other node
-/// performed it, this node answers again, since it may own it by now. If the owner gave no reply, the connection is closed
-/// without an answer, since the owner may have performed the request.
+/// Returns the line that goes back for a request. One that this node does not own is passed on to the owner. If no other
+/// node performed it, this node answers again, since it may own it by now. If the owner gave no reply, no line goes back,
+/// since the owner may have performed the request.
+fn line_for_request<R: Host, L: Link>(
+    agent: &Agent<R>,
+    alloc: Global,
+    caller: &mut Caller,
+    link: &mut TcpLink<R>,
+    relay_link: &mut L,
+    job: &mut Job,
+) -> Option<Vec<u8>>
+    ensures served { IsServed L.may_answer L.went job.old.input result relay_link.old relay_link.new caller.old }
+{
+    let (line, was_asked) = own_answer(agent, alloc, caller, link, job);
+    agent.renew(caller);
+    if was_asked {
+        return line;
+    }
+    let relayed = relay(agent, alloc, caller, relay_link, job);
+    agent.renew(caller);
+    match line_after(relayed) {
+        Some(line) => line,
+        None => own_answer(agent, alloc, caller, link, job).0,
+    }
+}
+
+/// Answers a request over its connection, or closes that where no line goes back.
 fn serve_request<R: Host>(
     agent: &Agent<R>,
     alloc: Global,
@@ -44,18 +68,9 @@ fn serve_request<R: Host>(
     link: &mut TcpLink<R>,
     mut job: Job,
 ) {
-    let (mut line, was_asked) = own_answer(agent, alloc, caller, link, &job);
+    let mut relay_link = relay_link(agent);
+    let line = line_for_request(agent, alloc, caller, link, &mut relay_link, &mut job);
     agent.renew(caller);
-    if !was_asked {
-        let mut relay_link = relay_link(agent);
-        let relayed = relay(agent, alloc, caller, &mut relay_link, &mut job);
-        agent.renew(caller);
-        line = match line_after(relayed) {
-            Some(line) => line,
-            None => own_answer(agent, alloc, caller, link, &job).0,
-        };
-        agent.renew(caller);
-    }
     if let Some(line) = line {
         send_back(agent, job.stream, line);
     }

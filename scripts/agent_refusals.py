@@ -4,6 +4,9 @@ Each answer that an agent makes itself has its word, and no answer of a service 
 and metrics; a node that becomes full says so, and one that refuses a line at its port logs and counts it.
 """
 import itertools
+import json
+import time
+from email.utils import parsedate_to_datetime
 from urllib.parse import quote
 
 from agents import counted, fetch, keys_of, running
@@ -11,11 +14,15 @@ from nodes import PATIENCE, Wrong, address, expect, hears, wait_until
 
 # the most addresses that a node holds, and the number from which on an agent lets no new one join
 MOST, MARGIN = 4_096, 4_000
+# values of Accept, and whether they name JSON
+ACCEPTS = [("application/json", True), ("text/html, APPLICATION/JSON;q=0.5, */*", True), ("application/json ; charset=utf-8", True),
+           (None, False), ("*/*", False), ("application/*", False), ("text/plain", False), ("application/json-patch+json, a/application/json", False)]
 
 
 def told_apart(agent, method, path, body=None):
     """The status of an answer, the word by which it is told from a service's, and after how many seconds to ask again."""
     status, _, fields = fetch(agent.http, method, path, body)
+    check_date(fields)
     return status, fields.get("x-ringpop-error"), fields.get("retry-after")
 
 
@@ -36,9 +43,29 @@ def check_words(agents):
     agents[1].stop_application()
     if told_apart(agents[1], "GET", "/healthz") != (503, "application-down", "1"):
         raise Wrong("a refusal of the agent's health has no word, or no time to ask again")
+    check_json(agents[1], "GET", "/healthz", None, (503, "application-down", "the application does not answer"))
+    check_json(agents[0], "GET", "/owner/k?n=0", None, (400, "bad-count", "bad count: not n=1 to n=4096"))
     for agent in agents:
+        check_json(agent, "POST", f"/keys/{quote(keys[1])}", b"x", (502, "application-not-accepting", "the owner's application accepts no connection"))
         told = told_apart(agent, "POST", f"/keys/{quote(keys[1])}", b"x")
         expect(told == (502, "application-not-accepting", None), f"a 502 of the owner's agent is told as {told}")
+
+
+def check_json(agent, method, path, body, wanted):
+    """A refusal is JSON where a field Accept names it, and else its line; both have a date."""
+    status, word, line = wanted
+    as_json = json.dumps({"error": word, "message": line}, separators=(",", ":"))
+    for accept, is_json in ACCEPTS:
+        status_now, text, fields = fetch(agent.http, method, path, body, {"Accept": accept} if accept else {})
+        form = ("application/json", as_json) if is_json else ("text/plain; charset=utf-8", line)
+        told = status_now, fields.get("x-ringpop-error"), fields.get("content-type"), text.decode()
+        expect(told == (status, word, form[0], f"{form[1]}\n"), f"{method} {path} with Accept {accept} is told as {told}")
+        check_date(fields)
+
+
+def check_date(fields):
+    dates = [parsedate_to_datetime(value) for value in fields.get_all("date", [])]
+    expect(len(dates) == 1 and abs(dates[0].timestamp() - time.time()) < 5, f"the dates of an answer are {dates}")
 
 
 def check_margin(program, full, port):

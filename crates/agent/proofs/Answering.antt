@@ -4,14 +4,14 @@ use Rattle.std.specs.Prelude.{[], ◌⊎◌, OnOk, is_err}
 use Rattle.http.specs.declared.request.Request.{Request}
 use Rattle.http_server.specs.declared.response.Response.{Response}
 use Rattle.http_server.specs.Response.{IsResponse}
-use Rattle.agent.specs.Answers.{IsAnswered, Settles, ShowsOutcome}
+use Rattle.agent.specs.Answers.{IsAnswered, Settles, ShowsTo}
 use Rattle.agent.specs.Calling.{Calling, HasMade}
 use Rattle.agent.specs.Performing.{Outcome}
 use Rattle.agent.proofs.Performed.{made_as}
 
 -- a response that shows the outcome, or a status alone, answers the request
 pub answered_by : (own replicas : ℕ) (field : Option (List ℕ)) (request : Request (List ℕ)) (response : Response) (outcome : Outcome) (old new : Calling)
-    → HasMade (Settles own replicas field request outcome) old new → ((closes : Bool) × ShowsOutcome outcome closes response) ⊎ IsResponse 503 [] [] response
+    → HasMade (Settles own replicas field request outcome) old new → ShowsTo request outcome response ⊎ IsResponse 503 [] [] response
     → HasMade (IsAnswered own replicas field request response) old new
 answered_by own replicas field request response outcome old new made shown =
     made_as (IsAnswered own replicas field request response) (Settles own replicas field request outcome) old new

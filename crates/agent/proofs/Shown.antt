@@ -53,12 +53,12 @@ not_shown given i d lt none all =
     let within : i < length (map named given) = subst (λ n. i < n) (sym (length-map given named)) lt in
     none (subst IsField (get_or-map named given i d (named d) lt) (All-get_or IsField (map named given) i (named d) within all))
 
--- a response with these fields, and then with one that names the owner
-pub owned : (status : ℕ) (front shown told owner : List Header) (body : List ℕ) (old new : Response) → IsResponse status (front ++ shown) body old → shown ≡ told
-    → new.status ≡ old.status → new.body ≡ old.body → fields_of new ≡ fields_of old ++ owner → IsResponse status ((front ++ told) ++ owner) body new
-owned status front shown told owner body old new is same same_status same_body grown = record {
+-- a response with these fields, and then with more
+pub grown : (status : ℕ) (told more : List Header) (body : List ℕ) (old new : Response) → IsResponse status told body old
+    → new.status ≡ old.status → new.body ≡ old.body → fields_of new ≡ fields_of old ++ more → IsResponse status (told ++ more) body new
+grown status told more body old new is same_status same_body longer = record {
   status = same_status ∙ is.status;
-  headers = grown ∙ ap (λ z. z ++ owner) (is.headers ∙ ap (λ z. front ++ z) same);
+  headers = longer ∙ ap (λ z. z ++ more) is.headers;
   body = body_of is.body same_body;
 }
   where

@@ -1,8 +1,10 @@
 -- The answer to a request over HTTP: what the request asks for, what was done by the node, and the response.
-use Rattle.std.specs.Prelude.{◌⊎◌, ℕ, Bool, List, [], Option, Ok, Err}
+use Rattle.std.specs.Prelude.{◌⊎◌, ℕ, IsTrue, List, [], Option, Ok, Err, codes}
 use Rattle.hash_ring.specs.declared.hash.Sha256Hash.{Sha256Hash}
 use Rattle.peer_core.specs.Acts.{Act, OfActs}
+use Rattle.http.specs.Request.{head_of}
 use Rattle.http.specs.declared.request.Request.{Request}
+use Rattle.http_header.specs.HeaderMap.{ContainsKey}
 use Rattle.http_server.specs.declared.response.Response.{Response}
 use Rattle.http_server.specs.Response.{IsResponse}
 use Rattle.agent_core.specs.declared.actions.Action.{Action}
@@ -10,11 +12,17 @@ use Rattle.agent_core.specs.declared.refusals.Refusal.{Refusal}
 use Rattle.agent.specs.Performing.{Declines, Outcome, Performs}
 use Rattle.agent.specs.Replies.{ShowsRefusal, ShowsReply}
 use Rattle.agent.specs.Requests.{AsksFor, IsRefused}
+use Rattle.agent.specs.declared.responses.Form.{Form}
 
--- a response shows an outcome, and says whether the connection is closed
-abbrev pub ShowsOutcome : Outcome → Bool → Response → Type 0
-ShowsOutcome (Ok reply) closes response = ShowsReply reply closes response
-ShowsOutcome (Err refusal) closes response = ShowsRefusal refusal closes response
+-- a response of this form shows an outcome
+abbrev pub ShowsOutcome : Outcome → Form → Response → Type 0
+ShowsOutcome (Ok reply) form response = ShowsReply reply form response
+ShowsOutcome (Err refusal) form response = ShowsRefusal refusal form response
+
+-- a response to a request shows an outcome, in some form: a refusal is JSON only if the request says what it accepts
+abbrev pub ShowsTo : Request (List ℕ) → Outcome → Response → Type 0
+ShowsTo request outcome response =
+    (form : Form) × (IsTrue form.is_json → ContainsKey (head_of request).headers (codes "accept")) × ShowsOutcome outcome form response
 
 -- the action that a request asks for is performed, with this outcome; or the request is refused, and the node is not called
 abbrev pub Settles : ℕ → ℕ → Option (List ℕ) → Request (List ℕ) → Outcome → OfActs Sha256Hash
@@ -27,4 +35,4 @@ Settles own replicas field request outcome acts =
 pub record IsAnswered (own replicas : ℕ) (field : Option (List ℕ)) (request : Request (List ℕ)) (response : Response) (acts : List (Act Sha256Hash)) : Type 0 where
   pub outcome : Outcome
   pub settled : Settles own replicas field request outcome acts
-  pub shown : ((closes : Bool) × ShowsOutcome outcome closes response) ⊎ IsResponse 503 [] [] response
+  pub shown : ShowsTo request outcome response ⊎ IsResponse 503 [] [] response

@@ -15,7 +15,7 @@ use Rattle.base64.specs.GeneralPurpose.{IsBytes}
 use Rattle.agent_core.specs.Packs.{unpacked}
 use Rattle.agent_core.specs.Parts.{joined}
 use Rattle.agent_core.specs.Passing.{answer_parts, answer_text}
-use Rattle.agent_core.specs.Refusals.{kind_name, line_of, sent, status_of, word_of}
+use Rattle.agent_core.specs.Refusals.{json_of, kind_name, line_of, sent, status_of, word_of}
 use Rattle.agent_core.specs.declared.answers.Kind.{Kind}
 use Rattle.agent_core.specs.declared.answers.Kind.TheVariants as kind
 use Rattle.agent_core.specs.declared.pages.TheConstants.{PAGE}
@@ -25,8 +25,9 @@ use Rattle.agent_core.specs.declared.verbs.Verb.{Verb}
 use Rattle.agent_core.specs.declared.verbs.Verb.TheVariants.{Get, Post}
 use Rattle.agent.specs.declared.replies.Reply.{Reply}
 use Rattle.agent.specs.declared.replies.Reply.TheVariants.{Handled, Line, Text, Json, Ring, Unchanged, Digest, Page}
+use Rattle.agent.specs.declared.responses.Form.{Form}
 
--- the kind of an application's answer
+-- the kind of a text that is JSON, or is not: an application's answer, or a refusal
 abbrev pub answered_kind : Bool → Kind
 answered_kind is_json = cond is_json kind.Json kind.Text
 
@@ -68,9 +69,18 @@ pub record IsText (content : Kind) (text : List ℕ) (reply : Reply) : Type 0 wh
 abbrev pub closing : Bool → List Header
 closing closes = cond closes ((codes "connection", codes "close") ∷ []) []
 
--- the fields of each response: that one, and the one that names the kind of content
-abbrev pub fields_for : Bool → Kind → List Header
-fields_for closes content = closing closes ++ (codes "content-type", kind_name content) ∷ []
+-- the field of this name that has a date
+abbrev pub dated : List ℕ → HttpDate → List Header
+dated name date = (name, date_text date) ∷ []
+
+-- that field, if the date is known
+abbrev pub date_field : List ℕ → Option HttpDate → List Header
+date_field name None = []
+date_field name (Some date) = dated name date
+
+-- the fields of each response: that one, the one that has the present date (RFC 9110, section 6.6.1), and the one that names the kind of content
+abbrev pub fields_for : Form → Kind → List Header
+fields_for form content = (closing form.closes ++ date_field (codes "date") form.date) ++ (codes "content-type", kind_name content) ∷ []
 
 -- the digits of a digest between quotes
 abbrev pub tag_text : List ℕ → List ℕ
@@ -80,14 +90,9 @@ tag_text digest = 34 ∷ (digest_digits digest ++ 34 ∷ [])
 abbrev pub tag_field : List ℕ → List Header
 tag_field digest = (codes "etag", tag_text digest) ∷ []
 
--- the field that has a date since when the ring is this one (RFC 9110, section 8.8.2)
-abbrev pub dated : HttpDate → List Header
-dated date = (codes "last-modified", date_text date) ∷ []
-
--- that field, if the date is known
-abbrev pub date_field : Option HttpDate → List Header
-date_field None = []
-date_field (Some date) = dated date
+-- the field that has a date since when the ring is this one (RFC 9110, section 8.8.2), if it is known
+abbrev pub since_field : Option HttpDate → List Header
+since_field since = date_field (codes "last-modified") since
 
 -- the field that names the owner of the key
 abbrev pub named_owner : ℕ → List Header
@@ -101,7 +106,7 @@ open_field = (codes "access-control-allow-origin", codes "*") ∷ []
 -- this one, if the ring is shown; the field that lets any page read it, if the reply is the digest of the members
 abbrev pub owner_field : Reply → List Header
 owner_field (Handled owner text) = named_owner owner
-owner_field (Ring digest since text) = tag_field digest.bytes ++ date_field since
+owner_field (Ring digest since text) = tag_field digest.bytes ++ since_field since
 owner_field (Unchanged digest) = tag_field digest.bytes
 owner_field (Digest text) = open_field
 owner_field _ = []
@@ -126,15 +131,9 @@ refusal_field _ = []
 abbrev pub word_field : Refusal → List Header
 word_field refusal = (codes "x-ringpop-error", word_of refusal) ∷ []
 
--- that field, if there is a refusal
-abbrev pub word_if : Option Refusal → List Header
-word_if None = []
-word_if (Some refusal) = word_field refusal
-
--- that field, if the reply is one that the owner's agent sent in place of its application's
-abbrev pub sent_field : Reply → List Header
-sent_field (Handled owner text) = word_if (sent (unpacked text).status (unpacked text).body)
-sent_field _ = []
+-- the body of a response that shows a refusal: JSON, or its line
+abbrev pub refusal_body : Bool → Refusal → List ℕ
+refusal_body is_json refusal = cond is_json (json_of refusal) (line_of refusal)
 
 -- the field of a 503: after how many seconds the client may ask again
 abbrev pub retry_field : ℕ → List Header
@@ -156,28 +155,39 @@ pub record HasAnswer (text : List ℕ) (status : ℕ) (body : List ℕ) (fields 
   pub greatest : status ≤ 599
   pub names : All IsField fields
 
--- a response shows the whole answer that a text has, and names the owner
+-- a response shows the whole answer that a text has, and names the owner; before that it may have a date that the agent gave it (RFC 9110, section 6.6.1)
 abbrev pub ShowsWhole : List ℕ → Bool → ℕ → Response → Type 0
 ShowsWhole text closes owner response =
-    (status : ℕ) × (body : List ℕ) × (fields : List Header) × HasAnswer text status body fields
-    × IsResponse status ((closing closes ++ map lower fields) ++ named_owner owner) body response
+    (status : ℕ) × (body : List ℕ) × (fields : List Header) × HasAnswer text status body fields × (date : Option HttpDate)
+    × IsResponse status (((closing closes ++ map lower fields) ++ date_field (codes "date") date) ++ named_owner owner) body response
 
 -- a text has no whole answer
 abbrev pub HasNoAnswer : List ℕ → Type 0
 HasNoAnswer text = (status : ℕ) (body : List ℕ) (fields : List Header) → ¬ (HasAnswer text status body fields)
 
 -- a response shows a reply that is a text of this node, or the answer to a request that was a body alone
-abbrev pub ShowsText : Reply → Bool → Response → Type 0
-ShowsText reply closes response =
-    IsResponse (reply_status reply) ((fields_for closes (reply_kind reply) ++ owner_field reply) ++ sent_field reply) (reply_body reply) response
+abbrev pub ShowsText : Reply → Form → Response → Type 0
+ShowsText reply form response =
+    IsResponse (reply_status reply) (fields_for form (reply_kind reply) ++ owner_field reply) (reply_body reply) response
 
--- a response shows a reply, and says whether the connection is closed
-abbrev pub ShowsReply : Reply → Bool → Response → Type 0
-ShowsReply (Handled owner text) closes response =
-    ShowsWhole text closes owner response ⊎ (HasNoAnswer text × ShowsText (Handled owner text) closes response)
-ShowsReply reply closes response = ShowsText reply closes response
+-- a response shows a refusal that the owner's agent sent in place of its application's answer, if there is one, or else that answer
+abbrev pub ShowsSent : Option Refusal → ℕ → List ℕ → Form → Response → Type 0
+ShowsSent None owner text form response = ShowsText (Handled owner text) form response
+ShowsSent (Some refusal) owner text form response =
+    IsResponse (status_of refusal) ((fields_for form (answered_kind form.is_json) ++ named_owner owner) ++ word_field refusal) (refusal_body form.is_json refusal) response
 
--- a response shows a refusal, and says whether the connection is closed
-abbrev pub ShowsRefusal : Refusal → Bool → Response → Type 0
-ShowsRefusal refusal closes response =
-    IsResponse (status_of refusal) (((fields_for closes kind.Text ++ word_field refusal) ++ retry_field (status_of refusal)) ++ refusal_field refusal) (line_of refusal) response
+-- a response shows the answer to a request that was a body alone
+abbrev pub ShowsPlain : ℕ → List ℕ → Form → Response → Type 0
+ShowsPlain owner text form response = ShowsSent (sent (unpacked text).status (unpacked text).body) owner text form response
+
+-- a response of this form shows a reply
+abbrev pub ShowsReply : Reply → Form → Response → Type 0
+ShowsReply (Handled owner text) form response =
+    ShowsWhole text form.closes owner response ⊎ (HasNoAnswer text × ShowsPlain owner text form response)
+ShowsReply reply form response = ShowsText reply form response
+
+-- a response of this form shows a refusal
+abbrev pub ShowsRefusal : Refusal → Form → Response → Type 0
+ShowsRefusal refusal form response =
+    IsResponse (status_of refusal) (((fields_for form (answered_kind form.is_json) ++ word_field refusal) ++ retry_field (status_of refusal)) ++ refusal_field refusal)
+    (refusal_body form.is_json refusal) response

@@ -8,6 +8,8 @@ use crate::counters::{Count, Times};
 use crate::exchanges::{Answer, Asked, Wanted, exchange};
 use crate::journals::Logger;
 use crate::notices::Notices;
+use crate::requests::names_json;
+use crate::responses::{kind_of, refused_body};
 use crate::settings::Settings;
 use crate::systems::Host;
 use agent_core::{
@@ -82,12 +84,18 @@ fn refused(alloc: Global, refusal: &Refusal) -> Result<Text, HandlerFault>
 }
 
 /// Returns the text of a Reply for a refusal of a request that was passed on whole: a field says that it is the agent's.
-fn refused_whole(alloc: Global, refusal: &Refusal) -> Result<Text, WireError> {
+fn refused_whole(alloc: Global, refusal: &Refusal, is_json: bool) -> Result<Text, WireError> {
     let mut fields = Vec::new(alloc);
-    push_field(&mut fields, b"content-type", b"text/plain; charset=utf-8")?;
+    let kind = kind_of(is_json).name();
+    push_field(&mut fields, b"content-type", kind.as_bytes())?;
     push_field(&mut fields, b"x-ringpop-error", refusal.word().as_bytes())?;
-    let line = refusal.line(alloc)?;
-    pack_answer(alloc, refusal.status(), line.as_bytes(), fields.as_slice())
+    let body = refused_body(alloc, refusal, is_json)?;
+    pack_answer(alloc, refusal.status(), body.as_bytes(), fields.as_slice())
+}
+
+/// Returns whether a field of a request names JSON among what it accepts.
+fn takes_json(field: &Header<'_>) -> bool {
+    field.name == b"accept".as_slice() && names_json(field.value)
 }
 
 /// Returns the text of a Reply for a failure of a request: no error, so that the asking node does not try again.
@@ -95,7 +103,10 @@ fn failed(alloc: Global, asked: &Asked<'_>, failure: Failure) -> Result<Text, Ha
     let refusal = Refusal::Unanswered(failure);
     match asked.wanted {
         Wanted::Kind => refused(alloc, &refusal),
-        Wanted::All { .. } => refused_whole(alloc, &refusal).map_err(handler_fault),
+        Wanted::All { .. } => {
+            let is_json = asked.fields.iter().any(takes_json);
+            refused_whole(alloc, &refusal, is_json).map_err(handler_fault)
+        }
     }
 }
 

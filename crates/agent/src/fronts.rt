@@ -1,12 +1,14 @@
 //! The service that answers HTTP requests.
-ghost use Rattle.std.specs.Prelude.{◌≡◌, ◌+◌, ◌<◌, ◌≤◌, ℕ, Bool, Option, false, not, true, OnOk, IfErr, IfOk, Ok};
+ghost use Rattle.std.specs.Prelude.{◌≡◌, ◌+◌, ◌<◌, ◌≤◌, ℕ, Bool, Option, codes, false, not, true, OnOk, IfErr, IfOk, IsTrue, Ok};
+ghost use Rattle.http.specs.Request.{head_of};
+ghost use Rattle.http_header.specs.HeaderMap.{ContainsKey};
 ghost use Rattle.http_server.specs.Response.{IsBlank};
 ghost use Rattle.node_core.specs.declared.events.Event.TheVariants as call;
 ghost use Rattle.node_core.specs.declared.events.Reply.TheVariants as reply;
 ghost use Rattle.peer_core.specs.Parts.{Does, Tries};
 ghost use Rattle.agent_core.specs.Passing.{sent_text};
 ghost use Rattle.agent_core.specs.declared.actions.Action.TheVariants as action;
-ghost use Rattle.agent.specs.Answers.{IsAnswered, Settles, ShowsOutcome};
+ghost use Rattle.agent.specs.Answers.{IsAnswered, Settles, ShowsTo};
 ghost use Rattle.agent.specs.Asking.{answerer};
 ghost use Rattle.agent.specs.Calling.{HasMade};
 ghost use Rattle.agent.specs.Performing.{AsksIfPlaced, AsksOwner, Finds, IsFound, IsHealth, IsLiveness, IsRequested, IsUnjoined, Outcome, Performs, Settled, ShowsCounts, ShowsMembers, ShowsOwners, crowded, digest_by, refusal_of};
@@ -16,9 +18,10 @@ use crate::callers::Caller;
 use crate::links::{NotedHandler, NotedLink};
 use crate::onces::OnceLink;
 use crate::replies::Reply;
-use crate::requests::{action_of, is_of_key};
-use crate::responses::{put_refusal, put_reply};
+use crate::requests::{action_of, is_of_key, takes_json};
+use crate::responses::{Form, put_refusal, put_reply};
 use crate::systems::Host;
+use crate::watchers::date;
 use agent_core::{Action, Outgoing, Refusal, is_live, pack_body, pack_request};
 use bytes::Bytes;
 use change_core::{Address, Change, Digest, MAX_MEMBERS};
@@ -504,6 +507,17 @@ impl<'f, 'a, R: Host> Front<'f, 'a, R> {
         self.agent.is_stopping.get()
     }
 
+    /// Returns the form of the answer to a request.
+    fn form(&self, request: &Request<Bytes>) -> Form
+        ensures { IsTrue result.is_json → ContainsKey (head_of request.now).headers (codes "accept") }
+    {
+        Form {
+            closes: self.closes(),
+            is_json: takes_json(request),
+            date: date(&self.agent.rt),
+        }
+    }
+
     /// Writes the reply to a request, or its refusal, and counts it.
     fn answer(
         &mut self,
@@ -512,7 +526,7 @@ impl<'f, 'a, R: Host> Front<'f, 'a, R> {
     ) -> Result<(), AllocError>
         requires { IsBlank response.old }
         ensures answered { (outcome : Outcome) × HasMade (Settles self.old.agent.now.own self.old.agent.now.replicas self.old.agent.now.key_field request.now outcome) self.old.caller.now self.new.caller.now
-            × OnOk result ((closes : Bool) × ShowsOutcome outcome closes response.new) }
+            × OnOk result (ShowsTo request.now outcome response.new) }
         ensures agent { self.new.agent ≡ self.old.agent }
     {
         let start = Instant::now(&self.agent.rt).ok();
@@ -523,10 +537,10 @@ impl<'f, 'a, R: Host> Front<'f, 'a, R> {
         if matches!(&reply, Err(Refusal::Memory)) {
             self.agent.counters.allocation_failures.add(1);
         }
-        let closes = self.closes();
+        let form = self.form(request);
         match &reply {
-            Ok(reply) => put_reply(self.alloc, response, reply, closes),
-            Err(refusal) => put_refusal(self.alloc, response, refusal, closes),
+            Ok(reply) => put_reply(self.alloc, response, reply, &form),
+            Err(refusal) => put_refusal(self.alloc, response, refusal, &form),
         }
     }
 }

@@ -1,7 +1,7 @@
 //! What a request over HTTP asks for.
-ghost use Rattle.std.specs.Prelude.{◌≡◌, ◌↔◌, Err, IfOk, IfErr, IsTrue, Ok, option_copied};
+ghost use Rattle.std.specs.Prelude.{◌≡◌, ◌↔◌, Err, IfOk, IfErr, IsTrue, Ok, codes, option_copied};
 ghost use Rattle.http.specs.Request.{head_of};
-ghost use Rattle.http_header.specs.HeaderMap.{get_all};
+ghost use Rattle.http_header.specs.HeaderMap.{ContainsKey, get_all};
 ghost use Rattle.agent.specs.Requests.{AsksFor, AsksHere, IsCrossSite, IsRefused, IsRefusedHere, Refuses, answered_as, asked_by, field_text, passed_key};
 
 use crate::passing::pass;
@@ -96,6 +96,27 @@ pub fn is_of_key(request: &Request<Bytes>, key_field: &Option<HeaderName>) -> bo
         None => false,
     };
     is_named || request.uri().path().starts_with("/keys/")
+}
+
+/// Returns whether a media range of a list, as the value of `Accept` is, is JSON, whatever its weight.
+pub fn names_json(list: &[u8]) -> bool {
+    list.split(|byte| *byte == b',').any(|one| {
+        let end = one.iter().position(|byte| *byte == b';');
+        let range = one.get(..end.unwrap_or(one.len())).unwrap_or(&[]);
+        range.trim_ascii().eq_ignore_ascii_case(b"application/json")
+    })
+}
+
+/// Returns whether a request names JSON among what it accepts. Then a refusal is JSON.
+pub fn takes_json(request: &Request<Bytes>) -> bool
+    ensures { IsTrue result → ContainsKey (head_of request.now).headers (codes "accept") }
+{
+    let headers = request.headers();
+    headers.contains_key("accept")
+        && headers
+            .get_all("accept")
+            .iter()
+            .any(|list| names_json(list.as_bytes()))
 }
 
 /// Returns the action that a request of the client at this IP address, if that is known, asks for. With a name of the field that names keys, any request of a key is passed on.

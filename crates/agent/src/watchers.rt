@@ -84,7 +84,7 @@ fn seen_at(before: Option<Seen>, digest: Digest, now: HttpDate) -> Seen
 }
 
 /// Returns the present date; None if there is no clock, or it shows a time after the year 9999.
-fn date<R: Host>(rt: &R) -> Option<HttpDate> {
+pub fn date<R: Host>(rt: &R) -> Option<HttpDate> {
     let since = rt.since_1970().ok()?;
     HttpDate::from_unix_secs(since.as_secs()).ok()
 }

@@ -1,4 +1,4 @@
--- The status and the line of text of each refusal, and the content types.
+-- The status, the word, the line of text and the JSON of each refusal, and the content types.
 use Rattle.std.specs.Prelude.{ℕ, ◌==◌, ◌&&◌, Bool, cond, Option, Some, None, List, [], ◌∷◌, ◌++◌, codes, decimal, bytes_eq}
 use Rattle.agent_core.specs.declared.verbs.Verb.TheVariants.{Get, Post}
 use Rattle.agent_core.specs.declared.refusals.Failure.{Failure}
@@ -119,14 +119,14 @@ text_of refusal.Memory = codes "out of memory"
 text_of refusal.OwnerSilent = codes "the owner does not answer"
 text_of refusal.AnswerLost = codes "the answer was lost: the owner may have performed the request"
 
--- a line after which of many keys is bad, by its place among them, from 1; the line alone for another refusal
-abbrev pub placed : Refusal → List ℕ → List ℕ
-placed (refusal.BadKey place why) line = codes "bad key " ++ (decimal place ++ (codes ": " ++ line))
-placed _ line = line
+-- what a refusal says: its text, and which of many keys is bad, by its place among them, from 1
+abbrev pub message_of : Refusal → List ℕ
+message_of (refusal.BadKey place why) = codes "bad key " ++ (decimal place ++ (codes ": " ++ fault_text why))
+message_of refused = text_of refused
 
--- the text of a refusal as a line
+-- that as a line
 abbrev pub line_of : Refusal → List ℕ
-line_of refused = placed refused (text_of refused ++ 10 ∷ [])
+line_of refused = message_of refused ++ 10 ∷ []
 
 -- the word of a refusal, another for each
 abbrev pub word_of : Refusal → List ℕ
@@ -172,6 +172,10 @@ word_of refusal.Spent = codes "no-calls"
 word_of refusal.Memory = codes "memory"
 word_of refusal.OwnerSilent = codes "owner-unresponsive"
 word_of refusal.AnswerLost = codes "answer-lost"
+
+-- a refusal as JSON, its word and what it says, and a newline
+abbrev pub json_of : Refusal → List ℕ
+json_of refused = codes "{\"error\":\"" ++ (word_of refused ++ (codes "\",\"message\":\"" ++ (message_of refused ++ (codes "\"}" ++ 10 ∷ []))))
 
 -- whether an answer with this status and this body is a refusal's
 abbrev pub is_answer : ℕ → List ℕ → Refusal → Bool

@@ -1,6 +1,6 @@
 //! The refusals of requests, and the status and the text of each.
 ghost use Rattle.std.specs.Prelude.{◌≡◌, ◌≤◌, ◌∷◌, ◌++◌, [], IfOk, string_bytes};
-ghost use Rattle.agent_core.specs.Refusals.{failure_text, fault_text, is_answer, join_text, line_of, part_text, sent, status_of, text_of, word_of};
+ghost use Rattle.agent_core.specs.Refusals.{failure_text, fault_text, is_answer, join_text, json_of, line_of, message_of, part_text, sent, status_of, text_of, word_of};
 ghost use Rattle.agent_core.specs.declared.refusals.Refusal.TheVariants.{Busy as crowded, Memory as no_memory, Unanswered as unanswered};
 
 use crate::verbs::Verb;
@@ -123,65 +123,75 @@ pub enum Refusal {
     AnswerLost,
 }
 
-/// Returns the text of a refused join, one line with its newline.
-fn refused_line(reason: Reason) -> &'static str
-    ensures { result.now ≡ join_text reason ++ 10 ∷ [] }
+/// Returns the text of a refused join.
+fn join_text(reason: Reason) -> &'static str
+    ensures { result.now ≡ join_text reason }
 {
     match reason {
-        Reason::Memory => "a host refused this node: memory\n",
-        Reason::Full => "a host refused this node: full\n",
-        Reason::Exhausted => "a host refused this node: exhausted\n",
-        Reason::Malformed => "a host refused this node: malformed\n",
+        Reason::Memory => "a host refused this node: memory",
+        Reason::Full => "a host refused this node: full",
+        Reason::Exhausted => "a host refused this node: exhausted",
+        Reason::Malformed => "a host refused this node: malformed",
         Reason::Diverged | Reason::Nobody | Reason::Failed | Reason::Unexpected => {
-            "a host refused this node\n"
+            "a host refused this node"
         }
     }
 }
 
 impl Part {
-    /// Returns the text of a refusal for this part, one line with its newline.
-    pub fn line(self) -> &'static str
-        ensures { result.now ≡ part_text self ++ 10 ∷ [] }
+    /// Returns the text of a refusal for this part.
+    fn text(self) -> &'static str
+        ensures { result.now ≡ part_text self }
     {
         match self {
-            Part::Key => "bad key: not 1 to 1024 bytes of UTF-8\n",
-            Part::Count => "bad count: not n=1 to n=4096\n",
-            Part::Body => "bad body: not UTF-8\n",
-            Part::Keys => "bad keys: not a JSON list of texts\n",
-            Part::NotMine => "bad not-mine: not not-mine=1\n",
-            Part::After => {
-                "bad after: not the digest of a ring, 64 digits of 0 to 9 and a to f\n"
-            }
-            Part::Wait => "bad wait: not wait=1 to wait=60, in seconds\n",
-            Part::OwnerQuery => "bad query: this path takes n=COUNT alone\n",
-            Part::OwnersQuery => {
-                "bad query: this path takes n=COUNT and not-mine=1, each once\n"
-            }
+            Part::Key => "bad key: not 1 to 1024 bytes of UTF-8",
+            Part::Count => "bad count: not n=1 to n=4096",
+            Part::Body => "bad body: not UTF-8",
+            Part::Keys => "bad keys: not a JSON list of texts",
+            Part::NotMine => "bad not-mine: not not-mine=1",
+            Part::After => { "bad after: not the digest of a ring, 64 digits of 0 to 9 and a to f" }
+            Part::Wait => "bad wait: not wait=1 to wait=60, in seconds",
+            Part::OwnerQuery => "bad query: this path takes n=COUNT alone",
+            Part::OwnersQuery => { "bad query: this path takes n=COUNT and not-mine=1, each once" }
             Part::RingQuery => {
-                "bad query: this path takes after=DIGEST and, only with it, wait=SECONDS, each once\n"
+                "bad query: this path takes after=DIGEST and, only with it, wait=SECONDS, each once"
             }
-            Part::KeyField => "bad key field: it comes twice, or is not ASCII\n",
+            Part::KeyField => "bad key field: it comes twice, or is not ASCII",
         }
     }
 }
 
 impl KeyFault {
-    /// Returns the text of a refusal for this fault, one line with its newline.
-    pub fn line(self) -> &'static str
-        ensures { result.now ≡ fault_text self ++ 10 ∷ [] }
+    /// Returns the text of a refusal for this fault.
+    fn text(self) -> &'static str
+        ensures { result.now ≡ fault_text self }
     {
         match self {
-            KeyFault::NotText => "not a text\n",
-            KeyFault::NotUtf8 => "not UTF-8\n",
-            KeyFault::Empty => "empty\n",
-            KeyFault::Long => "more than 1024 bytes\n",
+            KeyFault::NotText => "not a text",
+            KeyFault::NotUtf8 => "not UTF-8",
+            KeyFault::Empty => "empty",
+            KeyFault::Long => "more than 1024 bytes",
         }
     }
 }
 
 impl Failure {
-    /// Returns the text of a refusal for this failure, one line with its newline.
-    pub fn line(self) -> &'static str
+    /// Returns the text of a refusal for this failure.
+    fn text(self) -> &'static str
+        ensures { result.now ≡ failure_text self }
+    {
+        match self {
+            Failure::NotAccepted => "the owner's application accepts no connection",
+            Failure::HungUp => "the owner's application hung up before it answered",
+            Failure::NoAnswer => "no whole answer of the owner's application came",
+            Failure::BadAnswer => {
+                "bad answer of the owner's application: not HTTP/1, not UTF-8, too long or of a status not 200 to 599"
+            }
+        }
+    }
+
+    /// Returns that text with a newline.
+    fn line(self) -> &'static str
         ensures { result.now ≡ failure_text self ++ 10 ∷ [] }
     {
         match self {
@@ -201,9 +211,6 @@ impl Failure {
         status == 502 && body == self.line()
     }
 }
-
-/// The text of the refusal of a request that finds no place.
-const BUSY: &str = "too many requests wait\n";
 
 impl From<AllocError> for Refusal {
     ghost from_gives = { λ _ e. e ≡ no_memory };
@@ -320,16 +327,12 @@ impl Refusal {
         if Failure::BadAnswer.is_answer(status, body) {
             return Some(Refusal::Unanswered(Failure::BadAnswer));
         }
-        (status == 503 && body == BUSY).then_some(Refusal::Busy)
+        (status == 503 && body == "too many requests wait\n").then_some(Refusal::Busy)
     }
 
-    /// Returns the refusal's text, one line with its newline.
-    ///
-    /// # Errors
-    ///
-    /// - `AllocError`: out of memory.
-    pub fn line(&self, alloc: Global) -> Result<String, AllocError>
-        ensures { IfOk result (λ line. string_bytes line ≡ line_of self.now) }
+    /// Returns what the refusal says: its text, and which of many keys is bad.
+    fn message(&self, alloc: Global) -> Result<String, AllocError>
+        ensures { IfOk result (λ message. string_bytes message ≡ message_of self.now) }
     {
         let text = self.text();
         match self {
@@ -338,48 +341,74 @@ impl Refusal {
         }
     }
 
-    /// Returns the refusal's text with its newline, without the place of a bad key.
+    /// Returns what the refusal says, one line with its newline.
+    ///
+    /// # Errors
+    ///
+    /// - `AllocError`: out of memory.
+    pub fn line(&self, alloc: Global) -> Result<String, AllocError>
+        ensures { IfOk result (λ line. string_bytes line ≡ line_of self.now) }
+    {
+        let mut line = self.message(alloc)?;
+        line.push_str("\n")?;
+        Ok(line)
+    }
+
+    /// Returns the refusal as JSON, `{"error":"bad-count","message":".."}` and a newline: its word, and what it says. No refusal says a character
+    /// that JSON escapes.
+    ///
+    /// # Errors
+    ///
+    /// - `AllocError`: out of memory.
+    pub fn json(&self, alloc: Global) -> Result<String, AllocError>
+        ensures { IfOk result (λ text. string_bytes text ≡ json_of self.now) }
+    {
+        let word = self.word();
+        let message = self.message(alloc)?;
+        format!(in alloc; "{{\"error\":\"{word}\",\"message\":\"{message}\"}}\n")
+    }
+
+    /// Returns the refusal's text, without the place of a bad key.
     fn text(&self) -> &'static str
-        ensures { result.now ≡ text_of self.now ++ 10 ∷ [] }
+        ensures { result.now ≡ text_of self.now }
     {
         match self {
-            Refusal::Malformed(part) => part.line(),
-            Refusal::BadKey { fault, .. } => fault.line(),
-            Refusal::CrossSite => "refused: asked by a page of another site\n",
-            Refusal::NotFound => "nothing at this path\n",
-            Refusal::BadMethod(Verb::Get) => "bad method: this path takes GET\n",
-            Refusal::BadMethod(Verb::Post) => "bad method: this path takes POST\n",
-            Refusal::AlreadyLeft => "the node has left already\n",
-            Refusal::NotLeft => "the node has not left\n",
-            Refusal::Exhausted => "no incarnation is left\n",
-            Refusal::LongBody => "bad body: more than 131072 bytes\n",
-            Refusal::ManyKeys => "bad keys: more than 4096\n",
-            Refusal::LongRequest => "bad body: more than 524288 bytes\n",
-            Refusal::NotPassed => "not passed on: a CONNECT, or a request with Upgrade\n",
-            Refusal::ApplicationFailed => "the application failed\n",
-            Refusal::Unanswered(failure) => failure.line(),
-            Refusal::ApplicationDown => "the application does not answer\n",
-            Refusal::NotJoined => "no host has answered\n",
-            Refusal::JoinRefused(reason) => refused_line(*reason),
-            Refusal::HasLeft => "the node has left\n",
+            Refusal::Malformed(part) => part.text(),
+            Refusal::BadKey { fault, .. } => fault.text(),
+            Refusal::CrossSite => "refused: asked by a page of another site",
+            Refusal::NotFound => "nothing at this path",
+            Refusal::BadMethod(Verb::Get) => "bad method: this path takes GET",
+            Refusal::BadMethod(Verb::Post) => "bad method: this path takes POST",
+            Refusal::AlreadyLeft => "the node has left already",
+            Refusal::NotLeft => "the node has not left",
+            Refusal::Exhausted => "no incarnation is left",
+            Refusal::LongBody => "bad body: more than 131072 bytes",
+            Refusal::ManyKeys => "bad keys: more than 4096",
+            Refusal::LongRequest => "bad body: more than 524288 bytes",
+            Refusal::NotPassed => "not passed on: a CONNECT, or a request with Upgrade",
+            Refusal::ApplicationFailed => "the application failed",
+            Refusal::Unanswered(failure) => failure.text(),
+            Refusal::ApplicationDown => "the application does not answer",
+            Refusal::NotJoined => "no host has answered",
+            Refusal::JoinRefused(reason) => join_text(*reason),
+            Refusal::HasLeft => "the node has left",
             Refusal::ApplicationAwaited => {
-                "the node is not in the ring, since its application accepts no connection\n"
+                "the node is not in the ring, since its application accepts no connection"
             }
-            Refusal::CannotAccept => "no HTTP connection can be accepted\n",
-            Refusal::NoRounds => "no round of gossip ended in the last ten seconds\n",
-            Refusal::Nobody => "nobody serves\n",
-            Refusal::Busy => BUSY,
+            Refusal::CannotAccept => "no HTTP connection can be accepted",
+            Refusal::NoRounds => "no round of gossip ended in the last ten seconds",
+            Refusal::Nobody => "nobody serves",
+            Refusal::Busy => "too many requests wait",
             Refusal::ManyQuestions => {
-                "too many questions wait: 1000, or half of the connections; ask again after a second, or without wait\n"
+                "too many questions wait: 1000, or half of the connections; ask again after a second, or without wait"
             }
             Refusal::OwnerBusy(_) => {
-                "too many requests wait for the owner of this key: send it again later; keys of other owners are answered\n"
+                "too many requests wait for the owner of this key: send it again later; keys of other owners are answered"
             }
-            Refusal::Spent => "the node takes no more calls\n",
-            Refusal::Memory => "out of memory\n",
-            Refusal::OwnerSilent => "the owner does not answer\n",
-            Refusal::AnswerLost =>
-                "the answer was lost: the owner may have performed the request\n",
+            Refusal::Spent => "the node takes no more calls",
+            Refusal::Memory => "out of memory",
+            Refusal::OwnerSilent => "the owner does not answer",
+            Refusal::AnswerLost => "the answer was lost: the owner may have performed the request",
         }
     }
 }

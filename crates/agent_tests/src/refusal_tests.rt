@@ -85,6 +85,49 @@ fn answers_each_refusal_with_its_status_and_a_line(rt: HostRuntime) {
     assert!(rt; Answer::line("ok\n").status == 200 && Answer::line("ok\n").body == "ok\n");
 }
 
+/// Returns whether a text stands in JSON as it is.
+fn is_plain(text: &str) -> bool {
+    for byte in text.as_bytes() {
+        if *byte < b' ' || *byte == b'"' || *byte == b'\\' {
+            return false;
+        }
+    }
+    true
+}
+
+#[test]
+fn shows_each_refusal_as_json(rt: HostRuntime) {
+    for (refusal, _, start) in &ROWS {
+        let line = line_of(&rt, rt.alloc(), refusal);
+        assert!(rt;
+            is_plain(line.trim_end()) && is_plain(refusal.word()),
+            "{start}"
+        );
+    }
+    let bad_key = Refusal::BadKey {
+        place: 17,
+        fault: KeyFault::Long,
+    };
+    for (refusal, wanted) in &[
+        (
+            Refusal::Malformed(Part::Count),
+            "{\"error\":\"bad-count\",\"message\":\"bad count: not n=1 to n=4096\"}\n",
+        ),
+        (
+            bad_key,
+            "{\"error\":\"bad-listed-key\",\"message\":\"bad key 17: more than 1024 bytes\"}\n",
+        ),
+        (
+            Refusal::Busy,
+            "{\"error\":\"busy\",\"message\":\"too many requests wait\"}\n",
+        ),
+    ] {
+        let text = again!(&rt, AllocError, refusal.json(rt.alloc()));
+        let text = text.ok().expect(&rt, "a text");
+        assert!(rt; text.as_str() == *wanted, "{wanted}");
+    }
+}
+
 #[test]
 fn tells_refusals_apart(rt: HostRuntime) {
     let silent = Refusal::Unanswered(Failure::NoAnswer);

@@ -1,4 +1,4 @@
-use Rattle.std.proofs.Common.{◌≡◌, ◌∙◌, ℕ, List, [], ◌∷◌, ◌++◌, ap, codes}
+use Rattle.std.proofs.Common.{◌≡◌, ◌∙◌, [], ◌∷◌, ◌++◌, ap}
 use Rattle.std.proofs.lemmas.Result.{on_ok_weaker}
 use Rattle.http_header.specs.FieldValue.{FieldValue, plain_value}
 use Rattle.http_server.specs.Response.{fields_of}
@@ -9,7 +9,5 @@ pub returns-clause-fields : goal.returns-clause-fields
 returns-clause-fields c =
     let value : c.in_ok-date.date ≡ plain_value (date_text c.args.date) = c.in_ok-date.ensures in
     on_ok_weaker c.add_header.result
-    (λ is. is
-    ∙ ap (λ (name : List ℕ). fields_of c.args.response.now ++ (name, c.in_ok-date.date.bytes) ∷ []) c.from_static.ensures
-    ∙ ap (λ (v : FieldValue). fields_of c.args.response.now ++ (codes "last-modified", v.bytes) ∷ []) value)
+    (λ is. is ∙ ap (λ (v : FieldValue). fields_of c.args.response.now ++ (c.args.name, v.bytes) ∷ []) value)
     c.add_header.ensures.headers

@@ -6,5 +6,5 @@ use Rattle.agent.proofs.responses.put_date.Goals as goal
 
 pub returns-in-Some-clause-fields : goal.returns-in-Some-clause-fields
 returns-in-Some-clause-fields c =
-    subst (λ (since : Option HttpDate). OnOk c.add_date.result (fields_of c.add_date.new.response ≡ fields_of c.args.response.now ++ date_field since))
+    subst (λ (since : Option HttpDate). OnOk c.add_date.result (fields_of c.add_date.new.response ≡ fields_of c.args.response.now ++ date_field c.args.name since))
     (sym c.in-Some.is) c.add_date.ensures.fields

@@ -87,9 +87,12 @@ def check_bodies(agent):
 def check_down(agent):
     """A service that is down is told in the same form, with a field that says so."""
     agent.stop_application()
-    status, body, fields = ask(agent, "GET", "/keys/k", [("host", "x")], b"")
-    if (status, body) != (502, b"the owner's application accepts no connection\n") or ("x-ringpop-error", "application-not-accepting") not in fields:
-        raise Wrong(f"a service that is down is told as {status} {body} {fields}")
+    word, line = "application-not-accepting", "the owner's application accepts no connection"
+    as_json = json.dumps({"error": word, "message": line}, separators=(",", ":"))
+    for accept, kind, text in (("*/*", "text/plain; charset=utf-8", line), ("text/html, application/json", "application/json", as_json)):
+        status, body, fields = ask(agent, "GET", "/keys/k", [("host", "x"), ("accept", accept)], b"")
+        if (status, body.decode()) != (502, text + "\n") or not {("x-ringpop-error", word), ("content-type", kind)} <= set(fields):
+            raise Wrong(f"a service that is down is told as {status} {body} {fields}")
 
 
 def check(program, port):

@@ -104,7 +104,7 @@ fn failed(alloc: Global, asked: &Asked<'_>, failure: Failure) -> Result<Text, Ha
     match asked.wanted {
         Wanted::Kind => refused(alloc, &refusal),
         Wanted::All { .. } => {
-            let is_json = asked.fields.iter().any(takes_json);
+            let is_json = asked.fields.iter().any(|field| takes_json(field));
             refused_whole(alloc, &refusal, is_json).map_err(handler_fault)
         }
     }

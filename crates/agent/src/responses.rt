@@ -241,7 +241,7 @@ fn missing_date(response: &Response, form: &Form) -> Option<HttpDate> {
     if response
         .headers
         .iter()
-        .any(|(name, _)| name.as_str() == "date")
+        .any(|field| field.0.as_str() == "date")
     {
         None
     } else {

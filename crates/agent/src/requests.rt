@@ -102,14 +102,12 @@ pub fn is_of_key(request: &Request<Bytes>, key_field: &Option<HeaderName>) -> bo
 fn is_json(range: &[u8]) -> bool {
     let end = range.iter().position(|byte| *byte == b';');
     let kind = range.get(..end.unwrap_or(range.len())).unwrap_or(&[]);
-    kind.trim_ascii()
-        .eq_ignore_ascii_case(b"application/json")
+    kind.trim_ascii().eq_ignore_ascii_case(b"application/json")
 }
 
 /// Returns whether a list of media ranges, as the value of `Accept` is, names JSON.
 pub fn names_json(list: &[u8]) -> bool {
-    list.split(|byte| *byte == b',')
-        .any(|range| is_json(range))
+    list.split(|byte| *byte == b',').any(|range| is_json(range))
 }
 
 /// Returns whether a request names JSON among what it accepts. Then a refusal is JSON.

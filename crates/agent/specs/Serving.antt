@@ -27,10 +27,10 @@ module _ {L : Type 0} (Came : MayAnswer) (went : Went L) (heard : Input) where
     -- the application was asked, once; nothing went over the link
     here : {line : Option (Vec ℕ Global)} {still : L} {old : Calling} (new : Calling) → IsAnsweredHere heard line true old new → IsServed line still still old
     -- the application was not asked, and another node may have performed the request: what goes back is its Reply, or nothing
-    there : {line unsent : Option (Vec ℕ Global)} {before after : L} {old : Calling} (new passing passed : Calling) (relayed : Relayed)
+    there : {line : Option (Vec ℕ Global)} {before after : L} {old : Calling} (unsent : Option (Vec ℕ Global)) (new passing passed : Calling) (relayed : Relayed)
         → IsAnsweredHere heard unsent false old new → IsRelayOf Came went heard relayed before after passing passed → relayed ≢ NotDone
         → line ≡ sent_back relayed → IsServed line before after old
     -- the application was not asked, no other node performed the request, and this node answered again
-    here_again : {line unsent : Option (Vec ℕ Global)} {before after : L} {old : Calling} (new passing passed again last : Calling) (asked : Bool)
+    here_again : {line : Option (Vec ℕ Global)} {before after : L} {old : Calling} (unsent : Option (Vec ℕ Global)) (new passing passed again last : Calling) (asked : Bool)
         → IsAnsweredHere heard unsent false old new → IsRelayOf Came went heard NotDone before after passing passed
         → IsAnsweredHere heard line asked again last → IsServed line before after old

@@ -22,6 +22,7 @@ returns-in-Some-2-clause-shown c = λ done.
       told,
       has_answer text bytes answer.status answer.body.now told is octets (sym c.as_slice.ensures.value ∙ came) range.0 range.1 shown.0,
       shown.1,
+      shown.2,
     )
 
 pub returns-in-Some-2-clause-none : goal.returns-in-Some-2-clause-none

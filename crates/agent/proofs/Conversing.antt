@@ -7,11 +7,11 @@ use Rattle.http_server.specs.Connection.{config_of, history}
 use Rattle.http_server.specs.Exchange.{Call, Chain}
 use Rattle.http_server.specs.History.{History, IsServed}
 use Rattle.http_server.specs.declared.connection.Connection.{Connection}
-use Rattle.http_server.specs.declared.state.Config.{Config}
 use Rattle.http_server.specs.declared.response.Response.{Response}
 use Rattle.agent.specs.Answers.{IsAnswered}
 use Rattle.agent.specs.Calling.{Calling, HasMade}
-use Rattle.agent.specs.Connections.{AnswersEach, SendsAnswers, connection_limits}
+use Rattle.agent_http.specs.Visits.{connection_limits}
+use Rattle.agent.specs.Connections.{AnswersEach, SendsAnswers}
 use Rattle.agent.proofs.Performed.{made_none, made_then}
 
 module _ {S : Type 0} (answers : S → Request (List ℕ) → Response → S → Type 0) (own replicas : ℕ) (field : Option (List ℕ)) (IsOfNode : S → Type 0) (calling : S → Calling)
@@ -24,27 +24,6 @@ module _ {S : Type 0} (answers : S → Request (List ℕ) → Response → S →
       let first = step old chain.0 call.0 call.1 ours chain.1 in
       made_then (IsAnswered own replicas field call.0 call.1) (AnswersEach own replicas field calls) (calling old) (calling chain.0) (calling new) first.1
       (chain_answered calls chain.0 new first.0 chain.2)
-
-limits_with : ℕ → ℕ → ℕ → ℕ → Config
-limits_with pending head extensions trailers = record {
-  limits = record { max_head_len = head; max_extensions_len = extensions; max_trailers_len = trailers };
-  max_body_len = 1048576;
-  max_pending = pending;
-  read_size = 512;
-}
-
-limits_by : (d : Config) → (d.max_body_len ≡ 1048576) × (d.max_pending ≡ 65536) × (d.read_size ≡ 8192)
-    × (d.limits.max_head_len ≡ 16384) × (d.limits.max_extensions_len ≡ 16384) × (d.limits.max_trailers_len ≡ 16384)
-    → limits_with d.max_pending d.limits.max_head_len d.limits.max_extensions_len d.limits.max_trailers_len
-    ≡ limits_with 65536 16384 16384 16384
-limits_by d said = cc
-
--- the limits that the code sets over the standard ones
-pub limits_are : (d : Config) → (d.max_body_len ≡ 1048576) × (d.max_pending ≡ 65536) × (d.read_size ≡ 8192)
-    × (d.limits.max_head_len ≡ 16384) × (d.limits.max_extensions_len ≡ 16384) × (d.limits.max_trailers_len ≡ 16384)
-    → record d { max_body_len = 1048576; read_size = 512 } ≡ connection_limits
-unfolding limits_with
-limits_are d said = limits_by d said
 
 module _ (own replicas : ℕ) (field : Option (List ℕ)) (first last : Connection) (unread left written wrote : Option (List ℕ)) (old new : Calling)
     (limits : config_of last ≡ connection_limits) where

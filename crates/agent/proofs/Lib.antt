@@ -2,13 +2,7 @@ pub mod Answering
 pub mod Asking
 pub mod Called
 pub mod Conversing
-pub mod Dated
-pub mod Fields
-pub mod Keyed
 pub mod Performed
-pub mod Refused
 pub mod Relaying
-pub mod Shown
 pub mod Unsure
 pub mod Written
-pub mod Worded

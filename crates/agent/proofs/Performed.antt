@@ -19,7 +19,7 @@ use Rattle.agent_core.specs.declared.refusals.Refusal.{Refusal}
 use Rattle.agent_core.specs.declared.refusals.Refusal.TheVariants as refusal
 use Rattle.agent.specs.Calling.{Calling, HasMade, Looks}
 use Rattle.agent.specs.Performing.{After, AsksIfPlaced, AsksOwner, Finds, IsFound, Outcome, Owners, Performs, Settled, Shows, ShowsOwners, crowded, first_owners}
-use Rattle.agent.specs.Replies.{IsText}
+use Rattle.agent_http.specs.Replies.{IsText}
 
 module _ (So : OfActs Sha256Hash) where
   -- no call

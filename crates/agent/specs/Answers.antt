@@ -10,9 +10,9 @@ use Rattle.http_server.specs.Response.{IsResponse}
 use Rattle.agent_core.specs.declared.actions.Action.{Action}
 use Rattle.agent_core.specs.declared.refusals.Refusal.{Refusal}
 use Rattle.agent.specs.Performing.{Declines, Outcome, Performs}
-use Rattle.agent.specs.Replies.{ShowsRefusal, ShowsReply}
-use Rattle.agent.specs.Requests.{AsksFor, IsRefused}
-use Rattle.agent.specs.declared.responses.Form.{Form}
+use Rattle.agent_http.specs.Replies.{ShowsRefusal, ShowsReply}
+use Rattle.agent_http.specs.Requests.{AsksFor, IsRefused}
+use Rattle.agent_http.specs.declared.responses.Form.{Form}
 
 -- a response of this form shows an outcome
 abbrev pub ShowsOutcome : Outcome → Form → Response → Type 0

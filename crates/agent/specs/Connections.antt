@@ -1,22 +1,13 @@
 -- What an HTTP connection of an agent reads and writes.
 use Rattle.std.specs.Prelude.{◌≡◌, ℕ, List, [], ◌∷◌, ◌++◌, Option}
 use Rattle.std.specs.Io.KnownBytes.{Appends, Consumes}
-use Rattle.http1.specs.declared.conn.Limits.{Limits}
-use Rattle.http_server.specs.declared.state.Config.{Config}
 use Rattle.http_server.specs.Exchange.{Call}
-use Rattle.http_server.specs.History.{History, IsServed, Rests}
+use Rattle.http_server.specs.History.{History, IsServed}
 use Rattle.hash_ring.specs.declared.hash.Sha256Hash.{Sha256Hash}
 use Rattle.peer_core.specs.Acts.{OfActs, Nothing, Then}
+use Rattle.agent_http.specs.Visits.{connection_limits}
 use Rattle.agent.specs.Answers.{IsAnswered}
 use Rattle.agent.specs.Calling.{Calling, HasMade}
-
--- 16 KiB for the head of a request, for the extensions of its chunks and for its trailers
-abbrev pub head_limits : Limits
-head_limits = record { max_head_len = 16384; max_extensions_len = 16384; max_trailers_len = 16384 }
-
--- 1 MiB for its body; while more than 64 KiB wait to be sent, no request is read; a read has room for 512 bytes at least
-abbrev pub connection_limits : Config
-connection_limits = record { limits = head_limits; max_body_len = 1048576; max_pending = 65536; read_size = 512 }
 
 -- the requests are answered one after the other, each by its response, and these are all calls of the node that were made meanwhile
 abbrev pub AnswersEach : ℕ → ℕ → Option (List ℕ) → List Call → OfActs Sha256Hash
@@ -32,7 +23,3 @@ pub record SendsAnswers (own replicas : ℕ) (field : Option (List ℕ)) (before
   pub sent : (went : List ℕ) × Appends written wrote went × (after.sent ≡ before.sent ++ went)
   pub served : ∥ IsServed connection_limits after ∥₁
   pub answered : (calls : List Call) × (after.calls ≡ before.calls ++ calls) × HasMade (AnswersEach own replicas field calls) old new
-
--- nothing is owed: what was answered is written, and each whole request that came is answered
-abbrev pub IsSettled : History → Type 0
-IsSettled h = (h.pending ≡ []) × Rests connection_limits h

@@ -3,13 +3,8 @@ pub mod Answers
 pub mod Asking
 pub mod Calling
 pub mod Connections
-pub mod Dating
-pub mod Exchanges
 pub mod Onces
-pub mod Passing
 pub mod Performing
 pub mod Relays
-pub mod Replies
-pub mod Requests
 pub mod Serving
 pub mod Texts

@@ -30,9 +30,9 @@ use Rattle.agent_core.specs.declared.refusals.Refusal.{Refusal}
 use Rattle.agent_core.specs.declared.refusals.Refusal.TheVariants as refusal
 use Rattle.agent.specs.Asking.{answerer, notes_call, notes_source}
 use Rattle.agent.specs.Calling.{AnyAnswer, AnyHandling, AnyTimes, Looks, hash_number, hash_of}
-use Rattle.agent.specs.Replies.{IsOpenText, IsText}
-use Rattle.agent.specs.declared.replies.Reply.{Reply}
-use Rattle.agent.specs.declared.replies.Reply.TheVariants.{Handled, Page, Ring, Unchanged}
+use Rattle.agent_http.specs.Replies.{IsOpenText, IsText}
+use Rattle.agent_http.specs.declared.replies.Reply.{Reply}
+use Rattle.agent_http.specs.declared.replies.Reply.TheVariants.{Handled, Page, Ring, Unchanged}
 
 -- the reply to an action, or its refusal
 abbrev pub Outcome : Type 0

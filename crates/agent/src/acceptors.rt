@@ -2,11 +2,12 @@
 ghost use Rattle.std.specs.Prelude.{◌≡◌, ◌-◌, ◌/◌, min};
 
 use crate::agents::Agent;
-use crate::connections::{Kept, MAX_IDLE};
+use crate::connections::MAX_IDLE;
 use crate::errors::AgentError;
-use crate::systems::{Host, System};
 use crate::workers::serve_http;
 use agent_core::Notice;
+use agent_http::Kept;
+use agent_state::{Host, System};
 use cluster_core::Deadline;
 use crossbeam_channel::Receiver;
 use log::{info, warn};

@@ -5,8 +5,8 @@ ghost use Rattle.agent.specs.Admissions.{Admits, admitted, joiner};
 
 use crate::agents::Agent;
 use crate::callers::Caller;
-use crate::systems::Host;
 use agent_core::is_admitted;
+use agent_state::Host;
 use change_core::Address;
 use line_service::Input;
 use message_core::{Content, Message, Reason};

@@ -1,16 +1,12 @@
 //! The state that the threads of an agent share.
 use crate::applications::Application;
 use crate::callers::{Caller, Passes};
-use crate::counters::{Count, Counters};
-use crate::journals::Logger;
-use crate::notices::Notices;
-use crate::processes::Process;
 use crate::rejections::Refused;
-use crate::systems::Host;
 use crate::tellers::Teller;
-use crate::waiting::Waiting;
-use crate::watchers::{MAX_QUESTIONS, Watchers};
 use agent_core::{Counts, PortCounts, Watch};
+use agent_state::{
+    Count, Counters, Host, Logger, MAX_QUESTIONS, Notices, Process, Waiting, Watchers,
+};
 use change_core::{Address, Moment};
 use http::HeaderName;
 use line_service::{ServerClock, Stopwatch, Timeouts};

@@ -4,18 +4,13 @@ ghost use Rattle.std.specs.Duration.{as_nanos};
 ghost use Rattle.agent_core.specs.Packs.{packed};
 ghost use Rattle.agent_core.specs.Refusals.{line_of, status_of};
 
-use crate::counters::{Count, Times};
-use crate::exchanges::{Answer, Asked, Wanted, exchange};
-use crate::journals::Logger;
-use crate::notices::Notices;
-use crate::requests::names_json;
-use crate::responses::{kind_of, refused_body};
 use crate::settings::Settings;
-use crate::systems::Host;
 use agent_core::{
     Failure, Field, MAX_BODY_BYTES, MAX_REQUEST_BYTES, MAX_STATUS, MIN_STATUS, PassedRequest,
     Refusal, body_in, is_repeatable, pack, pack_answer, push_field, request_in, unpack_bytes,
 };
+use agent_http::{Answer, Asked, Wanted, exchange, kind_of, names_json, refused_body};
+use agent_state::{Count, Host, Logger, Notices, Times};
 use change_core::Address;
 use cluster_core::{Deadline, Timed, socket_address};
 use http1::{Client, Header, Limits};

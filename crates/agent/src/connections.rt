@@ -1,60 +1,27 @@
-//! HTTP connections of clients: what comes over one while a worker serves it, what goes, and what is kept of it until the next visit.
-ghost use Rattle.std.specs.Prelude.{◌≡◌, ◌≢◌, ◌<◌, Ok, cond, false, length, true, IfNone, IfSome, box_value};
+//! HTTP connections of clients: what comes over one while a worker serves it, and what goes.
+ghost use Rattle.std.specs.Prelude.{◌≡◌, ◌<◌, Ok, length};
 ghost use Rattle.std.specs.Io.{ReadsAtMost, WritesAtMost};
 ghost use Rattle.http_server.specs.Connection.{config_of, history};
-ghost use Rattle.http_server.specs.History.{IsDone, new_history};
-ghost use Rattle.agent.specs.Connections.{IsSettled, SendsAnswers, connection_limits};
-ghost use Rattle.agent.specs.declared.pumps.Pause.TheVariants as pause;
+ghost use Rattle.http_server.specs.History.{IsDone};
+ghost use Rattle.agent_http.specs.Visits.{IsSettled, connection_limits};
+ghost use Rattle.agent_http.specs.declared.pumps.Pause.TheVariants as pause;
+ghost use Rattle.agent.specs.Connections.{SendsAnswers};
 
 use crate::agents::{Agent, Flag};
-use crate::framings::Framing;
 use crate::fronts::Front;
-use crate::pumps::{Pause, pump};
-use crate::systems::Host;
-use crate::watchers::Question;
+use agent_http::{Came, Kept, Pause, pump};
+use agent_state::{Host, Question};
 use crossbeam_channel::Receiver;
-use http_server::{Config, Connection};
-use std::alloc::Global;
-use std::hash::RandomState;
+use http_server::Connection;
 use std::io;
 use std::io::{ErrorKind, Read, Write};
 use std::net::TcpStream;
-
-/// The most bytes in a request's body that are read. One that is longer than 131,072 is refused with a line of text, and
-/// one that is longer than this by the HTTP server, which sends no text.
-const MAX_READ_BYTES: usize = 1_048_576;
 
 /// The most milliseconds for which a connection may be idle between requests, and from the first byte of a request to its last.
 pub const MAX_IDLE: u64 = 30_000;
 
 /// The most times in a row that a worker waits for the next bytes of a connection, before it parks it, while enough others are free.
 const MAX_WAITS: u32 = 20;
-
-/// The least number of bytes for which a read has room, which a connection that waits holds.
-const MIN_ROOM: usize = 512;
-
-/// The bytes that came over a connection.
-#[derive(Drop)]
-pub struct Came {
-    /// The place in the requests at which the bytes end that its HTTP has read.
-    pub framing: Framing,
-    /// The bytes of a question about the ring, which its HTTP has not read.
-    pub unread: Vec<u8>,
-}
-
-/// A connection between two visits. Each whole request that its HTTP has read is answered, and each answer is written, unless it waits for room: then a
-/// part of an answer is not.
-#[derive(Drop)]
-pub struct Kept {
-    pub connection: Box<Connection>,
-    /// Whether it waits for room for the rest of its answers.
-    pub is_full: bool,
-    /// Where the bytes that were read end, and those that were not.
-    pub came: Came,
-    ghost limits: { config_of (box_value connection) ≡ connection_limits },
-    ghost settled: { is_full ≡ false → IsSettled (history (box_value connection)) },
-    ghost owing: { is_full ≡ true → 0 < length (history (box_value connection)).pending },
-}
 
 /// The requests of a visit, each of which has to come in its time.
 #[derive(Drop)]
@@ -216,19 +183,6 @@ impl<'a> Write for Answers<'a> {
     }
 }
 
-/// Returns a connection on which nothing has come.
-pub fn new_connection(alloc: Global, keys: RandomState) -> Connection
-    ensures limits { config_of result ≡ connection_limits }
-    ensures history { history result ≡ new_history }
-{
-    let config = Config {
-        max_body_len: MAX_READ_BYTES,
-        read_size: MIN_ROOM,
-        ..Config::default()
-    };
-    Connection::new(alloc, keys, config)
-}
-
 /// Serves a connection over its reader and its writer until it is done, or one of them would block. Where it waits for its client, each whole
 /// request that came is answered, and each answer is written. Where it waits for room, a part of an answer is not written.
 ///
@@ -249,28 +203,4 @@ pub fn serve_over<R: Host, I: Read, O: Write>(
     ensures limits { config_of connection.new ≡ connection_limits }
 {
     pump(connection, front, reader, writer)
-}
-
-/// Returns a connection as it is kept, by what it waits for and what came; None if and only if it is done, or failed.
-pub fn kept_of(waits: io::Result<Pause>, connection: Box<Connection>, came: Came) -> Option<Kept>
-    requires limits { config_of (box_value connection) ≡ connection_limits }
-    requires settled { waits ≡ Ok pause.Input → IsSettled (history (box_value connection)) }
-    requires owing { waits ≡ Ok pause.Room → 0 < length (history (box_value connection)).pending }
-    ensures same { IfSome result (λ kept. (kept.connection ≡ connection) × (kept.came ≡ came)) }
-    ensures room { IfSome result (λ kept. waits ≡ Ok (cond kept.is_full pause.Room pause.Input)) }
-    ensures ended { IfNone result ((waits ≢ Ok pause.Input) × (waits ≢ Ok pause.Room)) }
-{
-    match waits {
-        Ok(Pause::Input) => Some(Kept {
-            connection,
-            is_full: false,
-            came,
-        }),
-        Ok(Pause::Room) => Some(Kept {
-            connection,
-            is_full: true,
-            came,
-        }),
-        Ok(Pause::Done) | Err(_) => None,
-    }
 }

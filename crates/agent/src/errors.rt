@@ -1,4 +1,5 @@
 //! The errors of an agent.
+use agent_state::LogError;
 use change_core::Address;
 use node_core::ConfigField;
 use std::alloc::{AllocError, AllocFailed};
@@ -55,5 +56,14 @@ impl From<AllocError> for AgentError {
 impl<T: Drop> From<AllocFailed<T>> for AgentError {
     fn from(_: AllocFailed<T>) -> AgentError {
         AgentError::Memory
+    }
+}
+
+impl From<LogError> for AgentError {
+    fn from(error: LogError) -> AgentError {
+        match error {
+            LogError::NoThread => AgentError::NoThread,
+            LogError::Memory => AgentError::Memory,
+        }
     }
 }

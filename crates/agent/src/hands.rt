@@ -7,7 +7,7 @@ use crate::callers::Caller;
 use crate::links::NotedHandler;
 use crate::peers::{Job, send_back};
 use crate::relays::{line_after, millis_left, relay, relay_link};
-use crate::systems::Host;
+use agent_state::Host;
 use cluster_core::TcpLink;
 use crossbeam_channel::Receiver;
 use peer_core::Link;

@@ -2,7 +2,7 @@
 use crate::agents::Agent;
 use crate::callers::Caller;
 use crate::links::NotedLink;
-use crate::systems::Host;
+use agent_state::Host;
 use change_core::Address;
 use cluster_core::Limits;
 use log::{info, warn};

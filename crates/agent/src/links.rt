@@ -6,7 +6,7 @@ ghost use Rattle.agent.specs.Asking.{source_of};
 
 use crate::agents::Agent;
 use crate::rejections::note_answer;
-use crate::systems::Host;
+use agent_state::Host;
 use change_core::Address;
 use cluster_core::{Limits, TcpLink};
 use forward_core::MAX_SENDS;

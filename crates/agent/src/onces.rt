@@ -4,7 +4,7 @@ ghost use Rattle.agent.specs.Onces.{is_unsure};
 
 use crate::agents::{Agent, Flag};
 use crate::links::{NotedLink, source_of};
-use crate::systems::Host;
+use agent_state::Host;
 use change_core::Address;
 use cluster_core::{Dial, TcpLink};
 use message_core::{Content, Message};

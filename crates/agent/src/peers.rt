@@ -5,7 +5,7 @@ use crate::agents::Agent;
 use crate::applications::{Joining, Overloaded};
 use crate::callers::Caller;
 use crate::rejections::note_input;
-use crate::systems::Host;
+use agent_state::Host;
 use change_core::Moment;
 use cluster_core::{Deadline, TcpLink, Timed, send_owned_line};
 use crossbeam_channel::{Sender, TrySendError};

@@ -9,9 +9,9 @@ ghost use Rattle.agent.specs.Calling.{HasMade};
 ghost use Rattle.agent.specs.Performing.{Performs, ShowsAllOwners, ShowsRing, hidden_of, is_known, key_text, ring_digest};
 
 use crate::fronts::{Front, digest_of, refusal_of};
-use crate::replies::{Reply, out_of_memory};
-use crate::systems::Host;
 use agent_core::{KeyList, Refusal, on_ring, push_owners, ring_text};
+use agent_http::{Reply, out_of_memory};
+use agent_state::Host;
 use change_core::{Address, Change, Digest, DigestText};
 use hash_ring::Sha256Hash;
 use message_core::Text;

@@ -1,9 +1,7 @@
 //! What is refused: messages of this node by other nodes, joins among them, and lines at this node's port.
 use crate::agents::Agent;
-use crate::counters::Count;
-use crate::notices::Notices;
-use crate::systems::Host;
 use agent_core::RefusalCounts;
+use agent_state::{Count, Host, Notices};
 use change_core::Address;
 use line_service::Input;
 use log::{info, warn};

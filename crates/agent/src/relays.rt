@@ -11,7 +11,7 @@ use crate::agents::Agent;
 use crate::callers::Caller;
 use crate::links::NotedLink;
 use crate::peers::Job;
-use crate::systems::Host;
+use agent_state::Host;
 use change_core::{Address, Change, Moment};
 use cluster_core::Limits;
 use hash_ring::Sha256Hash;

@@ -1,11 +1,10 @@
 //! Rounds of gossip, and the last ones before the end.
 use crate::agents::Agent;
 use crate::callers::Caller;
-use crate::changes::{is_refuted, log_changes, log_since_start};
 use crate::hosts::{MAX_FIRST_WAIT, link_of};
 use crate::links::NotedLink;
-use crate::systems::Host;
 use agent_core::{Notice, Refutations, are_many_addresses};
+use agent_state::{Counters, Host, is_refuted, log_changes, log_since_start};
 use change_core::{Address, Change, Digest, MAX_MEMBERS, Moment};
 use log::{info, warn};
 use node_core::ChangeList;
@@ -47,6 +46,27 @@ struct Changed {
     has_moved: bool,
 }
 
+/// Returns the member that a round could not reach, if there is one.
+fn silent_in(round: &Result<Round, ClusterError>) -> Option<Address> {
+    match round {
+        Ok(Round::Suspected(suspected)) => Some(*suspected),
+        _ => None,
+    }
+}
+
+/// Counts a round by its end. One that ran out of memory counts as a failed allocation, not as an error.
+fn count_round(counters: &Counters, round: &Result<Round, ClusterError>) {
+    let count = match round {
+        Ok(Round::Idle) => &counters.idle,
+        Ok(Round::Reached(_)) => &counters.reached,
+        Ok(Round::Suspected(_)) => &counters.suspected,
+        Ok(Round::Inconclusive(_)) => &counters.inconclusive,
+        Err(ClusterError::Memory) => &counters.allocation_failures,
+        Err(_) => &counters.broken,
+    };
+    count.add(1);
+}
+
 impl<'a, R: Host> Rounds<'a, R> {
     /// Returns the members if they changed since they were last logged; None also if the node does not tell them.
     fn changed(&mut self) -> Option<Changed> {
@@ -82,7 +102,8 @@ impl<'a, R: Host> Rounds<'a, R> {
         let mut used = 0;
         if let Some(before) = &self.members {
             let before = before.as_slice();
-            log_changes(&agent.log(), &agent.own, before, after, round, has_moved);
+            let silent = silent_in(round);
+            log_changes(&agent.log(), &agent.own, before, after, silent, has_moved);
             is_own = !has_moved && is_refuted(&agent.own, before, after);
             used = before.len();
         } else if let Some(initial) = &self.initial {
@@ -173,7 +194,7 @@ impl<'a, R: Host> Rounds<'a, R> {
         let now = agent.now();
         let start = Instant::now(&agent.rt).ok();
         let round = self.gossip(now);
-        agent.counters.add_round(&round);
+        count_round(&agent.counters, &round);
         agent.counters.rounds.add_since(&agent.rt, start);
         agent.last_round.set(agent.now().number());
         self.log_errors(&round, now);

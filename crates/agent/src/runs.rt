@@ -8,24 +8,20 @@ use crate::acceptors::{end_http, set_places, start_http};
 use crate::agents::{Agent, Flag};
 use crate::applications::Application;
 use crate::callers::{Caller, Passes};
-use crate::connections::Kept;
-use crate::counters::{Count, Counters};
 use crate::errors::AgentError;
 use crate::hands::serve_requests;
 use crate::hosts::join_hosts;
-use crate::journals::{Logger, share_log, start_log};
-use crate::notices::Notices;
 use crate::peers::{Job, serve_peers};
-use crate::processes::Process;
 use crate::rejections::Refused;
 use crate::rounds::make_rounds;
 use crate::services::{await_service, watch_service};
 use crate::settings::Settings;
-use crate::systems::System;
 use crate::tellers::{Teller, start_notices};
-use crate::waiting::Waiting;
-use crate::watchers::Watchers;
 use agent_core::Watch;
+use agent_http::Kept;
+use agent_state::{
+    Count, Counters, Logger, Notices, Process, System, Waiting, Watchers, share_log, start_log,
+};
 use change_core::{Address, Change, Incarnation, MAX_NUMBER, Moment};
 use cluster_core::{share, socket_address};
 use crossbeam_channel::{Receiver, Sender, bounded};

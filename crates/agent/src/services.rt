@@ -3,8 +3,8 @@
 use crate::agents::Agent;
 use crate::callers::Caller;
 use crate::errors::AgentError;
-use crate::systems::Host;
 use agent_core::{Move, Notice, Sight};
+use agent_state::Host;
 use change_core::Address;
 use log::{info, warn};
 use std::alloc::Global;

@@ -1,12 +1,11 @@
 //! The notices by which the application is told of the ring, by a thread of their own: an application that is slow or down holds up no round.
 use crate::agents::{Agent, Flag};
-use crate::counters::Count;
 use crate::errors::AgentError;
-use crate::exchanges::read_answer;
 use crate::questions::ring_digest;
 use crate::settings::Settings;
-use crate::systems::{Host, System};
 use agent_core::{Failure, Notice, Ring, Telling, on_ring};
+use agent_http::read_answer;
+use agent_state::{Count, Host, System};
 use bytes::BytesMut;
 use change_core::{Address, Change, Digest, Moment};
 use cluster_core::{Deadline, Timed, socket_address};

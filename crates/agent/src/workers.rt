@@ -1,16 +1,15 @@
 //! The workers that answer HTTP. One serves a connection while requests come, and parks it once it is idle.
 ghost use Rattle.std.specs.Prelude.{◌≡◌, ◌≢◌, ◌+◌, ◌-◌, ◌^◌, false, true, min, IfSome, box_value};
 ghost use Rattle.http_server.specs.Connection.{config_of};
-ghost use Rattle.agent.specs.Connections.{connection_limits};
+ghost use Rattle.agent_http.specs.Visits.{connection_limits};
 
 use crate::agents::{Agent, Flag};
 use crate::callers::Caller;
-use crate::connections::{Answers, Came, Kept, Requests, kept_of, new_connection, serve_over};
-use crate::framings::Framing;
+use crate::connections::{Answers, Requests, serve_over};
 use crate::fronts::Front;
 use crate::links::NotedLink;
-use crate::systems::Host;
-use crate::watchers::Question;
+use agent_http::{Came, Framing, Kept, kept_of, new_connection};
+use agent_state::{Host, Question};
 use crossbeam_channel::Receiver;
 use http_server::Connection;
 use reactor::Lot;

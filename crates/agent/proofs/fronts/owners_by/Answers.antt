@@ -3,7 +3,7 @@ use Rattle.std.specs.Prelude.{IfOk}
 use Rattle.agent_core.specs.Texts.{owners_text}
 use Rattle.agent_core.specs.declared.answers.Kind.TheVariants as kind
 use Rattle.agent.specs.Performing.{first_owners}
-use Rattle.agent.specs.Replies.{IsText}
+use Rattle.agent_http.specs.Replies.{IsText}
 use Rattle.agent.proofs.Performed.{owners_shown, shows, some_owners}
 use Rattle.agent.proofs.fronts.owners_by.Goals as goal
 

@@ -3,7 +3,7 @@ use Rattle.agent_core.specs.declared.actions.Action.{Action}
 use Rattle.agent_core.specs.declared.actions.Action.TheVariants as action
 use Rattle.agent.specs.Calling.{HasMade}
 use Rattle.agent.specs.Performing.{Performs}
-use Rattle.agent.specs.declared.replies.Reply.TheVariants.{Page}
+use Rattle.agent_http.specs.declared.replies.Reply.TheVariants.{Page}
 use Rattle.agent.proofs.Performed.{made_none}
 use Rattle.agent.proofs.fronts.Front.act.Goals as goal
 

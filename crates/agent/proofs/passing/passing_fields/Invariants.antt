@@ -1,5 +1,0 @@
-use Rattle.agent.specs.Passing.{AreFields}
-use Rattle.agent.proofs.passing.passing_fields.Given as goal
-
-abbrev pub invariant-loop-name : goal.invariant-loop-name
-invariant-loop-name l = AreFields l.fields.items

@@ -1,0 +1,7 @@
+pub mod Dated
+pub mod Fields
+pub mod Keyed
+pub mod Limited
+pub mod Refused
+pub mod Shown
+pub mod Worded

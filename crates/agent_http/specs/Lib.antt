@@ -1,0 +1,5 @@
+pub mod Exchanges
+pub mod Passing
+pub mod Replies
+pub mod Requests
+pub mod Visits

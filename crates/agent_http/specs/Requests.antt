@@ -1,5 +1,5 @@
 -- What a request over HTTP asks for, and the refusals that fit it.
-use Rattle.std.specs.Prelude.{◌≡◌, ◌≢◌, ◌⊎◌, cond, List, ℕ, [], ◌∷◌, bytes_eq, codes, Option, Some, None, Result, Ok, Err}
+use Rattle.std.specs.Prelude.{◌≡◌, ◌≢◌, ◌⊎◌, cond, List, ℕ, [], ◌∷◌, bytes_eq, codes, IsTrue, Option, Some, None, is_some, Result, Ok, Err}
 use Rattle.http.specs.Request.{body_of, head_of}
 use Rattle.http.specs.declared.request.Request.{Request}
 use Rattle.http_header.specs.FieldValue.{FieldValue, is_visible_text}
@@ -52,6 +52,15 @@ key_by (Err why) path = Err why
 abbrev pub passed_key : Option (List ℕ) → Request (List ℕ) → Result (Option (List ℕ)) Refusal
 passed_key None request = Ok None
 passed_key (Some name) request = key_by (field_text (get_all (head_of request).headers name)) (uri_path (head_of request).uri)
+
+-- the path of a request is that of a key
+abbrev pub IsAtKey : Request (List ℕ) → Type 0
+IsAtKey request = IsTrue (is_some (key_text (uri_path (head_of request).uri) None))
+
+-- a request is one of a key, by its path or by the field of this name
+abbrev pub IsOfKey : Option (List ℕ) → Request (List ℕ) → Type 0
+IsOfKey None request = IsAtKey request
+IsOfKey (Some name) request = ContainsKey (head_of request).headers name ⊎ IsAtKey request
 
 -- a request may be refused so, by the text that encodes its key, if it is to be passed on
 abbrev pub IsRefusedBy : Result (Option (List ℕ)) Refusal → Request (List ℕ) → Refusal → Type 0

@@ -57,7 +57,7 @@ pub struct Answer {
 
 impl Answer {
     /// Makes the answer of which nothing has come.
-    pub fn new(alloc: Global, wanted: Wanted) -> Self {
+    fn new(alloc: Global, wanted: Wanted) -> Self {
         Answer {
             wanted,
             status: 0,

@@ -2,7 +2,7 @@
 ghost use Rattle.std.specs.Prelude.{◌≡◌, ◌↔◌, Err, IfOk, IfErr, IsTrue, Ok, codes, option_copied};
 ghost use Rattle.http.specs.Request.{head_of};
 ghost use Rattle.http_header.specs.HeaderMap.{ContainsKey, get_all};
-ghost use Rattle.agent_http.specs.Requests.{AsksFor, AsksHere, IsCrossSite, IsRefused, IsRefusedHere, Refuses, answered_as, asked_by, field_text, passed_key};
+ghost use Rattle.agent_http.specs.Requests.{AsksFor, AsksHere, IsCrossSite, IsOfKey, IsRefused, IsRefusedHere, Refuses, answered_as, asked_by, field_text, passed_key};
 
 use crate::passing::pass;
 use agent_core::{Action, Part, Refusal, key_text, route};
@@ -90,12 +90,14 @@ fn passed_key<'a>(
 }
 
 /// Returns whether a request is one of a key, by its path or by the field of this name.
-pub fn is_of_key(request: &Request<Bytes>, key_field: &Option<HeaderName>) -> bool {
+pub fn is_of_key(request: &Request<Bytes>, key_field: &Option<HeaderName>) -> bool
+    ensures { IsTrue result ↔ IsOfKey key_field.now request.now }
+{
     let is_named = match key_field {
         Some(name) => request.headers().contains_key(name),
         None => false,
     };
-    is_named || request.uri().path().starts_with("/keys/")
+    is_named || key_text(request.uri().path(), None).is_some()
 }
 
 /// Returns whether a media range is JSON, whatever its weight.

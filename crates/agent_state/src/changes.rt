@@ -1,4 +1,7 @@
 //! The log lines of members that changed.
+ghost use Rattle.std.specs.Prelude.{◌≡◌, ◌↔◌, IsTrue, option_copied};
+ghost use Rattle.agent_state.specs.Changes.{IsRefuted, entry_of};
+
 use change_core::{Address, Change, Status};
 use log::{Log, info, warn};
 
@@ -50,13 +53,17 @@ fn log_other<R: Log>(rt: &R, before: &Change, after: &Change, is_silent: bool) {
 }
 
 /// Returns the entry of an address among members.
-fn entry_of<'a>(members: &'a [Change], address: &Address) -> Option<&'a Change> {
+fn entry_of<'a>(members: &'a [Change], address: &Address) -> Option<&'a Change>
+    ensures { option_copied result ≡ entry_of members.now address.now }
+{
     members.iter().find(|change| change.address == *address)
 }
 
 /// Returns whether the incarnation of the node's own entry changed from one list of members to a later one. If the node neither
 /// left nor came back in the meantime, it was refuted.
-pub fn is_refuted(own: &Address, before: &[Change], after: &[Change]) -> bool {
+pub fn is_refuted(own: &Address, before: &[Change], after: &[Change]) -> bool
+    ensures { IsTrue result ↔ IsRefuted own.now before.now after.now }
+{
     let (Some(before), Some(after)) = (entry_of(before, own), entry_of(after, own)) else {
         return false;
     };

@@ -103,7 +103,7 @@ impl<'a, R: Host> Rounds<'a, R> {
         if let Some(before) = &self.members {
             let before = before.as_slice();
             let silent = silent_in(round);
-            log_changes(&agent.log(), &agent.own, before, after, silent, has_moved);
+            log_changes(&agent.log(), &agent.own, before, after, &silent, has_moved);
             is_own = !has_moved && is_refuted(&agent.own, before, after);
             used = before.len();
         } else if let Some(initial) = &self.initial {

@@ -77,7 +77,7 @@ fn log_known<R: Log>(
     own: &Address,
     before: &Change,
     after: &Change,
-    silent: Option<Address>,
+    silent: &Option<Address>,
     has_moved: bool,
 ) {
     if before == after {
@@ -86,7 +86,7 @@ fn log_known<R: Log>(
     if after.address == *own {
         return log_own(rt, before, after, has_moved);
     }
-    log_other(rt, before, after, silent == Some(after.address));
+    log_other(rt, before, after, *silent == Some(after.address));
 }
 
 /// Logs how the members changed from one list to a later one, each ascending by address. The later list has each member
@@ -97,7 +97,7 @@ pub fn log_changes<R: Log>(
     own: &Address,
     before: &[Change],
     after: &[Change],
-    silent: Option<Address>,
+    silent: &Option<Address>,
     has_moved: bool,
 ) {
     let mut old = before.iter();

@@ -10,13 +10,20 @@ ghost use Rattle.agent.specs.Performing.{Performs, ShowsAllOwners, ShowsRing, hi
 
 use crate::fronts::{Front, digest_of, refusal_of};
 use agent_core::{KeyList, Refusal, on_ring, push_owners, ring_text};
-use agent_http::{Reply, out_of_memory};
+use agent_http::Reply;
 use agent_state::Host;
 use change_core::{Address, Change, Digest, DigestText};
 use hash_ring::Sha256Hash;
 use message_core::Text;
 use node_core::View;
 use std::alloc::{AllocError, Global};
+
+/// Returns the refusal of a request for which memory ran out.
+fn out_of_memory(_error: AllocError) -> Refusal
+    ensures { result ≡ Refusal.Memory }
+{
+    Refusal::Memory
+}
 
 /// Appends the first owners of a key by a view; `null` if the first of them is `hidden`.
 fn push_key(

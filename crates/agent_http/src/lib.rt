@@ -14,7 +14,7 @@ mod visits;
 pub use exchanges::{Answer, Asked, Wanted, exchange, read_answer};
 pub use framings::Framing;
 pub use pumps::{Pause, pump};
-pub use replies::{Reply, out_of_memory};
+pub use replies::Reply;
 pub use requests::{action_of, is_of_key, names_json, takes_json};
 pub use responses::{Form, kind_of, put_refusal, put_reply, refused_body};
 pub use visits::{Came, Kept, kept_of, new_connection};

@@ -42,7 +42,7 @@ pub enum Reply {
 }
 
 /// Returns the refusal of a request for which memory ran out.
-pub fn out_of_memory(_error: AllocError) -> Refusal
+fn out_of_memory(_error: AllocError) -> Refusal
     ensures { result ≡ Refusal.Memory }
 {
     Refusal::Memory

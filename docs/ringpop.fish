@@ -36,6 +36,7 @@ complete -c ringpop -n '__ringpop_in agent' -l http-any -d 'allow --http outside
 complete -c ringpop -n '__ringpop_in agent' -l tell-app -d 'tell the application of the ring'
 complete -c ringpop -n '__ringpop_in agent' -l any-request -d 'pass any HTTP request of a key on'
 complete -c ringpop -n '__ringpop_in agent' -l key-field -x -d 'field that names the key of any HTTP request'
+complete -c ringpop -n '__ringpop_in agent' -l cluster -x -d 'name of the cluster'
 complete -c ringpop -n '__ringpop_in agent' -l app -x -d 'where the application takes requests'
 complete -c ringpop -n '__ringpop_in agent' -l no-wait-app -d 'join without waiting for --app'
 complete -c ringpop -n '__ringpop_in agent' -l leave-after -x -d 'seconds without --app after which the node leaves; 0: never'

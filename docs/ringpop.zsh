@@ -37,7 +37,7 @@ _ringpop() {
                 '--http-any[allow --http outside 127.0.0.0/8]' '--app[where the application takes requests]:address:' \
                 '--no-wait-app[join without waiting for --app]' '--leave-after[seconds without --app after which the node leaves; 0\: never]:seconds:' \
                 '--tell-app[tell the application of the ring]' '--any-request[pass any HTTP request of a key on]' \
-                '--key-field[field that names the key of any HTTP request]:name:' \
+                '--key-field[field that names the key of any HTTP request]:name:' '--cluster[name of the cluster]:name:' \
                 '--hands[threads for requests of other nodes, 1 to 256]:hands:' \
                 '--http-connections[HTTP connections at a time, 1 to 65536]:connections:' '--period[milliseconds between two rounds, 1 to 60000]:ms:' \
                 '--per-message[changes in a message, 1 to 4096]:changes:' '--replicas[points for each unit of weight, 1 to 1000]:points:' \

@@ -12,6 +12,7 @@ import collections
 import concurrent.futures
 import contextlib
 import json
+import math
 import os
 import re
 import signal
@@ -168,13 +169,13 @@ class Hostile:
         self.check("one, and one that is refused", post("/keys/k", b"\xff") + head("GET", "/digest"), 400, 200)
         self.check("a body that looks like a request", post("/keys/k", head("POST", "/stop")) + head("GET", "/digest"), 200, 200)
 
-    def is_cut(self, what, within, sent=b"", drip=b""):
-        """The agent hangs up in time on a client that sends these bytes, and then more each second."""
-        begun = time.monotonic()
+    def is_cut(self, what, sent=b"", drip=b""):
+        """Notes when the agent hangs up on a client that sends these bytes, and then more each second; never, if not in three times the time that it has."""
+        begun, self.cut[what] = time.monotonic(), math.inf
         with self.connect() as stream:
             stream.settimeout(1.0)
             stream.sendall(sent)
-            while time.monotonic() < begun + within:
+            while time.monotonic() < begun + 3 * PATIENCE:
                 try:
                     if not stream.recv(65_536):
                         break
@@ -186,6 +187,8 @@ class Hostile:
                     stream.sendall(drip)
                 except (BrokenPipeError, ConnectionResetError):
                     break
+            else:
+                return
         self.cut[what] = time.monotonic() - begun
 
     def slow(self):
@@ -199,7 +202,7 @@ class Hostile:
             ("chunks that drip", chunked(), b"1\r\na\r\n"), ("silence behind an answer", head("GET", "/digest"), b""),
         ]
         with concurrent.futures.ThreadPoolExecutor(len(clients)) as pool:
-            cut = [pool.submit(self.is_cut, what, PATIENCE + 10, sent, drip) for what, sent, drip in clients]
+            cut = [pool.submit(self.is_cut, what, sent, drip) for what, sent, drip in clients]
             self.check_up("slow clients")
             for it in cut:
                 it.result()

@@ -10,10 +10,11 @@ from nodes import Wrong, expect, is_late, wait_until
 
 
 class Told(Playing):
-    """An agent whose application comes a second after it, keeps the notices of the ring, answers the first two 500, and each only once it may."""
+    """An agent whose application comes a second after it, keeps the notices of the ring, and answers each only once it may: the first two 500, and on request
+    each while the node serves."""
 
     def start_application(self):
-        self.fails, self.fields, self.notices, self.may_answer, agent = 0, [], [], threading.Event(), self
+        self.fails, self.fields, self.notices, self.may_answer, agent = False, [], [], threading.Event(), self
         self.may_answer.set()
 
         class Application(http.server.BaseHTTPRequestHandler):
@@ -21,10 +22,9 @@ class Told(Playing):
                 body = self.rfile.read(int(self.headers["content-length"]))
                 agent.fields.append((self.request_version, sorted((it.lower(), value) for it, value in self.headers.items()), len(body)))
                 agent.notices.append((self.path, json.loads(body)))
-                is_early = len(agent.notices) < 3 or agent.fails > 0
-                agent.fails -= agent.fails > 0
+                is_refused = len(agent.notices) < 3 or agent.fails and json.loads(body)["now"]["serving"]
                 agent.may_answer.wait(3)
-                self.send_response_only(500 if is_early else 204)
+                self.send_response_only(500 if is_refused else 204)
                 self.end_headers()
 
         threading.Timer(1, self.serve, [Application]).start()
@@ -73,14 +73,15 @@ def check(program, first, second):
         agent.may_answer.set()
         wait_until("told that it is back", 10, lambda: agent.is_told(6, both, alone))
         wait_until("counted", 5, lambda: counts() == [4, 2, 0])
-        agent.fails = 4
+        agent.fails = True
         other.ask("POST", "/leave")
-        wait_until("not taken four times", 15, lambda: counts() == [4, 6, 1])
+        wait_until("not taken four times", 15, lambda: counts()[1] >= 6)
+        expect(counts()[::2] == [4, 1], f"of an application that takes no notice {counts()} are counted")
         agent.ask("POST", "/stop")
         begun = time.monotonic()
         agent.process.wait(15)
         last = agent.notices[-1][1]
-        if last["now"]["serving"] or last["before"] != both or agent.fails:
+        if last["now"]["serving"] or last["before"] != both:
             raise Wrong(f"at a stop after failures the application is told {agent.notices[-1]}")
         expect(not is_late(time.monotonic() - begun, 9), f"a stop took {time.monotonic() - begun:.1f} s")
         agent.check_fields()

@@ -23,9 +23,9 @@ MOST = 1_000_000
 # within how many seconds a node prints that it serves, and an agent and its application are well
 PATIENCE = 30
 # the ports of a script's nodes; an agent has a port for HTTP this much above its own, and its application one twice as much
-STEP = 20
+STEP = 24
 # how far apart the first ports of two scripts are: one port more, at which a script listens; and for how many scripts there are ports
-APART, SCRIPTS = 3 * STEP + 1, 280
+APART, SCRIPTS = 3 * STEP + 1, 230
 # a busy machine can miss a node's limit for a line, half a second: what took nearly as long is tried again, this often at most
 LIMIT, TRIES = 0.4, 10
 # how many attempts a script made, and how many of them were repeats; two, and one in fifty attempts, may be

@@ -23,13 +23,14 @@ use Rattle.peer_core.specs.declared.errors.LinkError.{LinkError}
 use Rattle.peer_core.proofs.Acts.{makes_as, makes_none}
 use Rattle.peer_core.proofs.Requesting.{requested_as}
 use Rattle.peer_core.proofs.Served.{serves_as}
+use Rattle.agent_core.specs.declared.refusals.Refusal.{Refusal}
 use Rattle.line_service.specs.Answering.{AnswersInput, IsSilent, Responds, StaysSilent}
 use Rattle.line_service.specs.declared.inputs.Input.{Input}
 use Rattle.line_service.specs.declared.inputs.Input.TheVariants as input
 use Rattle.agent.specs.Asking.{AsksFor, answerer, notes_call, notes_source}
 use Rattle.agent.specs.Calling.{AnyAnswer, AnyHandling, AnyTimes, Calling, HasMade, hash_of}
 use Rattle.agent.specs.Serving.{IsAnsweredHere, RespondsNoted}
-use Rattle.agent.specs.Performing.{AsksOwner, IsRequested, Outcome, Settled}
+use Rattle.agent.specs.Performing.{AsksOwner, EndsEarly, IsRequested, Outcome, SettledBy}
 use Rattle.agent.proofs.Performed.{made_as, settled_as}
 use Rattle.agent.proofs.Relaying.{made_both}
 
@@ -155,17 +156,17 @@ module _ (keys : List (List ℕ)) (request : List ℕ) (r : Result (List ℕ) Cl
       (record { node = same; makes = sent })
 
   -- so the owner of a key was asked, and this came of it
-  pub made_asked : (own : Address) (key : List ℕ) (is_repeatable is_over : Bool) (outcome : Outcome) → keys ≡ key ∷ [] → (is_repeatable ≡ true → is_over ≡ false)
-      → HasMade (IsRequested asked noted keys request r) old new → Settled (answerer own asked noted) (not is_over) r outcome
-      → HasMade (AsksOwner own key request is_repeatable outcome) old new
-  made_asked own key is_repeatable is_over outcome one never made comes =
-      made_as (AsksOwner own key request is_repeatable outcome) (IsRequested asked noted keys request r) old new
+  pub made_asked : (limit : Option ℕ) (own : Address) (key : List ℕ) (is_repeatable : Bool) (ending : Option Refusal) (outcome : Outcome) → keys ≡ key ∷ []
+      → IfSome ending (EndsEarly is_repeatable limit) → HasMade (IsRequested asked noted keys request r) old new → SettledBy (answerer own asked noted) ending r outcome
+      → HasMade (AsksOwner limit own key request is_repeatable outcome) old new
+  made_asked limit own key is_repeatable ending outcome one may made comes =
+      made_as (AsksOwner limit own key request is_repeatable outcome) (IsRequested asked noted keys request r) old new
       (λ acts both. inr (
         asked,
         noted,
         (
           r,
           subst (λ (ks : List (List ℕ)). IsRequested asked noted ks request r acts) one both,
-          settled_as (answerer own asked noted) is_repeatable is_over r outcome never comes,
+          settled_as (answerer own asked noted) is_repeatable limit ending r outcome may comes,
         ),
       )) made

@@ -1,6 +1,6 @@
 -- The calls of a thread, one after the other, and what comes of them.
-use Rattle.std.proofs.Common.{◌≡◌, ◌∙◌, ℕ, Bool, ⊎_elim, false, true, length, List, [], ◌∷◌, slice_get, take, Result, Ok, Err, ap, inl, inr, not, refl, subst, sym, true≢false}
-use Rattle.std.specs.Prelude.{◌≢◌, ◌==◌, IfErr, IfOk, is_err}
+use Rattle.std.proofs.Common.{◌≡◌, ◌∙◌, ℕ, Bool, ⊎_elim, false, true, length, List, [], ◌∷◌, Option, slice_get, take, Result, Ok, Err, ap, inl, inr, refl, subst, sym, true≢false}
+use Rattle.std.specs.Prelude.{◌≢◌, ◌==◌, IfErr, IfOk, IfSome, is_err}
 use Rattle.hash_ring.specs.declared.hash.Sha256Hash.{Sha256Hash}
 use Rattle.locked_node.specs.declared.node.LockedNode.{LockedNode}
 use Rattle.node_core.specs.Viewing.{Viewed}
@@ -18,7 +18,7 @@ use Rattle.agent_core.specs.declared.actions.Action.TheVariants as action
 use Rattle.agent_core.specs.declared.refusals.Refusal.{Refusal}
 use Rattle.agent_core.specs.declared.refusals.Refusal.TheVariants as refusal
 use Rattle.agent.specs.Calling.{Calling, HasMade, Looks}
-use Rattle.agent.specs.Performing.{After, AsksIfPlaced, AsksOwner, Finds, IsFound, Outcome, Owners, Performs, Settled, Shows, ShowsOwners, crowded, first_owners}
+use Rattle.agent.specs.Performing.{After, AsksIfPlaced, AsksOwner, EndsEarly, Finds, IsFound, Outcome, Owners, Performs, Settled, SettledBy, Shows, ShowsOwners, crowded, first_owners}
 use Rattle.agent_http.specs.Replies.{IsText}
 
 module _ (So : OfActs Sha256Hash) where
@@ -53,36 +53,33 @@ pub made_found : (key : List ℕ) (result : Result (Viewed Sha256Hash) ClusterEr
 made_found key result found old new same does is = record { node = same; makes = makes_as (Finds key found) (λ acts done. (result, done, is)) does.makes }
 
 -- the owner of a key, and then a request of it
-pub made_handled : (own replicas : ℕ) (key : List ℕ) (request : Outgoing) (is_repeatable : Bool) (found : Result Owners Refusal) (outcome : Outcome) (a b c : Calling) → HasMade (Finds key found) a b
-    → HasMade (AsksIfPlaced own key request is_repeatable outcome found) b c → HasMade (Performs own replicas (action.Pass key request is_repeatable) outcome) a c
-made_handled own replicas key request is_repeatable found outcome a b c first next =
-    let Next = AsksIfPlaced own key request is_repeatable outcome found in
-    made_as (Performs own replicas (action.Pass key request is_repeatable) outcome) (Then (Finds key found) Next) a c (λ acts both. inr (found, both))
+pub made_handled : (limit : Option ℕ) (own replicas : ℕ) (key : List ℕ) (request : Outgoing) (is_repeatable : Bool) (found : Result Owners Refusal) (outcome : Outcome) (a b c : Calling) → HasMade (Finds key found) a b
+    → HasMade (AsksIfPlaced limit own key request is_repeatable outcome found) b c → HasMade (Performs limit own replicas (action.Pass key request is_repeatable) outcome) a c
+made_handled limit own replicas key request is_repeatable found outcome a b c first next =
+    let Next = AsksIfPlaced limit own key request is_repeatable outcome found in
+    made_as (Performs limit own replicas (action.Pass key request is_repeatable) outcome) (Then (Finds key found) Next) a c (λ acts both. inr (found, both))
     (made_then (Finds key found) Next a b c first next)
 
 -- a request that is a body alone is passed on as one that may be performed twice
-pub made_body : (own replicas : ℕ) (key body : List ℕ) (outcome : Outcome) (a b : Calling)
-    → HasMade (Performs own replicas (action.Pass key (Body (text_of_body body)) true) outcome) a b → HasMade (Performs own replicas (action.Handle key body) outcome) a b
-made_body own replicas key body outcome a b made =
-    made_as (Performs own replicas (action.Handle key body) outcome) (Performs own replicas (action.Pass key (Body (text_of_body body)) true) outcome) a b
+pub made_body : (limit : Option ℕ) (own replicas : ℕ) (key body : List ℕ) (outcome : Outcome) (a b : Calling)
+    → HasMade (Performs limit own replicas (action.Pass key (Body (text_of_body body)) true) outcome) a b → HasMade (Performs limit own replicas (action.Handle key body) outcome) a b
+made_body limit own replicas key body outcome a b made =
+    made_as (Performs limit own replicas (action.Handle key body) outcome) (Performs limit own replicas (action.Pass key (Body (text_of_body body)) true) outcome) a b
     (λ acts. ⊎_elim (λ declined. inl (inl declined)) (λ handled. inr handled)) made
 
--- what comes of a request that did not end early comes of it too if it could have
-pub settled_as : (owner : ℕ) (is_repeatable is_over : Bool) (result : Result (List ℕ) ClusterError) (outcome : Outcome) → (is_repeatable ≡ true → is_over ≡ false)
-    → Settled owner (not is_over) result outcome → Settled owner is_repeatable result outcome
-settled_as owner false is_over result outcome never (inl comes) = inl comes
-settled_as owner false is_over result outcome never (inr ended) = inr (refl, ended.1, ended.2)
-settled_as owner true is_over result outcome never (inl comes) = inl comes
-settled_as owner true is_over result outcome never (inr ended) =
-    let some : not is_over ≡ true = ap not (never refl) in
-    absurd (true≢false (sym some ∙ ended.0))
+-- what comes of a request that could end early so
+pub settled_as : (owner : ℕ) (is_repeatable : Bool) (limit : Option ℕ) (ending : Option Refusal) (result : Result (List ℕ) ClusterError) (outcome : Outcome)
+    → IfSome ending (EndsEarly is_repeatable limit) → SettledBy owner ending result outcome → Settled owner is_repeatable limit result outcome
+settled_as owner is_repeatable limit ending result outcome may (inl comes) = inl comes
+settled_as owner is_repeatable limit ending result outcome may (inr ended) =
+    inr (ended.0, subst (λ (it : Option Refusal). IfSome it (EndsEarly is_repeatable limit)) ended.1 may, ended.2, ended.3)
 
 -- no place for a request
-pub made_crowded : (own : ℕ) (found : Owners) (key : List ℕ) (request : Outgoing) (is_repeatable : Bool) (why : Refusal) (old : Calling)
-    → why ≡ crowded own found.0 → HasMade (AsksIfPlaced own key request is_repeatable (Err why) (Ok found)) old old
-made_crowded own found key request is_repeatable why old is =
-    subst (λ (it : Refusal). HasMade (AsksIfPlaced own key request is_repeatable (Err it) (Ok found)) old old) (sym is)
-    (made_none (AsksIfPlaced own key request is_repeatable (Err (crowded own found.0)) (Ok found)) old old refl (inl (refl, refl)))
+pub made_crowded : (limit : Option ℕ) (own : ℕ) (found : Owners) (key : List ℕ) (request : Outgoing) (is_repeatable : Bool) (why : Refusal) (old : Calling)
+    → why ≡ crowded own found.0 → HasMade (AsksIfPlaced limit own key request is_repeatable (Err why) (Ok found)) old old
+made_crowded limit own found key request is_repeatable why old is =
+    subst (λ (it : Refusal). HasMade (AsksIfPlaced limit own key request is_repeatable (Err it) (Ok found)) old old) (sym is)
+    (made_none (AsksIfPlaced limit own key request is_repeatable (Err (crowded own found.0)) (Ok found)) old old refl (inl (refl, refl)))
 
 -- the first two of the first two are the first two
 pub first_taken : (xs : List ℕ) → slice_get (take 2 xs) 0 ≡ slice_get xs 0

@@ -3,7 +3,9 @@ pub mod Answers
 pub mod Asking
 pub mod Calling
 pub mod Connections
+pub mod Lines
 pub mod Onces
+pub mod PeerLinks
 pub mod Performing
 pub mod Relays
 pub mod Serving

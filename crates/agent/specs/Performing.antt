@@ -143,18 +143,38 @@ IsRequested asked noted keys request r acts =
     IsRequest hash_of AnyAnswer AnyHandling AnyTimes keys request r acts
     × SendsRequest hash_of notes_source notes_call keys request r false asked None noted acts
 
--- What comes of a request: the text that answered it, or the refusal for its error. One that may not be performed twice can end early, at a node
--- that may have performed it and gave no reply.
-abbrev pub Settled : ℕ → Bool → Result (List ℕ) ClusterError → Outcome → Type 0
-Settled owner is_repeatable result outcome =
-    ComesOf (ShowsAnswer owner) result outcome ⊎ ((is_repeatable ≡ false) × (result ≡ Err error.Memory) × (outcome ≡ Err refusal.AnswerLost))
+-- The refusal of a request that ended early, by whether a node may have performed it, whether it may be performed twice, and the limit of its wait: that
+-- its answer was lost; or that its owner does not answer, if the wait has a limit and no node can have performed it. None if it can't end early.
+abbrev pub early_refusal : Bool → Bool → Option ℕ → Option Refusal
+early_refusal is_unsure true None = None
+early_refusal is_unsure false None = Some refusal.AnswerLost
+early_refusal is_unsure is_repeatable (Some limit) = Some (cond is_unsure refusal.AnswerLost refusal.OwnerSilent)
+
+-- A request may be refused so since it ended early: one that may not be performed twice, at a node that may have performed it and gave no reply; one whose
+-- wait has a limit, once that is over.
+abbrev pub EndsEarly : Bool → Option ℕ → Refusal → Type 0
+EndsEarly true None why = ⊥
+EndsEarly false None why = why ≡ refusal.AnswerLost
+EndsEarly is_repeatable (Some limit) why = (why ≡ refusal.AnswerLost) ⊎ (why ≡ refusal.OwnerSilent)
+
+-- what comes of a request: the text that answered it, or the refusal for its error; or this refusal, since it ended early
+abbrev pub SettledBy : ℕ → Option Refusal → Result (List ℕ) ClusterError → Outcome → Type 0
+SettledBy owner ending result outcome =
+    ComesOf (ShowsAnswer owner) result outcome ⊎ ((why : Refusal) × (ending ≡ Some why) × (result ≡ Err error.Memory) × (outcome ≡ Err why))
+
+-- What comes of a request: the text that answered it, or the refusal for its error. One that may not be performed twice, or whose wait has a limit, can
+-- end early.
+abbrev pub Settled : ℕ → Bool → Option ℕ → Result (List ℕ) ClusterError → Outcome → Type 0
+Settled owner is_repeatable limit result outcome =
+    ComesOf (ShowsAnswer owner) result outcome
+    ⊎ ((why : Refusal) × EndsEarly is_repeatable limit why × (result ≡ Err error.Memory) × (outcome ≡ Err why))
 
 -- a request of one key is made, which this text has; it is not if memory runs out for its key
-abbrev pub AsksOwner : ℕ → List ℕ → List ℕ → Bool → Outcome → OfActs Sha256Hash
-AsksOwner own key request is_repeatable outcome acts =
+abbrev pub AsksOwner : Option ℕ → ℕ → List ℕ → List ℕ → Bool → Outcome → OfActs Sha256Hash
+AsksOwner limit own key request is_repeatable outcome acts =
     Declines refusal.Memory outcome acts
     ⊎ ((asked : Bool) × (noted : Option ℕ)
-    × After (IsRequested asked noted (key ∷ []) request) (Settled (answerer own asked noted) is_repeatable) outcome acts)
+    × After (IsRequested asked noted (key ∷ []) request) (Settled (answerer own asked noted) is_repeatable limit) outcome acts)
 
 -- the owner of a key, and the node that would own it next, if there is one
 abbrev pub Owners : Type 0
@@ -179,15 +199,15 @@ abbrev pub crowded : ℕ → ℕ → Refusal
 crowded own found = cond (found == own) refusal.Busy (refusal.OwnerBusy found)
 
 -- a request of a key is made if its owner was found and there is a place for it; by the text that names the next owner, if it is passed on whole
-abbrev pub AsksIfPlaced : ℕ → List ℕ → Outgoing → Bool → Outcome → Result Owners Refusal → OfActs Sha256Hash
-AsksIfPlaced own key request is_repeatable outcome (Ok found) acts =
-    Declines (crowded own found.0) outcome acts ⊎ AsksOwner own key (sent_text found.1 request) is_repeatable outcome acts
-AsksIfPlaced own key request is_repeatable outcome (Err why) acts = Declines why outcome acts
+abbrev pub AsksIfPlaced : Option ℕ → ℕ → List ℕ → Outgoing → Bool → Outcome → Result Owners Refusal → OfActs Sha256Hash
+AsksIfPlaced limit own key request is_repeatable outcome (Ok found) acts =
+    Declines (crowded own found.0) outcome acts ⊎ AsksOwner limit own key (sent_text found.1 request) is_repeatable outcome acts
+AsksIfPlaced limit own key request is_repeatable outcome (Err why) acts = Declines why outcome acts
 
 -- the owner of a key is found first, and then this request of it is made
-abbrev pub Handles : ℕ → List ℕ → Outgoing → Bool → Outcome → OfActs Sha256Hash
-Handles own key request is_repeatable outcome acts =
-    (found : Result Owners Refusal) × Then (Finds key found) (AsksIfPlaced own key request is_repeatable outcome found) acts
+abbrev pub Handles : Option ℕ → ℕ → List ℕ → Outgoing → Bool → Outcome → OfActs Sha256Hash
+Handles limit own key request is_repeatable outcome acts =
+    (found : Result Owners Refusal) × Then (Finds key found) (AsksIfPlaced limit own key request is_repeatable outcome found) acts
 
 -- the node left, or had left already, and the agent stops; or it is refused as a leave is
 abbrev pub Stops : Result Change ClusterError → Outcome → Type 0
@@ -211,27 +231,28 @@ abbrev pub IsLiveness : Outcome → Type 0
 IsLiveness (Ok shown) = IsText kind.Text (codes "ok" ++ 10 ∷ []) shown
 IsLiveness (Err why) = why ≡ refusal.NoRounds
 
--- An action of the agent whose node has this address and this many replicas, its outcome, and all calls of the node that were made for it.
-abbrev pub Performs : ℕ → ℕ → Action → Outcome → OfActs Sha256Hash
-Performs own replicas (action.Handle key body) outcome acts =
-    (Declines refusal.NotJoined outcome acts ⊎ Declines refusal.Memory outcome acts) ⊎ Handles own key (Body (text_of_body body)) true outcome acts
-Performs own replicas (action.Pass key request is_repeatable) outcome acts =
-    Declines refusal.NotJoined outcome acts ⊎ Handles own key request is_repeatable outcome acts
-Performs own replicas (action.Owners key count) outcome acts =
+-- An action of the agent whose node has this address and this many replicas, with this limit of a request's wait, if there is one; its outcome, and all
+-- calls of the node that were made for it.
+abbrev pub Performs : Option ℕ → ℕ → ℕ → Action → Outcome → OfActs Sha256Hash
+Performs limit own replicas (action.Handle key body) outcome acts =
+    (Declines refusal.NotJoined outcome acts ⊎ Declines refusal.Memory outcome acts) ⊎ Handles limit own key (Body (text_of_body body)) true outcome acts
+Performs limit own replicas (action.Pass key request is_repeatable) outcome acts =
+    Declines refusal.NotJoined outcome acts ⊎ Handles limit own key request is_repeatable outcome acts
+Performs limit own replicas (action.Owners key count) outcome acts =
     Declines refusal.NotJoined outcome acts ⊎ After Looks (ComesOf (ShowsOwners key count)) outcome acts
-Performs own replicas (action.AllOwners keys count only_others) outcome acts =
+Performs limit own replicas (action.AllOwners keys count only_others) outcome acts =
     Declines refusal.NotJoined outcome acts ⊎ After Looks (ComesOf (ShowsAllOwners (hidden_of own only_others) keys count)) outcome acts
-Performs own replicas (action.Ring after) outcome acts =
+Performs limit own replicas (action.Ring after) outcome acts =
     (Declines refusal.NotJoined outcome acts ⊎ Declines refusal.ManyQuestions outcome acts)
     ⊎ After (Tries call.Members reply.Members) (ComesOf (ShowsRing own replicas after)) outcome acts
-Performs own replicas action.Members outcome acts = After (Tries call.Members reply.Members) (ComesOf (ShowsMembers own replicas)) outcome acts
-Performs own replicas action.Digest outcome acts =
+Performs limit own replicas action.Members outcome acts = After (Tries call.Members reply.Members) (ComesOf (ShowsMembers own replicas)) outcome acts
+Performs limit own replicas action.Digest outcome acts =
     After (Tries call.Digest reply.Digest) (ComesOf (λ digest. ShowsOpen (digest_line digest.bytes))) outcome acts
-Performs own replicas action.Health outcome acts = Nothing acts × IsHealth outcome
-Performs own replicas action.Live outcome acts = Nothing acts × IsLiveness outcome
-Performs own replicas action.Metrics outcome acts = After (Tries call.Members reply.Members) (ComesOf ShowsCounts) outcome acts
-Performs own replicas action.Page outcome acts = Nothing acts × (outcome ≡ Ok Page)
-Performs own replicas action.Leave outcome acts = After (Tries call.Leave reply.Leave) (ComesOf (λ left. Says (codes "left"))) outcome acts
-Performs own replicas action.Rejoin outcome acts =
+Performs limit own replicas action.Health outcome acts = Nothing acts × IsHealth outcome
+Performs limit own replicas action.Live outcome acts = Nothing acts × IsLiveness outcome
+Performs limit own replicas action.Metrics outcome acts = After (Tries call.Members reply.Members) (ComesOf ShowsCounts) outcome acts
+Performs limit own replicas action.Page outcome acts = Nothing acts × (outcome ≡ Ok Page)
+Performs limit own replicas action.Leave outcome acts = After (Tries call.Leave reply.Leave) (ComesOf (λ left. Says (codes "left"))) outcome acts
+Performs limit own replicas action.Rejoin outcome acts =
     Declines refusal.HasLeft outcome acts ⊎ After (Tries call.Rejoin reply.Rejoin) (ComesOf (λ back. Says (codes "back"))) outcome acts
-Performs own replicas action.Stop outcome acts = After (Tries call.Leave reply.Leave) Stops outcome acts
+Performs limit own replicas action.Stop outcome acts = After (Tries call.Leave reply.Leave) Stops outcome acts

@@ -1,17 +1,22 @@
 //! The state that the threads of an agent share.
+ghost use Rattle.std.specs.Prelude.{◌≡◌, ◌*◌, ◌/◌};
+
 use crate::applications::Application;
 use crate::callers::{Caller, Passes};
 use crate::rejections::Refused;
 use crate::tellers::Teller;
-use agent_core::{Counts, PortCounts, Watch};
+use agent_core::{Counts, KeptCounts, PortCounts, Watch};
 use agent_state::{
     Count, Counters, Host, Logger, MAX_QUESTIONS, Notices, Process, Waiting, Watchers,
 };
 use change_core::{Address, Moment};
+use cluster_names::ClusterName;
 use http::HeaderName;
+use kept_links::Pool;
 use line_service::{ServerClock, Stopwatch, Timeouts};
 use reactor::Places;
 use std::alloc::Global;
+use std::net::TcpStream;
 use std::sync::atomic::{AtomicBool, Ordering};
 use std::sync::{Arc, Mutex};
 use std::thread::Parker;
@@ -57,6 +62,8 @@ pub struct Agent<R> {
     pub log: Logger<R>,
     /// The node's address.
     pub own: Address,
+    /// The name of the node's cluster, if it has one.
+    pub cluster: Option<ClusterName>,
     pub replicas: u32,
     /// The milliseconds between the beginnings of two rounds.
     pub period: u64,
@@ -71,10 +78,14 @@ pub struct Agent<R> {
     pub passes: Mutex<Passes>,
     pub counters: Counters,
     pub process: Process,
+    /// The connections to other nodes that rest between two requests.
+    pub spares: Pool<TcpStream>,
     /// The HTTP requests that wait for a key's owner.
     pub waiting: Waiting,
     /// The number of requests that are being relayed.
     pub relaying: Count,
+    /// The number of hands that wait for the next request of a connection.
+    pub keeping: Count,
     /// The number of workers that answer HTTP.
     pub workers: Count,
     /// The number of them that serve a connection.
@@ -174,6 +185,7 @@ impl<R: Host> Agent<R> {
             application: self.application.times.counts(),
             application_failures: self.application.failures.get(),
             waiting: self.waiting.counts(&self.rt),
+            kept: self.kept_counts(),
             http: port,
             workers_used: self.serving.get(),
             workers_max: self.workers.get(),
@@ -188,6 +200,26 @@ impl<R: Host> Agent<R> {
             process: self.process.counts(),
             ..self.counters.counts()
         }
+    }
+
+    /// Returns the counts of the connections between nodes that are kept.
+    fn kept_counts(&self) -> KeptCounts {
+        KeptCounts {
+            resting: self.spares.resting(&self.rt) as u64,
+            max_resting: self.spares.most() as u64,
+            hands: self.keeping.get(),
+            max_hands: self.max_keeping(),
+            reused: self.spares.reused(),
+            closed: self.spares.closed(),
+        }
+    }
+
+    /// Returns how many hands may wait for the next request of a connection at a time: three of four, so that the others answer what comes over
+    /// new ones.
+    pub fn max_keeping(&self) -> u64
+        ensures { result ≡ self.now.hands * 3 / 4 }
+    {
+        u64::from(self.hands) * 3 / 4
     }
 
     /// Returns how many questions about the ring may wait: 1,000, or as many as half of the HTTP connections that may be open.

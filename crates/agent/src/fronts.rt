@@ -1,5 +1,5 @@
 //! The service that answers HTTP requests.
-ghost use Rattle.std.specs.Prelude.{◌≡◌, ◌+◌, ◌<◌, ◌≤◌, ℕ, Bool, Option, codes, false, not, true, OnOk, IfErr, IfOk, IsTrue, Ok};
+ghost use Rattle.std.specs.Prelude.{◌≡◌, ◌+◌, ◌<◌, ◌≤◌, ℕ, Bool, Option, codes, true, OnOk, IfErr, IfOk, IfSome, IsTrue, Ok};
 ghost use Rattle.http.specs.Request.{head_of};
 ghost use Rattle.http_header.specs.HeaderMap.{ContainsKey};
 ghost use Rattle.http_server.specs.Response.{IsBlank};
@@ -8,17 +8,20 @@ ghost use Rattle.node_core.specs.declared.events.Reply.TheVariants as reply;
 ghost use Rattle.peer_core.specs.Parts.{Does, Tries};
 ghost use Rattle.agent_core.specs.Passing.{sent_text};
 ghost use Rattle.agent_core.specs.declared.actions.Action.TheVariants as action;
-ghost use Rattle.agent.specs.Answers.{IsAnswered, Settles, ShowsTo};
+ghost use Rattle.agent.specs.Answers.{IsAnswered, PerformsBy, Settles, ShowsTo};
 ghost use Rattle.agent.specs.Asking.{answerer};
 ghost use Rattle.agent.specs.Calling.{HasMade};
-ghost use Rattle.agent.specs.Performing.{AsksIfPlaced, AsksOwner, Finds, IsFound, IsHealth, IsLiveness, IsRequested, IsUnjoined, Outcome, Performs, Settled, ShowsCounts, ShowsMembers, ShowsOwners, crowded, digest_by, refusal_of};
+ghost use Rattle.agent.specs.Performing.{AsksIfPlaced, AsksOwner, EndsEarly, Finds, IsFound, IsHealth, IsLiveness, IsRequested, IsUnjoined, Outcome, Performs, SettledBy, ShowsCounts, ShowsMembers, ShowsOwners, crowded, digest_by, refusal_of};
 
 use crate::agents::{Agent, Flag, Phase};
 use crate::callers::Caller;
 use crate::links::{NotedHandler, NotedLink};
 use crate::onces::OnceLink;
+use crate::patience::{Patience, early_refusal};
 use agent_core::{Action, Outgoing, Refusal, is_live, pack_body, pack_request};
-use agent_http::{Form, Reply, action_of, is_of_key, put_refusal, put_reply, takes_json};
+use agent_http::{
+    Form, Reply, action_of, is_of_key, limit_for, put_refusal, put_reply, takes_json,
+};
 use agent_state::{Host, date};
 use bytes::Bytes;
 use change_core::{Address, Change, Digest, MAX_MEMBERS};
@@ -142,18 +145,18 @@ fn liveness(due: u64, now: u64) -> Result<Reply, Refusal>
     }
 }
 
-/// Returns the reply with the answer to a request, which this node gave, or the refusal for its error. `is_over` says whether
-/// the request ended because a node may have performed it without a reply.
+/// Returns the reply with the answer to a request, which this node gave, or the refusal for its error; or this refusal, if the request
+/// ended early.
 fn settle(
     owner: Address,
     answer: Result<Text, ClusterError>,
-    is_over: bool,
+    ending: Option<Refusal>,
 ) -> Result<Reply, Refusal>
-    ensures { Settled owner (not is_over) answer result }
+    ensures { SettledBy owner ending answer result }
 {
     match answer {
         Ok(text) => Ok(Reply::Handled { owner, text }),
-        Err(ClusterError::Memory) if is_over => Err(Refusal::AnswerLost),
+        Err(ClusterError::Memory) => Err(ending.unwrap_or(Refusal::Memory)),
         Err(error) => Err(refusal_of(error)),
     }
 }
@@ -167,6 +170,8 @@ pub struct Front<'f, 'a, R> {
     pub client: Option<IpAddr>,
     pub caller: &'f mut Caller,
     pub link: &'f mut NotedLink<'a, R>,
+    /// The milliseconds for which the request may wait, if its client limits them.
+    pub limit: Option<u64>,
     /// Set if the request is a question about the ring for which there is no place to wait.
     pub is_turned_away: &'f Flag,
 }
@@ -174,7 +179,7 @@ pub struct Front<'f, 'a, R> {
 impl<'f, 'a, R: Host> Front<'f, 'a, R> {
     /// Has the owner of a key answer a request that is a body alone.
     fn handle(&mut self, key: Text, body: Text) -> Result<Reply, Refusal>
-        ensures performed { HasMade (Performs self.old.agent.now.own self.old.agent.now.replicas (action.Handle key body) result) self.old.caller.now self.new.caller.now }
+        ensures performed { HasMade (Performs self.old.limit self.old.agent.now.own self.old.agent.now.replicas (action.Handle key body) result) self.old.caller.now self.new.caller.now }
         ensures agent { self.new.agent ≡ self.old.agent }
     {
         match pack_body(self.alloc, body) {
@@ -186,7 +191,7 @@ impl<'f, 'a, R: Host> Front<'f, 'a, R> {
     /// Has the owner of a key answer a request, unless the hosts are still being asked or too many requests wait for it. Returns
     /// the answer and the owner.
     fn pass(&mut self, key: Text, request: Outgoing, is_repeatable: bool) -> Result<Reply, Refusal>
-        ensures performed { HasMade (Performs self.old.agent.now.own self.old.agent.now.replicas (action.Pass key request is_repeatable) result) self.old.caller.now self.new.caller.now }
+        ensures performed { HasMade (Performs self.old.limit self.old.agent.now.own self.old.agent.now.replicas (action.Pass key request is_repeatable) result) self.old.caller.now self.new.caller.now }
         ensures agent { self.new.agent ≡ self.old.agent }
     {
         if self.agent.is_starting.get() {
@@ -202,6 +207,7 @@ impl<'f, 'a, R: Host> Front<'f, 'a, R> {
     fn find(&mut self, key: &Text) -> Result<(Address, Option<Address>), Refusal>
         ensures found { HasMade (Finds key.now result) self.old.caller.now self.new.caller.now }
         ensures agent { self.new.agent ≡ self.old.agent }
+        ensures limit { self.new.limit ≡ self.old.limit }
     {
         match self.caller.view(&self.agent.rt) {
             Ok(view) => found_by(&view, key),
@@ -217,7 +223,7 @@ impl<'f, 'a, R: Host> Front<'f, 'a, R> {
         request: Outgoing,
         is_repeatable: bool,
     ) -> Result<Reply, Refusal>
-        ensures asked { HasMade (AsksIfPlaced self.old.agent.now.own key request is_repeatable result (Ok found)) self.old.caller.now self.new.caller.now }
+        ensures asked { HasMade (AsksIfPlaced self.old.limit self.old.agent.now.own key request is_repeatable result (Ok found)) self.old.caller.now self.new.caller.now }
         ensures agent { self.new.agent ≡ self.old.agent }
     {
         let agent = self.agent;
@@ -238,7 +244,7 @@ impl<'f, 'a, R: Host> Front<'f, 'a, R> {
         next: Option<Address>,
         is_repeatable: bool,
     ) -> Result<Reply, Refusal>
-        ensures asked { HasMade (AsksOwner self.old.agent.now.own key (sent_text next request) is_repeatable result) self.old.caller.now self.new.caller.now }
+        ensures asked { HasMade (AsksOwner self.old.limit self.old.agent.now.own key (sent_text next request) is_repeatable result) self.old.caller.now self.new.caller.now }
         ensures agent { self.new.agent ≡ self.old.agent }
     {
         match pack_request(self.alloc, request, next) {
@@ -249,53 +255,93 @@ impl<'f, 'a, R: Host> Front<'f, 'a, R> {
 
     /// Has the owner of a key answer the request that a text has, and returns the answer and the node that gave it.
     fn ask_owner(&mut self, key: Text, request: Text, is_repeatable: bool) -> Result<Reply, Refusal>
-        ensures asked { HasMade (AsksOwner self.old.agent.now.own key request is_repeatable result) self.old.caller.now self.new.caller.now }
+        ensures asked { HasMade (AsksOwner self.old.limit self.old.agent.now.own key request is_repeatable result) self.old.caller.now self.new.caller.now }
         ensures agent { self.new.agent ≡ self.old.agent }
     {
         let agent = self.agent;
         let Ok(keys) = Keys::new(self.alloc, key) else {
             return Err(Refusal::Memory);
         };
-        let (answer, owner, is_over) = self.ask(keys, request, is_repeatable);
-        settle(owner, answer, is_over)
+        let (answer, owner, ending) = self.ask(keys, request, is_repeatable);
+        settle(owner, answer, ending)
     }
 
-    /// Returns the answer to a request, the node that gave it, and whether the request ended because a node may have performed it
-    /// without a reply: one that may not be performed twice is sent again only while none can have.
-    fn ask(
-        &mut self,
-        keys: Keys,
-        request: Text,
-        is_repeatable: bool,
-    ) -> (Result<Text, ClusterError>, Address, bool)
+    /// Returns the answer to a request whose wait has no limit and which may be performed twice, and the node that gave it.
+    fn ask_whole(&mut self, keys: Keys, request: Text) -> (Result<Text, ClusterError>, Address)
         ensures requested { (asked : Bool) × (noted : Option ℕ) × (result.1 ≡ answerer self.old.agent.now.own asked noted)
             × HasMade (IsRequested asked noted keys request result.0) self.old.caller.now self.new.caller.now }
-        ensures over { is_repeatable ≡ true → result.2 ≡ false }
         ensures agent { self.new.agent ≡ self.old.agent }
     {
         let agent = self.agent;
         let (rt, alloc, clock) = (&agent.rt, self.alloc, agent.clock());
         let mut handler = NotedHandler::new(&agent.application);
         self.link.last = None;
-        if is_repeatable {
-            let link = &mut *self.link;
-            let answer = self
-                .caller
-                .request(rt, alloc, link, &mut handler, &clock, keys, request);
-            let owner = answerer(agent.own, handler.was_asked, self.link.last);
-            return (answer, owner, false);
-        }
-        let mut once = OnceLink::new(agent, &mut *self.link);
+        let link = &mut *self.link;
         let answer = self
             .caller
-            .request(rt, alloc, &mut once, &mut handler, &clock, keys, request);
+            .request(rt, alloc, link, &mut handler, &clock, keys, request);
+        let owner = answerer(agent.own, handler.was_asked, self.link.last);
+        (answer, owner)
+    }
+
+    /// Returns the answer to a request that may end early, the node that gave it, and the refusal of the request if it ended early.
+    fn ask_once(
+        &mut self,
+        keys: Keys,
+        request: Text,
+        is_repeatable: bool,
+    ) -> (Result<Text, ClusterError>, Address, Option<Refusal>)
+        ensures requested { (asked : Bool) × (noted : Option ℕ) × (result.1 ≡ answerer self.old.agent.now.own asked noted)
+            × HasMade (IsRequested asked noted keys request result.0) self.old.caller.now self.new.caller.now }
+        ensures ending { IfSome result.2 (EndsEarly is_repeatable self.old.limit) }
+        ensures agent { self.new.agent ≡ self.old.agent }
+    {
+        let (agent, alloc, limit) = (self.agent, self.alloc, self.limit);
+        let patience = Patience::begin(agent, limit);
+        let mut handler = NotedHandler::new(&patience);
+        let mut once = OnceLink::new(&patience, &mut *self.link, is_repeatable);
+        let answer = self.caller.request(
+            &agent.rt,
+            alloc,
+            &mut once,
+            &mut handler,
+            &patience,
+            keys,
+            request,
+        );
         let owner = answerer(agent.own, handler.was_asked, once.last);
-        (answer, owner, once.is_over)
+        let is_unsure = once.is_unsure || patience.was_asked();
+        let ending = if once.is_over || patience.is_over() {
+            early_refusal(is_unsure, is_repeatable, limit)
+        } else {
+            None
+        };
+        (answer, owner, ending)
+    }
+
+    /// Returns the answer to a request, the node that gave it, and the refusal of the request if it ended early: one that may not be performed twice is sent
+    /// again only while no node can have performed it, and one whose wait is over is not sent again.
+    fn ask(
+        &mut self,
+        keys: Keys,
+        request: Text,
+        is_repeatable: bool,
+    ) -> (Result<Text, ClusterError>, Address, Option<Refusal>)
+        ensures requested { (asked : Bool) × (noted : Option ℕ) × (result.1 ≡ answerer self.old.agent.now.own asked noted)
+            × HasMade (IsRequested asked noted keys request result.0) self.old.caller.now self.new.caller.now }
+        ensures ending { IfSome result.2 (EndsEarly is_repeatable self.old.limit) }
+        ensures agent { self.new.agent ≡ self.old.agent }
+    {
+        if is_repeatable && self.limit.is_none() {
+            let (answer, owner) = self.ask_whole(keys, request);
+            return (answer, owner, None);
+        }
+        self.ask_once(keys, request, is_repeatable)
     }
 
     /// Returns the first owners of a key, unless the hosts are still being asked.
     fn owners(&mut self, key: &Text, count: usize) -> Result<Reply, Refusal>
-        ensures performed { HasMade (Performs self.old.agent.now.own self.old.agent.now.replicas (action.Owners key.now count) result) self.old.caller.now self.new.caller.now }
+        ensures performed { HasMade (Performs self.old.limit self.old.agent.now.own self.old.agent.now.replicas (action.Owners key.now count) result) self.old.caller.now self.new.caller.now }
         ensures agent { self.new.agent ≡ self.old.agent }
     {
         if self.agent.is_starting.get() {
@@ -318,7 +364,7 @@ impl<'f, 'a, R: Host> Front<'f, 'a, R> {
 
     /// Returns the members, with their digest.
     fn members(&mut self) -> Result<Reply, Refusal>
-        ensures performed { HasMade (Performs self.old.agent.now.own self.old.agent.now.replicas action.Members result) self.old.caller.now self.new.caller.now }
+        ensures performed { HasMade (Performs self.old.limit self.old.agent.now.own self.old.agent.now.replicas action.Members result) self.old.caller.now self.new.caller.now }
         ensures agent { self.new.agent ≡ self.old.agent }
     {
         match self.caller.members(&self.agent.rt) {
@@ -337,7 +383,7 @@ impl<'f, 'a, R: Host> Front<'f, 'a, R> {
 
     /// Returns the counts, with the members by status.
     fn metrics(&mut self) -> Result<Reply, Refusal>
-        ensures performed { HasMade (Performs self.old.agent.now.own self.old.agent.now.replicas action.Metrics result) self.old.caller.now self.new.caller.now }
+        ensures performed { HasMade (Performs self.old.limit self.old.agent.now.own self.old.agent.now.replicas action.Metrics result) self.old.caller.now self.new.caller.now }
         ensures agent { self.new.agent ≡ self.old.agent }
     {
         match self.caller.members(&self.agent.rt) {
@@ -348,7 +394,7 @@ impl<'f, 'a, R: Host> Front<'f, 'a, R> {
 
     /// Returns the digest of the members.
     fn digest(&mut self) -> Result<Reply, Refusal>
-        ensures performed { HasMade (Performs self.old.agent.now.own self.old.agent.now.replicas action.Digest result) self.old.caller.now self.new.caller.now }
+        ensures performed { HasMade (Performs self.old.limit self.old.agent.now.own self.old.agent.now.replicas action.Digest result) self.old.caller.now self.new.caller.now }
         ensures agent { self.new.agent ≡ self.old.agent }
     {
         match self.caller.digest(&self.agent.rt) {
@@ -372,7 +418,7 @@ impl<'f, 'a, R: Host> Front<'f, 'a, R> {
 
     /// Has the node leave.
     fn leave(&mut self) -> Result<Reply, Refusal>
-        ensures performed { HasMade (Performs self.old.agent.now.own self.old.agent.now.replicas action.Leave result) self.old.caller.now self.new.caller.now }
+        ensures performed { HasMade (Performs self.old.limit self.old.agent.now.own self.old.agent.now.replicas action.Leave result) self.old.caller.now self.new.caller.now }
         ensures agent { self.new.agent ≡ self.old.agent }
     {
         let agent = self.agent;
@@ -386,7 +432,7 @@ impl<'f, 'a, R: Host> Front<'f, 'a, R> {
 
     /// Has the node leave, unless it has left already, and the agent end.
     fn stop(&mut self) -> Result<Reply, Refusal>
-        ensures performed { HasMade (Performs self.old.agent.now.own self.old.agent.now.replicas action.Stop result) self.old.caller.now self.new.caller.now }
+        ensures performed { HasMade (Performs self.old.limit self.old.agent.now.own self.old.agent.now.replicas action.Stop result) self.old.caller.now self.new.caller.now }
         ensures agent { self.new.agent ≡ self.old.agent }
     {
         let agent = self.agent;
@@ -403,7 +449,7 @@ impl<'f, 'a, R: Host> Front<'f, 'a, R> {
 
     /// Has the node come back, unless the agent is to end.
     fn rejoin(&mut self) -> Result<Reply, Refusal>
-        ensures performed { HasMade (Performs self.old.agent.now.own self.old.agent.now.replicas action.Rejoin result) self.old.caller.now self.new.caller.now }
+        ensures performed { HasMade (Performs self.old.limit self.old.agent.now.own self.old.agent.now.replicas action.Rejoin result) self.old.caller.now self.new.caller.now }
         ensures agent { self.new.agent ≡ self.old.agent }
     {
         let agent = self.agent;
@@ -447,7 +493,7 @@ impl<'f, 'a, R: Host> Front<'f, 'a, R> {
 
     /// Performs an action, and returns its reply.
     fn act(&mut self, action: Action) -> Result<Reply, Refusal>
-        ensures performed { HasMade (Performs self.old.agent.now.own self.old.agent.now.replicas action result) self.old.caller.now self.new.caller.now }
+        ensures performed { HasMade (Performs self.old.limit self.old.agent.now.own self.old.agent.now.replicas action result) self.old.caller.now self.new.caller.now }
         ensures agent { self.new.agent ≡ self.old.agent }
     {
         match action {
@@ -476,13 +522,34 @@ impl<'f, 'a, R: Host> Front<'f, 'a, R> {
         }
     }
 
+    /// Performs an action with this limit of its wait, if there is one.
+    fn act_within(
+        &mut self,
+        limit: Result<Option<u64>, Refusal>,
+        action: Action,
+    ) -> Result<Reply, Refusal>
+        ensures performed { HasMade (PerformsBy limit self.old.agent.now.own self.old.agent.now.replicas action result) self.old.caller.now self.new.caller.now }
+        ensures agent { self.new.agent ≡ self.old.agent }
+    {
+        match limit {
+            Ok(limit) => {
+                self.limit = limit;
+                self.act(action)
+            }
+            Err(refusal) => Err(refusal),
+        }
+    }
+
     /// Returns the reply to a request.
     fn reply(&mut self, request: &Request<Bytes>) -> Result<Reply, Refusal>
         ensures settled { HasMade (Settles self.old.agent.now.own self.old.agent.now.replicas self.old.agent.now.key_field request.now result) self.old.caller.now self.new.caller.now }
         ensures agent { self.new.agent ≡ self.old.agent }
     {
         match action_of(self.alloc, request, &self.agent.key_field, &self.client) {
-            Ok(action) => self.act(action),
+            Ok(action) => {
+                let limit = limit_for(request, &action);
+                self.act_within(limit, action)
+            }
             Err(refusal) => Err(refusal),
         }
     }

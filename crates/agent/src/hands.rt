@@ -5,16 +5,20 @@ use crate::agents::Agent;
 use crate::applications::Limited;
 use crate::callers::Caller;
 use crate::links::NotedHandler;
-use crate::peers::{Job, send_back};
+use crate::peer_links::PeerLink;
+use crate::peers::{Job, next_request, send_back};
 use crate::relays::{line_after, millis_left, relay, relay_link};
 use agent_state::Host;
-use cluster_core::TcpLink;
 use crossbeam_channel::Receiver;
 use peer_core::Link;
 use std::alloc::Global;
 use std::io::ErrorKind;
 use std::net::TcpStream;
 use std::sync::Arc;
+use std::time::Duration;
+
+/// The milliseconds for which the next request of a connection is awaited, 200 more than the other node uses it.
+const MAX_IDLE: u64 = 250;
 
 /// Returns the line of this node's own answer to a request, for which the application has what is left of the limit, and
 /// whether the application was asked: once, if this node owns the request by its view.
@@ -22,7 +26,7 @@ fn own_answer<R: Host>(
     agent: &Agent<R>,
     alloc: Global,
     caller: &mut Caller,
-    link: &mut TcpLink<R>,
+    link: &mut PeerLink<'_, R, R>,
     job: &Job,
 ) -> (Option<Vec<u8>>, bool)
     ensures answered { IsAnsweredHere job.now.input result.0 result.1 caller.old caller.new }
@@ -41,7 +45,7 @@ fn line_for_request<R: Host, L: Link>(
     agent: &Agent<R>,
     alloc: Global,
     caller: &mut Caller,
-    link: &mut TcpLink<R>,
+    link: &mut PeerLink<'_, R, R>,
     relay_link: &mut L,
     job: &mut Job,
 ) -> Option<Vec<u8>>
@@ -60,19 +64,77 @@ fn line_for_request<R: Host, L: Link>(
     }
 }
 
-/// Answers a request over its connection, or closes that where no line goes back.
+/// Returns whether something comes over a connection in its time. A signal starts the time again.
+fn is_followed(stream: &TcpStream) -> bool {
+    let limit = Duration::from_millis(MAX_IDLE);
+    if stream.set_read_timeout(Some(limit)).is_err() {
+        return false;
+    }
+    'peeks: for _ in 0..u64::MAX {
+        match stream.peek(&mut [0]) {
+            Ok(count) => return count > 0,
+            Err(error) if error.kind() == ErrorKind::Interrupted => {}
+            Err(_) => return false,
+        }
+    }
+    false
+}
+
+/// Sends a marked answer over a connection, and returns the next request that comes over it; None if none comes in its time.
+fn request_after<R: Host>(
+    agent: &Agent<R>,
+    alloc: Global,
+    caller: &mut Caller,
+    link: &mut PeerLink<'_, R, R>,
+    stream: TcpStream,
+    line: Vec<u8>,
+) -> Option<Job> {
+    let stream = send_back(agent, alloc, stream, line, true)?;
+    if !is_followed(&stream) {
+        return None;
+    }
+    next_request(agent, alloc, caller, link, stream)
+}
+
+/// Answers a request over its connection, or closes that where no line goes back. Returns the next request that comes over the connection if it
+/// is kept: if the other node asks for it, no request waits for a hand, and fewer hands wait for a next one than may.
 fn serve_request<R: Host>(
     agent: &Agent<R>,
     alloc: Global,
     caller: &mut Caller,
-    link: &mut TcpLink<R>,
+    link: &mut PeerLink<'_, R, R>,
+    jobs: &Receiver<Job>,
     mut job: Job,
-) {
+) -> Option<Job> {
     let mut relay_link = relay_link(agent);
     let line = line_for_request(agent, alloc, caller, link, &mut relay_link, &mut job);
     agent.renew(caller);
-    if let Some(line) = line {
-        send_back(agent, job.stream, line);
+    let line = line?;
+    let is_kept = job.is_marked && jobs.is_empty() && agent.keeping.add_below(agent.max_keeping());
+    if !is_kept {
+        let _sent = send_back(agent, alloc, job.stream, line, false);
+        return None;
+    }
+    let next = request_after(agent, alloc, caller, link, job.stream, line);
+    agent.keeping.subtract(1);
+    next
+}
+
+/// Answers a request, and those that follow over its connection as long as it is kept.
+fn serve_connection<R: Host>(
+    agent: &Agent<R>,
+    alloc: Global,
+    caller: &mut Caller,
+    link: &mut PeerLink<'_, R, R>,
+    jobs: &Receiver<Job>,
+    job: Job,
+) {
+    let mut next = Some(job);
+    for _ in agent.rt.forever() {
+        let Some(job) = next else {
+            return;
+        };
+        next = serve_request(agent, alloc, caller, link, jobs, job);
     }
 }
 
@@ -91,7 +153,8 @@ fn has_hung_up(stream: &TcpStream) -> bool {
     }
 }
 
-/// Answers the requests of the queue, until the queue has no sender. A request for which no time is left is dropped, since
+/// Answers the requests of the queue, and those that follow over their connections, until the queue has no sender. A request of the queue for
+/// which no time is left is dropped, since
 /// the node that sent it would get the answer too late; so is one whose sender has hung up, since another node may have
 /// answered it.
 pub fn serve_requests<R: Host>(
@@ -101,13 +164,13 @@ pub fn serve_requests<R: Host>(
     jobs: Receiver<Job>,
 ) {
     let agent = &*agent;
-    let mut link = TcpLink::with_limits(agent.rt, agent.timeouts.links);
+    let mut link = PeerLink::new(agent, agent.rt, agent.timeouts.links, 0);
     for _ in agent.rt.forever() {
         let Ok(job) = jobs.recv(&agent.rt) else {
             return;
         };
         if millis_left(agent, job.since) > 0 && !has_hung_up(&job.stream) {
-            serve_request(agent, alloc, &mut caller, &mut link, job);
+            serve_connection(agent, alloc, &mut caller, &mut link, &jobs, job);
         }
     }
 }

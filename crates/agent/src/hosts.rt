@@ -33,8 +33,8 @@ pub fn link_of<R: Host>(agent: &Agent<R>, wait: u64) -> NotedLink<'_, R> {
     NotedLink::with_limits(agent, limits)
 }
 
-/// Joins by a host. Returns whether the host answered.
-fn join_one<R: Host>(
+/// Joins by a host, and logs that it answered. Returns whether it did.
+pub fn join_one<R: Host>(
     agent: &Agent<R>,
     alloc: Global,
     caller: &mut Caller,

@@ -1,14 +1,15 @@
 //! A link that notes the node that gave its last answer, and a handler that notes whether it was called, so that a reply can
 //! name the node that gave it.
 ghost use Rattle.std.specs.Prelude.{◌≡◌, ◌↔◌, ◌⊎◌, IsTrue, false};
-ghost use Rattle.cluster_core.specs.Sockets.{failures_over};
+ghost use Rattle.agent.specs.PeerLinks.{failures_by};
 ghost use Rattle.agent.specs.Asking.{source_of};
 
 use crate::agents::Agent;
+use crate::peer_links::PeerLink;
 use crate::rejections::note_answer;
 use agent_state::Host;
 use change_core::Address;
-use cluster_core::{Limits, TcpLink};
+use cluster_core::Limits;
 use forward_core::MAX_SENDS;
 use log::{info, warn};
 use message_core::{Content, Keys, Message, Text};
@@ -38,7 +39,7 @@ pub fn source_of(answer: &Result<Message, LinkError>) -> Option<Address>
 #[derive(Drop)]
 pub struct NotedLink<'a, R> {
     agent: &'a Agent<R>,
-    link: TcpLink<R>,
+    link: PeerLink<'a, R, R>,
     /// The node that gave the answer to the last call; None if there was none. A reply may be another node's than the one
     /// called, which relayed the request.
     pub last: Option<Address>,
@@ -56,7 +57,7 @@ impl<'a, R: Host> NotedLink<'a, R> {
     pub fn with_limits(agent: &'a Agent<R>, limits: Limits) -> Self {
         NotedLink {
             agent,
-            link: TcpLink::with_limits(agent.rt, limits),
+            link: PeerLink::kept(agent, limits),
             last: None,
             disowned: 0,
         }
@@ -86,7 +87,7 @@ impl<'a, R: Host> NotedLink<'a, R> {
 
     /// Takes the answer of a node to a message: notes who gave it, counts, and logs.
     pub fn take(&mut self, to: Address, message: &Message, answer: &Result<Message, LinkError>)
-        ensures failures { failures_over self.new.link ≡ failures_over self.old.link }
+        ensures failures { failures_by self.new.link ≡ failures_by self.old.link }
         ensures noted { self.new.last ≡ source_of answer.now }
     {
         self.last = source_of(answer);
@@ -134,7 +135,7 @@ impl<'a, R: Host> NotedLink<'a, R> {
 }
 
 impl<'a, R: Host> Link for NotedLink<'a, R> {
-    ghost use Rattle.cluster_core.specs.Sockets.{failures_over};
+    ghost use Rattle.agent.specs.PeerLinks.{failures_by};
     ghost use Rattle.agent.specs.Calling.{AnyAnswer};
     ghost use Rattle.agent.specs.Asking.{notes_source};
 
@@ -143,7 +144,7 @@ impl<'a, R: Host> Link for NotedLink<'a, R> {
     // the node that gave the answer is noted
     ghost went = { λ to message answer old new. notes_source to message answer old.last new.last };
 
-    ghost failed = { λ n. failures_over n.link };
+    ghost failed = { λ n. failures_by n.link };
 
     fn failures(&self) -> u64 {
         self.link.failures()

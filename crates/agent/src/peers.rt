@@ -1,15 +1,19 @@
-//! Connections of other nodes: one line in and one line out. Gossip is answered immediately, by threads that never wait
-//! for the application.
+//! Connections of other nodes: one line in and one line out, and then the next for those that are kept. Gossip is answered immediately, by
+//! threads that never wait for the application.
 use crate::admissions::admit;
 use crate::agents::Agent;
 use crate::applications::{Joining, Overloaded};
 use crate::callers::Caller;
-use crate::rejections::note_input;
+use crate::lines::hear_own;
+use crate::peer_links::PeerLink;
+use crate::rejections::input_of;
 use agent_state::Host;
 use change_core::Moment;
-use cluster_core::{Deadline, TcpLink, Timed, send_owned_line};
+use cluster_core::{Deadline, Timed, send_owned_line};
+use cluster_names::line_sent;
 use crossbeam_channel::{Sender, TrySendError};
-use line_service::{Input, hear};
+use kept_links::{Marked, marked_line};
+use line_service::Input;
 use message_core::{Content, Message};
 use peer_core::HandlerMut;
 use std::alloc::Global;
@@ -21,12 +25,14 @@ use std::time::Duration;
 /// The milliseconds that a thread rests before it tries again.
 const REST: u64 = 10;
 
-/// An input of another node, the connection that waits for its answer, and the moment at which the connection came.
+/// An input of another node, the connection that waits for its answer, and the moment from which its line was awaited.
 #[derive(Drop)]
 pub struct Job {
     pub input: Input,
     pub stream: TcpStream,
     pub since: Moment,
+    /// Whether the other node asks to keep the connection.
+    pub is_marked: bool,
 }
 
 /// Returns the line that answers an input, with room for its newline; None if it needs no answer, or none could be made.
@@ -34,7 +40,7 @@ pub fn line_for<R: Host, A: HandlerMut>(
     agent: &Agent<R>,
     alloc: Global,
     caller: &mut Caller,
-    link: &mut TcpLink<R>,
+    link: &mut PeerLink<'_, R, R>,
     handler: &mut A,
     input: &Input,
 ) -> Option<Vec<u8>> {
@@ -44,11 +50,22 @@ pub fn line_for<R: Host, A: HandlerMut>(
     line
 }
 
-/// Sends a line over a connection. If that fails, the line is lost.
-pub fn send_back<R: Host>(agent: &Agent<R>, stream: TcpStream, line: Vec<u8>) {
-    if let Ok(deadline) = Deadline::after(&agent.rt, agent.timeouts.line) {
-        let _sent = send_owned_line(Timed::new(stream, deadline), line);
+/// Sends a line over a connection, as one of this agent's cluster, and marked if the connection is kept. Returns the connection; None if that fails: the
+/// line is lost, also where it is too long with the name.
+pub fn send_back<R: Host>(
+    agent: &Agent<R>,
+    alloc: Global,
+    stream: TcpStream,
+    line: Vec<u8>,
+    is_kept: bool,
+) -> Option<TcpStream> {
+    let mut line = line_sent(alloc, &agent.cluster, line).ok()?;
+    if is_kept {
+        line = marked_line(line);
     }
+    let deadline = Deadline::after(&agent.rt, agent.timeouts.line).ok()?;
+    let stream = send_owned_line(Timed::new(stream, deadline), line).ok()?;
+    Some(stream.into_inner())
 }
 
 /// Answers an input over its connection.
@@ -56,13 +73,13 @@ fn answer<R: Host, A: HandlerMut>(
     agent: &Agent<R>,
     alloc: Global,
     caller: &mut Caller,
-    link: &mut TcpLink<R>,
+    link: &mut PeerLink<'_, R, R>,
     handler: &mut A,
     job: Job,
 ) {
     let line = line_for(agent, alloc, caller, link, handler, &job.input);
     if let Some(line) = line {
-        send_back(agent, job.stream, line);
+        let _sent = send_back(agent, alloc, job.stream, line, false);
     }
 }
 
@@ -77,44 +94,57 @@ fn is_request(input: &Input) -> bool {
     )
 }
 
-/// Returns the input that comes over a connection within the time limit.
-fn listen_to<R: Host>(agent: &Agent<R>, alloc: Global, stream: &TcpStream) -> Input {
-    let Ok(deadline) = Deadline::after(&agent.rt, agent.timeouts.line) else {
-        return Input::Nothing;
-    };
-    // (a second handle of the socket: the reader is dropped with what it read ahead)
-    match stream.try_clone() {
-        Ok(reader) => hear(alloc, Timed::new(reader, deadline)),
-        Err(_) => Input::Nothing,
-    }
+/// Returns the input that comes over a connection within the time limit, with the connection; None if the clock failed.
+fn listen_to<R: Host>(agent: &Agent<R>, alloc: Global, stream: TcpStream) -> Option<Job> {
+    let since = agent.now();
+    let deadline = Deadline::after(&agent.rt, agent.timeouts.line).ok()?;
+    let mut reader = Marked::new(Timed::new(stream, deadline));
+    let heard = hear_own(alloc, &agent.cluster, &mut reader);
+    let is_marked = reader.is_marked();
+    let stream = reader.into_inner().into_inner();
+    Some(Job {
+        input: input_of(agent, &stream, heard),
+        stream,
+        since,
+        is_marked,
+    })
 }
 
-/// Serves one connection. Gossip is answered immediately. A request goes to the queue of the hands, the threads that
-/// have the application answer; if the queue is full, it is answered that too many wait. Before a host has answered it is refused.
+/// Returns the request of a key that comes over a connection within the time limit. What else comes is answered immediately, and so is a request
+/// that comes before a host has answered: it is refused.
+pub fn next_request<R: Host>(
+    agent: &Agent<R>,
+    alloc: Global,
+    caller: &mut Caller,
+    link: &mut PeerLink<'_, R, R>,
+    stream: TcpStream,
+) -> Option<Job> {
+    let mut job = listen_to(agent, alloc, stream)?;
+    job.input = admit(agent, caller, job.input);
+    if !is_request(&job.input) {
+        answer(agent, alloc, caller, link, &mut &agent.application, job);
+        return None;
+    }
+    if agent.is_starting.get() {
+        answer(agent, alloc, caller, link, &mut &Joining, job);
+        return None;
+    }
+    Some(job)
+}
+
+/// Serves one connection. A request goes to the queue of the hands, the threads that have the application answer; if the queue is full, it is
+/// answered that too many wait.
 fn serve_connection<R: Host>(
     agent: &Agent<R>,
     alloc: Global,
     caller: &mut Caller,
-    link: &mut TcpLink<R>,
+    link: &mut PeerLink<'_, R, R>,
     hands: &Sender<Job>,
     stream: TcpStream,
 ) {
-    let since = agent.now();
-    let input = listen_to(agent, alloc, &stream);
-    note_input(agent, &input);
-    let input = admit(agent, caller, input);
-    let is_request = is_request(&input);
-    let job = Job {
-        input,
-        stream,
-        since,
+    let Some(job) = next_request(agent, alloc, caller, link, stream) else {
+        return;
     };
-    if !is_request {
-        return answer(agent, alloc, caller, link, &mut &agent.application, job);
-    }
-    if agent.is_starting.get() {
-        return answer(agent, alloc, caller, link, &mut &Joining, job);
-    }
     if let Err(TrySendError::Full(job)) = hands.try_send(&agent.rt, job) {
         answer(agent, alloc, caller, link, &mut &Overloaded, job);
     }
@@ -129,7 +159,7 @@ pub fn serve_peers<R: Host>(
     hands: Sender<Job>,
 ) {
     let agent = &*agent;
-    let mut link = TcpLink::with_limits(agent.rt, agent.timeouts.links);
+    let mut link = PeerLink::new(agent, agent.rt, agent.timeouts.links, 0);
     for _ in agent.rt.forever() {
         match listener.accept() {
             Ok((stream, _)) => {

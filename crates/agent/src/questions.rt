@@ -120,7 +120,7 @@ impl<'f, 'a, R: Host> Front<'f, 'a, R> {
         count: usize,
         only_others: bool,
     ) -> Result<Reply, Refusal>
-        ensures performed { HasMade (Performs self.old.agent.now.own self.old.agent.now.replicas (action.AllOwners keys.now count only_others) result) self.old.caller.now self.new.caller.now }
+        ensures performed { HasMade (Performs self.old.limit self.old.agent.now.own self.old.agent.now.replicas (action.AllOwners keys.now count only_others) result) self.old.caller.now self.new.caller.now }
         ensures agent { self.new.agent ≡ self.old.agent }
     {
         if self.agent.is_starting.get() {
@@ -164,7 +164,7 @@ impl<'f, 'a, R: Host> Front<'f, 'a, R> {
     /// - `Spent`: the node takes no more calls.
     /// - `Memory`: out of memory.
     pub fn ring(&mut self, after: Option<&Text>) -> Result<Reply, Refusal>
-        ensures performed { HasMade (Performs self.old.agent.now.own self.old.agent.now.replicas (action.Ring (option_copied after.entry)) result) self.old.caller.now self.new.caller.now }
+        ensures performed { HasMade (Performs self.old.limit self.old.agent.now.own self.old.agent.now.replicas (action.Ring (option_copied after.entry)) result) self.old.caller.now self.new.caller.now }
         ensures agent { self.new.agent ≡ self.old.agent }
     {
         if self.agent.is_starting.get() {

@@ -1,13 +1,19 @@
 //! What is refused: messages of this node by other nodes, joins among them, and lines at this node's port.
+ghost use Rattle.std.specs.Prelude.{◌≡◌};
+ghost use Rattle.agent.specs.Lines.{input_of};
+
 use crate::agents::Agent;
+use crate::lines::Heard;
 use agent_core::RefusalCounts;
 use agent_state::{Count, Host, Notices};
 use change_core::Address;
+use cluster_names::{BEFORE_NAME, is_name};
 use line_service::Input;
 use log::{info, warn};
 use message_core::{Content, Message, Reason};
 use peer_core::LinkError;
 use std::alloc::Global;
+use std::net::{SocketAddr, TcpStream};
 use std::sync::{Mutex, Wait};
 
 /// The counts of what is refused, and what the log said last of it.
@@ -19,10 +25,13 @@ pub struct Refused {
     messages: Count,
     malformed: Count,
     memory: Count,
+    cluster: Count,
     /// Why a host refused the last Join that was answered; None if none was.
     join: Mutex<Option<Reason>>,
     /// What the log said last of nodes that refuse and, at the node's own address, of lines that it refuses.
     notices: Notices,
+    /// What the log said last of lines of other clusters, by the address that was asked for them or, at the node's own address, that came here.
+    strangers: Notices,
 }
 
 /// Returns the reason of an answer that is a refusal.
@@ -48,8 +57,10 @@ impl Refused {
             messages: Count::new(),
             malformed: Count::new(),
             memory: Count::new(),
+            cluster: Count::new(),
             join: Mutex::new(None),
             notices: Notices::new(alloc),
+            strangers: Notices::new(alloc),
         }
     }
 
@@ -67,6 +78,7 @@ impl Refused {
             messages: self.messages.get(),
             malformed: self.malformed.get(),
             memory: self.memory.get(),
+            cluster: self.cluster.get(),
         }
     }
 
@@ -118,7 +130,7 @@ pub fn note_answer<R: Host>(
 }
 
 /// Counts a line at this node's port that is refused, and logs that there are some, or that lines are read again.
-pub fn note_input<R: Host>(agent: &Agent<R>, input: &Input) {
+fn note_input<R: Host>(agent: &Agent<R>, input: &Input) {
     let Agent {
         rt,
         refused,
@@ -143,5 +155,64 @@ pub fn note_input<R: Host>(agent: &Agent<R>, input: &Input) {
             }
         }
         Input::Message(_) | Input::Nothing => {}
+    }
+}
+
+/// Notes that a line of this node's cluster came from this address.
+pub fn note_own_line<R: Host>(agent: &Agent<R>, at: Address) {
+    let _news = agent
+        .refused
+        .strangers
+        .note(&agent.rt, at, false, agent.now());
+}
+
+/// Returns the name of a cluster that a line has, as the log says it; None if it has none.
+fn name_in(line: &[u8]) -> Option<&str> {
+    let rest = line.strip_prefix(BEFORE_NAME)?;
+    let end = rest.iter().position(|byte| *byte == b'"')?;
+    let name = &rest[..end];
+    if is_name(name) {
+        str::from_utf8(name).ok()
+    } else {
+        None
+    }
+}
+
+/// Counts a line from a socket that is of another cluster or of none, and logs it unless the log said so last of this address.
+pub fn note_foreign_line<R: Host>(agent: &Agent<R>, at: Address, from: &SocketAddr, line: &[u8]) {
+    let refused = &agent.refused;
+    refused.cluster.add(1);
+    let Some(own) = &agent.cluster else {
+        return;
+    };
+    if !refused.strangers.note(&agent.rt, at, true, agent.now()) {
+        return;
+    }
+    match name_in(line) {
+        Some(name) => {
+            warn!(agent.log(); "a line of {from} was refused: it is of cluster {name}, and this node of {own}");
+        }
+        None => {
+            warn!(agent.log(); "a line of {from} was refused: it names no cluster, and this node is of {own}");
+        }
+    }
+}
+
+/// Returns the input of what was heard over a connection, noted: a line of another cluster or of none is refused.
+pub fn input_of<R: Host>(agent: &Agent<R>, stream: &TcpStream, heard: Heard) -> Input
+    ensures { result ≡ input_of heard }
+{
+    match heard {
+        Heard::Input(input) => {
+            note_own_line(agent, agent.own);
+            note_input(agent, &input);
+            input
+        }
+        Heard::Foreign(line) => {
+            if let Ok(from) = stream.peer_addr() {
+                note_foreign_line(agent, agent.own, &from, &line);
+            }
+            Input::Refused(Reason::Malformed)
+        }
     }
 }

@@ -3,7 +3,8 @@ use crate::agents::Agent;
 use crate::callers::Caller;
 use crate::hosts::{MAX_FIRST_WAIT, link_of};
 use crate::links::NotedLink;
-use agent_core::{Notice, Refutations, are_many_addresses};
+use crate::tombstones::meet_tombstone;
+use agent_core::{Notice, Refutations, Tombstones, are_many_addresses};
 use agent_state::{Counters, Host, is_refuted, log_changes, log_since_start};
 use change_core::{Address, Change, Digest, MAX_MEMBERS, Moment};
 use log::{info, warn};
@@ -25,6 +26,7 @@ struct Rounds<'a, R> {
     caller: Caller,
     link: NotedLink<'a, R>,
     healing: Healing<'a>,
+    tombstones: Tombstones,
     /// The node's own entry before it met any other node.
     initial: Option<Change>,
     /// The members at the last logged change, or after the hosts were first asked, and their digest.
@@ -187,7 +189,7 @@ impl<'a, R: Host> Rounds<'a, R> {
     }
 
     /// Makes one round of gossip, counts it, and logs its error and how the members changed. Questions are answered before it and after it, since it may
-    /// take some seconds.
+    /// take some seconds. Last it closes the connections to other nodes that have rested for long.
     fn make(&mut self) {
         let agent = self.agent;
         self.answer_questions();
@@ -203,6 +205,7 @@ impl<'a, R: Host> Rounds<'a, R> {
         agent.renew(&mut self.caller);
         self.heal(now);
         agent.last_round.set(agent.now().number());
+        agent.spares.close_rested(&agent.rt, &agent.rt);
     }
 
     /// Heals after a round, unless the node has left: members that parted find one another again.
@@ -222,6 +225,10 @@ impl<'a, R: Host> Rounds<'a, R> {
             }
         }
         agent.renew(&mut self.caller);
+        if self.tombstones.after_round() {
+            let (alloc, caller) = (self.alloc, &mut self.caller);
+            meet_tombstone(agent, alloc, caller, link, &mut self.tombstones);
+        }
     }
 
     /// Makes one round of gossip, which corrects its target unless the node has left.
@@ -252,6 +259,7 @@ pub fn make_rounds<R: Host>(
         caller,
         link: link_of(agent, MAX_FIRST_WAIT),
         healing: Healing::new(agent.own, hosts.as_slice()),
+        tombstones: Tombstones::new(agent.own),
         initial,
         members: None,
         digest: None,

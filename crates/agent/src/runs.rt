@@ -1,5 +1,5 @@
 //! The run of an agent, from its settings to its end.
-ghost use Rattle.std.specs.Prelude.{◌++◌, ◌∷◌, [], IfOk, OnOk};
+ghost use Rattle.std.specs.Prelude.{◌≡◌, ◌/◌, ◌++◌, ◌∷◌, [], IfOk, OnOk, min};
 ghost use Rattle.std.specs.Io.KnownBytes.{Appends};
 ghost use Rattle.agent.specs.Texts.{agent_text, serving_line};
 ghost use Rattle.wire_json.specs.Input.{AppendsPrefix};
@@ -26,10 +26,11 @@ use change_core::{Address, Change, Incarnation, MAX_NUMBER, Moment};
 use cluster_core::{share, socket_address};
 use crossbeam_channel::{Receiver, Sender, bounded};
 use hash_ring::Sha256Hash;
+use kept_links::Pool;
 use line_service::{Stopwatch, Timeouts};
 use log::warn;
 use node_core::{Config, NodeError, NodeState};
-use reactor::{Lot, Places};
+use reactor::{Lot, Places, max_descriptors};
 use std::alloc::{AllocError, Global};
 use std::fs::Files;
 use std::io::Write;
@@ -52,6 +53,9 @@ const PASSES: u32 = 1_023;
 
 /// The most requests of other nodes that wait for the application.
 const MAX_QUEUED_REQUESTS: usize = 256;
+
+/// The most connections to other nodes that rest.
+const MAX_SPARES: u64 = 128;
 
 /// The milliseconds between two looks at what the process uses.
 const BETWEEN_LOOKS: u64 = 5_000;
@@ -140,6 +144,13 @@ fn timeouts_of(settings: &Settings) -> Timeouts {
     timeouts
 }
 
+/// Returns how many connections to other nodes rest at most where there are these descriptors: an eighth of them, and at most 128.
+fn spares_with(descriptors: u64) -> u64
+    ensures { result ≡ min (descriptors / 8) MAX_SPARES }
+{
+    (descriptors / 8).min(MAX_SPARES)
+}
+
 /// Makes the state that the threads of an agent share.
 fn agent_of<R: System>(
     rt: &R,
@@ -148,12 +159,14 @@ fn agent_of<R: System>(
 ) -> Result<Arc<Agent<R>, Global>, AgentError> {
     let passes = passes_of(rt, alloc, settings)?;
     let stopwatch = Stopwatch::start(rt);
+    let spares = spares_with(max_descriptors().unwrap_or(u64::MAX));
     let log = start_log(rt, alloc, settings.address, settings.level)?;
     let application = application_of(rt, alloc, &log, stopwatch, settings)?;
     let agent = Agent {
         rt: *rt,
         log,
         own: settings.address,
+        cluster: settings.cluster.clone()?,
         replicas: settings.replicas,
         period: settings.period,
         hands: settings.hands,
@@ -164,8 +177,10 @@ fn agent_of<R: System>(
         passes: Mutex::new(passes),
         counters: Counters::new(),
         process: Process::start(rt),
+        spares: Pool::new(alloc, spares as usize),
         waiting: Waiting::new(alloc)?,
         relaying: Count::new(),
+        keeping: Count::new(),
         workers: Count::new(),
         serving: Count::new(),
         http: Arc::new(alloc, Places::new())?,

@@ -1,5 +1,6 @@
 //! The settings of an agent.
 use change_core::{Address, Incarnation, Weight};
+use cluster_names::ClusterName;
 use http::HeaderName;
 use log::LevelFilter;
 
@@ -31,6 +32,8 @@ pub struct Settings {
     pub tell_app: bool,
     /// The field that may name the key of a request, if any request of a key is passed on to its owner's application.
     pub key_field: Option<HeaderName>,
+    /// The name of the cluster, if it has one.
+    pub cluster: Option<ClusterName>,
     /// The most requests of other nodes that the application is given at a time.
     pub hands: u32,
     /// The most HTTP connections that are open at a time.

@@ -177,6 +177,7 @@ pub fn serve_http<R: Host>(
             client: ip_of(&visited.stream),
             caller: &mut caller,
             link: &mut link,
+            limit: None,
             is_turned_away: &is_turned_away,
         };
         agent.serving.add(1);

@@ -13,7 +13,7 @@ use Rattle.agent_core.specs.declared.actions.Action.{Action}
 use Rattle.agent_core.specs.declared.refusals.Part.TheVariants.{Key, Body}
 use Rattle.agent_core.specs.declared.refusals.Refusal.{Refusal}
 use Rattle.agent_core.specs.declared.refusals.Refusal.TheVariants.{Malformed, BadMethod, Memory}
-use Rattle.agent_core.specs.Requests.{after, asked, body_in, by, count_in, count_of, handled, key_in, key_of, named, open_at, plain, verb_name}
+use Rattle.agent_core.specs.Requests.{after, asked, body_in, by, count_in, handled, key_in, key_of, named, number_of, open_at, plain, verb_name}
 
 -- ---- the rest of a text after a prefix
 
@@ -83,19 +83,20 @@ copied_body body (Ok text) short u h = rw (h, le-ltb 131072 (length body) short,
 own : IsNumeralModel (λ ds. all_ascii_digits ds ≡ true) (digits_value 10)
 own = numerals_by_value _ tells_all_ascii_digits
 
--- digits after a plus sign are not a count
-pub count_of-sign : (digits : List ℕ) → get_or digits 0 0 ≡ 43 → count_of digits ≡ None
-count_of-sign [] e = refl
-count_of-sign (c ∷ cs) e = rw e refl
+-- digits after a plus sign are not a number
+pub number_of-sign : (most : ℕ) (digits : List ℕ) → get_or digits 0 0 ≡ 43 → number_of most digits ≡ None
+number_of-sign most [] e = refl
+number_of-sign most (c ∷ cs) e = rw e refl
 
 -- the number that `parse` reads of digits without a sign
-pub count_of-parsed : (digits : List ℕ) (n : ℕ) → ParsesUnsigned {E = ℕ} 64 10 digits (Ok n) → get_or digits 0 0 ≢ 43 → 0 < n → n ≤ 4096 → Some n ≡ count_of digits
-count_of-parsed digits n h unsigned some small =
+pub number_of-parsed : (most : ℕ) (digits : List ℕ) (n : ℕ) → ParsesUnsigned {E = ℕ} 64 10 digits (Ok n) → get_or digits 0 0 ≢ 43 → 0 < n → n ≤ most
+    → Some n ≡ number_of most digits
+number_of-parsed most digits n h unsigned some small =
     let p : ((all_ascii_digits digits ≡ true) × (0 < length digits) × (digits_value 10 digits < 2 ^ 64)) × (n ≡ digits_value 10 digits) = parse_plain own {E = ℕ} 64 digits (Ok n) h unsigned in
-    rw (p.0.0, ← p.1, lt-ltb 0 n some, le-leb n 4096 small) refl
+    rw (p.0.0, ← p.1, lt-ltb 0 n some, le-leb n most small) refl
 
-pub count_of-unread : (digits : List ℕ) → ParsesUnsigned {E = ℕ} 64 10 digits (Err 0) → get_or digits 0 0 ≢ 43 → None ≡ count_of digits
-count_of-unread digits h unsigned =
+pub number_of-unread : (most : ℕ) (digits : List ℕ) → most < 2 ^ 64 → ParsesUnsigned {E = ℕ} 64 10 digits (Err 0) → get_or digits 0 0 ≢ 43 → None ≡ number_of most digits
+number_of-unread most digits fits h unsigned =
     let p : ¬ ((all_ascii_digits digits ≡ true) × (0 < length digits) × (digits_value 10 digits < 2 ^ 64)) = parse_plain own {E = ℕ} 64 digits (Err 0) h unsigned in
     sym (cond-false _ _ _ (false_from_ne_true _ (λ t. let (d, c) = and_parts _ _ t in let q = and_parts _ _ c in
     p (d, some digits (ltb-true _ _ q.0), small (digits_value 10 digits) (leb-true _ _ q.1)))))
@@ -104,7 +105,7 @@ count_of-unread digits h unsigned =
     some [] h = absurd (omega arith)
     some (c ∷ cs) h = omega arith
 
-    small : (n : ℕ) → n ≤ 4096 → n < 2 ^ 64
+    small : (n : ℕ) → n ≤ most → n < 2 ^ 64
     small n h = omega arith
 
 -- ---- requests

@@ -8,4 +8,5 @@ pub mod Tellings
 pub mod Metrics
 pub mod Services
 pub mod Shares
+pub mod Tombstones
 pub mod Warnings

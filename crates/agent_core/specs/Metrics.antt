@@ -5,6 +5,7 @@ use Rattle.change_core.specs.declared.statuses.Status.{Status}
 use Rattle.change_core.specs.declared.statuses.Status.TheVariants.{Alive, Suspect, Faulty, Leave, Tombstone}
 use Rattle.change_core.specs.Status.{rank, status_word}
 use Rattle.change_core.specs.Numbers.{most_members}
+use Rattle.agent_core.specs.declared.counts.KeptCounts.{KeptCounts}
 use Rattle.agent_core.specs.declared.counts.LogCounts.{LogCounts}
 use Rattle.agent_core.specs.declared.counts.PortCounts.{PortCounts}
 use Rattle.agent_core.specs.declared.counts.ProcessCounts.{ProcessCounts}
@@ -158,6 +159,19 @@ waiting_samples waiting =
     ++ metric (codes "ringpop_waiting_share") (codes "gauge") (codes "Requests that may wait for one other owner while many wait for others.") 32
     ++ metric (codes "ringpop_waiting_refused_total") (codes "counter") (codes "Requests of keys that found no place among those that wait.") waiting.refused
 
+-- the connections of nodes that are kept: how many wait at the end that asks, and at the end that answers; how many may; how often one was used
+-- again, and how many were closed
+abbrev pub kept_samples : KeptCounts → List ℕ
+kept_samples kept =
+    head (codes "ringpop_kept_connections_used") (codes "gauge") (codes "Connections between nodes that wait for the next request, at either end.")
+    ++ sample (codes "ringpop_kept_connections_used{end=\"asking\"}") kept.resting
+    ++ sample (codes "ringpop_kept_connections_used{end=\"answering\"}") kept.hands
+    ++ head (codes "ringpop_kept_connections_max") (codes "gauge") (codes "Connections between nodes that may wait so, at either end.")
+    ++ sample (codes "ringpop_kept_connections_max{end=\"asking\"}") kept.max_resting
+    ++ sample (codes "ringpop_kept_connections_max{end=\"answering\"}") kept.max_hands
+    ++ metric (codes "ringpop_kept_connections_reused_total") (codes "counter") (codes "Requests to other nodes over connections that were kept.") kept.reused
+    ++ metric (codes "ringpop_kept_connections_closed_total") (codes "counter") (codes "Connections to other nodes that were kept and then closed.") kept.closed
+
 -- the connections of clients over HTTP: how many are open, how many may be, how many were closed for others, and how often none was accepted
 abbrev pub connection_samples : PortCounts → List ℕ
 connection_samples http =
@@ -203,9 +217,10 @@ refusal_samples refusals =
     ++ sample (codes "ringpop_joins_total{outcome=\"refused\"}") refusals.join_refused
     ++ sample (codes "ringpop_joins_total{outcome=\"failed\"}") refusals.join_failed
     ++ metric (codes "ringpop_messages_refused_total") (codes "counter") (codes "Messages of this node that another one refused.") refusals.messages
-    ++ head (codes "ringpop_lines_refused_total") (codes "counter") (codes "Lines at the node's port that were refused, by reason.")
+    ++ head (codes "ringpop_lines_refused_total") (codes "counter") (codes "Lines of other nodes that were refused, by reason.")
     ++ sample (codes "ringpop_lines_refused_total{reason=\"malformed\"}") refusals.malformed
     ++ sample (codes "ringpop_lines_refused_total{reason=\"memory\"}") refusals.memory
+    ++ sample (codes "ringpop_lines_refused_total{reason=\"cluster\"}") refusals.cluster
 
 -- the log lines that wait, the most that may, and those that were dropped
 abbrev pub log_samples : LogCounts → List ℕ
@@ -243,7 +258,8 @@ work_texts counts = request_samples counts ++ answer_samples counts ++ histogram
 -- what is held, and of how much
 abbrev pub limit_texts : Counts → List ℕ
 limit_texts counts =
-    waiting_samples counts.waiting ++ connection_samples counts.http ++ worker_samples counts ++ question_samples counts ++ log_samples counts.log
+    waiting_samples counts.waiting ++ kept_samples counts.kept ++ connection_samples counts.http ++ worker_samples counts ++ question_samples counts
+    ++ log_samples counts.log
 
 -- what goes between the node, its service and other nodes
 abbrev pub link_texts : Counts → List ℕ

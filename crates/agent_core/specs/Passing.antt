@@ -60,7 +60,8 @@ is_of_connection name =
     bytes_eq name (codes "connection") || (bytes_eq name (codes "proxy-connection") || (bytes_eq name (codes "keep-alive")
     || (bytes_eq name (codes "te") || (bytes_eq name (codes "trailer") || (bytes_eq name (codes "transfer-encoding")
     || (bytes_eq name (codes "upgrade") || (bytes_eq name (codes "expect") || (bytes_eq name (codes "x-ringpop-key")
-    || (bytes_eq name (codes "x-ringpop-next") || (bytes_eq name (codes "x-ringpop-error") || bytes_eq name (codes "x-ringpop-owner")))))))))))
+    || (bytes_eq name (codes "x-ringpop-next") || (bytes_eq name (codes "x-ringpop-error") || (bytes_eq name (codes "x-ringpop-owner")
+    || bytes_eq name (codes "x-ringpop-wait"))))))))))))
 
 -- whether a request by a method may be performed twice (RFC 9110, section 9.2.2)
 abbrev pub is_repeatable : List ℕ → Bool

@@ -6,7 +6,7 @@ use Rattle.agent_core.specs.declared.refusals.Failure.TheVariants as failure
 use Rattle.agent_core.specs.declared.refusals.KeyFault.{KeyFault}
 use Rattle.agent_core.specs.declared.refusals.KeyFault.TheVariants as fault
 use Rattle.agent_core.specs.declared.refusals.Part.{Part}
-use Rattle.agent_core.specs.declared.refusals.Part.TheVariants.{Key, Count, Body, Keys, NotMine, After, Wait, OwnerQuery, OwnersQuery, RingQuery, KeyField}
+use Rattle.agent_core.specs.declared.refusals.Part.TheVariants.{Key, Count, Body, Keys, NotMine, After, Wait, OwnerQuery, OwnersQuery, RingQuery, KeyField, WaitField}
 use Rattle.agent_core.specs.declared.refusals.Refusal.{Refusal}
 use Rattle.agent_core.specs.declared.refusals.Refusal.TheVariants as refusal
 use Rattle.message_core.specs.declared.kinds.Reason.{Reason}
@@ -66,6 +66,7 @@ part_text OwnerQuery = codes "bad query: this path takes n=COUNT alone"
 part_text OwnersQuery = codes "bad query: this path takes n=COUNT and not-mine=1, each once"
 part_text RingQuery = codes "bad query: this path takes after=DIGEST and, only with it, wait=SECONDS, each once"
 part_text KeyField = codes "bad key field: it comes twice, or is not ASCII"
+part_text WaitField = codes "bad X-Ringpop-Wait: not one number from 1 to 60000, in milliseconds"
 
 -- the text of a refusal for a key of many
 abbrev pub fault_text : KeyFault → List ℕ
@@ -142,6 +143,7 @@ word_of (refusal.Malformed OwnerQuery) = codes "bad-owner-query"
 word_of (refusal.Malformed OwnersQuery) = codes "bad-owners-query"
 word_of (refusal.Malformed RingQuery) = codes "bad-ring-query"
 word_of (refusal.Malformed KeyField) = codes "bad-key-field"
+word_of (refusal.Malformed WaitField) = codes "bad-wait-field"
 word_of refusal.CrossSite = codes "cross-site"
 word_of refusal.NotFound = codes "not-found"
 word_of (refusal.BadMethod verb) = codes "bad-method"

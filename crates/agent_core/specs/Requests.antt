@@ -15,7 +15,7 @@ use Rattle.agent_core.specs.declared.actions.Action.{Action}
 use Rattle.agent_core.specs.declared.actions.Action.TheVariants as action
 use Rattle.agent_core.specs.declared.refusals.KeyFault.TheVariants.{NotText, NotUtf8, Empty, Long}
 use Rattle.agent_core.specs.declared.refusals.Part.{Part}
-use Rattle.agent_core.specs.declared.refusals.Part.TheVariants.{Key, Count, Body, Keys, NotMine, After, Wait, OwnerQuery, OwnersQuery, RingQuery}
+use Rattle.agent_core.specs.declared.refusals.Part.TheVariants.{Key, Count, Body, Keys, NotMine, After, Wait, OwnerQuery, OwnersQuery, RingQuery, WaitField}
 use Rattle.agent_core.specs.declared.refusals.Refusal.{Refusal}
 use Rattle.agent_core.specs.declared.refusals.Refusal.TheVariants.{Malformed, NotFound, BadMethod, BadKey, LongBody, ManyKeys}
 
@@ -56,13 +56,17 @@ abbrev pub key_text : List ℕ → Option (List ℕ) → Option (List ℕ)
 key_text path (Some field) = Some field
 key_text path None = segment_of (after (codes "/keys/") path)
 
--- whether a number is 1 to 4,096
-abbrev pub is_count : ℕ → Bool
-is_count n = nat_lt 0 n && nat_le n 4096
+-- whether a number is 1 to this greatest one
+abbrev pub is_number : ℕ → ℕ → Bool
+is_number most n = nat_lt 0 n && nat_le n most
+
+-- the number that decimal digits write, if it is 1 to this greatest one
+abbrev pub number_of : ℕ → List ℕ → Option ℕ
+number_of most digits = cond (all_ascii_digits digits && is_number most (digits_value 10 digits)) (Some (digits_value 10 digits)) None
 
 -- the number that decimal digits write, if it is 1 to 4,096
 abbrev pub count_of : List ℕ → Option ℕ
-count_of digits = cond (all_ascii_digits digits && is_count (digits_value 10 digits)) (Some (digits_value 10 digits)) None
+count_of digits = number_of 4096 digits
 
 -- that number, if there is a text that writes one; else this part is malformed
 abbrev pub count_after : Part → Option (List ℕ) → Result ℕ Refusal
@@ -341,3 +345,13 @@ query_of (Some rest) = first_word rest
 -- what the request awaits whose text starts so, if it is one for the ring
 abbrev pub question_at : List ℕ → Option (List ℕ × ℕ)
 question_at head = awaited_of (query_of (after (codes "GET /ring?") head))
+
+-- the milliseconds to which a client limits the wait of its request, by the number that a field writes
+abbrev pub wait_by : Option ℕ → Result (Option ℕ) Refusal
+wait_by None = Err (Malformed WaitField)
+wait_by (Some millis) = Ok (Some millis)
+
+-- those milliseconds by the text of the field, if there is one: 1 to 60,000
+abbrev pub wait_of : Option (List ℕ) → Result (Option ℕ) Refusal
+wait_of None = Ok None
+wait_of (Some digits) = wait_by (number_of 60000 digits)

@@ -71,6 +71,8 @@ pub struct RefusalCounts {
     pub malformed: u64,
     /// Lines at the node's port that were refused since memory ran out.
     pub memory: u64,
+    /// Lines of other nodes, answers among them, that were refused since they are of another cluster or of none.
+    pub cluster: u64,
 }
 
 /// The lines of an agent's log.
@@ -93,6 +95,23 @@ pub struct WaitingCounts {
     pub others: u64,
     /// Those that found no place since the agent started.
     pub refused: u64,
+}
+
+/// The connections between an agent and other nodes that are kept for the next request.
+#[derive(Clone, Copy, Debug, Default, PartialEq, Eq)]
+pub struct KeptCounts {
+    /// Those to other nodes that rest between two requests.
+    pub resting: u64,
+    /// The most that rest at a time.
+    pub max_resting: u64,
+    /// The threads that wait for the next request of another node's.
+    pub hands: u64,
+    /// The most that wait so at a time.
+    pub max_hands: u64,
+    /// Requests that went over a connection that had rested.
+    pub reused: u64,
+    /// Connections that rested, or were to, and were closed.
+    pub closed: u64,
 }
 
 /// Returns the bucket of a time in microseconds, from 0 to 11.

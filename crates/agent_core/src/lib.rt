@@ -21,14 +21,16 @@ mod services;
 mod shares;
 mod tellings;
 mod texts;
+mod tombstones;
 mod verbs;
+mod waits;
 mod warnings;
 
 pub use actions::Action;
 pub use answers::{Answer, Kind};
 pub use counts::{
-    BUCKETS, LogCounts, PortCounts, ProcessCounts, RefusalCounts, StatusCounts, TimeCounts,
-    WaitingCounts, bucket_of,
+    BUCKETS, KeptCounts, LogCounts, PortCounts, ProcessCounts, RefusalCounts, StatusCounts,
+    TimeCounts, WaitingCounts, bucket_of,
 };
 pub use key_lists::{KeyList, MAX_LISTED};
 pub use metrics::{Counts, metrics_text};
@@ -48,7 +50,9 @@ pub use services::{Move, Sight, Watch};
 pub use shares::{MAX_OWN, MAX_WAITING, OWNER_SHARE, Shares};
 pub use tellings::{Ring, Telling};
 pub use texts::{digest_line, members_text, on_ring, owners_text, push_owners, ring_text};
+pub use tombstones::Tombstones;
 pub use verbs::Verb;
+pub use waits::wait_of;
 pub use warnings::{
     MANY_ADDRESSES, MAX_ADMITTED, Notice, Refutations, are_many_addresses, is_admitted, is_live,
 };

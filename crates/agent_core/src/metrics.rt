@@ -1,10 +1,11 @@
 //! The counts of an agent, in the text format of Prometheus (version 0.0.4).
 ghost use Rattle.std.specs.Prelude.{◌≡◌, ◌++◌, IfOk, OnOk, count_by, length, string_bytes};
 ghost use Rattle.change_core.specs.Status.{rank};
-ghost use Rattle.agent_core.specs.Metrics.{address_samples, answer_samples, build_samples, connection_samples, histogram_samples, holds, limit_texts, link_texts, log_samples, metrics_text, node_samples, node_texts, notice_samples, other_samples, process_samples, question_samples, refusal_samples, request_samples, round_samples, service_samples, status_sample, status_samples, waiting_samples, work_texts, worker_samples};
+ghost use Rattle.agent_core.specs.Metrics.{address_samples, answer_samples, build_samples, connection_samples, histogram_samples, holds, kept_samples, limit_texts, link_texts, log_samples, metrics_text, node_samples, node_texts, notice_samples, other_samples, process_samples, question_samples, refusal_samples, request_samples, round_samples, service_samples, status_sample, status_samples, waiting_samples, work_texts, worker_samples};
 
 use crate::counts::{
-    LogCounts, PortCounts, ProcessCounts, RefusalCounts, StatusCounts, TimeCounts, WaitingCounts,
+    KeptCounts, LogCounts, PortCounts, ProcessCounts, RefusalCounts, StatusCounts, TimeCounts,
+    WaitingCounts,
 };
 use crate::samples::{push_head, push_metric, push_millis, push_sample, push_times};
 use crate::shares::{MAX_OWN, MAX_WAITING, OWNER_SHARE};
@@ -59,6 +60,8 @@ pub struct Counts {
     pub allocation_failures: u64,
     /// The requests of keys that wait.
     pub waiting: WaitingCounts,
+    /// The connections of nodes that are kept.
+    pub kept: KeptCounts,
     /// The connections of clients over HTTP.
     pub http: PortCounts,
     /// The workers that serve one of them.
@@ -384,6 +387,59 @@ fn push_waiting(text: &mut String, waiting: &WaitingCounts) -> Result<(), AllocE
     Ok(())
 }
 
+/// Appends the numbers of connections of nodes that are kept, the most that may be, how often they were used again, and how many were closed.
+fn push_kept(text: &mut String, kept: &KeptCounts) -> Result<(), AllocError>
+    ensures { OnOk result (string_bytes text.new ≡ string_bytes text.old ++ kept_samples kept.now) }
+{
+    push_head(
+        text,
+        "ringpop_kept_connections_used",
+        "gauge",
+        "Connections between nodes that wait for the next request, at either end.",
+    )?;
+    push_sample(
+        text,
+        "ringpop_kept_connections_used{end=\"asking\"}",
+        kept.resting,
+    )?;
+    push_sample(
+        text,
+        "ringpop_kept_connections_used{end=\"answering\"}",
+        kept.hands,
+    )?;
+    push_head(
+        text,
+        "ringpop_kept_connections_max",
+        "gauge",
+        "Connections between nodes that may wait so, at either end.",
+    )?;
+    push_sample(
+        text,
+        "ringpop_kept_connections_max{end=\"asking\"}",
+        kept.max_resting,
+    )?;
+    push_sample(
+        text,
+        "ringpop_kept_connections_max{end=\"answering\"}",
+        kept.max_hands,
+    )?;
+    push_metric(
+        text,
+        "ringpop_kept_connections_reused_total",
+        "counter",
+        "Requests to other nodes over connections that were kept.",
+        kept.reused,
+    )?;
+    push_metric(
+        text,
+        "ringpop_kept_connections_closed_total",
+        "counter",
+        "Connections to other nodes that were kept and then closed.",
+        kept.closed,
+    )?;
+    Ok(())
+}
+
 /// Appends the numbers of connections, the most that there may be, and those that found no place.
 fn push_connections(text: &mut String, http: &PortCounts) -> Result<(), AllocError>
     ensures { OnOk result (string_bytes text.new ≡ string_bytes text.old ++ connection_samples http.now) }
@@ -549,7 +605,7 @@ fn push_refusals(text: &mut String, refusals: &RefusalCounts) -> Result<(), Allo
         text,
         "ringpop_lines_refused_total",
         "counter",
-        "Lines at the node's port that were refused, by reason.",
+        "Lines of other nodes that were refused, by reason.",
     )?;
     push_sample(
         text,
@@ -560,6 +616,11 @@ fn push_refusals(text: &mut String, refusals: &RefusalCounts) -> Result<(), Allo
         text,
         "ringpop_lines_refused_total{reason=\"memory\"}",
         refusals.memory,
+    )?;
+    push_sample(
+        text,
+        "ringpop_lines_refused_total{reason=\"cluster\"}",
+        refusals.cluster,
     )?;
     Ok(())
 }
@@ -688,6 +749,7 @@ fn push_limits(text: &mut String, counts: &Counts) -> Result<(), AllocError>
     ensures { OnOk result (string_bytes text.new ≡ string_bytes text.old ++ limit_texts counts.now) }
 {
     push_waiting(text, &counts.waiting)?;
+    push_kept(text, &counts.kept)?;
     push_connections(text, &counts.http)?;
     push_workers(text, counts)?;
     push_questions(text, counts)?;

@@ -295,6 +295,7 @@ pub fn is_of_connection(name: &str) -> bool
             | "x-ringpop-next"
             | "x-ringpop-error"
             | "x-ringpop-owner"
+            | "x-ringpop-wait"
     )
 }
 

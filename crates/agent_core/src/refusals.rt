@@ -33,6 +33,8 @@ pub enum Part {
     RingQuery,
     /// The field that names the key comes twice, or is not ASCII.
     KeyField,
+    /// The field that limits the wait comes twice, or is not a number from 1 to 60,000.
+    WaitField,
 }
 
 /// A reason why one of many keys is none.
@@ -117,9 +119,9 @@ pub enum Refusal {
     Spent,
     /// Out of memory.
     Memory,
-    /// The owner of the key answered none of the sends.
+    /// The owner of the key answered none of the sends, or the wait was over before one was answered, and no node performed the request.
     OwnerSilent,
-    /// The owner may have performed a request that is not to be performed twice, and its answer did not come.
+    /// The owner may have performed the request, and its answer did not come: the request is not to be performed twice, or its wait is over.
     AnswerLost,
 }
 
@@ -157,6 +159,9 @@ impl Part {
                 "bad query: this path takes after=DIGEST and, only with it, wait=SECONDS, each once"
             }
             Part::KeyField => "bad key field: it comes twice, or is not ASCII",
+            Part::WaitField => {
+                "bad X-Ringpop-Wait: not one number from 1 to 60000, in milliseconds"
+            }
         }
     }
 }
@@ -277,6 +282,7 @@ impl Refusal {
             Refusal::Malformed(Part::OwnersQuery) => "bad-owners-query",
             Refusal::Malformed(Part::RingQuery) => "bad-ring-query",
             Refusal::Malformed(Part::KeyField) => "bad-key-field",
+            Refusal::Malformed(Part::WaitField) => "bad-wait-field",
             Refusal::CrossSite => "cross-site",
             Refusal::NotFound => "not-found",
             Refusal::BadMethod(_) => "bad-method",

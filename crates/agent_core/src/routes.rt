@@ -1,6 +1,6 @@
 //! The action that a request asks for, by its method, path, query and body.
 ghost use Rattle.std.specs.Prelude.{◌≡◌, ◌≢◌, IfOk, IfErr, OnOk, option_copied};
-ghost use Rattle.agent_core.specs.Requests.{AsksForKey, AsksForRing, asked, body_in, count_by, count_in, count_of, handled, key_in, key_text, named, open_at, place_of, plain, segment, verb_name};
+ghost use Rattle.agent_core.specs.Requests.{AsksForKey, AsksForRing, asked, body_in, count_by, count_in, count_of, handled, key_in, key_text, named, number_of, open_at, place_of, plain, segment, verb_name};
 
 use crate::actions::Action;
 use crate::packs::MAX_BODY_BYTES;
@@ -60,21 +60,28 @@ fn body_of(alloc: Global, body: &[u8]) -> Result<Text, Refusal>
     }
 }
 
-/// Returns the number that decimal digits write; None if it is not 1 to 4,096, or has a sign.
-pub(crate) fn count_of(digits: &str) -> Option<usize>
-    ensures { result ≡ count_of digits.now }
+/// Returns the number that decimal digits write; None if it is not 1 to this greatest one, or has a sign.
+pub(crate) fn number_of(digits: &str, most: usize) -> Option<usize>
+    ensures { result ≡ number_of most digits.now }
 {
     if digits.starts_with('+') {
         return None;
     }
-    let Ok(count) = digits.parse::<usize>() else {
+    let Ok(number) = digits.parse::<usize>() else {
         return None;
     };
-    if count >= 1 && count <= MAX_OWNERS {
-        Some(count)
+    if number >= 1 && number <= most {
+        Some(number)
     } else {
         None
     }
+}
+
+/// Returns the number that decimal digits write; None if it is not 1 to 4,096, or has a sign.
+pub(crate) fn count_of(digits: &str) -> Option<usize>
+    ensures { result ≡ count_of digits.now }
+{
+    number_of(digits, MAX_OWNERS)
 }
 
 /// Returns the number of owners that a parameter `n` asks for. If it is another parameter, the query is malformed, which is this part.

@@ -5,9 +5,11 @@ use Rattle.http.specs.declared.request.Request.{Request}
 use Rattle.http_header.specs.FieldValue.{FieldValue, is_visible_text}
 use Rattle.http_header.specs.HeaderMap.{ContainsKey, get_all}
 use Rattle.http_uri.specs.Uri.{uri_path, uri_query}
-use Rattle.agent_core.specs.Requests.{asked, key_text}
+use Rattle.agent_core.specs.Requests.{asked, key_text, wait_of}
 use Rattle.agent_core.specs.declared.actions.Action.{Action}
-use Rattle.agent_core.specs.declared.refusals.Part.TheVariants.{KeyField}
+use Rattle.agent_core.specs.declared.actions.Action.TheVariants as action
+use Rattle.agent_core.specs.declared.refusals.Part.{Part}
+use Rattle.agent_core.specs.declared.refusals.Part.TheVariants.{KeyField, WaitField}
 use Rattle.agent_core.specs.declared.refusals.Refusal.{Refusal}
 use Rattle.agent_core.specs.declared.refusals.Refusal.TheVariants.{CrossSite, Malformed, Memory}
 use Rattle.agent_http.specs.Passing.{IsNotPassed, IsPassed}
@@ -37,11 +39,26 @@ IsRefusedHere request refusal = (IsCrossSite request × (refusal ≡ CrossSite))
 abbrev pub AsksHere : Request (List ℕ) → Action → Type 0
 AsksHere request action = ¬ (IsCrossSite request) × (asked_by request ≡ Ok action)
 
--- the text of a field by its values: none without one, and it is malformed if there are two, or the one is not visible ASCII, spaces and tabs
-abbrev pub field_text : List FieldValue → Result (Option (List ℕ)) Refusal
-field_text [] = Ok None
-field_text (value ∷ []) = cond (is_visible_text value.bytes) (Ok (Some value.bytes)) (Err (Malformed KeyField))
-field_text more = Err (Malformed KeyField)
+-- the text of a field by its values: none without one, and this part is malformed if there are two, or the one is not visible ASCII, spaces and tabs
+abbrev pub field_text : Part → List FieldValue → Result (Option (List ℕ)) Refusal
+field_text part [] = Ok None
+field_text part (value ∷ []) = cond (is_visible_text value.bytes) (Ok (Some value.bytes)) (Err (Malformed part))
+field_text part more = Err (Malformed part)
+
+-- the limit that the text of a field sets to a request's wait, in milliseconds
+abbrev pub limit_by : Result (Option (List ℕ)) Refusal → Result (Option ℕ) Refusal
+limit_by (Ok text) = wait_of text
+limit_by (Err why) = Err why
+
+-- the limit that a request sets to its wait, in milliseconds
+abbrev pub limit_of : Request (List ℕ) → Result (Option ℕ) Refusal
+limit_of request = limit_by (field_text WaitField (get_all (head_of request).headers (codes "x-ringpop-wait")))
+
+-- the limit of the wait of the action that a request asks for: only one of a key waits
+abbrev pub limit_for : Request (List ℕ) → Action → Result (Option ℕ) Refusal
+limit_for request (action.Handle key body) = limit_of request
+limit_for request (action.Pass key outgoing is_repeatable) = limit_of request
+limit_for request other = Ok None
 
 -- the text that encodes a key, by the text of a field, if there is one, or else by a path
 abbrev pub key_by : Result (Option (List ℕ)) Refusal → List ℕ → Result (Option (List ℕ)) Refusal
@@ -51,7 +68,7 @@ key_by (Err why) path = Err why
 -- the text that encodes the key of a request, if any request of a key is passed on, which the name of a field says, and it is one
 abbrev pub passed_key : Option (List ℕ) → Request (List ℕ) → Result (Option (List ℕ)) Refusal
 passed_key None request = Ok None
-passed_key (Some name) request = key_by (field_text (get_all (head_of request).headers name)) (uri_path (head_of request).uri)
+passed_key (Some name) request = key_by (field_text KeyField (get_all (head_of request).headers name)) (uri_path (head_of request).uri)
 
 -- the path of a request is that of a key
 abbrev pub IsAtKey : Request (List ℕ) → Type 0

@@ -15,6 +15,6 @@ pub use exchanges::{Answer, Asked, Wanted, exchange, read_answer};
 pub use framings::Framing;
 pub use pumps::{Pause, pump};
 pub use replies::Reply;
-pub use requests::{action_of, is_of_key, names_json, takes_json};
+pub use requests::{action_of, is_of_key, limit_for, names_json, takes_json};
 pub use responses::{Form, kind_of, put_refusal, put_reply, refused_body};
 pub use visits::{Came, Kept, kept_of, new_connection};

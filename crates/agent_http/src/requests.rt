@@ -2,10 +2,10 @@
 ghost use Rattle.std.specs.Prelude.{◌≡◌, ◌↔◌, Err, IfOk, IfErr, IsTrue, Ok, codes, option_copied};
 ghost use Rattle.http.specs.Request.{head_of};
 ghost use Rattle.http_header.specs.HeaderMap.{ContainsKey, get_all};
-ghost use Rattle.agent_http.specs.Requests.{AsksFor, AsksHere, IsCrossSite, IsOfKey, IsRefused, IsRefusedHere, Refuses, answered_as, asked_by, field_text, passed_key};
+ghost use Rattle.agent_http.specs.Requests.{AsksFor, AsksHere, IsCrossSite, IsOfKey, IsRefused, IsRefusedHere, Refuses, answered_as, asked_by, field_text, limit_for, limit_of, passed_key};
 
 use crate::passing::pass;
-use agent_core::{Action, Part, Refusal, key_text, route};
+use agent_core::{Action, Part, Refusal, key_text, route, wait_of};
 use bytes::Bytes;
 use http::{HeaderName, Request};
 use std::alloc::Global;
@@ -51,13 +51,14 @@ fn action_here(alloc: Global, request: &Request<Bytes>) -> Result<Action, Refusa
     routed(alloc, request)
 }
 
-/// Returns the text of the field of a request that has this name, if it has one.
+/// Returns the text of the field of a request that has this name, if it has one. Else this part of the request is malformed.
 fn field_text<'a>(
     request: &'a Request<Bytes>,
     name: &HeaderName,
+    part: Part,
 ) -> Result<Option<&'a str>, Refusal>
-    ensures text { IfOk result (λ text. field_text (get_all (head_of request.now).headers name.now) ≡ Ok (option_copied text)) }
-    ensures refused { IfErr result (λ e. field_text (get_all (head_of request.now).headers name.now) ≡ Err e) }
+    ensures text { IfOk result (λ text. field_text part (get_all (head_of request.now).headers name.now) ≡ Ok (option_copied text)) }
+    ensures refused { IfErr result (λ e. field_text part (get_all (head_of request.now).headers name.now) ≡ Err e) }
 {
     let values = request.headers().get_all(name);
     let mut values = values.iter();
@@ -65,11 +66,43 @@ fn field_text<'a>(
         return Ok(None);
     };
     if values.next().is_some() {
-        return Err(Refusal::Malformed(Part::KeyField));
+        return Err(Refusal::Malformed(part));
     }
     match value.to_str() {
         Ok(text) => Ok(Some(text)),
-        Err(_) => Err(Refusal::Malformed(Part::KeyField)),
+        Err(_) => Err(Refusal::Malformed(part)),
+    }
+}
+
+/// Returns the name of the field by which a client limits the wait of its request.
+fn wait_name() -> HeaderName
+    ensures { result ≡ codes "x-ringpop-wait" }
+{
+    HeaderName::from_static("x-ringpop-wait")
+}
+
+/// Returns the limit that a request sets to its wait, in milliseconds; None if it sets none.
+fn limit_of(request: &Request<Bytes>) -> Result<Option<u64>, Refusal>
+    ensures { result ≡ limit_of request.now }
+{
+    match field_text(request, &wait_name(), Part::WaitField) {
+        Ok(text) => wait_of(text),
+        Err(why) => Err(why),
+    }
+}
+
+/// Returns the limit that a request sets to the wait of the action that it asks for, in milliseconds; None if it sets none, or the action is none of a key.
+///
+/// # Errors
+///
+/// - `Malformed(Part::WaitField)`: the action is one of a key, and the field `X-Ringpop-Wait` comes twice, or is not a number from 1 to 60,000 in decimal
+///   digits.
+pub fn limit_for(request: &Request<Bytes>, action: &Action) -> Result<Option<u64>, Refusal>
+    ensures { result ≡ limit_for request.now action.now }
+{
+    match action {
+        Action::Handle { .. } | Action::Pass { .. } => limit_of(request),
+        _ => Ok(None),
     }
 }
 
@@ -85,7 +118,7 @@ fn passed_key<'a>(
     let Some(name) = key_field else {
         return Ok(None);
     };
-    let field = field_text(request, name)?;
+    let field = field_text(request, name, Part::KeyField)?;
     Ok(key_text(request.uri().path(), field))
 }
 

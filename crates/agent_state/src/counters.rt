@@ -1,7 +1,7 @@
 //! The counters of an agent.
 use agent_core::{
-    BUCKETS, Counts, LogCounts, PortCounts, ProcessCounts, Refusal, RefusalCounts, StatusCounts,
-    TimeCounts, WaitingCounts, bucket_of, unpack,
+    BUCKETS, Counts, KeptCounts, LogCounts, PortCounts, ProcessCounts, Refusal, RefusalCounts,
+    StatusCounts, TimeCounts, WaitingCounts, bucket_of, unpack,
 };
 use agent_http::Reply;
 use change_core::{Address, Change, Digest};
@@ -276,6 +276,7 @@ impl Counters {
             link_failures: self.link_failures.get(),
             allocation_failures: self.allocation_failures.get(),
             waiting: WaitingCounts::default(),
+            kept: KeptCounts::default(),
             http: PortCounts::default(),
             workers_used: 0,
             workers_max: 0,

@@ -126,6 +126,7 @@ fn says_what_passes_and_what_is_repeated(rt: HostRuntime) {
         "expect",
         "x-ringpop-key",
         "x-ringpop-next",
+        "x-ringpop-wait",
     ] {
         assert!(rt; is_of_connection(*name), "{name}");
     }

@@ -4,7 +4,7 @@ use std::env::Env;
 use std::process::Abort;
 
 /// A refusal, its status and the start of its line.
-const ROWS: [(Refusal, u16, &str); 39] = rows! {
+const ROWS: [(Refusal, u16, &str); 40] = rows! {
     Refusal::Malformed(Part::Key), 400, "bad key";
     Refusal::Malformed(Part::Count), 400, "bad count";
     Refusal::Malformed(Part::Body), 400, "bad body";
@@ -16,6 +16,7 @@ const ROWS: [(Refusal, u16, &str); 39] = rows! {
     Refusal::Malformed(Part::OwnersQuery), 400, "bad query: this path takes n=COUNT and";
     Refusal::Malformed(Part::RingQuery), 400, "bad query: this path takes after=DIGEST";
     Refusal::Malformed(Part::KeyField), 400, "bad key field: it comes twice, or is not ASCII";
+    Refusal::Malformed(Part::WaitField), 400, "bad X-Ringpop-Wait: not one number from 1 to 60000";
     Refusal::CrossSite, 403, "refused";
     Refusal::NotFound, 404, "nothing";
     Refusal::BadMethod(Verb::Get), 405, "bad method: this path takes GET";

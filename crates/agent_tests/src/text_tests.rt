@@ -288,6 +288,20 @@ ringpop_waiting_share 32
 # HELP ringpop_waiting_refused_total Requests of keys that found no place among those that wait.
 # TYPE ringpop_waiting_refused_total counter
 ringpop_waiting_refused_total 18
+# HELP ringpop_kept_connections_used Connections between nodes that wait for the next request, at either end.
+# TYPE ringpop_kept_connections_used gauge
+ringpop_kept_connections_used{end=\"asking\"} 23
+ringpop_kept_connections_used{end=\"answering\"} 24
+# HELP ringpop_kept_connections_max Connections between nodes that may wait so, at either end.
+# TYPE ringpop_kept_connections_max gauge
+ringpop_kept_connections_max{end=\"asking\"} 128
+ringpop_kept_connections_max{end=\"answering\"} 25
+# HELP ringpop_kept_connections_reused_total Requests to other nodes over connections that were kept.
+# TYPE ringpop_kept_connections_reused_total counter
+ringpop_kept_connections_reused_total 26
+# HELP ringpop_kept_connections_closed_total Connections to other nodes that were kept and then closed.
+# TYPE ringpop_kept_connections_closed_total counter
+ringpop_kept_connections_closed_total 27
 # HELP ringpop_connections_used Connections that are open.
 # TYPE ringpop_connections_used gauge
 ringpop_connections_used{port=\"http\"} 12
@@ -339,10 +353,11 @@ ringpop_joins_total{outcome=\"failed\"} 3
 # HELP ringpop_messages_refused_total Messages of this node that another one refused.
 # TYPE ringpop_messages_refused_total counter
 ringpop_messages_refused_total 4
-# HELP ringpop_lines_refused_total Lines at the node's port that were refused, by reason.
+# HELP ringpop_lines_refused_total Lines of other nodes that were refused, by reason.
 # TYPE ringpop_lines_refused_total counter
 ringpop_lines_refused_total{reason=\"malformed\"} 5
 ringpop_lines_refused_total{reason=\"memory\"} 6
+ringpop_lines_refused_total{reason=\"cluster\"} 7
 ";
 
 const COUNTS: Counts = Counts {
@@ -391,6 +406,14 @@ const COUNTS: Counts = Counts {
         others: 17,
         refused: 18,
     },
+    kept: KeptCounts {
+        resting: 23,
+        max_resting: 128,
+        hands: 24,
+        max_hands: 25,
+        reused: 26,
+        closed: 27,
+    },
     http: PortCounts {
         used: 12,
         max: 10_000,
@@ -412,6 +435,7 @@ const COUNTS: Counts = Counts {
         messages: 4,
         malformed: 5,
         memory: 6,
+        cluster: 7,
     },
     log: LogCounts {
         used: 21,

@@ -59,6 +59,7 @@ fn settings_of(alloc: Global, words: &AgentWords) -> Result<Settings, AgentError
     ensures leave_after { IfOk result (λ s. s.following.leave_after ≡ words.now.following.leave_after) }
     ensures tell_app { IfOk result (λ s. s.tell_app ≡ words.now.tell_app) }
     ensures key_field { IfOk result (λ s. s.key_field ≡ key_field_of words.now) }
+    ensures cluster { IfOk result (λ s. s.cluster ≡ words.now.cluster) }
     ensures hands { IfOk result (λ s. s.hands ≡ words.now.hands) }
     ensures http_connections { IfOk result (λ s. s.http_connections ≡ words.now.http_connections) }
     ensures period { IfOk result (λ s. s.period ≡ words.now.period) }
@@ -81,6 +82,7 @@ fn settings_of(alloc: Global, words: &AgentWords) -> Result<Settings, AgentError
         },
         tell_app: words.tell_app,
         key_field: key_field_of(words)?,
+        cluster: words.cluster.clone()?,
         hands: words.hands,
         http_connections: words.http_connections,
         period: words.period,

@@ -122,7 +122,7 @@ members_words = subcommand (codes "members") (flag (codes "lines") ∷ flag (cod
 abbrev pub tell_words : Shape
 tell_words = subcommand (codes "tell") (word (codes "host") ∷ [])
 
--- an option with an address, as a text
+-- an option with one value, as a text
 abbrev pub address_option : Text → Rule
 address_option name = record (new_rule name) { long = Some name; value_names = 1 }
 
@@ -150,6 +150,10 @@ key_field_option = record (new_rule (codes "key-field")) { long = Some (codes "k
 abbrev pub key_field : Rule
 key_field = with_another key_field_option
 
+-- `--cluster`: the name of the cluster; none by default
+abbrev pub cluster : Rule
+cluster = address_option (codes "cluster")
+
 -- `--period` of an agent: the milliseconds between two rounds of gossip, from 1 to 60,000; 200 by default
 abbrev pub agent_period : Rule
 agent_period = option (codes "period") (codes "200") 1 60000
@@ -174,7 +178,7 @@ leave_after = option (codes "leave-after") (codes "10") 0 86400
 abbrev pub agent_words : Shape
 agent_words = subcommand (codes "agent")
     (address_option (codes "bind") ∷ address_option (codes "http") ∷ flag (codes "http-any") ∷ address_option (codes "app")
-    ∷ flag (codes "no-wait-app") ∷ leave_after ∷ tell_app ∷ flag (codes "any-request") ∷ key_field ∷ hands ∷ http_connections ∷ agent_period ∷ agent_per_message ∷ replicas ∷ weight ∷ incarnation_option ∷ log ∷ word (codes "address") ∷ hosts ∷ [])
+    ∷ flag (codes "no-wait-app") ∷ leave_after ∷ tell_app ∷ flag (codes "any-request") ∷ key_field ∷ cluster ∷ hands ∷ http_connections ∷ agent_period ∷ agent_per_message ∷ replicas ∷ weight ∷ incarnation_option ∷ log ∷ word (codes "address") ∷ hosts ∷ [])
 
 -- a command with no subcommand
 abbrev pub leaf : Shape → App

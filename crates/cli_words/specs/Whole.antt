@@ -4,6 +4,7 @@ use Rattle.std.specs.List.{Any}
 use Rattle.clap.specs.Words.{Row, Text, all_of, first_of}
 use Rattle.http_header.specs.FieldName.{IsFieldName}
 use Rattle.change_core.specs.Address.{IsAddress, address_text}
+use Rattle.cluster_names.specs.Names.{IsName}
 use Rattle.change_core.specs.Numbers.{IsWeight, greatest_number, most_members}
 use Rattle.hash_ring.specs.Points.{IsReplicas}
 use Rattle.node_core.specs.Workers.{IsCrew}
@@ -52,6 +53,10 @@ HasLeaveAfter rows = HasNumber rows (codes "leave-after") (λ n. n ≤ 86400)
 abbrev pub HasKeyField : List Row → Type 0
 HasKeyField rows = IsSomeAnd (first_of (codes "key-field") rows) IsFieldName
 
+-- the argument for the name of the cluster is absent, or it is a name
+abbrev pub HasCluster : List Row → Type 0
+HasCluster rows = IfSome (first_of (codes "cluster") rows) IsName
+
 -- each number of `agent` but its incarnation is there and in its range, and the level of its log is there
 pub record HasAgentNumbers (rows : List Row) : Type 0 where
   pub hands : HasNumber rows (codes "hands") (λ n. (1 ≤ n) × (n ≤ 256))
@@ -63,10 +68,11 @@ pub record HasAgentNumbers (rows : List Row) : Type 0 where
   pub level : HasLevel rows
   pub leave_after : HasLeaveAfter rows
 
--- and its address is there, and the field that names keys
+-- and its address is there, the field that names keys, and a name of the cluster or none
 pub record HasAgent (rows : List Row) : Type 0 where
   pub address : IsSome (first_of (codes "address") rows)
   pub key_field : HasKeyField rows
+  pub cluster : HasCluster rows
   pub numbers : HasAgentNumbers rows
 
 -- each argument of `ask` is there

@@ -126,6 +126,10 @@ IsNumberIfAt rows name IsIn (Some n) = IsNumberAt rows name n
 abbrev pub IsKeyFieldAt : List Row → Text → Type 0
 IsKeyFieldAt rows name = IsSomeAnd (first_of (codes "key-field") rows) (λ text. name ≡ lowercase text)
 
+-- the argument for the name of the cluster is this name; without a name, it is absent
+abbrev pub IsClusterAt : List Row → Option Text → Type 0
+IsClusterAt rows name = first_of (codes "cluster") rows ≡ name
+
 -- how an agent follows its application is what the arguments of these names say
 pub record IsFollowingAt (rows : List Row) (words : FollowingWords) : Type 0 where
   pub no_wait : IsFlagAt rows (codes "no-wait-app") words.no_wait
@@ -146,7 +150,7 @@ pub record AreAgentNumbersAt (rows : List Row) (words : AgentWords) : Type 0 whe
   pub any_request : IsFlagAt rows (codes "any-request") words.any_request
   pub level : first_of (codes "log") rows ≡ Some (level_name words.level)
 
--- and its addresses are, too, and the field that names keys
+-- and its addresses are, too, the field that names keys, and the name of the cluster
 pub record IsAgentAt (rows : List Row) (words : AgentWords) : Type 0 where
   pub address : IsAddressAt rows (codes "address") words.address
   pub bind : IsOptionAt rows (codes "bind") words.bind
@@ -154,6 +158,7 @@ pub record IsAgentAt (rows : List Row) (words : AgentWords) : Type 0 where
   pub app : IsOptionAt rows (codes "app") words.app
   pub hosts : AreAddressesAt rows (codes "host") words.hosts.items
   pub key_field : IsKeyFieldAt rows words.key_field
+  pub cluster : IsClusterAt rows words.cluster
   pub numbers : AreAgentNumbersAt rows words
 
 -- the command of a subcommand of this name over lines, by the arguments after it

@@ -3,13 +3,14 @@ ghost use Rattle.std.specs.Prelude.{◌≡◌, ◌≤◌, Ok, Some, codes, IfErr
 ghost use Rattle.clap.specs.Words.{first_of};
 ghost use Rattle.change_core.specs.Numbers.{greatest_number};
 ghost use Rattle.cli_words.specs.Faults.{IsRefusalOf, IsUsageFault, fault_at};
-ghost use Rattle.cli_words.specs.Whole.{HasAgent, HasAgentNumbers, HasKeyField, HasLeaveAfter, HasLevel, HasNumber, IsAgentRefusal, IsNoAddressAt};
-ghost use Rattle.cli_words.specs.Words.{AreAddressesAt, AreAgentNumbersAt, IsAddressAt, IsAgentAt, IsFollowingAt, IsKeyFieldAt, IsNumberAt, IsNumberIfAt, IsOptionAt, level_name, rows_in};
+ghost use Rattle.cli_words.specs.Whole.{HasAgent, HasAgentNumbers, HasCluster, HasKeyField, HasLeaveAfter, HasLevel, HasNumber, IsAgentRefusal, IsNoAddressAt};
+ghost use Rattle.cli_words.specs.Words.{AreAddressesAt, AreAgentNumbersAt, IsAddressAt, IsAgentAt, IsClusterAt, IsFollowingAt, IsKeyFieldAt, IsNumberAt, IsNumberIfAt, IsOptionAt, level_name, rows_in};
 
 use crate::agent_words::{
     AgentWords, FollowingWords, LogLevel, MAX_HANDS, MAX_HTTP_CONNECTIONS, MAX_LEAVE_AFTER,
     MAX_PERIOD,
 };
+use crate::cluster_options::CLUSTER;
 use crate::cluster_words::{address_at, address_of, hosts_at, incarnation, weight};
 use crate::commands::{
     ADDRESS, ANY_REQUEST, APP, BIND, HANDS, HTTP, HTTP_ANY, HTTP_CONNECTIONS, KEY_FIELD,
@@ -19,6 +20,7 @@ use crate::faults::WordsError;
 use crate::words::{absent, flag, number, refusal, replicas};
 use change_core::{Address, Incarnation, MAX_MEMBERS};
 use clap::ArgMatches;
+use cluster_names::ClusterName;
 use http_header::{HeaderName, HeaderNameError};
 use std::alloc::Global;
 
@@ -130,12 +132,13 @@ fn following(matches: &ArgMatches<'_>) -> Option<FollowingWords>
     })
 }
 
-/// Returns the arguments of `agent` with these addresses and this field, if and only if each number is there and in its range,
+/// Returns the arguments of `agent` with these addresses, this field and this cluster, if and only if each number is there and in its range,
 /// and the level of the log is there.
 fn words_with(
     matches: &ArgMatches<'_>,
     addresses: Addresses,
     key_field: HeaderName,
+    cluster: Option<ClusterName>,
 ) -> Option<AgentWords>
     ensures address { IfSome result (λ w. w.address ≡ addresses.address) }
     ensures bind { IfSome result (λ w. w.bind ≡ addresses.bind) }
@@ -143,6 +146,7 @@ fn words_with(
     ensures app { IfSome result (λ w. w.app ≡ addresses.app) }
     ensures hosts { IfSome result (λ w. w.hosts ≡ addresses.hosts) }
     ensures key_field { IfSome result (λ w. w.key_field ≡ key_field) }
+    ensures cluster { IfSome result (λ w. w.cluster ≡ cluster) }
     ensures numbers { IfSome result (AreAgentNumbersAt (rows_in matches.now)) }
     ensures taken { HasAgentNumbers (rows_in matches.now) → IsSome result }
 {
@@ -171,6 +175,7 @@ fn words_with(
         tell_app: flag(matches, TELL_APP),
         any_request: flag(matches, ANY_REQUEST),
         key_field,
+        cluster,
         hands: hands as u32,
         http_connections: http_connections as u32,
         period,
@@ -234,12 +239,40 @@ fn key_field_in(alloc: Global, matches: &ArgMatches<'_>) -> Result<HeaderName, W
     }
 }
 
-/// Returns the arguments of `agent`. The addresses are read first, then the field that names keys, then the numbers.
+/// Makes the refusal of a text that is the name of no cluster, in the form of `clap`'s errors.
+fn no_cluster(alloc: Global, name: &str) -> WordsError
+    ensures { IsUsageFault result }
+{
+    let text = format!(in alloc;
+        "invalid value '{name}' for '--cluster <NAME>': give 1 to 64 letters, digits, '.', '_' and '-'"
+    );
+    match text {
+        Ok(text) => refusal(agent_alone(alloc), text.as_str()),
+        Err(_) => WordsError::OutOfMemory,
+    }
+}
+
+/// Returns the name of the cluster, if there is one. If its argument is the name of none, the error is `Usage`.
+fn cluster_in(alloc: Global, matches: &ArgMatches<'_>) -> Result<Option<ClusterName>, WordsError>
+    ensures ok { IfOk result (IsClusterAt (rows_in matches.now)) }
+    ensures fault { IfErr result (IsAgentRefusal (HasCluster (rows_in matches.now)) (rows_in matches.now)) }
+{
+    let Some(text) = matches.get_str(CLUSTER) else {
+        return Ok(None);
+    };
+    match ClusterName::new(alloc, text) {
+        Ok(Some(name)) => Ok(Some(name)),
+        Ok(None) => Err(no_cluster(alloc, text)),
+        Err(_) => Err(WordsError::OutOfMemory),
+    }
+}
+
+/// Returns the arguments of `agent`. The addresses are read first, then the field that names keys, then the name of the cluster, then the numbers.
 ///
 /// # Errors
 ///
-/// - `Usage`: an argument is absent or not in its range, no level of the log has the name that is given, or the field that
-///   names keys is none of HTTP; in the form of `clap`'s errors.
+/// - `Usage`: an argument is absent or not in its range, no level of the log has the name that is given, the field that
+///   names keys is none of HTTP, or the name of the cluster is none; in the form of `clap`'s errors.
 /// - `BadAddressAt`: an argument that has to be an address is not one, the first such in the order of the fields.
 /// - `OutOfMemory`: out of memory.
 pub fn agent_words(alloc: Global, matches: &ArgMatches<'_>) -> Result<AgentWords, WordsError>
@@ -248,7 +281,8 @@ pub fn agent_words(alloc: Global, matches: &ArgMatches<'_>) -> Result<AgentWords
 {
     let addresses = addresses_in(alloc, matches)?;
     let key_field = key_field_in(alloc, matches)?;
-    match words_with(matches, addresses, key_field) {
+    let cluster = cluster_in(alloc, matches)?;
+    match words_with(matches, addresses, key_field, cluster) {
         Some(words) => Ok(words),
         None => Err(refusal_of(alloc, matches)),
     }

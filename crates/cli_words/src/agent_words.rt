@@ -3,6 +3,7 @@ ghost use Rattle.std.specs.Prelude.{◌≤◌};
 ghost use Rattle.hash_ring.specs.Points.{IsReplicas};
 
 use change_core::{Address, Incarnation, Weight};
+use cluster_names::ClusterName;
 use http_header::HeaderName;
 
 /// The greatest number of requests of other nodes that the application is given at a time.
@@ -63,6 +64,8 @@ pub struct AgentWords {
     pub any_request: bool,
     /// The field that may name the key of such a request.
     pub key_field: HeaderName,
+    /// The name of the cluster, if it has one.
+    pub cluster: Option<ClusterName>,
     /// The most requests of other nodes that the application is given at a time, 1 to 256.
     pub hands: u32,
     /// The most HTTP connections that are open at a time, 1 to 65,536.

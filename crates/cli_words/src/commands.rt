@@ -6,6 +6,7 @@ ghost use Rattle.cli_words.specs.CommandLine as line;
 ghost use Rattle.cli_words.specs.CommandLine.{leaf, ringpop_app};
 
 use crate::agent_words::{MAX_HANDS, MAX_HTTP_CONNECTIONS, MAX_LEAVE_AFTER, MAX_PERIOD};
+use crate::cluster_options::cluster_option;
 use crate::help::{
     BELOW, BELOW_AGENT, BELOW_ASK, BELOW_FOLD, BELOW_MEMBERS, BELOW_OWNER, BELOW_SERVE, BELOW_SIM,
     BELOW_TELL,
@@ -714,6 +715,7 @@ fn agent_command_with<'a>(
         tell,
         any_request_flag(alloc),
         key_field,
+        cluster_option(alloc),
         hands_option(alloc),
         http_connections_option(alloc),
         agent_period_option(alloc),

@@ -4,6 +4,7 @@
 mod agent_reading;
 mod agent_words;
 mod bad_arguments;
+mod cluster_options;
 mod cluster_words;
 mod commands;
 mod faults;

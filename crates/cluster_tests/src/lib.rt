@@ -1,4 +1,4 @@
-//! The tests of peer_core and cluster_core.
+//! The tests of peer_core, cluster_core and kept_links.
 #![tactic(auto)]
 
 /// The rows of a table, each on a line and ended by a semicolon.
@@ -19,6 +19,8 @@ mod forwarding;
 mod healing;
 #[cfg(test)]
 mod interrupted;
+#[cfg(test)]
+mod kept;
 #[cfg(test)]
 mod members;
 #[cfg(test)]

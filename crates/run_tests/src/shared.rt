@@ -4,11 +4,15 @@ use std::io;
 use std::io::{ErrorKind, Write};
 use std::process::Abort;
 
-/// Checks that an allocation is to fail, as the environment says if `scripts/fail-alloc` runs a test: else something went wrong though
-/// there was enough memory. It takes no memory.
-pub(crate) fn check_refused(rt: &(impl Env + Abort)) {
+/// Returns whether an allocation is to fail, as the environment says if `scripts/fail-alloc` runs a test. It takes no memory.
+pub(crate) fn is_refused(rt: &impl Env) -> bool {
     let mut number = [0u8; 32];
-    assert!(rt; rt.var("FAIL_ALLOC", &mut number).is_ok());
+    rt.var("FAIL_ALLOC", &mut number).is_ok()
+}
+
+/// Checks that an allocation is to fail: else something went wrong though there was enough memory.
+pub(crate) fn check_refused(rt: &(impl Env + Abort)) {
+    assert!(rt; is_refused(rt));
 }
 
 /// A writer that takes this text, and nothing else.

@@ -95,7 +95,7 @@ fn names_an_agents_bad_address(rt: HostRuntime) {
 }
 
 /// Arguments, and the start of their error text.
-const REFUSED_WORDS: [(&str, &str); 31] = rows! {
+const REFUSED_WORDS: [(&str, &str); 33] = rows! {
     "ringpop ", "error: unrecognized subcommand ''\n";
     "ringpop server", "error: unrecognized subcommand 'server'\n";
     "ringpop --help", "Names the members of a cluster and the owners of its keys";
@@ -122,6 +122,8 @@ const REFUSED_WORDS: [(&str, &str); 31] = rows! {
     "ringpop agent --log verbose 127.0.0.1:1", "error: invalid value 'verbose' for '--log <LEVEL>': give off, error, warn, info or debug\n";
     "ringpop agent --any-request --key-field a:b 127.0.0.1:1", "error: invalid value 'a:b' for '--key-field <NAME>': give the name of a field of HTTP, as X-Ringpop-Key\n";
     "ringpop agent --key-field X-User 127.0.0.1:1", "error: the following required arguments were not provided:\n  --any-request\n";
+    "ringpop agent --cluster a/b 127.0.0.1:1", "error: invalid value 'a/b' for '--cluster <NAME>': give 1 to 64 letters, digits, '.', '_' and '-'\n";
+    "ringpop agent --cluster= 127.0.0.1:1", "error: invalid value '' for '--cluster <NAME>': give 1 to 64 letters, digits";
     "ringpop ask 10.0.0.01:1 k b", "ringpop: bad address\n";
     "ringpop ask --any x k b", "ringpop: bad address\n";
     "ringpop members 10.0.0.1:0", "ringpop: bad address\n";

@@ -12,4 +12,5 @@ returns c =
     let a4 = grown text _ _ _ _ a3 c.in_ok-push_metric.ensures in
     let a5 = grown text _ _ _ _ a4 c.in_ok-push_head-2.ensures in
     let a6 = grown text _ _ _ _ a5 c.in_ok-push_sample-4.ensures in
-    grown text _ _ _ _ a6 c.in_ok-push_sample-5.ensures
+    let a7 = grown text _ _ _ _ a6 c.in_ok-push_sample-5.ensures in
+    grown text _ _ _ _ a7 c.in_ok-push_sample-6.ensures

@@ -7,9 +7,9 @@ use Rattle.agent_http.proofs.requests.field_text.Goals as goal
 pub returns-in-Ok-clause-text : goal.returns-in-Ok-clause-text
 returns-in-Ok-clause-text c =
     let one : get_all (head_of c.args.request.now).headers c.args.name.now ≡ c.in-Some.value.now ∷ [] = search rules in
-    visible _ c.in-Some.value.now one (c.in-Ok.ensures.succeeds.0 refl) ∙ ap (λ text. Ok (Some text)) (sym c.in-Ok.ensures.ok)
+    visible c.args.part _ c.in-Some.value.now one (c.in-Ok.ensures.succeeds.0 refl) ∙ ap (λ text. Ok (Some text)) (sym c.in-Ok.ensures.ok)
 
 pub returns-in-Err-clause-refused : goal.returns-in-Err-clause-refused
 returns-in-Err-clause-refused c =
     let one : get_all (head_of c.args.request.now).headers c.args.name.now ≡ c.in-Some.value.now ∷ [] = search rules in
-    hidden _ c.in-Some.value.now one (λ all. true≢false (sym (c.in-Err.ensures.succeeds.1 all)))
+    hidden c.args.part _ c.in-Some.value.now one (λ all. true≢false (sym (c.in-Err.ensures.succeeds.1 all)))

@@ -11,19 +11,19 @@ pub returns-in-Health-clause-performed : goal.returns-in-Health-clause-performed
 returns-in-Health-clause-performed g c =
     let agent = c.args.self.now.agent.now in
     let caller = c.args.self.now.caller.now in
-    subst (λ (it : Action). HasMade (Performs agent.own agent.replicas it c.health.result) caller caller) (sym c.in-Health.is)
-    (made_none (Performs agent.own agent.replicas action.Health c.health.result) caller caller refl (refl, c.health.ensures))
+    subst (λ (it : Action). HasMade (Performs c.args.self.now.limit agent.own agent.replicas it c.health.result) caller caller) (sym c.in-Health.is)
+    (made_none (Performs c.args.self.now.limit agent.own agent.replicas action.Health c.health.result) caller caller refl (refl, c.health.ensures))
 
 pub returns-in-Live-clause-performed : goal.returns-in-Live-clause-performed
 returns-in-Live-clause-performed g c =
     let agent = c.args.self.now.agent.now in
     let caller = c.args.self.now.caller.now in
-    subst (λ (it : Action). HasMade (Performs agent.own agent.replicas it c.liveness.result) caller caller) (sym c.in-Live.is)
-    (made_none (Performs agent.own agent.replicas action.Live c.liveness.result) caller caller refl (refl, c.liveness.ensures))
+    subst (λ (it : Action). HasMade (Performs c.args.self.now.limit agent.own agent.replicas it c.liveness.result) caller caller) (sym c.in-Live.is)
+    (made_none (Performs c.args.self.now.limit agent.own agent.replicas action.Live c.liveness.result) caller caller refl (refl, c.liveness.ensures))
 
 pub returns-in-Page-clause-performed : goal.returns-in-Page-clause-performed
 returns-in-Page-clause-performed g c =
     let agent = c.args.self.now.agent.now in
     let caller = c.args.self.now.caller.now in
-    subst (λ (it : Action). HasMade (Performs agent.own agent.replicas it (Ok Page)) caller caller) (sym c.in-Page.is)
-    (made_none (Performs agent.own agent.replicas action.Page (Ok Page)) caller caller refl (refl, refl))
+    subst (λ (it : Action). HasMade (Performs c.args.self.now.limit agent.own agent.replicas it (Ok Page)) caller caller) (sym c.in-Page.is)
+    (made_none (Performs c.args.self.now.limit agent.own agent.replicas action.Page (Ok Page)) caller caller refl (refl, refl))

@@ -9,9 +9,9 @@ pub returns-in-Ok-clause-performed : goal.returns-in-Ok-clause-performed
 returns-in-Ok-clause-performed g c =
     let agent = c.args.self.now.agent.now in
     let performed = rw c.in-Ok.ensures.text at c.pass.ensures.performed in
-    made_body agent.own agent.replicas c.args.key c.args.body c.pass.result _ _ performed
+    made_body c.args.self.now.limit agent.own agent.replicas c.args.key c.args.body c.pass.result _ _ performed
 
 pub returns-in-Err-clause-performed : goal.returns-in-Err-clause-performed
 returns-in-Err-clause-performed g c =
     let agent = c.args.self.now.agent.now in
-    made_none (Performs agent.own agent.replicas (action.Handle c.args.key c.args.body) (Err Memory)) c.args.self.now.caller.now c.args.self.now.caller.now refl (inl (inr (refl, refl)))
+    made_none (Performs c.args.self.now.limit agent.own agent.replicas (action.Handle c.args.key c.args.body) (Err Memory)) c.args.self.now.caller.now c.args.self.now.caller.now refl (inl (inr (refl, refl)))

@@ -8,4 +8,4 @@ use Rattle.agent.proofs.fronts.Front.rejoin.Goals as goal
 pub returns-then-get-clause-performed : goal.returns-then-get-clause-performed
 returns-then-get-clause-performed g c =
     let agent = c.args.self.now.agent.now in
-    made_none (Performs agent.own agent.replicas action.Rejoin (Err HasLeft)) c.args.self.now.caller.now c.args.self.now.caller.now refl (inl (refl, refl))
+    made_none (Performs c.args.self.now.limit agent.own agent.replicas action.Rejoin (Err HasLeft)) c.args.self.now.caller.now c.args.self.now.caller.now refl (inl (refl, refl))

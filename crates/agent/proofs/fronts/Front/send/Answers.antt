@@ -10,5 +10,5 @@ returns-in-Ok-clause-asked g c = rw c.in-Ok.ensures.text at c.ask_owner.ensures.
 
 pub returns-in-Err-clause-asked : goal.returns-in-Err-clause-asked
 returns-in-Err-clause-asked g c =
-    made_none (AsksOwner c.args.self.now.agent.now.own c.args.key (sent_text c.args.next c.args.request) c.args.is_repeatable (Err Memory)) c.args.self.now.caller.now
+    made_none (AsksOwner c.args.self.now.limit c.args.self.now.agent.now.own c.args.key (sent_text c.args.next c.args.request) c.args.is_repeatable (Err Memory)) c.args.self.now.caller.now
     c.args.self.now.caller.now refl (inl (refl, refl))

@@ -1,0 +1,88 @@
+//! A link between the nodes of a cluster, which notes what is of another one.
+ghost use Rattle.std.specs.Prelude.{◌≡◌};
+ghost use Rattle.agent.specs.PeerLinks.{failures_by};
+
+use crate::agents::Agent;
+use crate::rejections::{note_foreign_line, note_own_line};
+use agent_state::Host;
+use change_core::Address;
+use cluster_core::{Dial, Limits, socket_address};
+use kept_links::KeptLink;
+use message_core::Message;
+use peer_core::{Link, LinkError};
+use std::alloc::Global;
+use std::net::TcpStream;
+use std::sync::Wait;
+
+/// A link of an agent over sockets, whose lines have the name of the agent's cluster if it has one. A line of another cluster or of none does not
+/// count as an answer: it is noted, and the call ends as if the connection had been closed.
+#[derive(Drop)]
+pub struct PeerLink<'a, R, N> {
+    agent: &'a Agent<R>,
+    link: KeptLink<'a, N, R, TcpStream>,
+}
+
+impl<'a, R, N> PeerLink<'a, R, N> {
+    /// Makes a link of this agent over this network, with these time limits, after this number of failures: it continues the count of a link
+    /// that it replaces. Each call opens a connection.
+    pub fn new(agent: &'a Agent<R>, net: N, limits: Limits, failures: u64) -> Self
+        ensures failures { failures_by result ≡ failures }
+    {
+        let link = KeptLink::new(net, &agent.rt, None, &agent.cluster, limits);
+        PeerLink {
+            agent,
+            link: link.after_failures(failures),
+        }
+    }
+}
+
+impl<'a, R: Host> PeerLink<'a, R, R> {
+    /// Makes a link of this agent with these time limits, which sends requests over the agent's connections that rest, if it can.
+    pub fn kept(agent: &'a Agent<R>, limits: Limits) -> Self
+        ensures failures { failures_by result ≡ 0 }
+    {
+        let pool = Some(&agent.spares);
+        PeerLink {
+            agent,
+            link: KeptLink::new(agent.rt, &agent.rt, pool, &agent.cluster, limits),
+        }
+    }
+}
+
+impl<'a, R: Host, N> PeerLink<'a, R, N> {
+    /// Notes whose the answer of an address was: of another cluster, or of this one.
+    fn note(&self, to: Address, answer: &Result<Message, LinkError>) {
+        match self.link.foreign() {
+            Some(line) => note_foreign_line(self.agent, to, &socket_address(to), line),
+            None if answer.is_ok() => note_own_line(self.agent, to),
+            None => {}
+        }
+    }
+}
+
+impl<'a, R: Host, N: Dial<Stream = TcpStream>> Link for PeerLink<'a, R, N> {
+    ghost use Rattle.agent.specs.Calling.{AnyAnswer};
+    ghost use Rattle.agent.specs.PeerLinks.{failures_by};
+
+    ghost may_answer = { AnyAnswer };
+
+    ghost went = { λ _ _ _ _ _. Unit {0} };
+
+    ghost failed = { λ l. failures_by l };
+
+    fn failures(&self) -> u64 {
+        self.link.failures()
+    }
+
+    fn call<W: Wait>(
+        &mut self,
+        rt: &W,
+        alloc: Global,
+        to: Address,
+        message: &Message,
+    ) -> Result<Message, LinkError> {
+        let answer = self.link.call(rt, alloc, to, message);
+        self.note(to, &answer);
+        answer
+    }
+}

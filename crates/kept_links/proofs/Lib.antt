@@ -1,0 +1,2 @@
+mod Exchanged
+mod Endings

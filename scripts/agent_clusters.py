@@ -1,0 +1,79 @@
+"""Agents of two clusters of which one gets an address that the other knows, for `scripts/agent short`.
+
+With a name each they stay two, and both say so, in the log and in the metrics; without names they become one.
+"""
+import contextlib
+import json
+
+from agents import agree, counted, running
+from nodes import NOBODY, PATIENCE, expect, hears, message, wait_until
+
+
+def refused(agent):
+    return counted([agent], 'ringpop_lines_refused_total{reason="cluster"}')
+
+
+def words_of(name):
+    return ("--period", "100", *(("--cluster", name) if name else ()))
+
+
+@contextlib.contextmanager
+def exchanged(program, first, reused, other, names=(None, None)):
+    """An agent of one cluster, and two of another, the second at the address of one that the former knows."""
+    mine, theirs = map(words_of, names)
+    with running(program, first, reused, more=mine) as (left, gone):
+        wait_until("agreed", PATIENCE, lambda: agree([left, gone]))
+        gone.end()
+        with running(program, other, reused, more=theirs) as right:
+            wait_until("well", PATIENCE, lambda: all(agent.is_well() for agent in right))
+            yield left, right
+
+
+def check_apart(left, right):
+    """Two clusters do not become one: each refuses what the other sends, counts it and logs it."""
+    wait_until("refused on both sides", 10, lambda: refused(left) and refused(right[1]))
+    wait_until("held as faulty", 20, lambda: left.members()[right[1].own] == "faulty")
+    expect(set(left.members()) == {left.own, right[1].own}, f"a member of another cluster is known: {left.members()}")
+    expect(all(set(it.members()) == {agent.own for agent in right} for it in right), "a node of another cluster is known to one that it met")
+    expect(agree(right), "the agents of one cluster do not agree")
+    for agent, said in ((left, "it is of cluster b, and this node of a"), (right[1], "it is of cluster a, and this node of b")):
+        expect(said in agent.said(), f"the log of an agent that met another cluster: {agent.said()}")
+
+
+def check_newcomer(program, port, host):
+    """An agent that asks a host of another cluster to admit it is not admitted."""
+    before = len(host.members())
+    with running(program, port, hosts=(host.port,), more=words_of("a")) as (newcomer,):
+        wait_until("refused", 10, lambda: newcomer.is_up() and refused(newcomer))
+        expect(not newcomer.is_well() and "it is of cluster b, and this node of a" in newcomer.said(), "a host of another cluster admits an agent")
+    expect(len(host.members()) == before, "an agent of another cluster is a member")
+
+
+def answer(agent, line):
+    """What an agent answers to a line, as it came and as JSON."""
+    came = hears(agent.port, line.encode() + b"\n").decode()
+    return came, json.loads(came)
+
+
+def check_lines(program, port):
+    """A line has the name of its cluster first, or is refused; an answer has it too, to readers that do not look at it."""
+    ping = json.dumps(message("ping", checksum=NOBODY, changes=[]))
+    others = ("", '"cluster":"b",', '"cluster":"A",', '"cluster":"aa",', '"cluster": "a",', '"cluster":"a" ,', '"kind":"ping","cluster":"a",')
+    with running(program, port, hosts=(), more=words_of("a")) as (agent,):
+        wait_until("well", PATIENCE, agent.is_well)
+        for number, other in enumerate(others):
+            came, read = answer(agent, "{" + other + ping[1:])
+            expect(read["cluster"] == "a" and read["kind"] == "refused" and read["reason"] == "malformed", f"a line with {other!r} is answered {came}")
+            expect(refused(agent) == number + 1, f"a line with {other!r} is not counted")
+        came, read = answer(agent, '{"cluster":"a",' + ping[1:])
+        expect(came.startswith('{"cluster":"a","') and read["kind"] == "ack", f"an agent of a cluster with a name answers {came}")
+        expect(refused(agent) == len(others), "a line with the name is refused")
+
+
+def check(program, first, reused, other, newcomer):
+    with exchanged(program, first, reused, other, ("a", "b")) as (left, right):
+        check_apart(left, right)
+        check_newcomer(program, newcomer, right[0])
+    check_lines(program, newcomer)
+    with exchanged(program, first, reused, other) as (left, right):
+        wait_until("one cluster without names", 20, lambda: agree([left, *right]) and len(left.members()) == 3)

@@ -63,16 +63,18 @@ struct Line<'a> {
 
 impl<'a> Read for Line<'a> {
     fn read(&mut self, buf: &mut [u8]) -> io::Result<usize> {
-        let answer = self.nodes.manner.answer.as_bytes();
+        let nodes = self.nodes;
+        let text = nodes.manner.answer;
+        let answer = text.as_bytes();
         if !self.is_asked || buf.len() < answer.len() {
             return Err(io::Error::from(ErrorKind::WouldBlock));
         }
         self.is_asked = false;
-        let answered = self.nodes.answered.get();
-        if answered >= self.nodes.manner.answers {
+        let answered = nodes.answered.get();
+        if answered >= nodes.manner.answers {
             return Ok(0);
         }
-        self.nodes.answered.set(answered.wrapping_add(1));
+        nodes.answered.set(answered.wrapping_add(1));
         buf[..answer.len()].copy_from_slice(answer);
         Ok(answer.len())
     }

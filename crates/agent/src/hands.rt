@@ -154,9 +154,8 @@ fn has_hung_up(stream: &TcpStream) -> bool {
 }
 
 /// Answers the requests of the queue, and those that follow over their connections, until the queue has no sender. A request of the queue for
-/// which no time is left is dropped, since
-/// the node that sent it would get the answer too late; so is one whose sender has hung up, since another node may have
-/// answered it.
+/// which no time is left is dropped, since the node that sent it would get the answer too late; so is one whose sender has hung up, since another
+/// node may have answered it.
 pub fn serve_requests<R: Host>(
     agent: Arc<Agent<R>, Global>,
     alloc: Global,

@@ -70,7 +70,7 @@ unnamed_by name line s i (Reply t) e = not_o (ap fourth e)
 unnamed_by name line s i NotOwner e = not_i (ap fourth e)
 unnamed_by name line s i (Refused r) e = not_i (ap fourth e)
 
--- the line of a message bears no name
+-- the line of a message has no name
 pub unnamed : (name line : List ℕ) (message : Message) → compact_text (message_data message) ≢ named name line
 unnamed name line message e = unnamed_by name line message.source message.source_incarnation message.content e
 

@@ -1,10 +1,10 @@
--- Healing, by which members that parted find one another again: after each tenth round a node pings one member at random, of any status but
--- tombstone, and sends a Join to a host that it does not hold as serving.
+-- Healing, by which members that parted find one another again: after each tenth round a node pings one member at random that is alive, suspect
+-- or faulty, and sends a Join to a host that it does not hold as serving.
 use Rattle.std.specs.Prelude.{◌==◌, ◌&&◌, ◌||◌, not, ℕ, zero, suc, ◌-◌, ◌%◌, Bool, false, List, [], ◌∷◌, Option, Some, None, count_by, length, slice_get, nat_lt, if◌then◌else◌}
 use Rattle.std.specs.List.{list_any}
 use Rattle.change_core.specs.declared.addresses.Address.{Address}
 use Rattle.change_core.specs.declared.changes.Change.{Change}
-use Rattle.change_core.specs.declared.statuses.Status.TheVariants.{Tombstone}
+use Rattle.change_core.specs.declared.statuses.Status.TheVariants.{Leave}
 use Rattle.change_core.specs.Status.{rank, is_serving}
 use Rattle.detector_core.specs.Choices.{seeded}
 use Rattle.node_core.specs.declared.events.Event.TheVariants as call
@@ -39,9 +39,9 @@ after_round h =
     then (Some (drawn_from h.generator), record h { left = 9; generator = (pcg32 (pcg32 h.generator).1).1 })
     else (None, record h { left = h.left - 1 })
 
--- a node may meet each member but itself and tombstones
+-- a node may meet each member but itself, those that left, and tombstones
 abbrev pub can_meet : Address → Change → Bool
-can_meet own c = not (c.address == own) && nat_lt (rank c.status) (rank Tombstone)
+can_meet own c = not (c.address == own) && nat_lt (rank c.status) (rank Leave)
 
 -- the member at this place, from 0 on, of those that a node may meet
 abbrev pub met_at : Address → List Change → ℕ → Option Address

@@ -96,7 +96,7 @@ pub(crate) struct Choice {
 fn can_meet(own: Address, member: &Change) -> bool
     ensures { result ≡ can_meet own member.now }
 {
-    member.address != own && member.status.rank() < Status::Tombstone.rank()
+    member.address != own && member.status.rank() < Status::Leave.rank()
 }
 
 /// Returns how many of the members a node may meet.
@@ -276,8 +276,8 @@ fn heal_by<R: Wait, H: PointHash, L: Link>(
 }
 
 /// Heals a cluster whose members parted; to be called after each round, at its moment. After each tenth round the node
-/// pings one member, chosen at random from all that it holds but itself and tombstones, and processes its Ack; so members
-/// that hold each other as faulty hear of each other again. If the Ack has another incarnation or status of the node than
+/// pings one member, chosen at random from those that it holds as alive, suspect or faulty but itself, and processes its Ack; so
+/// members that hold each other as faulty hear of each other again. If the Ack has another incarnation or status of the node than
 /// its own entry, the member gets a Join, whose one change is that entry. Then the node sends a Join to one of the hosts,
 /// chosen at random and independently of the member, if it does not hold that host as serving, and processes its Joined.
 /// After the other rounds it does nothing. Returns whether a host answered by a Joined. The random choices are used up

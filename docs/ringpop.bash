@@ -2,7 +2,7 @@
 _ringpop() {
     local word=${COMP_WORDS[COMP_CWORD]} before=${COMP_WORDS[COMP_CWORD - 1]} words
     case $before in
-        --n | --replicas | --workers | --period | --weight | --bind | --http | --app | --hands | --http-connections | --leave-after | --key-field | --cluster | --per-message | --piggyback | --incarnation) return ;;
+        --n | --replicas | --workers | --period | --weight | --bind | --http | --app | --hands | --http-connections | --leave-after | --key-field | --cluster | --hosts-file | --per-message | --piggyback | --incarnation) return ;;
         --log)
             mapfile -t COMPREPLY < <(compgen -W 'off error warn info debug' -- "$word")
             return
@@ -12,10 +12,11 @@ _ringpop() {
         owner) words='--n --replicas --sum --help' ;;
         sim) words='--replicas --sum --help' ;;
         serve) words='--workers --period --replicas --sum --weight --per-message --piggyback --heal --help' ;;
-        agent) words='--bind --http --http-any --app --no-wait-app --leave-after --tell-app --any-request --key-field --cluster --hands --http-connections --period --per-message --replicas --weight --incarnation --log --help' ;;
-        ask) words='--any --replicas --sum --help' ;;
-        members) words='--lines --table --help' ;;
-        fold | hash | tell) words='--help' ;;
+        agent) words='--bind --http --http-any --app --no-wait-app --leave-after --tell-app --any-request --key-field --cluster --hosts-file --hands --http-connections --period --per-message --replicas --weight --incarnation --log --help' ;;
+        ask) words='--any --replicas --sum --cluster --help' ;;
+        members) words='--lines --table --cluster --help' ;;
+        tell) words='--cluster --help' ;;
+        fold | hash) words='--help' ;;
         help) words='fold hash owner sim serve agent ask members tell' ;;
     esac
     if [ "$COMP_CWORD" -eq 1 ]; then

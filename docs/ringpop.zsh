@@ -38,15 +38,17 @@ _ringpop() {
                 '--no-wait-app[join without waiting for --app]' '--leave-after[seconds without --app after which the node leaves; 0\: never]:seconds:' \
                 '--tell-app[tell the application of the ring]' '--any-request[pass any HTTP request of a key on]' \
                 '--key-field[field that names the key of any HTTP request]:name:' '--cluster[name of the cluster]:name:' \
+                '--hosts-file[file of more hosts, one address on a line]:file:_files' \
                 '--hands[threads for requests of other nodes, 1 to 256]:hands:' \
                 '--http-connections[HTTP connections at a time, 1 to 65536]:connections:' '--period[milliseconds between two rounds, 1 to 60000]:ms:' \
                 '--per-message[changes in a message, 1 to 4096]:changes:' '--replicas[points for each unit of weight, 1 to 1000]:points:' \
                 '--weight[share of the keys, 1 to 8]:weight:' '--incarnation[first incarnation]:incarnation:' \
                 '--log[level of the log on standard error]:level:(off error warn info debug)' '--help[print help]' ':address:' '*:host:'
             ;;
-        ask) _arguments $ring '--any[ask the owner of the key, through any node]' '--help[print help]' ':address:' ':key:' ':body:' ;;
-        members) _arguments '--lines[a change line for each member]' '--table[a table of the members]' '--help[print help]' ':host:' ;;
-        fold | hash | tell) _arguments '--help[print help]' ':argument:' ;;
+        ask) _arguments $ring '--cluster[name of the cluster]:name:' '--any[ask the owner of the key, through any node]' '--help[print help]' ':address:' ':key:' ':body:' ;;
+        members) _arguments '--cluster[name of the cluster]:name:' '--lines[a change line for each member]' '--table[a table of the members]' '--help[print help]' ':host:' ;;
+        tell) _arguments '--cluster[name of the cluster]:name:' '--help[print help]' ':host:' ;;
+        fold | hash) _arguments '--help[print help]' ':argument:' ;;
         help) _values command fold hash owner sim serve agent ask members tell ;;
     esac
 }

@@ -4,6 +4,7 @@ With a name each they stay two, and both say so, in the log and in the metrics; 
 """
 import contextlib
 import json
+import subprocess
 
 from agents import agree, counted, running
 from nodes import NOBODY, PATIENCE, expect, hears, message, wait_until
@@ -70,10 +71,33 @@ def check_lines(program, port):
         expect(refused(agent) == len(others), "a line with the name is refused")
 
 
+def check_commands(program, port, other):
+    """`members`, `ask` and `tell` are answered by an agent of the same cluster, and by no other: they end with 1, and name both clusters."""
+    def asked(of, name, *given):
+        came = subprocess.run([program, given[0], *(("--cluster", name) if name else ()), *given[1:2], of.own, *given[2:]], input="", capture_output=True, text=True, timeout=20)
+        return came.returncode, came.stdout, came.stderr
+
+    given = (("members", "--lines"), ("ask", "--any", "k", "b"), ("tell",))
+    with running(program, port, hosts=(), more=words_of("a")) as (named,), running(program, other, hosts=()) as (nameless,):
+        wait_until("well", PATIENCE, lambda: named.is_well() and nameless.is_well())
+        for words in given:
+            own, same = asked(named, "a", *words), asked(nameless, None, *words)
+            expect(own[::2] == same[::2] == (0, "") and own[1] and same[1], f"{words} of the same cluster: {own}, {same}")
+            for of, name, first, second in (
+                (named, None, "refused malformed", f"{named.own} is of cluster a: add --cluster a"),
+                (named, "b", "no answer", f"{named.own} is of cluster a, and --cluster is b"),
+                (nameless, "b", "no answer", f"{nameless.own} names no cluster, and --cluster is b"),
+            ):
+                came = asked(of, name, *words)
+                expect(came == (1, "", f"ringpop: {first}\nringpop: {second}\n"), f"{words} of another cluster: {came}")
+        expect(set(named.members()) == {named.own}, f"a command is a member: {named.members()}")
+
+
 def check(program, first, reused, other, newcomer):
     with exchanged(program, first, reused, other, ("a", "b")) as (left, right):
         check_apart(left, right)
         check_newcomer(program, newcomer, right[0])
     check_lines(program, newcomer)
+    check_commands(program, first, other)
     with exchanged(program, first, reused, other) as (left, right):
         wait_until("one cluster without names", 20, lambda: agree([left, *right]) and len(left.members()) == 3)

@@ -1,10 +1,12 @@
 """What agents say of what they and others refuse, for `scripts/agent refusals`.
 
 Each answer that an agent makes itself has its word, and no answer of a service has one. A newcomer that is refused says why, in its health, log
-and metrics; a node that becomes full says so, and one that refuses a line at its port logs and counts it.
+and metrics; a node that becomes full says so, and one that refuses a line at its port logs and counts it. The level of the log changes while an agent
+runs, but not by the page of another site; at debug, and at no other level, each HTTP request has a line.
 """
 import itertools
 import json
+import re
 import time
 from email.utils import parsedate_to_datetime
 from urllib.parse import quote
@@ -118,6 +120,43 @@ def check_line(agent):
     wait_until("logged", 5, lambda: "a line at this node's port was refused: malformed" in agent.said())
 
 
+def log_level(agent, method, query="", fields={}):
+    status, text, _ = fetch(agent.http, method, f"/log{query}", None, fields)
+    return status, text.decode()
+
+
+def check_level(agent):
+    """The level of a log changes while its agent runs, and only to one that there is."""
+    bad = 400, "bad level: not level=off, level=error, level=warn, level=info or level=debug\n"
+    for query in ("", "?level=trace", "?level=DEBUG", "?level=debug&level=debug", "?n=debug"):
+        expect(log_level(agent, "POST", query) == bad, f"POST /log{query} is answered {log_level(agent, 'POST', query)}")
+    told = log_level(agent, "POST", "?level=off", {"Origin": "http://example.org"})
+    expect(told == (403, "refused: asked by a page of another site\n"), f"the page of another site is answered {told}")
+    expect(log_level(agent, "PUT", "?level=off") == (405, "bad method: this path takes GET and POST\n"), "PUT /log is answered")
+    levels = ("info", "debug", "off", "error", "warn", "info")
+    for before, level in itertools.pairwise(levels):
+        told = log_level(agent, "POST", f"?level={level}"), log_level(agent, "GET")
+        expect(told == ((200, f"log level {level}, was {before}\n"), (200, f"log level {level}\n")), f"the level {level} is told as {told}")
+
+
+def check_requests(agents):
+    """At the level debug each HTTP request has a line, which says who answered, and at info none has."""
+    agent, owner = agents[:2]
+    path = f"/keys/{quote(keys_of(agents, owner, 1)[0])}"
+    for level, name in (("info", "a"), ("debug", "b"), ("info", "c"), ("debug", "d")):
+        log_level(agent, "POST", f"?level={level}")
+        told = [fetch(agent.http, method, at, body)[0] for method, at, body in (("POST", path, b"status 503"), ("GET", f"/nothing/{name}?secret", None))]
+        expect(told == [503, 404], f"requests at the level {level} are answered {told}")
+    wait_until("logged", 5, lambda: "GET /nothing/d" in agent.said())
+    log_level(agent, "POST", "?level=info")
+    lines = re.findall(rf"\[DEBUG agent::fronts\] (.*) \d+\.\d\d\d ms 127\.0\.0\.1$", agent.said(), re.M)
+    said = [line for line in lines if " /log " not in line]
+    wanted = [line for name in "bd" for line in (f"POST {path} 503 service", f"GET /nothing/{name} 404 agent")]
+    expect(said == wanted, f"the log has the requests {said}")
+
+
 def check(program, agents, first, second):
+    check_level(agents[0])
+    check_requests(agents)
     check_full(program, first, second)
     check_words(agents)

@@ -11,6 +11,7 @@ function.
 """
 import dataclasses
 import difflib
+import functools
 import pathlib
 import re
 import sys
@@ -119,6 +120,23 @@ def enclosing(lines, place):
     return None
 
 
+@functools.cache
+def declared(folder):
+    """The names of a crate's functions, and the words of each head of an impl or a trait."""
+    text = "".join(it.read_text() for it in folder.glob("src/**/*.rt"))
+    heads = re.findall(r"^ *(?:pub(?:\([^)]*\))? )?(?:final )?(?:impl|trait)\b(.*?)\{", text, re.MULTILINE | re.DOTALL)
+    return {*re.findall(r"\bfn (\w+)", text)}, [{"Any", *re.findall(r"\w+", it)} for it in heads]
+
+
+def is_declared(folder, function):
+    """Whether a crate has a function of this name. An impl's is named by its type and trait: `OwnerLockedCall::perform`, and if it is of any type
+    `AnyRoundClock::moment`."""
+    names, heads = declared(folder)
+    *modules, last = function.split("::")
+    owner = modules[-1] if modules and modules[-1][0].isupper() else ""
+    return last in names and (not owner or any(re.fullmatch(f"(?:{'|'.join(it)})+", owner) for it in heads))
+
+
 @dataclasses.dataclass(frozen=True)
 class Change:
     """The lines of a file from `start` up to `end`, counted from 0, and their text in the mutant."""
@@ -135,6 +153,8 @@ class Mutant:
     def __init__(self, edit, folder):
         if not edit.functions:
             raise Fault("it has no 'fn:' line")
+        if unknown := [it for it in edit.functions if not is_declared(folder, it)]:
+            raise Fault(f"the crate has no function {unknown[0]}")
         self.name, self.functions, self.changes, self.is_inside = edit.name, edit.functions, [], True
         self.is_of_definitions = any(path.startswith("specs/") for path, _, _ in edit.replacements)
         before, after = edit.applied(folder)

@@ -11,7 +11,7 @@ use Rattle.message_core.specs.declared.messages.Content.TheVariants as content
 use Rattle.message_core.specs.declared.messages.Message.{Message}
 use Rattle.peer_core.specs.Acts.{Act, Makes, Nothing, Then}
 use Rattle.peer_core.specs.Forwarding.{IsRequest}
-use Rattle.peer_core.specs.Handling.{Handled, MayHandle, between}
+use Rattle.peer_core.specs.Handling.{Handled, Handlings, MayHandle}
 use Rattle.peer_core.specs.Links.{Went}
 use Rattle.peer_core.specs.Parts.{Does, let_in}
 use Rattle.peer_core.specs.Resending.{EndsBy, Failed, SendsRequest}
@@ -27,18 +27,19 @@ use Rattle.agent_core.specs.declared.refusals.Refusal.{Refusal}
 use Rattle.line_service.specs.Answering.{AnswersInput, IsSilent, Responds, StaysSilent}
 use Rattle.line_service.specs.declared.inputs.Input.{Input}
 use Rattle.line_service.specs.declared.inputs.Input.TheVariants as input
-use Rattle.agent.specs.Asking.{AsksFor, answerer, notes_call, notes_source}
+use Rattle.agent.specs.Asking.{AsksFor, answerer, handler_of, notes_call, notes_source}
 use Rattle.agent.specs.Calling.{AnyAnswer, AnyHandling, AnyTimes, Calling, HasMade, hash_of}
-use Rattle.agent.specs.Serving.{IsAnsweredHere, RespondsNoted}
+use Rattle.agent.specs.Serving.{IsAnsweredHere, RespondsAsking, asks}
+use Rattle.agent.specs.declared.links.NotedHandler.{NotedHandler}
 use Rattle.agent.specs.Performing.{AsksOwner, EndsEarly, IsRequested, Outcome, SettledBy}
 use Rattle.agent.proofs.Performed.{made_as, settled_as}
 use Rattle.agent.proofs.Relaying.{made_both}
 
--- one call of a handler whose calls are noted so
-abbrev pub noting : {A : Type 0} → (A → Bool) → Handled A
-noting asked_of keys body answer was is = notes_call keys body answer (asked_of was) (asked_of is) × AnyHandling keys body answer
+-- one call of a handler that notes its calls, by one of the other that it has
+abbrev pub noting : {A : Type 0} → Handled A → Handled (NotedHandler A)
+noting handled keys body answer was is = notes_call keys body answer was.was_asked is.was_asked × handled keys body answer (handler_of was) (handler_of is)
 
--- a handler that notes each of its calls, as far as a request or a line says
+-- a handler that notes each of its calls, as far as a request says
 module _ {A : Type 0} (handled : Handled A) (asked_of : A → Bool)
     (notes : (keys : List (List ℕ)) (body : List ℕ) (answer : Result (List ℕ) HandlerFault) (was is : A) → handled keys body answer was is → asked_of is ≡ true) where
   -- and a link that notes the node that gave its last answer
@@ -85,59 +86,65 @@ module _ {A : Type 0} (handled : Handled A) (asked_of : A → Bool)
         (subst (λ (last : Option Address). SendsRequest hash_of notes_source notes_call keys body r (asked_of was) (asked_of is) last (noted_of new) acts) unnoted
         (sends_as r was is old new acts h))) makes
 
-  module _ (was is : A) (unasked : asked_of was ≡ false) (now : ℕ) where
-    unchanged : is ≡ was → asked_of is ≡ false
-    unchanged same = ap asked_of same ∙ unasked
+-- what was asked of one that was not called before: it was called once if it notes that, and else never
+module _ {A : Type 0} (handled : Handled A) (was is : NotedHandler A) (unasked : was.was_asked ≡ false) where
+  abbrev pub asks_noted : Bool → Handlings
+  asks_noted asked = asks handled asked (handler_of was) (handler_of is)
 
-    answered : (heard : Input) (r : Result Message ClusterError) (acts : List (Act Sha256Hash)) → AnswersInput hash_of AnyAnswer (between handled was is) now heard r acts
-        → AnswersInput hash_of AnyAnswer (between notes_call false (asked_of is)) now heard r acts
-    answered (input.Message message) r acts h =
-        serves_as hash_of (between handled was is) (between notes_call false (asked_of is)) (λ keys body answer called. notes keys body answer was is called) unchanged
-        AnyAnswer message now message.content r acts h
-    answered (input.Refused why) r acts (never, h) = (unchanged never, h)
-    answered input.Nothing r acts h = h
+  pub noted_once : (keys : List (List ℕ)) (body : List ℕ) (answer : Result (List ℕ) HandlerFault) → noting handled keys body answer was is
+      → (asks_noted is.was_asked).once keys body answer
+  noted_once keys body answer (asked, one) = subst (λ (b : Bool). (asks_noted b).once keys body answer) (sym asked) one
 
-    by_input : (heard : Input) (r : Result Message ClusterError) (acts first rest : List (Act Sha256Hash)) → acts ≡ first ++ rest
-        → AnswersInput hash_of AnyAnswer (between handled was is) now heard r first → AsksFor heard (asked_of is) acts
-    by_input (input.Message message) r acts first rest e h = (first, rest, e, (now, r, answered (input.Message message) r first h), tt)
-    by_input (input.Refused why) r acts first rest e h = unchanged h.0
-    by_input input.Nothing r acts first rest e h = absurd h
+  pub noted_never : is ≡ was → (asks_noted is.was_asked).never
+  noted_never same =
+      subst (λ (b : Bool). (asks_noted b).never) (sym (ap (λ (h : NotedHandler A). h.was_asked) same ∙ unasked)) (ap (λ (h : NotedHandler A). handler_of h) same)
 
-    responded : (heard : Input) (line : List ℕ) (acts : List (Act Sha256Hash)) → Responds hash_of AnyAnswer (between handled was is) now heard line acts
-        → AsksFor heard (asked_of is) acts
-    responded heard line acts (answer, (first, rest, e, h, sent)) = by_input heard (Ok answer) acts first rest e h
+-- what a line says of one handling of a request it says of another that follows from it
+module _ (Old New : Handlings) (once : (keys : List (List ℕ)) (body : List ℕ) (answer : Result (List ℕ) HandlerFault) → Old.once keys body answer → New.once keys body answer)
+    (never : Old.never → New.never) (now : ℕ) where
+  answered : (heard : Input) (r : Result Message ClusterError) (acts : List (Act Sha256Hash)) → AnswersInput hash_of AnyAnswer Old now heard r acts
+      → AnswersInput hash_of AnyAnswer New now heard r acts
+  answered (input.Message message) r acts h = serves_as hash_of Old New once never AnyAnswer message now message.content r acts h
+  answered (input.Refused why) r acts (none, h) = (never none, h)
+  answered input.Nothing r acts h = h
 
-    responded_noted : (heard : Input) (line : List ℕ) (acts : List (Act Sha256Hash)) → Responds hash_of AnyAnswer (between handled was is) now heard line acts
-        → RespondsNoted heard (asked_of is) line acts
-    responded_noted heard line acts (answer, (first, rest, e, h, sent)) = (now, (answer, (first, rest, e, answered heard (Ok answer) first h, sent)))
+  by_input : (heard : Input) (r : Result Message ClusterError) (acts first rest : List (Act Sha256Hash)) → acts ≡ first ++ rest
+      → AnswersInput hash_of AnyAnswer Old now heard r first → AsksFor New heard acts
+  by_input (input.Message message) r acts first rest e h = (first, rest, e, (now, r, answered (input.Message message) r first h), tt)
+  by_input (input.Refused why) r acts first rest e h = never h.0
+  by_input input.Nothing r acts first rest e h = absurd h
 
-    stayed : (heard : Input) (r : Result (Unit {0}) ClusterError) (acts : List (Act Sha256Hash)) → StaysSilent hash_of AnyAnswer (between handled was is) now heard r acts
-        → AsksFor heard (asked_of is) acts
-    stayed heard (Ok x) acts (inl h) = absurd h
-    stayed heard (Err e) acts (inl h) = by_input heard (Err e) acts acts [] (sym (append-nil acts)) h
-    stayed heard r acts (inr (answer, (first, rest, e, h, sent))) = by_input heard (Ok answer) acts first rest e h
+  responded : (heard : Input) (line : List ℕ) (acts : List (Act Sha256Hash)) → Responds hash_of AnyAnswer Old now heard line acts → AsksFor New heard acts
+  responded heard line acts (answer, (first, rest, e, h, sent)) = by_input heard (Ok answer) acts first rest e h
 
-    silent : (heard : Input) (a b : Calling) → b.node ≡ a.node → IsSilent hash_of AnyAnswer (between handled was is) now heard a.node a.pass b.pass
-        → HasMade (AsksFor heard (asked_of is)) a b
-    silent input.Nothing a b same (never, still) = record {
-      node = same;
-      makes = makes_as (AsksFor input.Nothing (asked_of is)) (λ acts none. unchanged never)
-          (subst (λ (pass : NodePass Sha256Hash). Makes a.node Nothing a.pass pass) (sym still) (makes_none a.node a.pass));
-    }
-    silent (input.Message message) a b same (r, does) =
-        record { node = same; makes = makes_as (AsksFor (input.Message message) (asked_of is)) (stayed (input.Message message) (let_in r)) does.makes }
-    silent (input.Refused why) a b same (r, does) =
-        record { node = same; makes = makes_as (AsksFor (input.Refused why) (asked_of is)) (stayed (input.Refused why) (let_in r)) does.makes }
+  responded_so : (heard : Input) (line : List ℕ) (acts : List (Act Sha256Hash)) → Responds hash_of AnyAnswer Old now heard line acts → RespondsAsking New heard line acts
+  responded_so heard line acts (answer, (first, rest, e, h, sent)) = (now, (answer, (first, rest, e, answered heard (Ok answer) first h, sent)))
 
-    -- whether such a handler is asked for an input, and the line that goes back
-    pub answered_here : (heard : Input) (line : Option (Vec ℕ Global)) (a b : Calling) → b.node ≡ a.node
-        → IfSome line (λ it. Makes a.node (Responds hash_of AnyAnswer (between handled was is) now heard it.items) a.pass b.pass)
-        → IfNone line (IsSilent hash_of AnyAnswer (between handled was is) now heard a.node a.pass b.pass) → IsAnsweredHere heard line (asked_of is) a b
-    answered_here heard (Some line) a b same sent none = (
-      record { node = same; makes = makes_as (AsksFor heard (asked_of is)) (responded heard line.items) sent },
-      record { node = same; makes = makes_as (RespondsNoted heard (asked_of is) line.items) (responded_noted heard line.items) sent },
-    )
-    answered_here heard None a b same sent none = (silent heard a b same none, tt)
+  stayed : (heard : Input) (r : Result (Unit {0}) ClusterError) (acts : List (Act Sha256Hash)) → StaysSilent hash_of AnyAnswer Old now heard r acts → AsksFor New heard acts
+  stayed heard (Ok x) acts (inl h) = absurd h
+  stayed heard (Err e) acts (inl h) = by_input heard (Err e) acts acts [] (sym (append-nil acts)) h
+  stayed heard r acts (inr (answer, (first, rest, e, h, sent))) = by_input heard (Ok answer) acts first rest e h
+
+  silent : (heard : Input) (a b : Calling) → b.node ≡ a.node → IsSilent hash_of AnyAnswer Old now heard a.node a.pass b.pass → HasMade (AsksFor New heard) a b
+  silent input.Nothing a b same (none, still) = record {
+    node = same;
+    makes = makes_as (AsksFor New input.Nothing) (λ acts no. never none)
+        (subst (λ (pass : NodePass Sha256Hash). Makes a.node Nothing a.pass pass) (sym still) (makes_none a.node a.pass));
+  }
+  silent (input.Message message) a b same (r, does) =
+      record { node = same; makes = makes_as (AsksFor New (input.Message message)) (stayed (input.Message message) (let_in r)) does.makes }
+  silent (input.Refused why) a b same (r, does) =
+      record { node = same; makes = makes_as (AsksFor New (input.Refused why)) (stayed (input.Refused why) (let_in r)) does.makes }
+
+  -- what is asked for an input, and the line that goes back
+  pub answered_here : (heard : Input) (line : Option (Vec ℕ Global)) (a b : Calling) → b.node ≡ a.node
+      → IfSome line (λ it. Makes a.node (Responds hash_of AnyAnswer Old now heard it.items) a.pass b.pass)
+      → IfNone line (IsSilent hash_of AnyAnswer Old now heard a.node a.pass b.pass) → IsAnsweredHere New heard line a b
+  answered_here heard (Some line) a b same sent none = (
+    record { node = same; makes = makes_as (AsksFor New heard) (responded heard line.items) sent },
+    record { node = same; makes = makes_as (RespondsAsking New heard line.items) (responded_so heard line.items) sent },
+  )
+  answered_here heard None a b same sent none = (silent heard a b same none, tt)
 
 -- a request of keys, and what went over the link for it
 module _ (keys : List (List ℕ)) (request : List ℕ) (r : Result (List ℕ) ClusterError) (asked : Bool) (noted : Option Address) (old new : Calling) where

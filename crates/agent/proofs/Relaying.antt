@@ -1,5 +1,5 @@
 -- A request that is passed on, or not.
-use Rattle.std.proofs.Common.{◌≡◌, ℕ, ◌+◌, List, [], ◌∷◌, ◌++◌, Option, Some, None, Result, Ok, Err, inl, inr, is_ok, refl, sym, subst, arith, true, true≢false}
+use Rattle.std.proofs.Common.{◌≡◌, ◌∙◌, ℕ, List, [], ◌∷◌, ◌++◌, Option, Some, None, Result, Ok, Err, ap, append_assoc, append-nil, inl, inr, is_ok, refl, sym, subst, true, true≢false}
 use Rattle.std.specs.Prelude.{◌≢◌, ◌⊎◌, IfNone}
 use Rattle.change_core.specs.Status.{IsServing}
 use Rattle.change_core.specs.declared.addresses.Address.{Address}
@@ -11,59 +11,58 @@ use Rattle.node_core.specs.declared.events.Event.TheVariants as call
 use Rattle.node_core.specs.declared.events.Reply.TheVariants as reply
 use Rattle.locked_node.specs.History.{CallEntry}
 use Rattle.peer_core.specs.Acts.{Act, OfActs, Just, Makes, Then, acts_of, did, looked}
-use Rattle.peer_core.specs.Exchanges.{Errand, stays, goes_to, joins, SendsTo, errand_of, one_if_sent}
+use Rattle.peer_core.specs.Exchanges.{SendsTo}
 use Rattle.peer_core.specs.Joining.{IsJoin}
 use Rattle.peer_core.specs.Links.{MayAnswer, Went}
 use Rattle.peer_core.specs.Parts.{Calls, Does}
 use Rattle.peer_core.specs.Serving.{message_by}
 use Rattle.peer_core.specs.declared.errors.ClusterError.{ClusterError}
 use Rattle.peer_core.proofs.Acts.{makes_as}
-use Rattle.peer_core.proofs.Exchanges.{Silent, calls_agree, sends_silent, sends_then}
+use Rattle.peer_core.proofs.Exchanges.{calls_agree}
 use Rattle.agent.specs.Calling.{Calling, HasMade, Looks}
-use Rattle.agent.specs.Relays.{Chooses, Keeps, NamesNobody, IsNotReturned, IsPassedOn, IsRelayOf, IsRelayed, MakesNone, Meets, Names, PassesOn}
+use Rattle.agent.specs.Relays.{Chooses, IsNotReturned, IsPassedOn, IsRelayed, Joins, Keeps, MayJoin, Meets, Names, NamesNobody, OnlyLooks, PassesOn, Withholds, is_look}
 use Rattle.agent.specs.declared.relays.Relayed.{Relayed}
 use Rattle.agent.specs.declared.relays.Relayed.TheVariants.{NotDone}
 use Rattle.agent.proofs.Performed.{made_as, made_none, made_then}
-use Rattle.line_service.specs.declared.inputs.Input.{Input}
 
 -- what holds anyway
 pub if_none : {T P : Type 0} (found : Option T) → P → IfNone found P
 if_none (Some it) holds = tt
 if_none None holds = holds
 
--- one call that makes no message
-none_one : (acts : List (Act Sha256Hash)) (act : Act Sha256Hash) → acts ≡ act ∷ [] → errand_of act ≡ stays → MakesNone acts
-none_one acts act e quiet =
-    subst MakesNone (sym e) (subst (λ (it : Errand). one_if_sent it + 0 ≡ 0) (sym quiet) refl)
+-- one call that looks
+looks_one : (acts : List (Act Sha256Hash)) (act : Act Sha256Hash) → acts ≡ act ∷ [] → is_look act ≡ true → OnlyLooks acts
+looks_one acts act e looks = subst OnlyLooks (sym e) (looks, tt)
 
-none_both : (xs ys : List (Act Sha256Hash)) → MakesNone xs → MakesNone ys → MakesNone (xs ++ ys)
-none_both [] ys h k = k
-none_both (x ∷ xs) ys h k = omega (arith, h, none_both xs ys (omega (arith, h)) k)
+looks_both : (xs ys : List (Act Sha256Hash)) → OnlyLooks xs → OnlyLooks ys → OnlyLooks (xs ++ ys)
+looks_both [] ys h k = k
+looks_both (x ∷ xs) ys h k = (h.0, looks_both xs ys h.1 k)
 
 -- a view
-pub looks_none : (r : Result (Viewed Sha256Hash) ClusterError) (acts : List (Act Sha256Hash)) → Looks r acts → MakesNone acts
-looks_none (Ok view) acts one = none_one acts (looked (Ok view)) one refl
-looks_none (Err e) acts (inl h) = subst MakesNone (sym h.0) refl
-looks_none (Err e) acts (inr (n, one, is)) = none_one acts (looked (Err n)) one refl
+looks_view : (r : Result (Viewed Sha256Hash) ClusterError) (acts : List (Act Sha256Hash)) → Looks r acts → OnlyLooks acts
+looks_view (Ok view) acts one = looks_one acts (looked (Ok view)) one refl
+looks_view (Err e) acts (inl h) = subst OnlyLooks (sym h.0) tt
+looks_view (Err e) acts (inr (n, one, is)) = looks_one acts (looked (Err n)) one refl
 
 -- the own entry
-own_none : (r : Result Change ClusterError) (acts : List (Act Sha256Hash)) → Calls call.Own reply.Own r acts → MakesNone acts
-own_none (Ok own) acts one = none_one acts (did call.Own (reply.Own own)) one refl
-own_none (Err e) acts h = subst MakesNone (sym h.0) refl
+looks_own : (r : Result Change ClusterError) (acts : List (Act Sha256Hash)) → Calls call.Own reply.Own r acts → OnlyLooks acts
+looks_own (Ok own) acts one = looks_one acts (did call.Own (reply.Own own)) one refl
+looks_own (Err e) acts h = subst OnlyLooks (sym h.0) tt
 
 -- what is done by a pass, as a thread sees it
-pub made_by : (So : OfActs Sha256Hash) (old new : Calling) → new.node ≡ old.node → Makes old.node So old.pass new.pass → HasMade So old new
-made_by So old new same makes = record { node = same; makes = makes }
+pub looks_quiet : (r : Result (Viewed Sha256Hash) ClusterError) (old new : Calling) → new.node ≡ old.node → Does old.node Looks r old.pass new.pass → HasMade OnlyLooks old new
+looks_quiet r old new same does = record { node = same; makes = makes_as OnlyLooks (looks_view r) does.makes }
 
-pub looks_quiet : (r : Result (Viewed Sha256Hash) ClusterError) (old new : Calling) → new.node ≡ old.node → Does old.node Looks r old.pass new.pass → HasMade MakesNone old new
-looks_quiet r old new same does = record { node = same; makes = makes_as MakesNone (looks_none r) does.makes }
+pub own_quiet : (r : Result Change ClusterError) (old new : Calling) → new.node ≡ old.node → Does old.node (Calls call.Own reply.Own) r old.pass new.pass → HasMade OnlyLooks old new
+own_quiet r old new same does = record { node = same; makes = makes_as OnlyLooks (looks_own r) does.makes }
 
-pub own_quiet : (r : Result Change ClusterError) (old new : Calling) → new.node ≡ old.node → Does old.node (Calls call.Own reply.Own) r old.pass new.pass → HasMade MakesNone old new
-own_quiet r old new same does = record { node = same; makes = makes_as MakesNone (own_none r) does.makes }
-
-pub quiet_both : (a b c : Calling) → HasMade MakesNone a b → HasMade MakesNone b c → HasMade MakesNone a c
+pub quiet_both : (a b c : Calling) → HasMade OnlyLooks a b → HasMade OnlyLooks b c → HasMade OnlyLooks a c
 quiet_both a b c h k =
-    made_as MakesNone (Then MakesNone MakesNone) a c (λ acts t. subst MakesNone (sym t.2) (none_both t.0 t.1 t.3 t.4)) (made_then MakesNone MakesNone a b c h k)
+    made_as OnlyLooks (Then OnlyLooks OnlyLooks) a c (λ acts t. subst OnlyLooks (sym t.2) (looks_both t.0 t.1 t.3 t.4)) (made_then OnlyLooks OnlyLooks a b c h k)
+
+-- no call
+pub looks_nowhere : (a : Calling) → HasMade OnlyLooks a a
+looks_nowhere a = made_none OnlyLooks a a refl tt
 
 -- the same calls satisfy both
 pub made_both : (So To : OfActs Sha256Hash) (a b : Calling) → HasMade So a b → HasMade To a b → HasMade (λ acts. So acts × To acts) a b
@@ -84,57 +83,57 @@ chosen_later request owner own a b c named same told may =
     made_then (Names request owner) (IsNotReturned request owner) a b c named
     (record { node = same; makes = makes_as (IsNotReturned request owner) (λ acts one. (own, one, may)) told })
 
-no_errand : (e : Errand) → one_if_sent e ≡ 0 → e ≡ stays
-no_errand stays none = refl
-no_errand (goes_to to message) none = absurd (omega (arith, none))
-no_errand (joins message) none = absurd (omega (arith, none))
-
-silent : (acts : List (Act Sha256Hash)) → MakesNone acts → Silent acts
-silent [] none = tt
-silent (act ∷ acts) none = (no_errand (errand_of act) (omega (arith, none)), silent acts (omega (arith, none)))
-
 module _ {L : Type 0} (Came : MayAnswer) (went : Went L) where
-  sends_none : (hosts : List Address) (x : L) (acts : List (Act Sha256Hash)) → MakesNone acts → SendsTo went hosts x x acts
-  sends_none hosts x acts none = ([], tt, sends_silent went x acts (silent acts none))
+  -- looks, and then others
+  withholds_then : (request : Message) (x y : L) (xs ys : List (Act Sha256Hash)) → Withholds Came went request x y xs → OnlyLooks ys → Withholds Came went request x y (xs ++ ys)
+  withholds_then request x y xs ys (first, rest, e, looks, (mid, last, f, may, after)) k = (
+    first,
+    rest ++ ys,
+    ap (λ (l : List (Act Sha256Hash)). l ++ ys) e ∙ append_assoc first rest ys,
+    looks,
+    (mid, last ++ ys, ap (λ (l : List (Act Sha256Hash)). l ++ ys) f ∙ append_assoc mid last ys, may, looks_both last ys after k),
+  )
 
-  -- no call makes a message, and nothing goes over the link
-  pub sent_none : (hosts : List Address) (x : L) (a b : Calling) → HasMade MakesNone a b → HasMade (SendsTo went hosts x x) a b
-  sent_none hosts x a b quiet = made_as (SendsTo went hosts x x) MakesNone a b (sends_none hosts x) quiet
+  withholds_looks : (request : Message) (x y : L) (acts : List (Act Sha256Hash)) → y ≡ x → OnlyLooks acts → Withholds Came went request x y acts
+  withholds_looks request x y acts same looks = (acts, [], sym (append-nil acts), looks, ([], [], refl, inl (refl, same), tt))
 
-  first_none : (host : Address) (x y : L) (xs ys acts : List (Act Sha256Hash)) → acts ≡ xs ++ ys → MakesNone xs → SendsTo went (host ∷ []) x y ys
-      → SendsTo went (host ∷ []) x y acts
-  first_none host x y xs ys acts e none sends = sends_then went [] (host ∷ []) x x y acts (xs, ys, e, sends_none [] x xs none, sends)
+  -- nothing went over the link, and no Join
+  pub kept_quiet : (request : Message) (x : L) (a b : Calling) → HasMade OnlyLooks a b → HasMade (Withholds Came went request x x) a b
+  kept_quiet request x a b quiet = made_as (Withholds Came went request x x) OnlyLooks a b (λ acts. withholds_looks request x x acts refl) quiet
 
-  then_none : (host : Address) (x y : L) (xs ys acts : List (Act Sha256Hash)) → acts ≡ xs ++ ys → SendsTo went (host ∷ []) x y xs → MakesNone ys
-      → SendsTo went (host ∷ []) x y acts
-  then_none host x y xs ys acts e sends none = sends_then went (host ∷ []) [] x y y acts (xs, ys, e, sends, sends_none [] y ys none)
+  -- a Join may have gone, after looks, and before others
+  pub kept_joining : (request : Message) (x y : L) (a b c d : Calling) → HasMade OnlyLooks a b → HasMade (MayJoin Came went request x y) b c → HasMade OnlyLooks c d
+      → HasMade (Withholds Came went request x y) a d
+  kept_joining request x y a b c d first may last =
+      made_then OnlyLooks (Then (MayJoin Came went request x y) OnlyLooks) a b d first (made_then (MayJoin Came went request x y) OnlyLooks b c d may last)
 
-  pub sent_later : (host : Address) (x y : L) (a b c : Calling) → HasMade MakesNone a b → HasMade (SendsTo went (host ∷ []) x y) b c
-      → HasMade (SendsTo went (host ∷ []) x y) a c
-  sent_later host x y a b c quiet sent =
-      made_as (SendsTo went (host ∷ []) x y) (Then MakesNone (SendsTo went (host ∷ []) x y)) a c (λ acts t. first_none host x y t.0 t.1 acts t.2 t.3 t.4)
-      (made_then MakesNone (SendsTo went (host ∷ []) x y) a b c quiet sent)
+  -- no Join was sent
+  pub joins_nobody : (request : Message) (x : L) (a : Calling) → HasMade (MayJoin Came went request x x) a a
+  joins_nobody request x a = made_none (MayJoin Came went request x x) a a refl (inl (refl, refl))
 
-  pub sent_before : (host : Address) (x y : L) (a b c : Calling) → HasMade (SendsTo went (host ∷ []) x y) a b → HasMade MakesNone b c
-      → HasMade (SendsTo went (host ∷ []) x y) a c
-  sent_before host x y a b c sent quiet =
-      made_as (SendsTo went (host ∷ []) x y) (Then (SendsTo went (host ∷ []) x y) MakesNone) a c (λ acts t. then_none host x y t.0 t.1 acts t.2 t.3 t.4)
-      (made_then (SendsTo went (host ∷ []) x y) MakesNone a b c sent quiet)
+  -- the Join to the sender went over the link, with this result
+  joins : (request : Message) (now : ℕ) (joined : Result ℕ ClusterError) (x y : L) (a b : Calling) → b.node ≡ a.node
+      → Makes a.node (IsJoin Came now (request.source ∷ []) joined) a.pass b.pass → Makes a.node (SendsTo went (request.source ∷ []) x y) a.pass b.pass
+      → HasMade (Joins Came went request joined x y) a b
+  joins request now joined x y a b same asked sent =
+      let So : OfActs Sha256Hash = λ acts. (moment : ℕ) × IsJoin Came moment (request.source ∷ []) joined acts in
+      made_both So (SendsTo went (request.source ∷ []) x y) a b
+      (record { node = same; makes = makes_as So (λ acts it. (now, it)) asked })
+      (record { node = same; makes = sent })
 
-  -- nothing was done
-  pub sent_nothing : (host : Address) (x : L) (a : Calling) → HasMade (SendsTo went (host ∷ []) x x) a a
-  sent_nothing host x a = made_none (SendsTo went (host ∷ []) x x) a a refl (sends_none (host ∷ []) x [] refl)
+  -- a Join was sent
+  pub joins_sender : (request : Message) (now : ℕ) (joined : Result ℕ ClusterError) (x y : L) (a b : Calling) → b.node ≡ a.node
+      → Makes a.node (IsJoin Came now (request.source ∷ []) joined) a.pass b.pass → Makes a.node (SendsTo went (request.source ∷ []) x y) a.pass b.pass
+      → HasMade (MayJoin Came went request x y) a b
+  joins_sender request now joined x y a b same asked sent =
+      made_as (MayJoin Came went request x y) (Joins Came went request joined x y) a b (λ acts h. inr (joined, h)) (joins request now joined x y a b same asked sent)
 
   -- the sender's Joined came
   pub met : (request : Message) (now : ℕ) (joined : Result ℕ ClusterError) (x y : L) (a b : Calling) → is_ok joined ≡ true → b.node ≡ a.node
       → Makes a.node (IsJoin Came now (request.source ∷ []) joined) a.pass b.pass → Makes a.node (SendsTo went (request.source ∷ []) x y) a.pass b.pass
       → HasMade (Meets Came went request x y) a b
   met request now (Ok n) x y a b ok same asked sent =
-      let So : OfActs Sha256Hash = λ acts. (moment count : ℕ) × IsJoin Came moment (request.source ∷ []) (Ok count) acts in
-      made_as (Meets Came went request x y) (λ acts. So acts × SendsTo went (request.source ∷ []) x y acts) a b (λ acts h. h)
-      (made_both So (SendsTo went (request.source ∷ []) x y) a b
-      (record { node = same; makes = makes_as So (λ acts it. (now, n, it)) asked })
-      (record { node = same; makes = sent }))
+      made_as (Meets Came went request x y) (Joins Came went request (Ok n) x y) a b (λ acts h. (n, h)) (joins request now (Ok n) x y a b same asked sent)
   met request now (Err e) x y a b ok same asked sent = absurd (true≢false (sym ok))
 
   -- the first view names another node than the sender
@@ -153,18 +152,15 @@ module _ {L : Type 0} (Came : MayAnswer) (went : Went L) where
       made_as (Chooses Came went request owner x y) (Then (Names request request.source) (Then (Meets Came went request x y) Last)) a d (λ acts so. inr so)
       (made_then (Names request request.source) (Then (Meets Came went request x y) Last) a b d first (made_then (Meets Came went request x y) Last b c d meets later))
 
-  -- so far at most the Join to the sender was sent
-  chooses_sends : (request : Message) (owner : Address) (x y : L) (acts : List (Act Sha256Hash)) → Chooses Came went request owner x y acts
-      → SendsTo went (request.source ∷ []) x y acts
-  chooses_sends request owner x y acts (inl (names, other, same)) =
-      subst (λ (it : L). SendsTo went (request.source ∷ []) x it acts) (sym same)
-      (sends_none (request.source ∷ []) x acts (none_one acts (looked (Ok names.0)) names.1 refl))
-  chooses_sends request owner x y acts (inr t) =
-      let first = none_one t.0 (looked (Ok t.3.0)) t.3.1 refl in
-      let m = t.4 in
-      let n = m.4 in
-      let last = subst MakesNone (sym n.2) (none_both n.0 n.1 (none_one n.0 (looked (Ok n.3.0)) n.3.1 refl) (none_one n.1 (did call.Own (reply.Own n.4.0)) n.4.1 refl)) in
-      first_none request.source x y t.0 t.1 acts t.2 first (then_none request.source x y m.0 m.1 t.1 m.2 m.3.1 last)
+  -- so far the node was asked for views and its own entry alone, but for a Join to the sender
+  chooses_withholds : (request : Message) (owner : Address) (x y : L) (acts : List (Act Sha256Hash)) → Chooses Came went request owner x y acts
+      → Withholds Came went request x y acts
+  chooses_withholds request owner x y acts (inl (names, other, same)) =
+      withholds_looks request x y acts same (looks_one acts (looked (Ok names.0)) names.1 refl)
+  chooses_withholds request owner x y acts (inr (first, rest, e, names, (mid, last, f, meets, (one, two, h, again, own)))) =
+      let looks : OnlyLooks last = subst OnlyLooks (sym h)
+      (looks_both one two (looks_one one (looked (Ok again.0)) again.1 refl) (looks_one two (did call.Own (reply.Own own.0)) own.1 refl)) in
+      (first, rest, e, looks_one first (looked (Ok names.0)) names.1 refl, (mid, last, f, inr (Ok meets.0, meets.1), looks))
 
   -- the request is sent to that owner, by the node's own entry
   pub passes_on : (request : Message) (relayed : Relayed) (owner : Address) (own : Change) (x y z : L) (a b c : Calling)
@@ -176,22 +172,17 @@ module _ {L : Type 0} (Came : MayAnswer) (went : Went L) where
       inl (made_as (PassesOn Came went request relayed x z) (Then First Next) a c (λ acts so. (owner, own, y, so, came))
       (made_then First Next a b c chosen (record { node = kept; makes = told })))
 
-  -- or it is not sent: no owner was chosen, or something is lacking then
-  pub withheld : (request : Message) (relayed : Relayed) (host : Address) (x y : L) (a b : Calling) → relayed ≡ NotDone → HasMade (SendsTo went (host ∷ []) x y) a b
-      → IsPassedOn Came went request relayed x y a b
-  withheld request relayed host x y a b is sent = inr (is, (host ∷ [], omega arith, sent))
-
-  pub withheld_after : (request : Message) (relayed : Relayed) (owner : Address) (own : Result Change ClusterError) (x y : L) (a b c : Calling) → relayed ≡ NotDone
+  -- or it is not sent, since something is lacking then
+  pub withheld_after : (request : Message) (owner : Address) (own : Result Change ClusterError) (x y : L) (a b c : Calling)
       → HasMade (Chooses Came went request owner x y) a b → c.node ≡ b.node → Does b.node (Calls call.Own reply.Own) own b.pass c.pass
-      → IsPassedOn Came went request relayed x y a c
-  withheld_after request relayed owner own x y a b c is chosen same does =
-      withheld request relayed request.source x y a c is
-      (sent_before request.source x y a b c
-      (made_as (SendsTo went (request.source ∷ []) x y) (Chooses Came went request owner x y) a b (chooses_sends request owner x y) chosen) (own_quiet own b c same does))
-
-  -- nothing was done for an input
-  pub relays_nothing : (heard : Input) (relayed : Relayed) (x : L) (a : Calling) → relayed ≡ NotDone → IsRelayOf Came went heard relayed x x a a
-  relays_nothing heard relayed x a is = inr (is, ([], omega arith, made_none (SendsTo went [] x x) a a refl (sends_none [] x [] refl)))
+      → IsPassedOn Came went request NotDone x y a c
+  withheld_after request owner own x y a b c chosen same does =
+      let So = Withholds Came went request x y in
+      inr (
+        refl,
+        made_as So (Then So OnlyLooks) a c (λ acts t. subst So (sym t.2) (withholds_then request x y t.0 t.1 t.3 t.4))
+            (made_then So OnlyLooks a b c (made_as So (Chooses Came went request owner x y) a b (chooses_withholds request owner x y) chosen) (own_quiet own b c same does)),
+      )
 
 -- no other node is the owner, so the request is kept; or its sender is
 pub kept_unnamed : (request : Message) (a b : Calling) → HasMade (NamesNobody request) a b → HasMade (Keeps request) a b

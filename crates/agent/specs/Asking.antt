@@ -4,7 +4,7 @@ use Rattle.change_core.specs.declared.addresses.Address.{Address}
 use Rattle.hash_ring.specs.declared.hash.Sha256Hash.{Sha256Hash}
 use Rattle.message_core.specs.declared.messages.Message.{Message}
 use Rattle.peer_core.specs.Acts.{OfActs, Then}
-use Rattle.peer_core.specs.Handling.{Handled, between}
+use Rattle.peer_core.specs.Handling.{Handled, Handlings}
 use Rattle.peer_core.specs.Links.{Went}
 use Rattle.peer_core.specs.Serving.{Serves}
 use Rattle.peer_core.specs.declared.errors.ClusterError.{ClusterError}
@@ -12,6 +12,7 @@ use Rattle.peer_core.specs.declared.errors.LinkError.{LinkError}
 use Rattle.line_service.specs.declared.inputs.Input.{Input}
 use Rattle.line_service.specs.declared.inputs.Input.TheVariants as input
 use Rattle.agent.specs.Calling.{AnyAnswer, hash_of}
+use Rattle.agent.specs.declared.links.NotedHandler.{NotedHandler}
 
 -- the node that gave an answer, if there is one
 abbrev pub source_of : Result Message LinkError → Option Address
@@ -32,13 +33,16 @@ answerer own true noted = own
 answerer own false None = own
 answerer own false (Some last) = last
 
--- the node serves a message, and notes whether its application is asked for it
-abbrev pub ServesNoted : Message → Bool → OfActs Sha256Hash
-ServesNoted message asked acts =
-    (now : ℕ) × (r : Result Message ClusterError) × Serves hash_of AnyAnswer (between notes_call false asked) message now message.content r acts
+-- the handler that one which notes its calls has
+abbrev pub handler_of : {A : Type 0} → NotedHandler A → A
+handler_of noted = noted.handler
+
+-- the node serves a message, and asks this of its application
+abbrev pub ServesAsking : Handlings → Message → OfActs Sha256Hash
+ServesAsking Handles message acts = (now : ℕ) × (r : Result Message ClusterError) × Serves hash_of AnyAnswer Handles message now message.content r acts
 
 -- What an input of another node asks of the application: what serving its message does, before the calls for the line that goes back; or nothing.
-abbrev pub AsksFor : Input → Bool → OfActs Sha256Hash
-AsksFor (input.Message message) asked = Then (ServesNoted message asked) (λ later. Unit {0})
-AsksFor (input.Refused why) asked = λ acts. asked ≡ false
-AsksFor input.Nothing asked = λ acts. asked ≡ false
+abbrev pub AsksFor : Handlings → Input → OfActs Sha256Hash
+AsksFor Handles (input.Message message) = Then (ServesAsking Handles message) (λ later. Unit {0})
+AsksFor Handles (input.Refused why) = λ acts. Handles.never
+AsksFor Handles input.Nothing = λ acts. Handles.never

@@ -7,6 +7,7 @@ pub mod Lines
 pub mod Onces
 pub mod PeerLinks
 pub mod Performing
+pub mod Ports
 pub mod Relays
 pub mod Serving
 pub mod Texts

@@ -15,6 +15,7 @@ use Rattle.peer_core.specs.Parts.{Part, Tries}
 use Rattle.peer_core.specs.Resending.{SendsRequest}
 use Rattle.peer_core.specs.declared.errors.ClusterError.{ClusterError}
 use Rattle.peer_core.specs.declared.errors.ClusterError.TheVariants as error
+use Rattle.agent_core.specs.Levels.{level_line}
 use Rattle.agent_core.specs.Metrics.{metrics_text}
 use Rattle.agent_core.specs.Parts.{text_of_body}
 use Rattle.agent_core.specs.Passing.{sent_text}
@@ -23,6 +24,7 @@ use Rattle.agent_core.specs.declared.actions.Action.{Action}
 use Rattle.agent_core.specs.declared.actions.Action.TheVariants as action
 use Rattle.agent_core.specs.declared.answers.Kind.{Kind}
 use Rattle.agent_core.specs.declared.answers.Kind.TheVariants as kind
+use Rattle.agent_core.specs.declared.levels.LogLevel.{LogLevel}
 use Rattle.agent_core.specs.declared.metrics.Counts.{Counts}
 use Rattle.agent_core.specs.declared.passing.Outgoing.{Outgoing}
 use Rattle.agent_core.specs.declared.passing.Outgoing.TheVariants.{Body}
@@ -231,6 +233,11 @@ abbrev pub IsLiveness : Outcome → Type 0
 IsLiveness (Ok shown) = IsText kind.Text (codes "ok" ++ 10 ∷ []) shown
 IsLiveness (Err why) = why ≡ refusal.NoRounds
 
+-- the reply is the level of the log, if it is set the one that it is set to, and the one before; or memory ran out
+abbrev pub ShowsLevel : Option LogLevel → Outcome → Type 0
+ShowsLevel None outcome = (level : LogLevel) × Shows kind.Text (level_line level None) outcome
+ShowsLevel (Some level) outcome = (before : LogLevel) × Shows kind.Text (level_line level (Some before)) outcome
+
 -- An action of the agent whose node has this address and this many replicas, with this limit of a request's wait, if there is one; its outcome, and all
 -- calls of the node that were made for it.
 abbrev pub Performs : Option ℕ → ℕ → ℕ → Action → Outcome → OfActs Sha256Hash
@@ -251,6 +258,7 @@ Performs limit own replicas action.Digest outcome acts =
 Performs limit own replicas action.Health outcome acts = Nothing acts × IsHealth outcome
 Performs limit own replicas action.Live outcome acts = Nothing acts × IsLiveness outcome
 Performs limit own replicas action.Metrics outcome acts = After (Tries call.Members reply.Members) (ComesOf ShowsCounts) outcome acts
+Performs limit own replicas (action.Log level) outcome acts = Nothing acts × ShowsLevel level outcome
 Performs limit own replicas action.Page outcome acts = Nothing acts × (outcome ≡ Ok Page)
 Performs limit own replicas action.Leave outcome acts = After (Tries call.Leave reply.Leave) (ComesOf (λ left. Says (codes "left"))) outcome acts
 Performs limit own replicas action.Rejoin outcome acts =

@@ -1,5 +1,5 @@
 -- A request of another node that is passed on to its owner.
-use Rattle.std.specs.Prelude.{◌≡◌, ◌≢◌, ◌⊎◌, ◌≤◌, ℕ, List, [], ◌∷◌, length, slice_get, Option, Some, None, IfOk, Result, Ok, Err, Vec}
+use Rattle.std.specs.Prelude.{◌≡◌, ◌≢◌, ◌⊎◌, ◌≤◌, ℕ, Bool, true, false, List, [], ◌∷◌, length, slice_get, Option, Some, None, IfOk, Result, Ok, Err, Vec}
 use Rattle.std.specs.Global.{Global}
 use Rattle.change_core.specs.Status.{IsServing}
 use Rattle.change_core.specs.declared.addresses.Address.{Address}
@@ -11,11 +11,12 @@ use Rattle.message_core.specs.declared.kinds.Kind.TheVariants as kind
 use Rattle.message_core.specs.declared.messages.Content.{Content}
 use Rattle.message_core.specs.declared.messages.Content.TheVariants as content
 use Rattle.message_core.specs.declared.messages.Message.{Message}
+use Rattle.node_core.specs.Calls.{OfEvent, OfView}
 use Rattle.node_core.specs.Viewing.{Viewed}
 use Rattle.node_core.specs.declared.events.Event.TheVariants as call
 use Rattle.node_core.specs.declared.events.Reply.TheVariants as reply
-use Rattle.peer_core.specs.Acts.{OfActs, Just, Then, did, looked}
-use Rattle.peer_core.specs.Exchanges.{SendsTo, messages_in}
+use Rattle.peer_core.specs.Acts.{Act, OfActs, Just, Nothing, Then, did, looked}
+use Rattle.peer_core.specs.Exchanges.{SendsTo}
 use Rattle.peer_core.specs.Joining.{IsJoin}
 use Rattle.peer_core.specs.Links.{MayAnswer, Went}
 use Rattle.peer_core.specs.Serving.{message_by}
@@ -51,9 +52,16 @@ NamesNobody request acts = (seen : Result (Viewed Sha256Hash) ClusterError) × L
 abbrev pub Keeps : Message → OfActs Sha256Hash
 Keeps request acts = NamesNobody request acts ⊎ Then (Names request request.source) (λ later. Unit {0}) acts
 
--- calls by which the node makes no message for another
-abbrev pub MakesNone : OfActs Sha256Hash
-MakesNone acts = messages_in acts ≡ 0
+-- whether a call asks the node for a view or for its own entry
+abbrev pub is_look : Act Sha256Hash → Bool
+is_look (OfView, seen) = true
+is_look (OfEvent call.Own, own) = true
+is_look other = false
+
+-- calls that ask the node for views and its own entry alone
+abbrev pub OnlyLooks : OfActs Sha256Hash
+OnlyLooks [] = Unit {0}
+OnlyLooks (act ∷ acts) = (is_look act ≡ true) × OnlyLooks acts
 
 -- the node gave its own entry; the owner is not the sender, or the node does not serve
 abbrev pub IsNotReturned : Message → Address → OfActs Sha256Hash
@@ -83,10 +91,18 @@ sent_back (Reply line) = Some line
 sent_back other = None
 
 module _ {L : Type 0} (Came : MayAnswer) (went : Went L) where
+  -- the node joined the sender of the request, with this result, and the Join went over the link
+  abbrev pub Joins : Message → Result ℕ ClusterError → L → L → OfActs Sha256Hash
+  Joins request joined old new acts =
+      ((now : ℕ) × IsJoin Came now (request.source ∷ []) joined acts) × SendsTo went (request.source ∷ []) old new acts
+
   -- the sender of the request was sent a Join, and its Joined came
   abbrev pub Meets : Message → L → L → OfActs Sha256Hash
-  Meets request old new acts =
-      ((now joined : ℕ) × IsJoin Came now (request.source ∷ []) (Ok joined) acts) × SendsTo went (request.source ∷ []) old new acts
+  Meets request old new acts = (count : ℕ) × Joins request (Ok count) old new acts
+
+  -- the sender of the request was sent a Join, or nothing was done
+  abbrev pub MayJoin : Message → L → L → OfActs Sha256Hash
+  MayJoin request old new acts = (Nothing acts × (new ≡ old)) ⊎ ((joined : Result ℕ ClusterError) × Joins request joined old new acts)
 
   -- a view of the node names the owner, another than the sender, and nothing is sent; or it names the sender, and after a Join to it another
   -- view names an owner to which the request may be sent
@@ -106,17 +122,18 @@ module _ {L : Type 0} (Came : MayAnswer) (went : Went L) where
       (owner : Address) × (own : Change) × (mid : L) × Then (Chooses request owner old mid) (Just (did call.Own (reply.Own own))) acts
       × IsRelayed owner (message_by own request.content) relayed mid new
 
-  -- no request goes over the link, only messages that the node made, of which one at most is a Join
-  abbrev pub Withholds : L → L → Calling → Calling → Type 0
-  Withholds before after old new = (hosts : List Address) × (length hosts ≤ 1) × HasMade (SendsTo went hosts before after) old new
+  -- no request goes over the link, and the node is asked for views and its own entry alone, but for one Join at most, to the sender of the request,
+  -- whose Joined is processed
+  abbrev pub Withholds : Message → L → L → OfActs Sha256Hash
+  Withholds request old new = Then OnlyLooks (Then (MayJoin request old new) OnlyLooks)
 
   -- a request was passed on, with this result; or none was sent, and it is said not to be done
   abbrev pub IsPassedOn : Message → Relayed → L → L → Calling → Calling → Type 0
   IsPassedOn request relayed before after old new =
-      HasMade (PassesOn request relayed before after) old new ⊎ ((relayed ≡ NotDone) × Withholds before after old new)
+      HasMade (PassesOn request relayed before after) old new ⊎ ((relayed ≡ NotDone) × HasMade (Withholds request before after) old new)
 
-  -- the same of an input: the message that it is was passed on, or nothing was
+  -- the same of an input: the message that it is was passed on, or not; or nothing was done, also for any other input
   abbrev pub IsRelayOf : Input → Relayed → L → L → Calling → Calling → Type 0
   IsRelayOf heard relayed before after old new =
-      ((request : Message) × (heard ≡ input.Message request) × HasMade (PassesOn request relayed before after) old new)
-      ⊎ ((relayed ≡ NotDone) × Withholds before after old new)
+      ((request : Message) × (heard ≡ input.Message request) × IsPassedOn request relayed before after old new)
+      ⊎ ((relayed ≡ NotDone) × (after ≡ before) × (new ≡ old))

@@ -43,7 +43,7 @@ const LAST_IDLE: u64 = 1_000;
 /// The most milliseconds that the end waits for connections to close.
 const MAX_LAST_WAIT: u64 = 10_000;
 
-/// The milliseconds between two looks for questions whose wait is over.
+/// The milliseconds between two looks for connections whose time is up, and for questions whose wait is over.
 const BETWEEN_SWEEPS: u64 = 1_000;
 
 /// Returns how many HTTP connections may be open at a time where this number is wanted and there are these descriptors: they take half of them,
@@ -95,14 +95,19 @@ fn start_worker<R: System>(
     Ok(())
 }
 
-/// Logs that the system lets no connection be accepted, or does again, unless the log said so last.
-fn note<R: Host>(agent: &Agent<R>, notice: &mut Notice, accepted: &io::Result<bool>) {
+/// Logs that the system lets no connection of a kind be accepted, or does again, unless the log said so last.
+pub fn note<R: Host>(
+    agent: &Agent<R>,
+    notice: &mut Notice,
+    kind: &str,
+    accepted: &io::Result<bool>,
+) {
     if !notice.note(accepted.is_err(), agent.now()) {
         return;
     }
     match accepted {
-        Err(error) => warn!(agent.log(); "no HTTP connection can be accepted: {error}"),
-        Ok(_) => info!(agent.log(); "HTTP connections are accepted again"),
+        Err(error) => warn!(agent.log(); "no {kind} connection can be accepted: {error}"),
+        Ok(_) => info!(agent.log(); "{kind} connections are accepted again"),
     }
 }
 
@@ -129,7 +134,7 @@ fn accept_until_end<R: Host>(agent: &Agent<R>, reactor: &mut Reactor<Kept>) {
     for _ in agent.rt.forever() {
         let is_ending = reactor.lot().is_ending();
         let accepted = turn(agent, reactor, &mut swept);
-        note(agent, &mut notice, &accepted);
+        note(agent, &mut notice, "HTTP", &accepted);
         if is_ending && !matches!(accepted, Ok(true)) {
             return;
         }
@@ -182,6 +187,7 @@ pub fn start_http<R: System>(
     let timing = Timing {
         patience: Duration::from_millis(PATIENCE),
         idle: MAX_IDLE,
+        between_sweeps: BETWEEN_SWEEPS,
     };
     let places = Arc::try_clone(&agent.http)?;
     let (reactor, ready) = Reactor::new(rt, alloc, listener, places, timing).map_err(

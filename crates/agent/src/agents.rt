@@ -3,6 +3,7 @@ ghost use Rattle.std.specs.Prelude.{◌≡◌, ◌*◌, ◌/◌};
 
 use crate::applications::Application;
 use crate::callers::{Caller, Passes};
+use crate::host_files::Hosts;
 use crate::rejections::Refused;
 use crate::tellers::Teller;
 use agent_core::{Counts, KeptCounts, PortCounts, Watch};
@@ -92,6 +93,8 @@ pub struct Agent<R> {
     pub serving: Count,
     /// The places of HTTP connections.
     pub http: Arc<Places, Global>,
+    /// The places of connections at the node's port that wait for their line.
+    pub port: Arc<Places, Global>,
     /// The questions about the ring that wait until it changes.
     pub watchers: Watchers,
     /// The ring of which the application is told.
@@ -101,8 +104,10 @@ pub struct Agent<R> {
     /// What the log said last of nodes that disown what this node's members give them.
     pub disowners: Notices,
     pub refused: Refused,
+    pub hosts: Hosts,
     /// Whether hosts are given, and not all were asked yet, nor has one answered: no request of a key is answered.
     pub is_starting: Flag,
+    /// Whether a host has answered a join, or is held as serving.
     pub has_joined: Flag,
     pub has_left: Flag,
     /// The watch over the service, held while the node leaves or comes back.
@@ -121,6 +126,16 @@ pub struct Agent<R> {
     pub bell: Parker,
     /// The parker that is unparked when the last rounds have spread that the node left.
     pub spread: Parker,
+}
+
+/// Returns the counts of connections that have these places.
+fn port_counts(places: &Places) -> PortCounts {
+    PortCounts {
+        used: places.open() as u64,
+        max: places.limit() as u64,
+        evicted: places.evicted(),
+        failures: places.failures(),
+    }
 }
 
 impl<R: Host> Agent<R> {
@@ -147,11 +162,16 @@ impl<R: Host> Agent<R> {
             } else {
                 Phase::Left
             }
-        } else if self.has_joined.get() {
-            Phase::Serving
-        } else {
+        } else if self.awaits_hosts() {
             Phase::Joining
+        } else {
+            Phase::Serving
         }
+    }
+
+    /// Returns whether there are hosts, and none has answered yet.
+    fn awaits_hosts(&self) -> bool {
+        self.hosts.count.get() > 0 && !self.has_joined.get()
     }
 
     /// Notes that the node has left. The caller holds `moving`.
@@ -168,25 +188,19 @@ impl<R: Host> Agent<R> {
 
     /// Has requests of keys wait until the hosts are asked, if none has answered yet. The caller holds `moving`.
     pub fn await_hosts(&self) {
-        self.is_starting.set(!self.has_joined.get());
+        self.is_starting.set(self.awaits_hosts());
     }
 
     /// Returns the counts.
     pub fn counts(&self) -> Counts {
-        let http = &*self.http;
-        let port = PortCounts {
-            used: http.open() as u64,
-            max: http.limit() as u64,
-            evicted: http.evicted(),
-            failures: http.failures(),
-        };
         Counts {
             handled: self.application.handled.get(),
             application: self.application.times.counts(),
             application_failures: self.application.failures.get(),
             waiting: self.waiting.counts(&self.rt),
             kept: self.kept_counts(),
-            http: port,
+            http: port_counts(&*self.http),
+            node: port_counts(&*self.port),
             workers_used: self.serving.get(),
             workers_max: self.workers.get(),
             questions_used: self.watchers.count.get(),
@@ -200,6 +214,11 @@ impl<R: Host> Agent<R> {
             process: self.process.counts(),
             ..self.counters.counts()
         }
+    }
+
+    /// Returns whether the system let no connection be accepted at one of the ports when it was last asked.
+    pub fn is_failing_to_accept(&self) -> bool {
+        self.http.is_failing() || self.port.is_failing()
     }
 
     /// Returns the counts of the connections between nodes that are kept.

@@ -1,4 +1,5 @@
 //! The errors of an agent.
+use agent_core::HostsFault;
 use agent_state::LogError;
 use change_core::Address;
 use node_core::ConfigField;
@@ -36,6 +37,12 @@ pub enum AgentError {
     /// The system gave no thread.
     #[error("no thread")]
     NoThread,
+    /// The file of hosts can't be read, for this reason.
+    #[error("cannot read --hosts-file: {0}")]
+    CannotRead(ErrorKind),
+    /// The file of hosts lists none, for this reason.
+    #[error("bad --hosts-file: {0}")]
+    BadHosts(HostsFault),
     /// The writer failed.
     #[error("cannot write")]
     CannotWrite,
@@ -56,6 +63,15 @@ impl From<AllocError> for AgentError {
 impl<T: Drop> From<AllocFailed<T>> for AgentError {
     fn from(_: AllocFailed<T>) -> AgentError {
         AgentError::Memory
+    }
+}
+
+impl From<HostsFault> for AgentError {
+    fn from(fault: HostsFault) -> AgentError {
+        match fault {
+            HostsFault::Memory => AgentError::Memory,
+            fault => AgentError::BadHosts(fault),
+        }
     }
 }
 

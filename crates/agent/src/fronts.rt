@@ -1,5 +1,5 @@
 //! The service that answers HTTP requests.
-ghost use Rattle.std.specs.Prelude.{◌≡◌, ◌+◌, ◌<◌, ◌≤◌, ℕ, Bool, Option, codes, true, OnOk, IfErr, IfOk, IfSome, IsTrue, Ok};
+ghost use Rattle.std.specs.Prelude.{◌≡◌, ◌+◌, ◌<◌, ◌≤◌, ℕ, Bool, None, Option, Some, codes, true, OnOk, IfErr, IfOk, IfSome, IsTrue, Ok};
 ghost use Rattle.http.specs.Request.{head_of};
 ghost use Rattle.http_header.specs.HeaderMap.{ContainsKey};
 ghost use Rattle.http_server.specs.Response.{IsBlank};
@@ -11,30 +11,31 @@ ghost use Rattle.agent_core.specs.declared.actions.Action.TheVariants as action;
 ghost use Rattle.agent.specs.Answers.{IsAnswered, PerformsBy, Settles, ShowsTo};
 ghost use Rattle.agent.specs.Asking.{answerer};
 ghost use Rattle.agent.specs.Calling.{HasMade};
-ghost use Rattle.agent.specs.Performing.{AsksIfPlaced, AsksOwner, EndsEarly, Finds, IsFound, IsHealth, IsLiveness, IsRequested, IsUnjoined, Outcome, Performs, SettledBy, ShowsCounts, ShowsMembers, ShowsOwners, crowded, digest_by, refusal_of};
+ghost use Rattle.agent.specs.Performing.{AsksIfPlaced, AsksOwner, EndsEarly, Finds, IsFound, IsHealth, IsLiveness, IsRequested, IsUnjoined, Outcome, Performs, SettledBy, ShowsCounts, ShowsLevel, ShowsMembers, ShowsOwners, crowded, digest_by, refusal_of};
 
 use crate::agents::{Agent, Flag, Phase};
 use crate::callers::Caller;
 use crate::links::{NotedHandler, NotedLink};
 use crate::onces::OnceLink;
 use crate::patience::{Patience, early_refusal};
-use agent_core::{Action, Outgoing, Refusal, is_live, pack_body, pack_request};
+use agent_core::{Action, LogLevel, Outgoing, Refusal, is_live, pack_body, pack_request};
 use agent_http::{
     Form, Reply, action_of, is_of_key, limit_for, put_refusal, put_reply, takes_json,
 };
-use agent_state::{Host, date};
+use agent_state::{Host, date, told};
 use bytes::Bytes;
 use change_core::{Address, Change, Digest, MAX_MEMBERS};
 use hash_ring::Sha256Hash;
 use http::{Request, StatusCode};
 use http_server::{Response, Service};
+use log::{Level, debug, info, log_enabled};
 use member_core::MemberTable;
 use message_core::{Keys, Reason, Text};
 use node_core::View;
 use peer_core::ClusterError;
 use std::alloc::{AllocError, Global};
-use std::net::IpAddr;
-use std::time::Instant;
+use std::net::{IpAddr, Ipv4Addr};
+use std::time::{Duration, Instant};
 
 /// Returns the refusal for an error of the node.
 pub fn refusal_of(error: ClusterError) -> Refusal
@@ -475,7 +476,7 @@ impl<'f, 'a, R: Host> Front<'f, 'a, R> {
             Phase::Joining => Err(unjoined(self.agent.refused.join(&self.agent.rt))),
             Phase::Left => Err(Refusal::HasLeft),
             Phase::Awaiting => Err(Refusal::ApplicationAwaited),
-            Phase::Serving if self.agent.http.is_failing() => Err(Refusal::CannotAccept),
+            Phase::Serving if self.agent.is_failing_to_accept() => Err(Refusal::CannotAccept),
             Phase::Serving if !self.agent.application.is_up() => Err(Refusal::ApplicationDown),
             Phase::Serving => Ok(Reply::Line("ok\n")),
         }
@@ -489,6 +490,38 @@ impl<'f, 'a, R: Host> Front<'f, 'a, R> {
         let agent = self.agent;
         let due = agent.last_round.get().saturating_add(agent.period);
         liveness(due, agent.now().number())
+    }
+
+    /// Returns the level of the log.
+    fn show_level(&self) -> Result<Reply, Refusal>
+        ensures { ShowsLevel None result }
+    {
+        let level = self.agent.log().sink().level();
+        Reply::level(self.alloc, level, None)
+    }
+
+    /// Sets the level of the log. Returns it, and the one before.
+    fn set_level(&self, level: LogLevel) -> Result<Reply, Refusal>
+        ensures { ShowsLevel (Some level) result }
+    {
+        let log = self.agent.log();
+        let before = log.sink().level();
+        let reply = Reply::level(self.alloc, level, Some(before));
+        if reply.is_ok() {
+            log.sink().set_level(level);
+            info!(log; "the level of the log is {}, was {}", level.name(), before.name());
+        }
+        reply
+    }
+
+    /// Returns the level of the log, which is this one from then on, if there is one.
+    fn log_level(&self, level: Option<LogLevel>) -> Result<Reply, Refusal>
+        ensures { ShowsLevel level result }
+    {
+        match level {
+            Some(level) => self.set_level(level),
+            None => self.show_level(),
+        }
     }
 
     /// Performs an action, and returns its reply.
@@ -515,6 +548,7 @@ impl<'f, 'a, R: Host> Front<'f, 'a, R> {
             Action::Digest => self.digest(),
             Action::Health => self.health(),
             Action::Live => self.liveness(),
+            Action::Log { level } => self.log_level(level),
             Action::Page => Ok(Reply::Page),
             Action::Leave => self.leave(),
             Action::Rejoin => self.rejoin(),
@@ -566,6 +600,32 @@ impl<'f, 'a, R: Host> Front<'f, 'a, R> {
         counters.requests.add_since(&self.agent.rt, start);
     }
 
+    /// Logs a request by its reply and its time, if the level of the log is debug.
+    fn log(
+        &self,
+        request: &Request<Bytes>,
+        reply: &Result<Reply, Refusal>,
+        start: Option<Instant>,
+    ) {
+        let agent = self.agent;
+        if !log_enabled!(agent.log(); Level::Debug) {
+            return;
+        }
+        let (status, is_of_service) = told(reply);
+        let by = if is_of_service { "service" } else { "agent" };
+        let spent = start.and_then(|start| start.elapsed(&agent.rt).ok());
+        let micros = spent.unwrap_or(Duration::ZERO).as_micros();
+        let client = self.client.unwrap_or(IpAddr::V4(Ipv4Addr::UNSPECIFIED));
+        debug!(
+            agent.log();
+            "{} {} {status} {by} {}.{:03} ms {client}",
+            request.method().as_str(),
+            request.uri().path(),
+            micros / 1_000,
+            micros % 1_000
+        );
+    }
+
     /// Returns whether the connection is closed after the answer: the agent is to end.
     fn closes(&self) -> bool {
         self.agent.is_stopping.get()
@@ -582,7 +642,7 @@ impl<'f, 'a, R: Host> Front<'f, 'a, R> {
         }
     }
 
-    /// Writes the reply to a request, or its refusal, and counts it.
+    /// Writes the reply to a request, or its refusal, counts it and logs it.
     fn answer(
         &mut self,
         request: &Request<Bytes>,
@@ -601,6 +661,7 @@ impl<'f, 'a, R: Host> Front<'f, 'a, R> {
         if matches!(&reply, Err(Refusal::Memory)) {
             self.agent.counters.allocation_failures.add(1);
         }
+        self.log(request, &reply, start);
         let form = self.form(request);
         match &reply {
             Ok(reply) => put_reply(self.alloc, response, reply, &form),

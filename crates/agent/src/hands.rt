@@ -1,5 +1,7 @@
 //! The hands of an agent, the threads that have the application answer the requests of other nodes.
-ghost use Rattle.agent.specs.Serving.{IsAnsweredHere, IsServed};
+ghost use Rattle.std.specs.Prelude.{◌≡◌, false};
+ghost use Rattle.agent.specs.Asking.{handler_of};
+ghost use Rattle.agent.specs.Serving.{IsAnsweredHere, IsServed, asks};
 
 use crate::agents::Agent;
 use crate::applications::Limited;
@@ -9,58 +11,82 @@ use crate::peer_links::PeerLink;
 use crate::peers::{Job, next_request, send_back};
 use crate::relays::{line_after, millis_left, relay, relay_link};
 use agent_state::Host;
+use change_core::Moment;
 use crossbeam_channel::Receiver;
-use peer_core::Link;
+use message_core::{Keys, Text};
+use peer_core::{Handler, HandlerFault, HandlerMut, Link};
 use std::alloc::Global;
 use std::io::ErrorKind;
 use std::net::TcpStream;
-use std::sync::Arc;
+use std::sync::{Arc, Wait};
 use std::time::Duration;
 
 /// The milliseconds for which the next request of a connection is awaited, 200 more than the other node uses it.
 const MAX_IDLE: u64 = 250;
 
-/// Returns the line of this node's own answer to a request, for which the application has what is left of the limit, and
-/// whether the application was asked: once, if this node owns the request by its view.
-fn own_answer<R: Host>(
+/// The application, which has for each request what is left of the time from a moment on.
+#[derive(Drop)]
+struct Remaining<'a, R> {
+    agent: &'a Agent<R>,
+    since: Moment,
+}
+
+impl<'a, R: Host> HandlerMut for Remaining<'a, R> {
+    // what a service does is unknown
+    ghost handled = { λ _ _ _ _ _. Unit {0} };
+
+    fn handle_mut<W: Wait>(
+        &mut self,
+        rt: &W,
+        alloc: Global,
+        keys: &Keys,
+        body: &Text,
+    ) -> Result<Text, HandlerFault> {
+        let left = millis_left(self.agent, self.since);
+        Limited::new(&self.agent.application, left).handle(rt, alloc, keys, body)
+    }
+}
+
+/// Returns the line of this node's own answer to a request, for which the handler is asked, once, if this node owns the request by its view.
+fn own_answer<R: Host, A: HandlerMut>(
     agent: &Agent<R>,
     alloc: Global,
     caller: &mut Caller,
-    link: &mut PeerLink<'_, R, R>,
+    handler: &mut NotedHandler<A>,
     job: &Job,
-) -> (Option<Vec<u8>>, bool)
-    ensures answered { IsAnsweredHere job.now.input result.0 result.1 caller.old caller.new }
+) -> Option<Vec<u8>>
+    requires { handler.old.was_asked ≡ false }
+    ensures answered { IsAnsweredHere (asks A.handled handler.new.was_asked (handler_of handler.old) (handler_of handler.new)) job.now.input result caller.old caller.new }
 {
-    let application = Limited::new(&agent.application, millis_left(agent, job.since));
-    let mut handler = NotedHandler::new(&application);
-    let (rt, now) = (&agent.rt, agent.now());
-    let line = caller.respond(rt, alloc, link, &mut handler, now, &job.input);
-    (line, handler.was_asked)
+    let mut link = PeerLink::new(agent, agent.rt, agent.timeouts.links, 0);
+    let now = agent.now();
+    caller.respond(&agent.rt, alloc, &mut link, handler, now, &job.input)
 }
 
 /// Returns the line that goes back for a request. One that this node does not own is passed on to the owner. If no other
 /// node performed it, this node answers again, since it may own it by now. If the owner gave no reply, no line goes back,
 /// since the owner may have performed the request.
-fn line_for_request<R: Host, L: Link>(
+fn line_for_request<R: Host, L: Link, A: HandlerMut>(
     agent: &Agent<R>,
     alloc: Global,
     caller: &mut Caller,
-    link: &mut PeerLink<'_, R, R>,
     relay_link: &mut L,
+    handler: &mut NotedHandler<A>,
     job: &mut Job,
 ) -> Option<Vec<u8>>
-    ensures served { IsServed L.may_answer L.went job.old.input result relay_link.old relay_link.new caller.old }
+    requires { handler.old.was_asked ≡ false }
+    ensures served { IsServed L.may_answer L.went A.handled job.old.input result relay_link.old relay_link.new (handler_of handler.old) (handler_of handler.new) caller.old }
 {
-    let (line, was_asked) = own_answer(agent, alloc, caller, link, job);
+    let line = own_answer(agent, alloc, caller, handler, job);
     agent.renew(caller);
-    if was_asked {
+    if handler.was_asked {
         return line;
     }
     let relayed = relay(agent, alloc, caller, relay_link, job);
     agent.renew(caller);
     match line_after(relayed) {
         Some(line) => line,
-        None => own_answer(agent, alloc, caller, link, job).0,
+        None => own_answer(agent, alloc, caller, handler, job),
     }
 }
 
@@ -107,7 +133,18 @@ fn serve_request<R: Host>(
     mut job: Job,
 ) -> Option<Job> {
     let mut relay_link = relay_link(agent);
-    let line = line_for_request(agent, alloc, caller, link, &mut relay_link, &mut job);
+    let mut handler = NotedHandler::new(Remaining {
+        agent,
+        since: job.since,
+    });
+    let line = line_for_request(
+        agent,
+        alloc,
+        caller,
+        &mut relay_link,
+        &mut handler,
+        &mut job,
+    );
     agent.renew(caller);
     let line = line?;
     let is_kept = job.is_marked && jobs.is_empty() && agent.keeping.add_below(agent.max_keeping());

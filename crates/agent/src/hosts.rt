@@ -93,24 +93,28 @@ fn note_alone<R: Host>(agent: &Agent<R>) {
     }
 }
 
-/// Sends a Join to one host after the other, again and again until one has answered, or the agent is to end.
-/// Later it is healing that asks them.
+/// Sends a Join to one host after the other, again and again until one has answered, or the agent is to end. Hosts that come later are asked as these
+/// are. Once one has answered it is healing that asks them.
 pub fn join_hosts<R: Host>(
     agent: Arc<Agent<R>, Global>,
     alloc: Global,
     mut caller: Caller,
-    hosts: Vec<Address>,
+    mut hosts: Vec<Address>,
 ) {
     let agent = &*agent;
-    let hosts = hosts.as_slice();
     let mut wait = MAX_FIRST_WAIT;
     for _ in agent.rt.forever() {
         if is_out(agent) && !agent.is_stopping.get() {
             thread::sleep(&agent.rt, Duration::from_millis(WHILE_OUT));
             continue;
         }
+        if let Some(newer) = agent.hosts.take_for_joins(&agent.rt) {
+            hosts = newer;
+            wait = MAX_FIRST_WAIT;
+        }
         let mut link = link_of(agent, wait);
-        let is_met = !agent.has_left.get() && join_by(agent, alloc, &mut caller, &mut link, hosts);
+        let is_met = !agent.has_left.get()
+            && join_by(agent, alloc, &mut caller, &mut link, hosts.as_slice());
         if is_met {
             agent.has_joined.set(true);
         } else {

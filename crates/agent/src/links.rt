@@ -13,9 +13,10 @@ use cluster_core::Limits;
 use forward_core::MAX_SENDS;
 use log::{info, warn};
 use message_core::{Content, Keys, Message, Text};
-use peer_core::{Handler, HandlerFault, HandlerMut, Link, LinkError};
+use peer_core::{HandlerFault, HandlerMut, Link, LinkError};
 use std::alloc::Global;
 use std::sync::Wait;
+use std::time::Instant;
 
 /// Returns whether a call failed by this node's own link, which says nothing of the other node.
 fn is_own(error: LinkError) -> bool
@@ -157,7 +158,11 @@ impl<'a, R: Host> Link for NotedLink<'a, R> {
         to: Address,
         message: &Message,
     ) -> Result<Message, LinkError> {
+        let start = Instant::now(&self.agent.rt).ok();
         let answer = self.link.call(rt, alloc, to, message);
+        if answer.is_ok() && matches!(&message.content, Content::Ping(_)) {
+            self.agent.counters.pings.add_since(&self.agent.rt, start);
+        }
         self.take(to, message, &answer);
         answer
     }
@@ -165,14 +170,14 @@ impl<'a, R: Host> Link for NotedLink<'a, R> {
 
 /// A handler that notes whether it was called.
 #[derive(Drop)]
-pub struct NotedHandler<'a, A> {
-    handler: &'a A,
+pub struct NotedHandler<A> {
+    handler: A,
     pub was_asked: bool,
 }
 
-impl<'a, A> NotedHandler<'a, A> {
+impl<A> NotedHandler<A> {
     /// Makes the handler, which was not called.
-    pub fn new(handler: &'a A) -> Self
+    pub fn new(handler: A) -> Self
         ensures asked { result.was_asked ≡ false }
     {
         NotedHandler {
@@ -182,11 +187,11 @@ impl<'a, A> NotedHandler<'a, A> {
     }
 }
 
-impl<'a, A: Handler> HandlerMut for NotedHandler<'a, A> {
+impl<A: HandlerMut> HandlerMut for NotedHandler<A> {
     ghost use Rattle.agent.specs.Asking.{notes_call};
 
     // a call is noted
-    ghost handled = { λ keys body answer old new. notes_call keys body answer old.was_asked new.was_asked × A.may_handle old.handler.now keys body answer };
+    ghost handled = { λ keys body answer old new. notes_call keys body answer old.was_asked new.was_asked × A.handled keys body answer old.handler new.handler };
 
     fn handle_mut<R: Wait>(
         &mut self,
@@ -196,6 +201,6 @@ impl<'a, A: Handler> HandlerMut for NotedHandler<'a, A> {
         body: &Text,
     ) -> Result<Text, HandlerFault> {
         self.was_asked = true;
-        self.handler.handle(rt, alloc, keys, body)
+        self.handler.handle_mut(rt, alloc, keys, body)
     }
 }

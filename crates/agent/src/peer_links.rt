@@ -7,7 +7,7 @@ use crate::rejections::{note_foreign_line, note_own_line};
 use agent_state::Host;
 use change_core::Address;
 use cluster_core::{Dial, Limits, socket_address};
-use kept_links::KeptLink;
+use kept_links::{KeptLink, Pool};
 use message_core::Message;
 use peer_core::{Link, LinkError};
 use std::alloc::Global;
@@ -19,7 +19,7 @@ use std::sync::Wait;
 #[derive(Drop)]
 pub struct PeerLink<'a, R, N> {
     agent: &'a Agent<R>,
-    link: KeptLink<'a, N, R, TcpStream>,
+    link: KeptLink<'a, N, R, &'a Pool<TcpStream>>,
 }
 
 impl<'a, R, N> PeerLink<'a, R, N> {

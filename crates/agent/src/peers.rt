@@ -1,5 +1,5 @@
-//! Connections of other nodes: one line in and one line out, and then the next for those that are kept. Gossip is answered immediately, by
-//! threads that never wait for the application.
+//! Lines of other nodes: one in and one out, and then the next for connections that are kept. Gossip is answered immediately, by threads that never
+//! wait for the application.
 use crate::admissions::admit;
 use crate::agents::Agent;
 use crate::applications::{Joining, Overloaded};
@@ -17,13 +17,7 @@ use line_service::Input;
 use message_core::{Content, Message};
 use peer_core::HandlerMut;
 use std::alloc::Global;
-use std::net::{TcpListener, TcpStream};
-use std::sync::Arc;
-use std::thread;
-use std::time::Duration;
-
-/// The milliseconds that a thread rests before it tries again.
-const REST: u64 = 10;
+use std::net::TcpStream;
 
 /// An input of another node, the connection that waits for its answer, and the moment from which its line was awaited.
 #[derive(Drop)]
@@ -110,16 +104,15 @@ fn listen_to<R: Host>(agent: &Agent<R>, alloc: Global, stream: TcpStream) -> Opt
     })
 }
 
-/// Returns the request of a key that comes over a connection within the time limit. What else comes is answered immediately, and so is a request
-/// that comes before a host has answered: it is refused.
-pub fn next_request<R: Host>(
+/// Returns the request of a key that an input is. What else came is answered immediately, and so is a request that comes before a host has
+/// answered: it is refused.
+fn request_of<R: Host>(
     agent: &Agent<R>,
     alloc: Global,
     caller: &mut Caller,
     link: &mut PeerLink<'_, R, R>,
-    stream: TcpStream,
+    mut job: Job,
 ) -> Option<Job> {
-    let mut job = listen_to(agent, alloc, stream)?;
     job.input = admit(agent, caller, job.input);
     if !is_request(&job.input) {
         answer(agent, alloc, caller, link, &mut &agent.application, job);
@@ -132,40 +125,32 @@ pub fn next_request<R: Host>(
     Some(job)
 }
 
-/// Serves one connection. A request goes to the queue of the hands, the threads that have the application answer; if the queue is full, it is
+/// Returns the request of a key that comes over a connection within the time limit. What else comes is answered immediately.
+pub fn next_request<R: Host>(
+    agent: &Agent<R>,
+    alloc: Global,
+    caller: &mut Caller,
+    link: &mut PeerLink<'_, R, R>,
+    stream: TcpStream,
+) -> Option<Job> {
+    let job = listen_to(agent, alloc, stream)?;
+    request_of(agent, alloc, caller, link, job)
+}
+
+/// Has an input answered. A request goes to the queue of the hands, the threads that have the application answer; if the queue is full, it is
 /// answered that too many wait.
-fn serve_connection<R: Host>(
+pub fn serve_job<R: Host>(
     agent: &Agent<R>,
     alloc: Global,
     caller: &mut Caller,
     link: &mut PeerLink<'_, R, R>,
     hands: &Sender<Job>,
-    stream: TcpStream,
+    job: Job,
 ) {
-    let Some(job) = next_request(agent, alloc, caller, link, stream) else {
+    let Some(job) = request_of(agent, alloc, caller, link, job) else {
         return;
     };
     if let Err(TrySendError::Full(job)) = hands.try_send(&agent.rt, job) {
         answer(agent, alloc, caller, link, &mut &Overloaded, job);
-    }
-}
-
-/// Serves connections of other nodes for ever.
-pub fn serve_peers<R: Host>(
-    agent: Arc<Agent<R>, Global>,
-    alloc: Global,
-    mut caller: Caller,
-    listener: Arc<TcpListener, Global>,
-    hands: Sender<Job>,
-) {
-    let agent = &*agent;
-    let mut link = PeerLink::new(agent, agent.rt, agent.timeouts.links, 0);
-    for _ in agent.rt.forever() {
-        match listener.accept() {
-            Ok((stream, _)) => {
-                serve_connection(agent, alloc, &mut caller, &mut link, &hands, stream)
-            }
-            Err(_) => thread::sleep(&agent.rt, Duration::from_millis(REST)),
-        }
     }
 }

@@ -1,11 +1,10 @@
 //! Requests that other nodes sent to this one though it does not own them: they are passed on to the owner, and its reply
 //! goes back.
-ghost use Rattle.std.specs.Prelude.{◌≡◌, ◌≢◌, ◌≤◌, ◌↔◌, ◌∷◌, ◌/◌, [], cond, IfNone, IfSome, IsTrue};
+ghost use Rattle.std.specs.Prelude.{◌≡◌, ◌≢◌, ◌≤◌, ◌↔◌, ◌/◌, cond, IfNone, IfSome, IsTrue};
 ghost use Rattle.peer_core.specs.Acts.{Then};
-ghost use Rattle.peer_core.specs.Exchanges.{SendsTo};
 ghost use Rattle.peer_core.specs.Serving.{message_by};
 ghost use Rattle.agent.specs.Calling.{HasMade};
-ghost use Rattle.agent.specs.Relays.{Chooses, HasNoOwnerBy, IsOwnerBy, IsNotReturned, IsPassedOn, IsRelayOf, IsRelayed, IsRelayedAs, Keeps, MakesNone, Meets, Names, NamesNobody, sent_back};
+ghost use Rattle.agent.specs.Relays.{Chooses, HasNoOwnerBy, IsOwnerBy, IsNotReturned, IsPassedOn, IsRelayOf, IsRelayed, IsRelayedAs, Keeps, MayJoin, Meets, Names, NamesNobody, OnlyLooks, Withholds, sent_back};
 
 use crate::agents::Agent;
 use crate::callers::Caller;
@@ -107,7 +106,7 @@ fn owner_by(view: &View<Sha256Hash>, request: &Content) -> Option<Address>
 fn owner_of<R: Host>(agent: &Agent<R>, caller: &mut Caller, request: &Message) -> Option<Address>
     ensures named { IfSome result (λ owner. HasMade (Names request.now owner) caller.old caller.new) }
     ensures unnamed { IfNone result (HasMade (NamesNobody request.now) caller.old caller.new) }
-    ensures quiet { HasMade MakesNone caller.old caller.new }
+    ensures quiet { HasMade OnlyLooks caller.old caller.new }
 {
     let Ok(view) = caller.view(&agent.rt) else {
         return None;
@@ -125,7 +124,7 @@ fn meet_sender<R: Host, L: Link>(
     since: Moment,
 ) -> bool
     ensures met { IsTrue result → HasMade (Meets L.may_answer L.went request.now link.old link.new) caller.old caller.new }
-    ensures sent { HasMade (SendsTo L.went (request.now.source ∷ []) link.old link.new) caller.old caller.new }
+    ensures tried { HasMade (MayJoin L.may_answer L.went request.now link.old link.new) caller.old caller.new }
 {
     if !has_time(millis_left(agent, since)) {
         return false;
@@ -142,7 +141,7 @@ fn owner_after_join<R: Host>(
     request: &Message,
 ) -> Option<Address>
     ensures chosen { IfSome result (λ owner. HasMade (Then (Names request.now owner) (IsNotReturned request.now owner)) caller.old caller.new) }
-    ensures quiet { HasMade MakesNone caller.old caller.new }
+    ensures quiet { HasMade OnlyLooks caller.old caller.new }
 {
     let owner = owner_of(agent, caller, request)?;
     let Ok(own) = caller.own(&agent.rt) else {
@@ -166,7 +165,7 @@ fn agreed_owner<R: Host, L: Link>(
     since: Moment,
 ) -> Option<Address>
     ensures chosen { IfSome result (λ owner. HasMade (Chooses L.may_answer L.went request.now owner link.old link.new) caller.old caller.new) }
-    ensures withheld { IfNone result (HasMade (SendsTo L.went (request.now.source ∷ []) link.old link.new) caller.old caller.new) }
+    ensures withheld { IfNone result (HasMade (Withholds L.may_answer L.went request.now link.old link.new) caller.old caller.new) }
     ensures kept { IfNone result (HasMade (Keeps request.now) caller.old caller.new) }
 {
     let owner = owner_of(agent, caller, request)?;

@@ -25,7 +25,10 @@ struct Rounds<'a, R> {
     alloc: Global,
     caller: Caller,
     link: NotedLink<'a, R>,
-    healing: Healing<'a>,
+    /// The milliseconds between the beginnings of two rounds.
+    period: u64,
+    /// The last rounds that were made.
+    last: u64,
     tombstones: Tombstones,
     /// The node's own entry before it met any other node.
     initial: Option<Change>,
@@ -107,6 +110,8 @@ impl<'a, R: Host> Rounds<'a, R> {
             let silent = silent_in(round);
             log_changes(&agent.log(), &agent.own, before, after, &silent, has_moved);
             is_own = !has_moved && is_refuted(&agent.own, before, after);
+            agent.counters.add_changes(agent.own, before, after);
+            agent.counters.refuted.add(is_own as u64);
             used = before.len();
         } else if let Some(initial) = &self.initial {
             log_since_start(&agent.log(), initial, after, has_moved);
@@ -190,7 +195,7 @@ impl<'a, R: Host> Rounds<'a, R> {
 
     /// Makes one round of gossip, counts it, and logs its error and how the members changed. Questions are answered before it and after it, since it may
     /// take some seconds. Last it closes the connections to other nodes that have rested for long.
-    fn make(&mut self) {
+    fn make(&mut self, healing: &mut Healing<'_>) {
         let agent = self.agent;
         self.answer_questions();
         let now = agent.now();
@@ -203,21 +208,19 @@ impl<'a, R: Host> Rounds<'a, R> {
         self.log(&round);
         self.answer_questions();
         agent.renew(&mut self.caller);
-        self.heal(now);
+        self.heal(healing, now);
         agent.last_round.set(agent.now().number());
         agent.spares.close_rested(&agent.rt, &agent.rt);
     }
 
     /// Heals after a round, unless the node has left: members that parted find one another again.
-    fn heal(&mut self, now: Moment) {
+    fn heal(&mut self, healing: &mut Healing<'_>, now: Moment) {
         let agent = self.agent;
         if agent.has_left.get() {
             return;
         }
         let link = &mut self.link;
-        let healed = self
-            .caller
-            .heal(&agent.rt, self.alloc, link, now, &mut self.healing);
+        let healed = self.caller.heal(&agent.rt, self.alloc, link, now, healing);
         if self.healing_notice.note(healed.is_err(), now) {
             match healed {
                 Ok(_) => info!(agent.log(); "healing succeeds again"),
@@ -240,16 +243,54 @@ impl<'a, R: Host> Rounds<'a, R> {
         self.caller
             .correcting_round(&agent.rt, self.alloc, link, now)
     }
+
+    /// Makes a round, counts it if it is one of the last, and waits until the next begins: `period` milliseconds after this one did, or as soon as it has
+    /// ended. Returns whether it was the last of all, after which it does not wait.
+    fn make_one(&mut self, healing: &mut Healing<'_>) -> bool {
+        let agent = self.agent;
+        let begun = agent.now().number();
+        self.make(healing);
+        if agent.is_stopping.get() {
+            if self.last == 0 {
+                self.tell_of_end();
+            }
+            self.last = self.last.saturating_add(1);
+            if self.last >= LAST_ROUNDS {
+                agent.spread.unpark();
+                return true;
+            }
+        }
+        let spent = agent.now().number().saturating_sub(begun);
+        let rest = Duration::from_millis(self.period.saturating_sub(spent));
+        thread::sleep(&agent.rt, rest);
+        false
+    }
+
+    /// Makes rounds that heal by these hosts, until there are others, which it returns, or until the last round of all; then it returns None.
+    fn make_with(&mut self, hosts: &[Address]) -> Option<Vec<Address>> {
+        let agent = self.agent;
+        let mut healing = Healing::new(agent.own, hosts);
+        for _ in agent.rt.forever() {
+            if self.make_one(&mut healing) {
+                return None;
+            }
+            let newer = agent.hosts.take_for_rounds(&agent.rt);
+            if newer.is_some() {
+                return newer;
+            }
+        }
+        None
+    }
 }
 
-/// Makes rounds until the agent is to end, and then the last ones. A round begins `period` milliseconds after the one before,
-/// or as soon as that one has ended. `initial` is the node's own entry before it met any other node.
+/// Makes rounds until the agent is to end, and then the last ones, a round each `period` milliseconds. `initial` is the node's own entry before it met any
+/// other node.
 pub fn make_rounds<R: Host>(
     agent: Arc<Agent<R>, Global>,
     alloc: Global,
     caller: Caller,
     initial: Option<Change>,
-    hosts: Vec<Address>,
+    mut hosts: Vec<Address>,
     period: u64,
 ) {
     let agent = &*agent;
@@ -258,7 +299,8 @@ pub fn make_rounds<R: Host>(
         alloc,
         caller,
         link: link_of(agent, MAX_FIRST_WAIT),
-        healing: Healing::new(agent.own, hosts.as_slice()),
+        period,
+        last: 0,
         tombstones: Tombstones::new(agent.own),
         initial,
         members: None,
@@ -268,22 +310,10 @@ pub fn make_rounds<R: Host>(
         round_notice: Notice::new(),
         healing_notice: Notice::new(),
     };
-    let mut last: u64 = 0;
     for _ in agent.rt.forever() {
-        let begun = agent.now().number();
-        rounds.make();
-        if agent.is_stopping.get() {
-            if last == 0 {
-                rounds.tell_of_end();
-            }
-            last = last.saturating_add(1);
-            if last >= LAST_ROUNDS {
-                agent.spread.unpark();
-                return;
-            }
+        match rounds.make_with(hosts.as_slice()) {
+            Some(newer) => hosts = newer,
+            None => return,
         }
-        let spent = agent.now().number().saturating_sub(begun);
-        let rest = Duration::from_millis(period.saturating_sub(spent));
-        thread::sleep(&agent.rt, rest);
     }
 }

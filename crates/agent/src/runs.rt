@@ -10,21 +10,23 @@ use crate::applications::Application;
 use crate::callers::{Caller, Passes};
 use crate::errors::AgentError;
 use crate::hands::serve_requests;
+use crate::host_files::{Hosts, renew_hosts};
 use crate::hosts::join_hosts;
-use crate::peers::{Job, serve_peers};
+use crate::peers::Job;
+use crate::ports::{PORT_THREADS, set_port_places, start_port};
 use crate::rejections::Refused;
 use crate::rounds::make_rounds;
 use crate::services::{await_service, watch_service};
 use crate::settings::Settings;
 use crate::tellers::{Teller, start_notices};
-use agent_core::Watch;
+use agent_core::{Notice, Watch};
 use agent_http::Kept;
 use agent_state::{
     Count, Counters, Logger, Notices, Process, System, Waiting, Watchers, share_log, start_log,
 };
 use change_core::{Address, Change, Incarnation, MAX_NUMBER, Moment};
 use cluster_core::{share, socket_address};
-use crossbeam_channel::{Receiver, Sender, bounded};
+use crossbeam_channel::{Receiver, bounded};
 use hash_ring::Sha256Hash;
 use kept_links::Pool;
 use line_service::{Stopwatch, Timeouts};
@@ -41,12 +43,9 @@ use std::thread::Parker;
 use std::time::Duration;
 use wire_json::write_line;
 
-/// The number of threads that read the lines of other nodes.
-const PEERS: u32 = 4;
-
-/// The greatest number of threads of an agent for other nodes and its application: those that read lines, the one that makes rounds, the one
+/// The greatest number of threads of an agent for other nodes and its application: those of the node's port, the one that makes rounds, the one
 /// that asks the hosts, the one that looks after the application, the one that tells it of the ring, and the one that writes the log.
-pub const NODE_THREADS: u32 = PEERS + 5;
+pub const NODE_THREADS: u32 = PORT_THREADS + 5;
 
 /// The number of passes for threads, each for 4,294,967,295 calls.
 const PASSES: u32 = 1_023;
@@ -152,11 +151,12 @@ fn spares_with(descriptors: u64) -> u64
 }
 
 /// Makes the state that the threads of an agent share.
-fn agent_of<R: System>(
+fn agent_of<R: System + Files>(
     rt: &R,
     alloc: Global,
     settings: &Settings,
 ) -> Result<Arc<Agent<R>, Global>, AgentError> {
+    let hosts = Hosts::read(rt, alloc, settings)?;
     let passes = passes_of(rt, alloc, settings)?;
     let stopwatch = Stopwatch::start(rt);
     let spares = spares_with(max_descriptors().unwrap_or(u64::MAX));
@@ -184,13 +184,15 @@ fn agent_of<R: System>(
         workers: Count::new(),
         serving: Count::new(),
         http: Arc::new(alloc, Places::new())?,
+        port: Arc::new(alloc, Places::new())?,
         watchers: Watchers::new(alloc),
         teller: Teller::new(settings.told_app().is_some()),
         notices: Notices::new(alloc),
         disowners: Notices::new(alloc),
         refused: Refused::new(alloc),
-        is_starting: Flag::new(!settings.hosts.is_empty()),
-        has_joined: Flag::new(settings.hosts.is_empty()),
+        is_starting: Flag::new(hosts.count.get() > 0),
+        hosts,
+        has_joined: Flag::new(false),
         has_left: Flag::new(false),
         moving: Mutex::new(Watch::new(settings.following.leave_after.saturating_mul(1_000))),
         is_service_up: Flag::new(true),
@@ -215,28 +217,6 @@ fn listen<R: System>(rt: &R, address: Address) -> Result<TcpListener, AgentError
 /// Returns the node with a pass for another thread.
 fn caller_of<R: System>(agent: &Agent<R>) -> Result<Caller, AgentError> {
     agent.next_caller().ok_or(AgentError::Spent)
-}
-
-/// Starts the threads that serve other nodes.
-fn start_peers<R: System>(
-    rt: &R,
-    alloc: Global,
-    agent: &Arc<Agent<R>, Global>,
-    listener: &Arc<TcpListener, Global>,
-    hands: &Sender<Job>,
-) -> Result<(), AgentError> {
-    for _ in 0..PEERS {
-        let caller = caller_of(agent)?;
-        let agent = Arc::try_clone(agent)?;
-        let listener = Arc::try_clone(listener)?;
-        let hands = hands.clone()?;
-        let started = thread::spawn(
-            rt,
-            move || serve_peers(agent, alloc, caller, listener, hands),
-        );
-        let _thread = started.map_err(|_| AgentError::NoThread)?;
-    }
-    Ok(())
 }
 
 /// Starts the threads that have the application answer other nodes.
@@ -276,14 +256,14 @@ fn start_rounds<R: System>(
     Ok(())
 }
 
-/// Starts the thread that asks the hosts, if there are any.
+/// Starts the thread that asks the hosts, if there are any or may be.
 fn start_joins<R: System>(
     rt: &R,
     alloc: Global,
     agent: &Arc<Agent<R>, Global>,
     hosts: Vec<Address>,
 ) -> Result<(), AgentError> {
-    if hosts.is_empty() {
+    if !agent.hosts.may_come() {
         return Ok(());
     }
     let caller = caller_of(agent)?;
@@ -326,13 +306,15 @@ fn say_serving<W: Write>(alloc: Global, address: Address, writer: &mut W) -> Res
     say(writer, text.as_str())
 }
 
-/// Looks at what the process uses, now and every five seconds, until the agent is to end.
+/// Looks at what the process uses, and reads the file of hosts, if there is one, now and every five seconds, until the agent is to end.
 fn watch_process<R: System + Files>(rt: &R, alloc: Global, agent: &Agent<R>) {
+    let mut notice = Notice::new();
     for _ in rt.forever() {
         if agent.is_stopping.get() || agent.is_spent.get() {
             return;
         }
         agent.process.look(rt, alloc);
+        renew_hosts(rt, alloc, agent, &mut notice);
         agent
             .bell
             .park_timeout(rt, Duration::from_millis(BETWEEN_LOOKS));
@@ -375,7 +357,8 @@ fn start<R: System>(
     if settings.http.is_some() {
         set_places(&**agent, settings.http_connections)?;
     }
-    let listener = Arc::new(alloc, listen(rt, settings.bind)?)?;
+    set_port_places(&**agent);
+    let listener = listen(rt, settings.bind)?;
     let front = match settings.http {
         Some(address) => Some(listen(rt, address)?),
         None => None,
@@ -387,21 +370,21 @@ fn start<R: System>(
     let initial = first.own(rt).ok();
     let (hands, jobs) = bounded(alloc, MAX_QUEUED_REQUESTS)?;
     start_watch(rt, agent, settings.app)?;
-    start_peers(rt, alloc, agent, &listener, &hands)?;
+    start_port(rt, alloc, agent, listener, &hands)?;
     start_hands(rt, alloc, agent, &jobs, settings.hands)?;
     let lot = match front {
         Some(front) => Some(start_http(rt, alloc, agent, front)?),
         None => None,
     };
     start_notices(rt, alloc, agent, &settings)?;
-    let Settings { hosts, period, .. } = settings;
-    start_rounds(rt, alloc, agent, initial, hosts.clone()?, period)?;
+    let hosts = agent.hosts.known(rt)?;
+    start_rounds(rt, alloc, agent, initial, hosts.clone()?, settings.period)?;
     start_joins(rt, alloc, agent, hosts)?;
     Ok(lot)
 }
 
 /// Makes an agent and starts its threads. Returns it with the lot of its HTTP connections, if it answers HTTP.
-fn set_up<R: System>(
+fn set_up<R: System + Files>(
     rt: &R,
     alloc: Global,
     settings: Settings,
@@ -455,6 +438,8 @@ fn serve<R: System + Files, W: Write>(
 ///
 /// - `NotLocal`: the address for HTTP is not in 127.0.0.0/8, and `http_any` is not set. This is checked first.
 /// - `NoAddress`: the node's own address is 0.0.0.0 with a port. This is checked second.
+/// - `CannotRead`: the file of hosts can't be read, with the system's reason. Read again later, this only has the log say so.
+/// - `BadHosts`: the file of hosts lists none. This, too.
 /// - `NoClock`: no incarnation is given, and the system has no clock, or its clock gives no time since 1970.
 /// - `BadConfig`: a field of the node's configuration is out of its range.
 /// - `CannotListen`: this address can't be listened at, that for other nodes or that for HTTP; with the system's reason.

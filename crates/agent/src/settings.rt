@@ -52,6 +52,8 @@ pub struct Settings {
     pub level: LevelFilter,
     /// The nodes that it asks to admit it.
     pub hosts: Vec<Address>,
+    /// The path of a file that lists more of them, if there is one.
+    pub hosts_file: Option<String>,
 }
 
 impl Settings {

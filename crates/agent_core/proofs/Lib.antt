@@ -10,3 +10,4 @@ pub mod Sharing
 pub mod Watching
 pub mod Nexting
 pub mod Noting
+pub mod Hosting

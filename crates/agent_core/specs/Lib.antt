@@ -4,9 +4,11 @@ pub mod Packs
 pub mod Parts
 pub mod Passing
 pub mod Texts
+pub mod Levels
 pub mod Tellings
 pub mod Metrics
 pub mod Services
 pub mod Shares
 pub mod Tombstones
 pub mod Warnings
+pub mod Hosts

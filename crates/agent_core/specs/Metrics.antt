@@ -5,6 +5,7 @@ use Rattle.change_core.specs.declared.statuses.Status.{Status}
 use Rattle.change_core.specs.declared.statuses.Status.TheVariants.{Alive, Suspect, Faulty, Leave, Tombstone}
 use Rattle.change_core.specs.Status.{rank, status_word}
 use Rattle.change_core.specs.Numbers.{most_members}
+use Rattle.agent_core.specs.declared.counts.ChangeCounts.{ChangeCounts}
 use Rattle.agent_core.specs.declared.counts.KeptCounts.{KeptCounts}
 use Rattle.agent_core.specs.declared.counts.LogCounts.{LogCounts}
 use Rattle.agent_core.specs.declared.counts.PortCounts.{PortCounts}
@@ -140,6 +141,17 @@ round_samples counts =
     ++ sample (codes "ringpop_rounds_total{outcome=\"inconclusive\"}") counts.inconclusive
     ++ sample (codes "ringpop_rounds_total{outcome=\"error\"}") counts.broken
 
+-- the numbers of changes of members by the status that they got, and of refutations
+abbrev pub change_samples : ChangeCounts → List ℕ
+change_samples changes =
+    head (codes "ringpop_member_changes_total") (codes "counter") (codes "Changes of other members that this node learnt, by the status that they got.")
+    ++ sample (codes "ringpop_member_changes_total{status=\"alive\"}") changes.alive
+    ++ sample (codes "ringpop_member_changes_total{status=\"suspect\"}") changes.suspect
+    ++ sample (codes "ringpop_member_changes_total{status=\"faulty\"}") changes.faulty
+    ++ sample (codes "ringpop_member_changes_total{status=\"leave\"}") changes.leave
+    ++ sample (codes "ringpop_member_changes_total{status=\"tombstone\"}") changes.tombstone
+    ++ metric (codes "ringpop_refutations_total") (codes "counter") (codes "Rounds after which this node had refuted what others held of it.") changes.refuted
+
 -- the numbers of failures: of the application, of links, and of allocations
 abbrev pub other_samples : Counts → List ℕ
 other_samples counts =
@@ -172,17 +184,22 @@ kept_samples kept =
     ++ metric (codes "ringpop_kept_connections_reused_total") (codes "counter") (codes "Requests to other nodes over connections that were kept.") kept.reused
     ++ metric (codes "ringpop_kept_connections_closed_total") (codes "counter") (codes "Connections to other nodes that were kept and then closed.") kept.closed
 
--- the connections of clients over HTTP: how many are open, how many may be, how many were closed for others, and how often none was accepted
-abbrev pub connection_samples : PortCounts → List ℕ
-connection_samples http =
+-- the connections of clients over HTTP, and those at the node's port: how many are open, how many may be, how many were closed for others, and how
+-- often none was accepted
+abbrev pub connection_samples : (http node : PortCounts) → List ℕ
+connection_samples http node =
     head (codes "ringpop_connections_used") (codes "gauge") (codes "Connections that are open.")
     ++ sample (codes "ringpop_connections_used{port=\"http\"}") http.used
+    ++ sample (codes "ringpop_connections_used{port=\"node\"}") node.used
     ++ head (codes "ringpop_connections_max") (codes "gauge") (codes "Connections that may be open.")
     ++ sample (codes "ringpop_connections_max{port=\"http\"}") http.max
+    ++ sample (codes "ringpop_connections_max{port=\"node\"}") node.max
     ++ head (codes "ringpop_connections_evicted_total") (codes "counter") (codes "Connections that were closed for others.")
     ++ sample (codes "ringpop_connections_evicted_total{port=\"http\"}") http.evicted
+    ++ sample (codes "ringpop_connections_evicted_total{port=\"node\"}") node.evicted
     ++ head (codes "ringpop_accept_failures_total") (codes "counter") (codes "How often the system let no connection be accepted.")
     ++ sample (codes "ringpop_accept_failures_total{port=\"http\"}") http.failures
+    ++ sample (codes "ringpop_accept_failures_total{port=\"node\"}") node.failures
 
 -- the workers that serve a connection, and all workers
 abbrev pub worker_samples : Counts → List ℕ
@@ -239,12 +256,13 @@ process_samples process =
     ++ head (codes "process_cpu_seconds_total") (codes "counter") (codes "Processor time that the process used.")
     ++ milli_sample (codes "process_cpu_seconds_total") process.cpu_millis
 
--- the times of requests, of the application and of rounds
+-- the times of requests, of the application, of rounds and of pings
 abbrev pub histogram_samples : Counts → List ℕ
 histogram_samples counts =
     time_samples (codes "ringpop_request_seconds") (codes "Time of requests of keys over HTTP, those to other nodes included.") counts.requests
     ++ time_samples (codes "ringpop_application_seconds") (codes "Time in which the service of this agent answered, or did not.") counts.application
     ++ time_samples (codes "ringpop_round_seconds") (codes "Time of rounds of gossip, without the pauses between them.") counts.rounds
+    ++ time_samples (codes "ringpop_ping_seconds") (codes "Time from a ping of this node to its answer.") counts.pings
 
 -- what a node is, and what it knows of others
 abbrev pub node_texts : Counts → List Change → List ℕ
@@ -253,12 +271,14 @@ node_texts counts members =
 
 -- what was asked and done
 abbrev pub work_texts : Counts → List ℕ
-work_texts counts = request_samples counts ++ answer_samples counts ++ histogram_samples counts ++ round_samples counts ++ other_samples counts
+work_texts counts =
+    request_samples counts ++ answer_samples counts ++ histogram_samples counts ++ round_samples counts ++ change_samples counts.changes
+    ++ other_samples counts
 
 -- what is held, and of how much
 abbrev pub limit_texts : Counts → List ℕ
 limit_texts counts =
-    waiting_samples counts.waiting ++ kept_samples counts.kept ++ connection_samples counts.http ++ worker_samples counts ++ question_samples counts
+    waiting_samples counts.waiting ++ kept_samples counts.kept ++ connection_samples counts.http counts.node ++ worker_samples counts ++ question_samples counts
     ++ log_samples counts.log
 
 -- what goes between the node, its service and other nodes

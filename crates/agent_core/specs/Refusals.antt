@@ -1,12 +1,12 @@
 -- The status, the word, the line of text and the JSON of each refusal, and the content types.
 use Rattle.std.specs.Prelude.{ℕ, ◌==◌, ◌&&◌, Bool, cond, Option, Some, None, List, [], ◌∷◌, ◌++◌, codes, decimal, bytes_eq}
-use Rattle.agent_core.specs.declared.verbs.Verb.TheVariants.{Get, Post}
+use Rattle.agent_core.specs.declared.verbs.Verb.TheVariants.{Get, Post, Both}
 use Rattle.agent_core.specs.declared.refusals.Failure.{Failure}
 use Rattle.agent_core.specs.declared.refusals.Failure.TheVariants as failure
 use Rattle.agent_core.specs.declared.refusals.KeyFault.{KeyFault}
 use Rattle.agent_core.specs.declared.refusals.KeyFault.TheVariants as fault
 use Rattle.agent_core.specs.declared.refusals.Part.{Part}
-use Rattle.agent_core.specs.declared.refusals.Part.TheVariants.{Key, Count, Body, Keys, NotMine, After, Wait, OwnerQuery, OwnersQuery, RingQuery, KeyField, WaitField}
+use Rattle.agent_core.specs.declared.refusals.Part.TheVariants.{Key, Count, Body, Keys, NotMine, After, Wait, Level, OwnerQuery, OwnersQuery, RingQuery, KeyField, WaitField}
 use Rattle.agent_core.specs.declared.refusals.Refusal.{Refusal}
 use Rattle.agent_core.specs.declared.refusals.Refusal.TheVariants as refusal
 use Rattle.message_core.specs.declared.kinds.Reason.{Reason}
@@ -62,6 +62,7 @@ part_text Keys = codes "bad keys: not a JSON list of texts"
 part_text NotMine = codes "bad not-mine: not not-mine=1"
 part_text After = codes "bad after: not the digest of a ring, 64 digits of 0 to 9 and a to f"
 part_text Wait = codes "bad wait: not wait=1 to wait=60, in seconds"
+part_text Level = codes "bad level: not level=off, level=error, level=warn, level=info or level=debug"
 part_text OwnerQuery = codes "bad query: this path takes n=COUNT alone"
 part_text OwnersQuery = codes "bad query: this path takes n=COUNT and not-mine=1, each once"
 part_text RingQuery = codes "bad query: this path takes after=DIGEST and, only with it, wait=SECONDS, each once"
@@ -94,6 +95,7 @@ text_of refusal.CrossSite = codes "refused: asked by a page of another site"
 text_of refusal.NotFound = codes "nothing at this path"
 text_of (refusal.BadMethod Get) = codes "bad method: this path takes GET"
 text_of (refusal.BadMethod Post) = codes "bad method: this path takes POST"
+text_of (refusal.BadMethod Both) = codes "bad method: this path takes GET and POST"
 text_of refusal.AlreadyLeft = codes "the node has left already"
 text_of refusal.NotLeft = codes "the node has not left"
 text_of refusal.Exhausted = codes "no incarnation is left"
@@ -108,7 +110,7 @@ text_of refusal.NotJoined = codes "no host has answered"
 text_of (refusal.JoinRefused why) = join_text why
 text_of refusal.HasLeft = codes "the node has left"
 text_of refusal.ApplicationAwaited = codes "the node is not in the ring, since its application accepts no connection"
-text_of refusal.CannotAccept = codes "no HTTP connection can be accepted"
+text_of refusal.CannotAccept = codes "no connection can be accepted"
 text_of refusal.NoRounds = codes "no round of gossip ended in the last ten seconds"
 text_of refusal.Nobody = codes "nobody serves"
 text_of refusal.Busy = codes "too many requests wait"
@@ -139,6 +141,7 @@ word_of (refusal.Malformed Keys) = codes "bad-keys"
 word_of (refusal.Malformed NotMine) = codes "bad-not-mine"
 word_of (refusal.Malformed After) = codes "bad-after"
 word_of (refusal.Malformed Wait) = codes "bad-wait"
+word_of (refusal.Malformed Level) = codes "bad-level"
 word_of (refusal.Malformed OwnerQuery) = codes "bad-owner-query"
 word_of (refusal.Malformed OwnersQuery) = codes "bad-owners-query"
 word_of (refusal.Malformed RingQuery) = codes "bad-ring-query"

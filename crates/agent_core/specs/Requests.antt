@@ -10,19 +10,22 @@ use Rattle.serde_json.specs.Find.{as_array, as_str}
 use Rattle.serde_json.specs.Read.{read}
 use Rattle.percent_encoding.specs.Percent.{percent_decode}
 use Rattle.agent_core.specs.declared.verbs.Verb.{Verb}
-use Rattle.agent_core.specs.declared.verbs.Verb.TheVariants.{Get, Post}
+use Rattle.agent_core.specs.Levels.{level_named}
+use Rattle.agent_core.specs.declared.levels.LogLevel.{LogLevel}
+use Rattle.agent_core.specs.declared.verbs.Verb.TheVariants.{Get, Post, Both}
 use Rattle.agent_core.specs.declared.actions.Action.{Action}
 use Rattle.agent_core.specs.declared.actions.Action.TheVariants as action
 use Rattle.agent_core.specs.declared.refusals.KeyFault.TheVariants.{NotText, NotUtf8, Empty, Long}
 use Rattle.agent_core.specs.declared.refusals.Part.{Part}
-use Rattle.agent_core.specs.declared.refusals.Part.TheVariants.{Key, Count, Body, Keys, NotMine, After, Wait, OwnerQuery, OwnersQuery, RingQuery, WaitField}
+use Rattle.agent_core.specs.declared.refusals.Part.TheVariants.{Key, Count, Body, Keys, NotMine, After, Wait, Level, OwnerQuery, OwnersQuery, RingQuery, WaitField}
 use Rattle.agent_core.specs.declared.refusals.Refusal.{Refusal}
 use Rattle.agent_core.specs.declared.refusals.Refusal.TheVariants.{Malformed, NotFound, BadMethod, BadKey, LongBody, ManyKeys}
 
--- the name of a method of HTTP (RFC 9110, section 9)
+-- the name of a method of HTTP (RFC 9110, section 9); of both it is the method of no request
 abbrev pub verb_name : Verb → List ℕ
 verb_name Get = codes "GET"
 verb_name Post = codes "POST"
+verb_name Both = codes "GET and POST"
 
 -- the rest of a text after this prefix; none if the text does not start with it
 abbrev pub after : List ℕ → List ℕ → Option (List ℕ)
@@ -296,6 +299,27 @@ place_of path =
 abbrev pub by : List ℕ → Verb → Result Action Refusal → Result Action Refusal
 by method verb wanted = cond (bytes_eq method (verb_name verb)) wanted (Err (BadMethod verb))
 
+-- the level of a name, if there is a name, and it is one of a level
+abbrev pub level_of : Option (List ℕ) → Option LogLevel
+level_of None = None
+level_of (Some name) = level_named name
+
+-- the level that a query names: it is `level=` and that name
+abbrev pub level_in : Option (List ℕ) → Option LogLevel
+level_in None = None
+level_in (Some query) = level_of (after (codes "level=") query)
+
+-- the action that has the log be of a level from then on
+abbrev pub set_log : Option LogLevel → Result Action Refusal
+set_log None = Err (Malformed Level)
+set_log level = Ok (action.Log level)
+
+-- the action at the path of the log's level: GET asks for it, and POST sets the one that the query names
+abbrev pub log_at : List ℕ → Option (List ℕ) → Result Action Refusal
+log_at method query =
+    cond (bytes_eq method (verb_name Get)) (Ok (action.Log None))
+    (cond (bytes_eq method (verb_name Post)) (set_log (level_in query)) (Err (BadMethod Both)))
+
 -- the action at a path without a key, by that path's method and action
 abbrev pub plain : List ℕ → Option (Verb × Action) → Result Action Refusal
 plain method None = Err NotFound
@@ -306,7 +330,8 @@ abbrev pub open_at : List ℕ → List ℕ → Option (List ℕ) → List ℕ �
 open_at method path query body =
     cond (bytes_eq path (codes "/owners")) (by method Post (listed (keys_in body) (wanted_in query)))
     (cond (bytes_eq path (codes "/ring")) (by method Get (ring_of query))
-    (plain method (place_of path)))
+    (cond (bytes_eq path (codes "/log")) (log_at method query)
+    (plain method (place_of path))))
 
 -- the action of a request, by the rest of its path after `/keys/` and after `/owner/`
 abbrev pub asked_at : List ℕ → List ℕ → Option (List ℕ) → List ℕ → Option (List ℕ) → Option (List ℕ) → Result Action Refusal

@@ -1,5 +1,6 @@
 //! The actions that requests ask for.
 use crate::key_lists::KeyList;
+use crate::levels::LogLevel;
 use crate::passing::Outgoing;
 use message_core::Text;
 
@@ -43,6 +44,10 @@ pub enum Action {
     Live,
     /// The answer has the counts.
     Metrics,
+    /// The answer has the level of the log, which is this one from then on, if there is one.
+    Log {
+        level: Option<LogLevel>,
+    },
     /// The answer is the page that shows the ring.
     Page,
     /// The node leaves the ring. It still sends requests to their owners.

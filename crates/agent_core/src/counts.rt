@@ -28,6 +28,20 @@ pub struct StatusCounts {
     pub server_errors: u64,
 }
 
+/// Changes of what a node holds of members.
+#[derive(Clone, Copy, Debug, Default, PartialEq, Eq)]
+pub struct ChangeCounts {
+    /// Entries of other members that became alive, or are still but at another incarnation or weight.
+    pub alive: u64,
+    /// Those that became suspect, and so on.
+    pub suspect: u64,
+    pub faulty: u64,
+    pub leave: u64,
+    pub tombstone: u64,
+    /// Rounds after which the node's own entry had been refuted.
+    pub refuted: u64,
+}
+
 /// The resources that a process uses; 0 for what the system does not tell.
 #[derive(Clone, Copy, Debug, Default, PartialEq, Eq)]
 pub struct ProcessCounts {

@@ -6,8 +6,11 @@
 mod actions;
 mod answers;
 mod counts;
+mod gossip_metrics;
+mod host_lists;
 mod key_lists;
 pub mod laws;
+mod levels;
 mod metrics;
 mod packs;
 mod pages;
@@ -29,10 +32,12 @@ mod warnings;
 pub use actions::Action;
 pub use answers::{Answer, Kind};
 pub use counts::{
-    BUCKETS, KeptCounts, LogCounts, PortCounts, ProcessCounts, RefusalCounts, StatusCounts,
-    TimeCounts, WaitingCounts, bucket_of,
+    BUCKETS, ChangeCounts, KeptCounts, LogCounts, PortCounts, ProcessCounts, RefusalCounts,
+    StatusCounts, TimeCounts, WaitingCounts, bucket_of,
 };
+pub use host_lists::{HostsFault, MAX_HOSTS, MAX_HOSTS_BYTES, hosts_in};
 pub use key_lists::{KeyList, MAX_LISTED};
+pub use levels::{LogLevel, level_line};
 pub use metrics::{Counts, metrics_text};
 pub use packs::{MAX_BODY_BYTES, MAX_STATUS, MIN_STATUS, Packed, pack, unpack};
 pub use pages::PAGE;

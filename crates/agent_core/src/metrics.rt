@@ -1,12 +1,13 @@
 //! The counts of an agent, in the text format of Prometheus (version 0.0.4).
 ghost use Rattle.std.specs.Prelude.{◌≡◌, ◌++◌, IfOk, OnOk, count_by, length, string_bytes};
 ghost use Rattle.change_core.specs.Status.{rank};
-ghost use Rattle.agent_core.specs.Metrics.{address_samples, answer_samples, build_samples, connection_samples, histogram_samples, holds, kept_samples, limit_texts, link_texts, log_samples, metrics_text, node_samples, node_texts, notice_samples, other_samples, process_samples, question_samples, refusal_samples, request_samples, round_samples, service_samples, status_sample, status_samples, waiting_samples, work_texts, worker_samples};
+ghost use Rattle.agent_core.specs.Metrics.{address_samples, answer_samples, build_samples, connection_samples, histogram_samples, holds, kept_samples, limit_texts, link_texts, log_samples, metrics_text, node_samples, node_texts, notice_samples, other_samples, process_samples, question_samples, refusal_samples, request_samples, service_samples, status_sample, status_samples, waiting_samples, work_texts, worker_samples};
 
 use crate::counts::{
-    KeptCounts, LogCounts, PortCounts, ProcessCounts, RefusalCounts, StatusCounts, TimeCounts,
-    WaitingCounts,
+    ChangeCounts, KeptCounts, LogCounts, PortCounts, ProcessCounts, RefusalCounts, StatusCounts,
+    TimeCounts, WaitingCounts,
 };
+use crate::gossip_metrics::{push_changes, push_rounds};
 use crate::samples::{push_head, push_metric, push_millis, push_sample, push_times};
 use crate::shares::{MAX_OWN, MAX_WAITING, OWNER_SHARE};
 use change_core::{Change, MAX_MEMBERS, Status};
@@ -32,6 +33,9 @@ pub struct Counts {
     pub application: TimeCounts,
     /// The times of rounds of gossip.
     pub rounds: TimeCounts,
+    /// The times of pings that were answered.
+    pub pings: TimeCounts,
+    pub changes: ChangeCounts,
     /// The incarnation of the node's own entry at the last change of its members.
     pub incarnation: u64,
     /// The first six bytes of the digest of the members at their last change, as a number.
@@ -64,6 +68,8 @@ pub struct Counts {
     pub kept: KeptCounts,
     /// The connections of clients over HTTP.
     pub http: PortCounts,
+    /// The connections at the node's port.
+    pub node: PortCounts,
     /// The workers that serve one of them.
     pub workers_used: u64,
     /// The workers that there are.
@@ -280,40 +286,6 @@ fn push_answers(text: &mut String, counts: &Counts) -> Result<(), AllocError>
     Ok(())
 }
 
-/// Appends the number of rounds by outcome.
-fn push_rounds(text: &mut String, counts: &Counts) -> Result<(), AllocError>
-    ensures { OnOk result (string_bytes text.new ≡ string_bytes text.old ++ round_samples counts.now) }
-{
-    push_head(
-        text,
-        "ringpop_rounds_total",
-        "counter",
-        "Rounds of gossip, by outcome.",
-    )?;
-    push_sample(text, "ringpop_rounds_total{outcome=\"idle\"}", counts.idle)?;
-    push_sample(
-        text,
-        "ringpop_rounds_total{outcome=\"reached\"}",
-        counts.reached,
-    )?;
-    push_sample(
-        text,
-        "ringpop_rounds_total{outcome=\"suspected\"}",
-        counts.suspected,
-    )?;
-    push_sample(
-        text,
-        "ringpop_rounds_total{outcome=\"inconclusive\"}",
-        counts.inconclusive,
-    )?;
-    push_sample(
-        text,
-        "ringpop_rounds_total{outcome=\"error\"}",
-        counts.broken,
-    )?;
-    Ok(())
-}
-
 /// Appends the numbers of failures: of the application, of links, and of allocations.
 fn push_others(text: &mut String, counts: &Counts) -> Result<(), AllocError>
     ensures { OnOk result (string_bytes text.new ≡ string_bytes text.old ++ other_samples counts.now) }
@@ -440,9 +412,13 @@ fn push_kept(text: &mut String, kept: &KeptCounts) -> Result<(), AllocError>
     Ok(())
 }
 
-/// Appends the numbers of connections, the most that there may be, and those that found no place.
-fn push_connections(text: &mut String, http: &PortCounts) -> Result<(), AllocError>
-    ensures { OnOk result (string_bytes text.new ≡ string_bytes text.old ++ connection_samples http.now) }
+/// Appends the numbers of connections at both ports, the most that there may be, and those that found no place.
+fn push_connections(
+    text: &mut String,
+    http: &PortCounts,
+    node: &PortCounts,
+) -> Result<(), AllocError>
+    ensures { OnOk result (string_bytes text.new ≡ string_bytes text.old ++ connection_samples http.now node.now) }
 {
     push_head(
         text,
@@ -451,6 +427,7 @@ fn push_connections(text: &mut String, http: &PortCounts) -> Result<(), AllocErr
         "Connections that are open.",
     )?;
     push_sample(text, "ringpop_connections_used{port=\"http\"}", http.used)?;
+    push_sample(text, "ringpop_connections_used{port=\"node\"}", node.used)?;
     push_head(
         text,
         "ringpop_connections_max",
@@ -458,6 +435,7 @@ fn push_connections(text: &mut String, http: &PortCounts) -> Result<(), AllocErr
         "Connections that may be open.",
     )?;
     push_sample(text, "ringpop_connections_max{port=\"http\"}", http.max)?;
+    push_sample(text, "ringpop_connections_max{port=\"node\"}", node.max)?;
     push_head(
         text,
         "ringpop_connections_evicted_total",
@@ -469,6 +447,11 @@ fn push_connections(text: &mut String, http: &PortCounts) -> Result<(), AllocErr
         "ringpop_connections_evicted_total{port=\"http\"}",
         http.evicted,
     )?;
+    push_sample(
+        text,
+        "ringpop_connections_evicted_total{port=\"node\"}",
+        node.evicted,
+    )?;
     push_head(
         text,
         "ringpop_accept_failures_total",
@@ -479,6 +462,11 @@ fn push_connections(text: &mut String, http: &PortCounts) -> Result<(), AllocErr
         text,
         "ringpop_accept_failures_total{port=\"http\"}",
         http.failures,
+    )?;
+    push_sample(
+        text,
+        "ringpop_accept_failures_total{port=\"node\"}",
+        node.failures,
     )?;
     Ok(())
 }
@@ -695,7 +683,7 @@ fn push_process(text: &mut String, process: &ProcessCounts) -> Result<(), AllocE
     Ok(())
 }
 
-/// Appends the times of requests, of the application and of rounds.
+/// Appends the times of requests, of the application, of rounds and of pings.
 fn push_histograms(text: &mut String, counts: &Counts) -> Result<(), AllocError>
     ensures { OnOk result (string_bytes text.new ≡ string_bytes text.old ++ histogram_samples counts.now) }
 {
@@ -716,6 +704,12 @@ fn push_histograms(text: &mut String, counts: &Counts) -> Result<(), AllocError>
         "ringpop_round_seconds",
         "Time of rounds of gossip, without the pauses between them.",
         &counts.rounds,
+    )?;
+    push_times(
+        text,
+        "ringpop_ping_seconds",
+        "Time from a ping of this node to its answer.",
+        &counts.pings,
     )?;
     Ok(())
 }
@@ -740,6 +734,7 @@ fn push_work(text: &mut String, counts: &Counts) -> Result<(), AllocError>
     push_answers(text, counts)?;
     push_histograms(text, counts)?;
     push_rounds(text, counts)?;
+    push_changes(text, &counts.changes)?;
     push_others(text, counts)?;
     Ok(())
 }
@@ -750,7 +745,7 @@ fn push_limits(text: &mut String, counts: &Counts) -> Result<(), AllocError>
 {
     push_waiting(text, &counts.waiting)?;
     push_kept(text, &counts.kept)?;
-    push_connections(text, &counts.http)?;
+    push_connections(text, &counts.http, &counts.node)?;
     push_workers(text, counts)?;
     push_questions(text, counts)?;
     push_log(text, &counts.log)?;

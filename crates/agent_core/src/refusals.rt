@@ -25,6 +25,8 @@ pub enum Part {
     After,
     /// The parameter `wait` is not a number from 1 to 60.
     Wait,
+    /// The query of a request for another level of the log is not `level=` and the name of a level.
+    Level,
     /// The query of a request for a key's owners has another parameter than `n`.
     OwnerQuery,
     /// The query of a request for the owners of keys has another parameter than `n` and `not-mine`, or one of them twice.
@@ -73,7 +75,7 @@ pub enum Refusal {
     CrossSite,
     /// The path is not one that is served.
     NotFound,
-    /// The request has another method than this one, the only one of its path.
+    /// The request has another method than this one, or those, of its path.
     BadMethod(Verb),
     /// The node has left already.
     AlreadyLeft,
@@ -103,7 +105,7 @@ pub enum Refusal {
     HasLeft,
     /// The node is out of the ring until its application accepts connections.
     ApplicationAwaited,
-    /// The system lets no HTTP connection be accepted.
+    /// The system lets no connection be accepted, over HTTP or at the node's port.
     CannotAccept,
     /// No round of gossip ended in the last ten seconds.
     NoRounds,
@@ -153,6 +155,9 @@ impl Part {
             Part::NotMine => "bad not-mine: not not-mine=1",
             Part::After => { "bad after: not the digest of a ring, 64 digits of 0 to 9 and a to f" }
             Part::Wait => "bad wait: not wait=1 to wait=60, in seconds",
+            Part::Level => {
+                "bad level: not level=off, level=error, level=warn, level=info or level=debug"
+            }
             Part::OwnerQuery => "bad query: this path takes n=COUNT alone",
             Part::OwnersQuery => { "bad query: this path takes n=COUNT and not-mine=1, each once" }
             Part::RingQuery => {
@@ -278,6 +283,7 @@ impl Refusal {
             Refusal::Malformed(Part::NotMine) => "bad-not-mine",
             Refusal::Malformed(Part::After) => "bad-after",
             Refusal::Malformed(Part::Wait) => "bad-wait",
+            Refusal::Malformed(Part::Level) => "bad-level",
             Refusal::Malformed(Part::OwnerQuery) => "bad-owner-query",
             Refusal::Malformed(Part::OwnersQuery) => "bad-owners-query",
             Refusal::Malformed(Part::RingQuery) => "bad-ring-query",
@@ -385,6 +391,7 @@ impl Refusal {
             Refusal::NotFound => "nothing at this path",
             Refusal::BadMethod(Verb::Get) => "bad method: this path takes GET",
             Refusal::BadMethod(Verb::Post) => "bad method: this path takes POST",
+            Refusal::BadMethod(Verb::Both) => "bad method: this path takes GET and POST",
             Refusal::AlreadyLeft => "the node has left already",
             Refusal::NotLeft => "the node has not left",
             Refusal::Exhausted => "no incarnation is left",
@@ -401,7 +408,7 @@ impl Refusal {
             Refusal::ApplicationAwaited => {
                 "the node is not in the ring, since its application accepts no connection"
             }
-            Refusal::CannotAccept => "no HTTP connection can be accepted",
+            Refusal::CannotAccept => "no connection can be accepted",
             Refusal::NoRounds => "no round of gossip ended in the last ten seconds",
             Refusal::Nobody => "nobody serves",
             Refusal::Busy => "too many requests wait",

@@ -1,8 +1,9 @@
 //! The action that a request asks for, by its method, path, query and body.
 ghost use Rattle.std.specs.Prelude.{◌≡◌, ◌≢◌, IfOk, IfErr, OnOk, option_copied};
-ghost use Rattle.agent_core.specs.Requests.{AsksForKey, AsksForRing, asked, body_in, count_by, count_in, count_of, handled, key_in, key_text, named, number_of, open_at, place_of, plain, segment, verb_name};
+ghost use Rattle.agent_core.specs.Requests.{AsksForKey, AsksForRing, asked, body_in, count_by, count_in, count_of, handled, key_in, key_text, level_in, log_at, named, number_of, open_at, place_of, plain, segment, verb_name};
 
 use crate::actions::Action;
+use crate::levels::LogLevel;
 use crate::packs::MAX_BODY_BYTES;
 use crate::questions::{all_owners, ring};
 use crate::refusals::{Part, Refusal};
@@ -136,6 +137,28 @@ fn plain(method: &str, path: &str) -> Result<Action, Refusal>
     Ok(action)
 }
 
+/// Returns the level of the log that a query names.
+fn level_in(query: Option<&str>) -> Option<LogLevel>
+    ensures { result ≡ level_in (option_copied query.entry) }
+{
+    let name = query?.strip_prefix("level=")?;
+    LogLevel::named(name)
+}
+
+/// Returns the action at the path of the log's level.
+fn log(method: &str, query: Option<&str>) -> Result<Action, Refusal>
+    ensures { result ≡ log_at method.now (option_copied query.entry) }
+{
+    match method {
+        "GET" => Ok(Action::Log { level: None }),
+        "POST" => match level_in(query) {
+            Some(level) => Ok(Action::Log { level: Some(level) }),
+            None => Err(Refusal::Malformed(Part::Level)),
+        },
+        _ => Err(Refusal::BadMethod(Verb::Both)),
+    }
+}
+
 /// Returns the action of a request for a key.
 fn handle(alloc: Global, path: &str, body: &[u8]) -> Result<Action, Refusal>
     ensures action { IfOk result (λ action. handled (key_in path.now) (body_in body.now) ≡ Ok action) }
@@ -197,13 +220,16 @@ fn open(
         check_method(method, Verb::Get)?;
         return ring(alloc, query);
     }
+    if path == "/log" {
+        return log(method, query);
+    }
     plain(method, path)
 }
 
 /// Returns the action that a request asks for. The paths with a key are `POST /keys/KEY`, which reads the body and no
 /// query, and `GET /owner/KEY`, which reads the query (`n=COUNT`, or none for 1) and no body. `POST /owners` reads the keys in the
-/// body and the query (`n=COUNT`, `not-mine=1`, or both), `GET /ring` the query (`after=DIGEST&wait=SECONDS`, or the first of them). Two
-/// parameters may come in any order. The others read neither.
+/// body and the query (`n=COUNT`, `not-mine=1`, or both), `GET /ring` the query (`after=DIGEST&wait=SECONDS`, or the first of them), and `POST /log` the query
+/// (`level=LEVEL`). Two parameters may come in any order. The others read neither.
 ///
 /// # Errors
 ///
@@ -223,6 +249,7 @@ fn open(
 /// - `Malformed(Part::NotMine)`: `not-mine` is not 1.
 /// - `Malformed(Part::After)`: `after` is not 64 digits of 0 to 9 and a to f.
 /// - `Malformed(Part::Wait)`: `wait` is not a number from 1 to 60 without a sign.
+/// - `Malformed(Part::Level)`: the query for another level of the log is not `level=` and `off`, `error`, `warn`, `info` or `debug`.
 /// - `Memory`: out of memory for a key, the body or a digest; never at another path.
 pub fn route(
     alloc: Global,

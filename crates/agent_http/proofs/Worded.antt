@@ -2,7 +2,7 @@
 use Rattle.std.proofs.Common.{◌≡◌, true, refl}
 use Rattle.http_header.specs.FieldValue.{is_visible_text}
 use Rattle.agent_core.specs.declared.refusals.Failure.TheVariants as failure
-use Rattle.agent_core.specs.declared.refusals.Part.TheVariants.{Key, Count, Body, Keys, NotMine, After, Wait, OwnerQuery, OwnersQuery, RingQuery, KeyField, WaitField}
+use Rattle.agent_core.specs.declared.refusals.Part.TheVariants.{Key, Count, Body, Keys, NotMine, After, Wait, Level, OwnerQuery, OwnersQuery, RingQuery, KeyField, WaitField}
 use Rattle.agent_core.specs.declared.refusals.Refusal.{Refusal}
 use Rattle.agent_core.specs.declared.refusals.Refusal.TheVariants as refusal
 use Rattle.agent_core.specs.Refusals.{word_of}
@@ -15,6 +15,7 @@ word_visible (refusal.Malformed Keys) = refl
 word_visible (refusal.Malformed NotMine) = refl
 word_visible (refusal.Malformed After) = refl
 word_visible (refusal.Malformed Wait) = refl
+word_visible (refusal.Malformed Level) = refl
 word_visible (refusal.Malformed OwnerQuery) = refl
 word_visible (refusal.Malformed OwnersQuery) = refl
 word_visible (refusal.Malformed RingQuery) = refl

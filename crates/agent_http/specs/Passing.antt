@@ -1,12 +1,13 @@
 -- A request of a key that is passed on whole, and the refusals that fit it.
-use Rattle.std.specs.Prelude.{◌≡◌, ◌⊎◌, ◌↔◌, ◌≤◌, ◌<◌, ℕ, Bool, IsTrue, List, [], ◌++◌, length, Option, Some, None, Ok, Err, codes}
+use Rattle.std.specs.Prelude.{◌≡◌, ◌⊎◌, ◌↔◌, ◌≤◌, ◌<◌, ◌||◌, ◌==◌, ℕ, Bool, true, IsTrue, cond, map, List, [], ◌++◌, length, Option, Some, None, Ok, Err, bytes_eq, codes}
+use Rattle.std.specs.Char.{to_ascii_lowercase}
 use Rattle.http.specs.Request.{body_of, head_of}
 use Rattle.http.specs.declared.request.Request.{Request}
 use Rattle.http_header.specs.HeaderMap.{ContainsKey}
 use Rattle.http_uri.specs.Uri.{uri_path, uri_query}
 use Rattle.http_uri.specs.declared.uri.Uri.{Uri}
 use Rattle.agent_core.specs.Parts.{joined, text_of_body}
-use Rattle.agent_core.specs.Passing.{flat, is_repeatable, request_parts}
+use Rattle.agent_core.specs.Passing.{flat, is_of_connection, is_repeatable, request_parts}
 use Rattle.agent_core.specs.Requests.{after, key_in}
 use Rattle.agent_core.specs.declared.actions.Action.{Action}
 use Rattle.agent_core.specs.declared.actions.Action.TheVariants.{Pass}
@@ -33,6 +34,23 @@ abbrev pub IsAlone : List ℕ → Request (List ℕ) → Type 0
 IsAlone encoded request =
     ((head_of request).method ≡ codes "POST") × (after (codes "/keys/") (uri_path (head_of request).uri) ≡ Some encoded)
     × (uri_query (head_of request).uri ≡ None)
+
+-- whether a content type is that of plain text in UTF-8
+abbrev pub is_plain : List ℕ → Bool
+is_plain kind =
+    bytes_eq (map to_ascii_lowercase kind) (codes "text/plain") || bytes_eq (map to_ascii_lowercase kind) (codes "text/plain; charset=utf-8")
+
+-- whether a field, by its name in lower case and its value, is one that the POST of a body alone as plain text has anyway, or one for a connection alone
+abbrev pub is_usual : List ℕ → List ℕ → Bool
+is_usual name value =
+    cond (bytes_eq name (codes "host") || (bytes_eq name (codes "content-length") || (bytes_eq name (codes "user-agent") || bytes_eq name (codes "accept-encoding"))))
+    true
+    (cond (bytes_eq name (codes "accept")) (bytes_eq value (codes "*/*"))
+    (cond (bytes_eq name (codes "content-type")) (is_plain value) (is_of_connection name)))
+
+-- a list, as the value of a field is, with one more element, unless that is empty
+abbrev pub listed : List ℕ → List ℕ → List ℕ
+listed list element = cond ((length list == 0) || (length element == 0)) (list ++ element) ((list ++ codes ", ") ++ element)
 
 -- bytes are those of the names and the values of fields, one part after the other
 abbrev pub AreFields : List ℕ → Type 0

@@ -22,7 +22,7 @@ use Rattle.agent_core.specs.declared.pages.TheConstants.{PAGE}
 use Rattle.agent_core.specs.declared.refusals.Refusal.{Refusal}
 use Rattle.agent_core.specs.declared.refusals.Refusal.TheVariants.{BadMethod, OwnerBusy}
 use Rattle.agent_core.specs.declared.verbs.Verb.{Verb}
-use Rattle.agent_core.specs.declared.verbs.Verb.TheVariants.{Get, Post}
+use Rattle.agent_core.specs.declared.verbs.Verb.TheVariants.{Get, Post, Both}
 use Rattle.agent_http.specs.declared.replies.Reply.{Reply}
 use Rattle.agent_http.specs.declared.replies.Reply.TheVariants.{Handled, Line, Text, Json, Ring, Unchanged, Digest, Page}
 use Rattle.agent_http.specs.declared.responses.Form.{Form}
@@ -120,6 +120,7 @@ pub record IsOpenText (text : List ℕ) (reply : Reply) : Type 0 where
 abbrev pub allowed_methods : Verb → List ℕ
 allowed_methods Get = codes "GET, HEAD"
 allowed_methods Post = codes "POST"
+allowed_methods Both = codes "GET, HEAD, POST"
 
 -- the field that names the methods of the path, if the refused request had another, or the owner, if too many requests wait for it
 abbrev pub refusal_field : Refusal → List Header

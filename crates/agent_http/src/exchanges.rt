@@ -1,7 +1,7 @@
 //! One request to the application over HTTP/1.1, and its answer.
-ghost use Rattle.std.specs.Prelude.{◌≡◌, Err, IsFalse};
+ghost use Rattle.std.specs.Prelude.{◌≡◌, [], Err, IsFalse, false};
 ghost use Rattle.std.specs.IoError.{error_kind};
-ghost use Rattle.agent_http.specs.Exchanges.{failure_of};
+ghost use Rattle.agent_http.specs.Exchanges.{failure_of, part_of, says_json};
 
 use agent_core::{Failure, is_of_connection, push_field};
 use bytes::{Buf, BytesMut};
@@ -57,7 +57,13 @@ pub struct Answer {
 
 impl Answer {
     /// Makes the answer of which nothing has come.
-    fn new(alloc: Global, wanted: Wanted) -> Self {
+    fn new(alloc: Global, wanted: Wanted) -> Self
+        ensures wanted { result.wanted ≡ wanted }
+        ensures status { result.status ≡ 0 }
+        ensures kind { result.is_json ≡ false }
+        ensures body { result.body.items ≡ [] }
+        ensures fields { result.fields.items ≡ [] }
+    {
         Answer {
             wanted,
             status: 0,
@@ -135,12 +141,16 @@ enum Step {
 }
 
 /// Returns the part of the bytes read that a span covers.
-fn part(unread: &[u8], span: Span) -> &[u8] {
+fn part(unread: &[u8], span: Span) -> &[u8]
+    ensures { result.now ≡ part_of unread.now span }
+{
     unread.get(span.start..span.end).unwrap_or(&[])
 }
 
 /// Returns whether a field gives JSON as the content type.
-fn says_json(unread: &[u8], field: &HeaderSpan) -> bool {
+fn says_json(unread: &[u8], field: &HeaderSpan) -> bool
+    ensures { result ≡ says_json unread.now field.now }
+{
     part(unread, field.name).eq_ignore_ascii_case(b"content-type")
         && part(unread, field.value).starts_with(b"application/json")
 }

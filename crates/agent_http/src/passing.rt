@@ -2,7 +2,7 @@
 ghost use Rattle.std.specs.Prelude.{◌≡◌, ◌↔◌, IfErr, IfOk, IfSome, IsTrue, OnOk, string_bytes};
 ghost use Rattle.http.specs.Request.{body_of, head_of};
 ghost use Rattle.agent_core.specs.Parts.{text_of_body};
-ghost use Rattle.agent_http.specs.Passing.{AreFields, HasRequest, IsAlone, IsNotPassed, IsPassed, IsRepeatable, IsTunnel, target_of};
+ghost use Rattle.agent_http.specs.Passing.{AreFields, HasRequest, IsAlone, IsNotPassed, IsPassed, IsRepeatable, IsTunnel, is_plain, is_usual, listed, target_of};
 
 use crate::exchanges::has_name;
 use agent_core::{
@@ -44,13 +44,17 @@ fn may_repeat(request: &Request<Bytes>) -> bool
 }
 
 /// Returns whether a content type is that of plain text in UTF-8.
-fn is_plain(kind: &[u8]) -> bool {
+fn is_plain(kind: &[u8]) -> bool
+    ensures { result ≡ is_plain kind.now }
+{
     kind.eq_ignore_ascii_case(b"text/plain")
         || kind.eq_ignore_ascii_case(b"text/plain; charset=utf-8")
 }
 
 /// Returns whether nothing is lost if a field goes as that of a body alone: it says nothing of this request.
-fn is_usual(name: &str, value: &[u8]) -> bool {
+fn is_usual(name: &str, value: &[u8]) -> bool
+    ensures { result ≡ is_usual name.now value.now }
+{
     match name {
         "host" | "content-length" | "user-agent" | "accept-encoding" => true,
         "accept" => value == b"*/*".as_slice(),
@@ -105,7 +109,9 @@ fn target_of(alloc: Global, request: &Request<Bytes>) -> Result<String, AllocErr
 }
 
 /// Appends an element to the list that is the value of a field, unless it is empty.
-fn push_listed(list: &mut Vec<u8>, element: &[u8]) -> Result<(), AllocError> {
+fn push_listed(list: &mut Vec<u8>, element: &[u8]) -> Result<(), AllocError>
+    ensures { OnOk result (list.new.items ≡ listed list.old.items element.now) }
+{
     if !list.is_empty() && !element.is_empty() {
         list.extend_from_slice(b", ")?;
     }

@@ -1,11 +1,14 @@
 //! The replies to requests over HTTP.
 ghost use Rattle.std.specs.Prelude.{◌≡◌, IfOk, IfErr};
+ghost use Rattle.agent_core.specs.Levels.{level_line};
 ghost use Rattle.agent_core.specs.Metrics.{metrics_text};
 ghost use Rattle.agent_core.specs.Texts.{digest_line, members_text, owners_text};
 ghost use Rattle.agent_core.specs.declared.answers.Kind.{Kind as Content};
 ghost use Rattle.agent_http.specs.Replies.{IsOpenText, IsText};
 
-use agent_core::{Counts, Refusal, digest_line, members_text, metrics_text, owners_text};
+use agent_core::{
+    Counts, LogLevel, Refusal, digest_line, level_line, members_text, metrics_text, owners_text,
+};
 use change_core::{Address, Change, Digest};
 use httpdate::HttpDate;
 use message_core::Text;
@@ -91,6 +94,19 @@ impl Reply {
         ensures refused { IfErr result (λ e. e ≡ Refusal.Memory) }
     {
         let text = metrics_text(alloc, counts, members).map_err(out_of_memory)?;
+        Ok(Reply::Text(text))
+    }
+
+    /// Makes the reply with the level of the log and, if it was changed, the one before.
+    ///
+    /// # Errors
+    ///
+    /// - `Memory`: out of memory.
+    pub fn level(alloc: Global, level: LogLevel, before: Option<LogLevel>) -> Result<Reply, Refusal>
+        ensures reply { IfOk result (IsText Content.Text (level_line level before)) }
+        ensures refused { IfErr result (λ e. e ≡ Refusal.Memory) }
+    {
+        let text = level_line(alloc, level, before).map_err(out_of_memory)?;
         Ok(Reply::Text(text))
     }
 

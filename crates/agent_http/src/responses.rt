@@ -502,6 +502,7 @@ fn allowed(verb: Verb) -> HeaderValue
     match verb {
         Verb::Get => HeaderValue::from_static("GET, HEAD"),
         Verb::Post => HeaderValue::from_static("POST"),
+        Verb::Both => HeaderValue::from_static("GET, HEAD, POST"),
     }
 }
 

@@ -1,10 +1,10 @@
 //! The counters of an agent.
 use agent_core::{
-    BUCKETS, Counts, KeptCounts, LogCounts, PortCounts, ProcessCounts, Refusal, RefusalCounts,
-    StatusCounts, TimeCounts, WaitingCounts, bucket_of, unpack,
+    BUCKETS, ChangeCounts, Counts, KeptCounts, LogCounts, PortCounts, ProcessCounts, Refusal,
+    RefusalCounts, StatusCounts, TimeCounts, WaitingCounts, bucket_of, unpack,
 };
 use agent_http::Reply;
-use change_core::{Address, Change, Digest};
+use change_core::{Address, Change, Digest, Status};
 use std::sync::atomic::{AtomicU64, Ordering};
 use std::time::{Clock, Duration, Instant};
 
@@ -158,6 +158,66 @@ impl Answers {
     }
 }
 
+/// Changes of members that threads count, by the status that they got.
+#[derive(Drop)]
+struct Changes {
+    alive: Count,
+    suspect: Count,
+    faulty: Count,
+    leave: Count,
+    tombstone: Count,
+}
+
+impl Changes {
+    fn new() -> Changes {
+        Changes {
+            alive: Count::new(),
+            suspect: Count::new(),
+            faulty: Count::new(),
+            leave: Count::new(),
+            tombstone: Count::new(),
+        }
+    }
+
+    /// Counts a member that got this status.
+    fn add(&self, status: Status) {
+        let count = match status {
+            Status::Alive => &self.alive,
+            Status::Suspect => &self.suspect,
+            Status::Faulty => &self.faulty,
+            Status::Leave => &self.leave,
+            Status::Tombstone => &self.tombstone,
+        };
+        count.add(1);
+    }
+
+    /// Returns the counts, with this number of refutations.
+    fn counts(&self, refuted: u64) -> ChangeCounts {
+        ChangeCounts {
+            alive: self.alive.get(),
+            suspect: self.suspect.get(),
+            faulty: self.faulty.get(),
+            leave: self.leave.get(),
+            tombstone: self.tombstone.get(),
+            refuted,
+        }
+    }
+}
+
+/// Returns the status of an answer, and whether a service gave it, not an agent, which may be the owner's.
+pub fn told(reply: &Result<Reply, Refusal>) -> (u16, bool) {
+    match reply {
+        Ok(Reply::Handled { text, .. }) => {
+            let packed = unpack(text.as_str());
+            let is_sent = Refusal::sent(packed.status, packed.body).is_some();
+            (packed.status, !is_sent)
+        }
+        Ok(Reply::Unchanged { .. }) => (304, false),
+        Ok(_) => (200, false),
+        Err(refusal) => (refusal.status(), false),
+    }
+}
+
 /// The counters of an agent, to which its threads add.
 #[derive(Drop)]
 pub struct Counters {
@@ -173,6 +233,11 @@ pub struct Counters {
     pub requests: Times,
     /// The times of rounds of gossip.
     pub rounds: Times,
+    /// The times of pings that were answered.
+    pub pings: Times,
+    changes: Changes,
+    /// Rounds after which the node's own entry had been refuted.
+    pub refuted: Count,
     /// The incarnation of the node's own entry when its members changed last.
     incarnation: Count,
     /// The first six bytes of the digest of the members when they changed last.
@@ -208,6 +273,9 @@ impl Counters {
             by_agents: Answers::new(),
             requests: Times::new(),
             rounds: Times::new(),
+            pings: Times::new(),
+            changes: Changes::new(),
+            refuted: Count::new(),
             incarnation: Count::new(),
             digest: Count::new(),
             forwards: Count::new(),
@@ -222,20 +290,29 @@ impl Counters {
         }
     }
 
-    /// Counts the answer to a request of a key: by its status, and by whether a service gave it or an agent, which may be the
-    /// owner's.
+    /// Counts the answer to a request of a key: by its status, and by whether a service gave it or an agent.
     pub fn add_answer(&self, reply: &Result<Reply, Refusal>) {
-        match reply {
-            Ok(Reply::Handled { text, .. }) => {
-                let packed = unpack(text.as_str());
-                let answers = match Refusal::sent(packed.status, packed.body) {
-                    Some(_) => &self.by_agents,
-                    None => &self.by_services,
-                };
-                answers.add(packed.status);
+        let (status, is_of_service) = told(reply);
+        let answers = if is_of_service {
+            &self.by_services
+        } else {
+            &self.by_agents
+        };
+        answers.add(status);
+    }
+
+    /// Counts how other members changed from one list to a later one, each ascending by address.
+    pub fn add_changes(&self, own: Address, before: &[Change], after: &[Change]) {
+        let mut old = before.iter();
+        let mut next = old.next();
+        for change in after {
+            let known = next.filter(|known| known.address == change.address);
+            if known.is_some() {
+                next = old.next();
             }
-            Ok(_) => self.by_agents.add(200),
-            Err(refusal) => self.by_agents.add(refusal.status()),
+            if change.address != own && known != Some(change) {
+                self.changes.add(change.status);
+            }
         }
     }
 
@@ -262,6 +339,8 @@ impl Counters {
             requests: self.requests.counts(),
             application: TimeCounts::default(),
             rounds: self.rounds.counts(),
+            pings: self.pings.counts(),
+            changes: self.changes.counts(self.refuted.get()),
             incarnation: self.incarnation.get(),
             digest: self.digest.get(),
             handled: 0,
@@ -278,6 +357,7 @@ impl Counters {
             waiting: WaitingCounts::default(),
             kept: KeptCounts::default(),
             http: PortCounts::default(),
+            node: PortCounts::default(),
             workers_used: 0,
             workers_max: 0,
             questions_used: 0,

@@ -1,16 +1,16 @@
 //! The log of an agent: lines on standard error, each with its time and the node's address. A thread of their own writes them, so that no other
 //! thread waits for a standard error that is not read: lines that find no place are dropped, and counted.
-ghost use Rattle.std.specs.Prelude.{[], true, Some};
+ghost use Rattle.std.specs.Prelude.{[], Some};
 
 use crate::counters::Count;
 use crate::systems::{Host, System};
-use agent_core::LogCounts;
+use agent_core::{LogCounts, LogLevel};
 use change_core::Address;
 use crossbeam_channel::{Receiver, Sender, bounded};
 use jiff::Timestamp;
 use log::kv::Source;
 use log::span::Spans;
-use log::{LevelFilter, Line, Log, Logged, Metadata, Record};
+use log::{Level, LevelFilter, Line, Log, Logged, Metadata, Record};
 use std::alloc::{AllocError, AllocFailed, Global};
 use std::fmt::Display;
 use std::sync::Arc;
@@ -63,6 +63,8 @@ pub struct Journal<R> {
     rt: R,
     alloc: Global,
     own: Address,
+    /// The number of the level of the log.
+    level: Count,
     entries: Sender<Entry>,
     /// The lines that were dropped since the last one that found a place.
     untold: Count,
@@ -72,7 +74,7 @@ pub struct Journal<R> {
     written: Parker,
 }
 
-/// A log that threads share, which has written what is at most at its level.
+/// A log that threads share, which has written what is at most at its level at that time.
 pub type Logger<R> = Logged<R, Arc<Journal<R>, Global>>;
 
 /// A text with the time and the node's address before it.
@@ -95,15 +97,16 @@ impl<D: Display + Drop> Display for Dated<D> {
 }
 
 impl<R: Host> Log for Journal<R> {
-    ghost enables = { λ _ _ _. Some true };
-
     ghost target_of = { λ _. Some [] };
 
-    fn enabled(&self, _metadata: &Metadata<'_>) -> bool {
-        true
+    fn enabled(&self, metadata: &Metadata<'_>) -> bool {
+        self.has(metadata.level())
     }
 
     fn log<D: Display, K: Source, S: Spans>(&self, record: &Record<'_, D, K, S>) {
+        if !self.has(record.level()) {
+            return;
+        }
         let dated = self.dated(Line::new(record));
         match format!(in self.alloc; "{dated}") {
             Ok(text) => self.put(text),
@@ -119,6 +122,21 @@ impl<R: Host> Log for Journal<R> {
 }
 
 impl<R: Host> Journal<R> {
+    /// Returns the level of the log.
+    pub fn level(&self) -> LogLevel {
+        LogLevel::at(self.level.get())
+    }
+
+    /// Sets the level of the log.
+    pub fn set_level(&self, level: LogLevel) {
+        self.level.set(level.number());
+    }
+
+    /// Returns whether the log has what is at a level.
+    fn has(&self, level: Level) -> bool {
+        level as u64 <= self.level.get()
+    }
+
     /// Returns the text with the present time and the node's address before it.
     fn dated<D: Display + Drop>(&self, text: D) -> Dated<D> {
         Dated {
@@ -238,14 +256,16 @@ pub fn start_log<R: System>(
         rt: *rt,
         alloc,
         own,
+        level: Count::new(),
         entries,
         untold: Count::new(),
         dropped: Count::new(),
         written: Parker::new(),
     };
+    journal.level.set(level as u64);
     let journal = Arc::new(alloc, journal)?;
     let writer = Arc::try_clone(&journal)?;
     let started = thread::spawn(rt, move || write_lines(writer, received));
     let _thread = started.map_err(|_| LogError::NoThread)?;
-    Ok(Logged::new(*rt, level, journal))
+    Ok(Logged::new(*rt, LevelFilter::Debug, journal))
 }

@@ -12,7 +12,7 @@ mod waiting;
 mod watchers;
 
 pub use changes::{is_refuted, log_changes, log_since_start};
-pub use counters::{Count, Counters, Times};
+pub use counters::{Count, Counters, Times, told};
 pub use journals::{LogError, Logger, share_log, start_log};
 pub use notices::Notices;
 pub use processes::Process;

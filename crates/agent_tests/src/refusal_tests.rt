@@ -4,7 +4,7 @@ use std::env::Env;
 use std::process::Abort;
 
 /// A refusal, its status and the start of its line.
-const ROWS: [(Refusal, u16, &str); 40] = rows! {
+const ROWS: [(Refusal, u16, &str); 42] = rows! {
     Refusal::Malformed(Part::Key), 400, "bad key";
     Refusal::Malformed(Part::Count), 400, "bad count";
     Refusal::Malformed(Part::Body), 400, "bad body";
@@ -12,6 +12,7 @@ const ROWS: [(Refusal, u16, &str); 40] = rows! {
     Refusal::Malformed(Part::NotMine), 400, "bad not-mine";
     Refusal::Malformed(Part::After), 400, "bad after: not the digest";
     Refusal::Malformed(Part::Wait), 400, "bad wait: not wait=1 to wait=60";
+    Refusal::Malformed(Part::Level), 400, "bad level: not level=off, level=error, level=warn, level=info or level=debug";
     Refusal::Malformed(Part::OwnerQuery), 400, "bad query: this path takes n=COUNT alone";
     Refusal::Malformed(Part::OwnersQuery), 400, "bad query: this path takes n=COUNT and";
     Refusal::Malformed(Part::RingQuery), 400, "bad query: this path takes after=DIGEST";
@@ -21,6 +22,7 @@ const ROWS: [(Refusal, u16, &str); 40] = rows! {
     Refusal::NotFound, 404, "nothing";
     Refusal::BadMethod(Verb::Get), 405, "bad method: this path takes GET";
     Refusal::BadMethod(Verb::Post), 405, "bad method: this path takes POST";
+    Refusal::BadMethod(Verb::Both), 405, "bad method: this path takes GET and POST";
     Refusal::AlreadyLeft, 409, "the node has left already";
     Refusal::NotLeft, 409, "the node has not left";
     Refusal::Exhausted, 409, "no incarnation";

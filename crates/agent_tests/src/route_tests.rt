@@ -16,6 +16,7 @@ enum Wanted {
     Health,
     Live,
     Metrics,
+    Log(Option<LogLevel>),
     Page,
     Leave,
     Rejoin,
@@ -75,6 +76,7 @@ fn is_wanted(asked: &Result<Action, Refusal>, wanted: Wanted) -> bool {
         (Ok(Action::Ring { after: Some(after) }), Wanted::Ring(Some(text))) => after.as_str()
             == text,
         (Ok(Action::Ring { after: None }), Wanted::Ring(None)) => true,
+        (Ok(Action::Log { level }), Wanted::Log(wanted)) => *level == wanted,
         (Ok(Action::Members), Wanted::Members)
         | (Ok(Action::Digest), Wanted::Digest)
         | (Ok(Action::Health), Wanted::Health)
@@ -123,9 +125,13 @@ const GET_ONLY: Wanted = Wanted::Refused(Reason::BadMethod(Verb::Get));
 
 const POST_ONLY: Wanted = Wanted::Refused(Reason::BadMethod(Verb::Post));
 
+const LEVEL: Wanted = Wanted::Refused(Reason::Malformed(Part::Level));
+
+const BOTH: Wanted = Wanted::Refused(Reason::BadMethod(Verb::Both));
+
 const NOWHERE: Wanted = Wanted::Refused(Reason::NotFound);
 
-static ROWS: [Row; 108] = rows! {
+static ROWS: [Row; 123] = rows! {
     "POST", "/keys/a", None, b"hello", Wanted::Handle("a", "hello");
     "POST", "/keys/a", None, b"", Wanted::Handle("a", "");
     "POST", "/keys/a%20b%2Fc%C3%BC", None, b"x", Wanted::Handle("a b/c\u{fc}", "x");
@@ -231,6 +237,21 @@ static ROWS: [Row; 108] = rows! {
     "GET", "/leave", None, b"", POST_ONLY;
     "GET", "/rejoin", None, b"", POST_ONLY;
     "GET", "/stop", None, b"", POST_ONLY;
+    "GET", "/log", None, b"", Wanted::Log(None);
+    "GET", "/log", Some("level=trace"), b"", Wanted::Log(None);
+    "POST", "/log", Some("level=off"), b"", Wanted::Log(Some(LogLevel::Off));
+    "POST", "/log", Some("level=error"), b"", Wanted::Log(Some(LogLevel::Error));
+    "POST", "/log", Some("level=warn"), b"", Wanted::Log(Some(LogLevel::Warn));
+    "POST", "/log", Some("level=info"), b"", Wanted::Log(Some(LogLevel::Info));
+    "POST", "/log", Some("level=debug"), b"level=off", Wanted::Log(Some(LogLevel::Debug));
+    "POST", "/log", None, b"level=debug", LEVEL;
+    "POST", "/log", Some("level="), b"", LEVEL;
+    "POST", "/log", Some("level=trace"), b"", LEVEL;
+    "POST", "/log", Some("level=Debug"), b"", LEVEL;
+    "POST", "/log", Some("level=debug&level=info"), b"", LEVEL;
+    "POST", "/log", Some("n=debug"), b"", LEVEL;
+    "PUT", "/log", Some("level=debug"), b"", BOTH;
+    "POST", "/log/", Some("level=debug"), b"", NOWHERE;
     "GET", "", None, b"", NOWHERE;
     "GET", "/members/", None, b"", NOWHERE;
     "BREW", "/favicon.ico", None, b"", NOWHERE;

@@ -135,6 +135,28 @@ fn writes_members_and_digests(rt: HostRuntime) {
     );
 }
 
+#[test]
+fn tells_each_level_of_the_log(rt: HostRuntime) {
+    for (level, name, line) in &[
+        (LogLevel::Off, "off", "log level off, was debug\n"),
+        (LogLevel::Error, "error", "log level error, was debug\n"),
+        (LogLevel::Warn, "warn", "log level warn, was debug\n"),
+        (LogLevel::Info, "info", "log level info, was debug\n"),
+        (LogLevel::Debug, "debug", "log level debug, was debug\n"),
+    ] {
+        let told = again!(
+            &rt,
+            AllocError,
+            level_line(rt.alloc(), *level, Some(LogLevel::Debug))
+        );
+        assert!(rt; told.ok().expect(&rt, "a line").as_str() == *line);
+        assert!(rt; LogLevel::named(name) == Some(*level), "{name}");
+        assert!(rt; LogLevel::at(level.number()) == *level, "{name}");
+    }
+    let told = again!(&rt, AllocError, level_line(rt.alloc(), LogLevel::Off, None));
+    assert!(rt; told.ok().expect(&rt, "a line").as_str() == "log level off\n");
+}
+
 /// A time in microseconds, and the bucket in which it is counted.
 const TIMES: [(u64, usize); 10] = [
     (0, 0),
@@ -258,6 +280,22 @@ ringpop_round_seconds_bucket{le=\"10\"} 0
 ringpop_round_seconds_bucket{le=\"+Inf\"} 0
 ringpop_round_seconds_sum 0e-6
 ringpop_round_seconds_count 0
+# HELP ringpop_ping_seconds Time from a ping of this node to its answer.
+# TYPE ringpop_ping_seconds histogram
+ringpop_ping_seconds_bucket{le=\"0.00025\"} 0
+ringpop_ping_seconds_bucket{le=\"0.0005\"} 0
+ringpop_ping_seconds_bucket{le=\"0.001\"} 0
+ringpop_ping_seconds_bucket{le=\"0.005\"} 0
+ringpop_ping_seconds_bucket{le=\"0.01\"} 0
+ringpop_ping_seconds_bucket{le=\"0.05\"} 0
+ringpop_ping_seconds_bucket{le=\"0.1\"} 0
+ringpop_ping_seconds_bucket{le=\"0.5\"} 0
+ringpop_ping_seconds_bucket{le=\"1\"} 0
+ringpop_ping_seconds_bucket{le=\"5\"} 0
+ringpop_ping_seconds_bucket{le=\"10\"} 0
+ringpop_ping_seconds_bucket{le=\"+Inf\"} 3
+ringpop_ping_seconds_sum 4e-6
+ringpop_ping_seconds_count 3
 # HELP ringpop_rounds_total Rounds of gossip, by outcome.
 # TYPE ringpop_rounds_total counter
 ringpop_rounds_total{outcome=\"idle\"} 1
@@ -265,6 +303,16 @@ ringpop_rounds_total{outcome=\"reached\"} 50
 ringpop_rounds_total{outcome=\"suspected\"} 2
 ringpop_rounds_total{outcome=\"inconclusive\"} 3
 ringpop_rounds_total{outcome=\"error\"} 0
+# HELP ringpop_member_changes_total Changes of other members that this node learnt, by the status that they got.
+# TYPE ringpop_member_changes_total counter
+ringpop_member_changes_total{status=\"alive\"} 33
+ringpop_member_changes_total{status=\"suspect\"} 34
+ringpop_member_changes_total{status=\"faulty\"} 35
+ringpop_member_changes_total{status=\"leave\"} 36
+ringpop_member_changes_total{status=\"tombstone\"} 37
+# HELP ringpop_refutations_total Rounds after which this node had refuted what others held of it.
+# TYPE ringpop_refutations_total counter
+ringpop_refutations_total 38
 # HELP ringpop_application_failures_total Requests that the service did not answer, or by no answer that can be passed on.
 # TYPE ringpop_application_failures_total counter
 ringpop_application_failures_total 6
@@ -305,15 +353,19 @@ ringpop_kept_connections_closed_total 27
 # HELP ringpop_connections_used Connections that are open.
 # TYPE ringpop_connections_used gauge
 ringpop_connections_used{port=\"http\"} 12
+ringpop_connections_used{port=\"node\"} 34
 # HELP ringpop_connections_max Connections that may be open.
 # TYPE ringpop_connections_max gauge
 ringpop_connections_max{port=\"http\"} 10000
+ringpop_connections_max{port=\"node\"} 1000
 # HELP ringpop_connections_evicted_total Connections that were closed for others.
 # TYPE ringpop_connections_evicted_total counter
 ringpop_connections_evicted_total{port=\"http\"} 13
+ringpop_connections_evicted_total{port=\"node\"} 35
 # HELP ringpop_accept_failures_total How often the system let no connection be accepted.
 # TYPE ringpop_accept_failures_total counter
 ringpop_accept_failures_total{port=\"http\"} 14
+ringpop_accept_failures_total{port=\"node\"} 36
 # HELP ringpop_workers_used Threads that serve an HTTP connection.
 # TYPE ringpop_workers_used gauge
 ringpop_workers_used 15
@@ -388,6 +440,18 @@ const COUNTS: Counts = Counts {
         micros: 0,
         buckets: [0; BUCKETS],
     },
+    pings: TimeCounts {
+        micros: 4,
+        buckets: [0, 0, 0, 0, 0, 0, 0, 0, 0, 0, 0, 3],
+    },
+    changes: ChangeCounts {
+        alive: 33,
+        suspect: 34,
+        faulty: 35,
+        leave: 36,
+        tombstone: 37,
+        refuted: 38,
+    },
     incarnation: 1_700_000_000_000,
     digest: 281_474_976_710_655,
     handled: 4,
@@ -419,6 +483,12 @@ const COUNTS: Counts = Counts {
         max: 10_000,
         evicted: 13,
         failures: 14,
+    },
+    node: PortCounts {
+        used: 34,
+        max: 1_000,
+        evicted: 35,
+        failures: 36,
     },
     workers_used: 15,
     workers_max: 256,

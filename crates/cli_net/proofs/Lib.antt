@@ -3,3 +3,4 @@ pub mod ToldLines
 pub mod Owned
 pub mod Written
 pub mod Entered
+pub mod Exchanged

@@ -1,9 +1,9 @@
 //! A request to one node.
-ghost use Rattle.std.specs.Prelude.{◌≡◌, IfOk, IfErr, OnOk, IsOkUnless};
+ghost use Rattle.std.specs.Prelude.{◌≡◌, None, IfOk, IfErr, OnOk, IsOkUnless};
 ghost use Rattle.cli_net.specs.Asking.{IsNoReply, IsReply, IsUnasked, LeavesReply, WritesReply, request};
 ghost use Rattle.cli_net.specs.Dialled.{dialled};
 
-use crate::dialled::DialledLink;
+use crate::dialled::{DialledLink, Unnamed};
 use crate::faults::AskError;
 use crate::questions::{ask_for, write_text};
 use change_core::Address;
@@ -93,7 +93,7 @@ pub fn ask_over<R: Wait, L: Link, W: Write>(
     write_text(writer, text.as_str().as_bytes())
 }
 
-/// Does as `ask_over`, over sockets, with the standard limits. A request whose line would have more than 1,048,576
+/// Does as `ask_over`, over sockets, with the standard limits, of a node whose cluster has no name. A request whose line would have more than 1,048,576
 /// bytes is not sent.
 ///
 /// # Errors
@@ -107,12 +107,12 @@ pub fn ask_run<R: Dial + Clock + Wait + Copy, W: Write>(
     body: &str,
     writer: &mut W,
 ) -> Result<(), AskError>
-    ensures replied { OnOk result (WritesReply (IsReply (dialled R.leads R.Stream.contents R.Stream.remaining) address (request key.now body.now))
+    ensures replied { OnOk result (WritesReply (IsReply (dialled R.leads R.Stream.contents R.Stream.remaining None) address (request key.now body.now))
         (W.contents writer.old) (W.contents writer.new)) }
-    ensures fault { IfErr result (λ e. LeavesReply (IsReply (dialled R.leads R.Stream.contents R.Stream.remaining) address (request key.now body.now))
-        (IsUnasked (dialled R.leads R.Stream.contents R.Stream.remaining) address (request key.now body.now)) e (W.contents writer.old) (W.contents writer.new)) }
+    ensures fault { IfErr result (λ e. LeavesReply (IsReply (dialled R.leads R.Stream.contents R.Stream.remaining None) address (request key.now body.now))
+        (IsUnasked (dialled R.leads R.Stream.contents R.Stream.remaining None) address (request key.now body.now)) e (W.contents writer.old) (W.contents writer.new)) }
 {
-    let mut link = DialledLink::new(*rt);
+    let mut link = DialledLink::<Unnamed, R>::new(rt, &None);
     let words = AskWords { address, key, body };
     ask_over(rt, alloc, &mut link, &words, writer)
 }

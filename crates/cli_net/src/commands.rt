@@ -1,23 +1,20 @@
 //! The commands of the program that speak to nodes, each with its arguments.
 ghost use Rattle.std.specs.Prelude.{◌≡◌, IfErr, OnOk};
 ghost use Rattle.cli_net.specs.Commands.{CommandFails, CommandFinishes, CommandReads};
-ghost use Rattle.cli_net.specs.Dialled.{dialled};
 ghost use Rattle.cli_net.specs.declared.commands.ClusterCommandError.TheVariants as fault;
 
-use crate::asking::ask_run;
+use crate::asking::ask_over;
 use crate::faults::{AskError, ServeError, TellError};
-use crate::looks::members_run;
-use crate::owners::ask_any_run;
+use crate::looks::members_over;
+use crate::owners::ask_any_over;
 use crate::serving::serve_run;
-use crate::telling::tell_run;
+use crate::telling::tell_over;
 use cli_core::ClusterCommand;
-use cluster_core::Dial;
+use cluster_core::Link;
 use server::Runtime;
 use std::alloc::Global;
 use std::io::{Read, Write};
 use std::net::{Net, TcpListener, TcpStream};
-use std::sync::Wait;
-use std::time::Clock;
 use thiserror::Error;
 
 /// The errors of such a command.
@@ -58,41 +55,39 @@ impl From<TellError> for ClusterCommandError {
     }
 }
 
-/// Runs the command over sockets, the reader and the writer, as `serve_run` does, or over this network as `ask_run`,
-/// `ask_any_run`, `members_run` or `tell_run`. Only `tell` reads.
+/// Runs the command over the reader and the writer: `serve` over sockets, as `serve_run` does, and any other over this link, as `ask_over`,
+/// `ask_any_over`, `members_over` or `tell_over`. Only `tell` reads.
 ///
 /// # Errors
 ///
 /// - `Serve`, `Ask`, `Tell`: the error of that function.
 pub fn cluster_command_run<
     R: Net<Listener = TcpListener, Stream = TcpStream> + Runtime,
-    D: Dial + Clock + Wait + Copy,
+    L: Link,
     I: Read,
     W: Write,
 >(
     rt: &R,
-    network: &D,
+    link: &mut L,
     alloc: Global,
     command: &ClusterCommand<'_>,
     reader: &mut I,
     writer: &mut W,
 ) -> Result<(), ClusterCommandError>
-    ensures output { OnOk result (CommandFinishes (dialled D.leads D.Stream.contents D.Stream.remaining) R.times command.now
+    ensures output { OnOk result (CommandFinishes L.may_answer R.times command.now
         (I.remaining reader.old) (W.contents writer.old) (W.contents writer.new)) }
-    ensures fault { IfErr result (λ e. CommandFails (dialled D.leads D.Stream.contents D.Stream.remaining) command.now e
+    ensures fault { IfErr result (λ e. CommandFails L.may_answer command.now e
         (I.remaining reader.old) (W.contents writer.old) (W.contents writer.new)) }
     ensures unread { CommandReads command.now (I.remaining reader.old) (I.remaining reader.new) }
 {
     match command {
         ClusterCommand::Serve(words) => serve_run(rt, alloc, words, writer)?,
-        ClusterCommand::Ask(words) => {
-            ask_run(network, alloc, words.address, words.key, words.body, writer)?
-        }
-        ClusterCommand::AskAny(words) => ask_any_run(network, alloc, words, writer)?,
-        ClusterCommand::Members(words) => members_run(
-            network, alloc, words.host, words.form, writer,
+        ClusterCommand::Ask(words) => ask_over(rt, alloc, link, words, writer)?,
+        ClusterCommand::AskAny(words) => ask_any_over(rt, alloc, link, words, writer)?,
+        ClusterCommand::Members(words) => members_over(
+            rt, alloc, link, words.host, words.form, writer,
         )?,
-        ClusterCommand::Tell(host) => tell_run(network, alloc, *host, reader, writer)?,
+        ClusterCommand::Tell(host) => tell_over(rt, alloc, link, *host, reader, writer)?,
     }
     Ok(())
 }

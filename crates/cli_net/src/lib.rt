@@ -19,11 +19,12 @@ pub use cli_core::{
     AskAnyWords, AskWords, ClusterCommand, MAX_REQUESTS, MembersForm, MembersWords, ServeWords,
 };
 pub use commands::{ClusterCommandError, cluster_command_run};
+pub use dialled::{DialledLink, Named};
 pub use echoes::Echo;
 pub use faults::{AskError, ServeError, TellError};
 pub use hints::explain_command;
-pub use looks::{members_over, members_run};
-pub use owners::{ask_any_over, ask_any_run};
+pub use looks::members_over;
+pub use owners::ask_any_over;
 pub use server::Runtime;
 pub use serving::{ServedNode, serve_run, serve_within};
-pub use telling::{tell_over, tell_run};
+pub use telling::tell_over;

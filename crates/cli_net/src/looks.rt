@@ -9,21 +9,18 @@ ghost use Rattle.wire_json.specs.Forms.{change_data};
 ghost use Rattle.cli_core.specs.Changes.{change_of};
 ghost use Rattle.cli_core.specs.Fold.{fold_text};
 ghost use Rattle.cli_core.specs.Table.{table_text};
-ghost use Rattle.cli_net.specs.Dialled.{dialled};
 ghost use Rattle.cli_net.specs.Membership.{IsNotSeen, IsSeen, IsUnwritten, LeavesText, WritesSeen, change_line, membership_text, told_members};
 
-use crate::dialled::DialledLink;
 use crate::faults::AskError;
 use crate::questions::{join_with, write_text};
 use change_core::{Address, MAX_MEMBERS, Sourced};
 use cli_core::{MembersForm, fold_text, table_text};
-use cluster_core::{Dial, Link};
+use cluster_core::Link;
 use member_core::{MemberError, MemberTable};
 use message_core::{Changes, News};
 use std::alloc::Global;
 use std::io::Write;
 use std::sync::Wait;
-use std::time::Clock;
 use wire_json::encode_change;
 
 /// Returns the members of these changes.
@@ -186,25 +183,4 @@ pub fn members_over<R: Wait, L: Link, W: Write>(
         MembersForm::Table => write_table(alloc, &members, writer),
         MembersForm::Digest => write_members(alloc, &members, writer),
     }
-}
-
-/// Does as `members_over`, over sockets, with the standard limits.
-///
-/// # Errors
-///
-/// - The errors of `members_over`.
-pub fn members_run<R: Dial + Clock + Wait + Copy, W: Write>(
-    rt: &R,
-    alloc: Global,
-    host: Address,
-    form: MembersForm,
-    writer: &mut W,
-) -> Result<(), AskError>
-    ensures written { OnOk result (WritesSeen (dialled R.leads R.Stream.contents R.Stream.remaining) host [] (membership_text form)
-        (W.contents writer.old) (W.contents writer.new)) }
-    ensures fault { IfErr result (λ e. IsUnwritten (dialled R.leads R.Stream.contents R.Stream.remaining) host [] (membership_text form) e
-        (W.contents writer.old) (W.contents writer.new)) }
-{
-    let mut link = DialledLink::new(*rt);
-    members_over(rt, alloc, &mut link, host, form, writer)
 }

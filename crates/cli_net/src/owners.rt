@@ -6,23 +6,20 @@ ghost use Rattle.hash_ring.specs.Points.{IsReplicas, owner};
 ghost use Rattle.hash_ring.specs.Serving.{servers_of};
 ghost use Rattle.cli_core.specs.Owner.{hash_by};
 ghost use Rattle.cli_net.specs.Asking.{LeavesReply, WritesReply};
-ghost use Rattle.cli_net.specs.Dialled.{dialled};
 ghost use Rattle.cli_net.specs.Owning.{IsAnswered, IsNoOwner, IsOwner, IsUnanswered, IsUnnamed};
 
 use crate::asking::reply_of;
-use crate::dialled::DialledLink;
 use crate::faults::AskError;
 use crate::looks::look_only;
 use crate::questions::write_text;
 use change_core::{Address, Change};
 use cli_core::{AskAnyWords, ring_of};
-use cluster_core::{Dial, Link};
+use cluster_core::Link;
 use hash_ring::{PointHash, Sha256Hash, SumHash};
 use message_core::{Reason, Text};
 use std::alloc::Global;
 use std::io::Write;
 use std::sync::Wait;
-use std::time::Clock;
 
 /// Returns the owner of a key among members. `Refused` with `nobody` if none of them serves, as a node would answer.
 fn owner_by<H: PointHash>(
@@ -136,27 +133,4 @@ pub fn ask_any_over<R: Wait, L: Link, W: Write>(
 {
     let text = reply_of_any(rt, alloc, link, words)?;
     write_text(writer, text.as_str().as_bytes())
-}
-
-/// Does as `ask_any_over`, over sockets, with the standard limits.
-///
-/// # Errors
-///
-/// - The errors of `ask_any_over`.
-pub fn ask_any_run<R: Dial + Clock + Wait + Copy, W: Write>(
-    rt: &R,
-    alloc: Global,
-    words: &AskAnyWords<'_>,
-    writer: &mut W,
-) -> Result<(), AskError>
-    ensures answered { OnOk result (WritesReply
-        (IsAnswered (dialled R.leads R.Stream.contents R.Stream.remaining) words.now.host (hash_by words.now.sum) words.now.replicas words.now.key.now words.now.body.now)
-        (W.contents writer.old) (W.contents writer.new)) }
-    ensures fault { IfErr result (λ e. LeavesReply
-        (IsAnswered (dialled R.leads R.Stream.contents R.Stream.remaining) words.now.host (hash_by words.now.sum) words.now.replicas words.now.key.now words.now.body.now)
-        (IsUnanswered (dialled R.leads R.Stream.contents R.Stream.remaining) words.now.host (hash_by words.now.sum) words.now.replicas words.now.key.now words.now.body.now)
-        e (W.contents writer.old) (W.contents writer.new)) }
-{
-    let mut link = DialledLink::new(*rt);
-    ask_any_over(rt, alloc, &mut link, words, writer)
 }

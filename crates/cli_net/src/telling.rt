@@ -2,23 +2,20 @@
 ghost use Rattle.std.specs.Prelude.{◌≡◌, ◌≤◌, ◌+◌, true, Err, IfErr, IfOk, IfSome, IsOkUnless, OnOk, length, string_bytes};
 ghost use Rattle.change_core.specs.Numbers.{most_members};
 ghost use Rattle.change_core.specs.Numeral.{number_text};
-ghost use Rattle.cli_net.specs.Dialled.{dialled};
 ghost use Rattle.cli_net.specs.Membership.{IsUnwritten, WritesSeen};
 ghost use Rattle.cli_net.specs.Telling.{Gives, HearsChange, IsNoNews, IsUntold, TakesTurn, Tells, count_line};
 ghost use Rattle.cli_net.specs.declared.faults.AskError.{AskError};
 
-use crate::dialled::DialledLink;
 use crate::faults::{AskError, TellError};
 use crate::looks::look;
 use crate::questions::write_text;
 use change_core::{Address, MAX_MEMBERS, Sourced};
 use cli_core::LineError;
-use cluster_core::{Dial, Link};
+use cluster_core::Link;
 use message_core::Changes;
 use std::alloc::Global;
 use std::io::{Read, Write};
 use std::sync::Wait;
-use std::time::Clock;
 use wire_json::{decode_change, read_line};
 
 /// The greatest number of changes of a message, which is that of a cluster's members.
@@ -125,24 +122,4 @@ pub fn tell_over<R: Wait, L: Link, I: Read, W: Write>(
 {
     let changes = read_changes(alloc, reader)?;
     Ok(tell_changes(rt, alloc, link, host, changes, writer)?)
-}
-
-/// Does as `tell_over`, over sockets, with the standard limits.
-///
-/// # Errors
-///
-/// - The errors of `tell_over`.
-pub fn tell_run<R: Dial + Clock + Wait + Copy, I: Read, W: Write>(
-    rt: &R,
-    alloc: Global,
-    host: Address,
-    reader: &mut I,
-    writer: &mut W,
-) -> Result<(), TellError>
-    ensures told { OnOk result (Tells (dialled R.leads R.Stream.contents R.Stream.remaining) host (I.remaining reader.old) (W.contents writer.old) (W.contents writer.new)) }
-    ensures fault { IfErr result (λ e. IsUntold (dialled R.leads R.Stream.contents R.Stream.remaining) host (I.remaining reader.old) e
-        (W.contents writer.old) (W.contents writer.new)) }
-{
-    let mut link = DialledLink::new(*rt);
-    tell_over(rt, alloc, &mut link, host, reader, writer)
 }

@@ -1,5 +1,5 @@
 //! The subcommand `agent`: a node next to an application.
-ghost use Rattle.std.specs.Prelude.{◌≡◌, IfOk, OnOk};
+ghost use Rattle.std.specs.Prelude.{◌≡◌, IfOk, OnOk, option_map, string_bytes};
 ghost use Rattle.std.specs.Io.KnownBytes.{Appends};
 ghost use Rattle.std.specs.Option.{unwrap_or};
 ghost use Rattle.agent.specs.Texts.{agent_text};
@@ -68,6 +68,7 @@ fn settings_of(alloc: Global, words: &AgentWords) -> Result<Settings, AgentError
     ensures weight { IfOk result (λ s. s.weight ≡ words.now.weight) }
     ensures incarnation { IfOk result (λ s. s.incarnation ≡ words.now.incarnation) }
     ensures level { IfOk result (λ s. s.level ≡ filter_of words.now.level) }
+    ensures hosts_file { IfOk result (λ s. option_map string_bytes s.hosts_file ≡ option_map string_bytes words.now.hosts_file) }
     ensures hosts { IfOk result (λ s. s.hosts.items ≡ other_hosts words.now.hosts.items words.now.address) }
 {
     Ok(Settings {
@@ -91,6 +92,7 @@ fn settings_of(alloc: Global, words: &AgentWords) -> Result<Settings, AgentError
         weight: words.weight,
         incarnation: words.incarnation,
         level: filter_of(words.level),
+        hosts_file: words.hosts_file.clone()?,
         hosts: other_hosts(alloc, words.hosts.as_slice(), words.address)?,
     })
 }
@@ -102,6 +104,8 @@ fn settings_of(alloc: Global, words: &AgentWords) -> Result<Settings, AgentError
 /// Threads that were started before the error keep running until the program ends. A prefix of the two lines is written.
 ///
 /// - `NotLocal`: the address for HTTP is not in 127.0.0.0/8, and `--http-any` is not given.
+/// - `CannotRead`: the file of hosts can't be read.
+/// - `BadHosts`: the file of hosts lists none.
 /// - `NoClock`: no incarnation is given, and the system has no clock, or its clock gives no time since 1970.
 /// - `BadConfig`: a field of the node's configuration is out of its range.
 /// - `CannotListen`: an address can't be listened at, that for other nodes or that for HTTP.

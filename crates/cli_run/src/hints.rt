@@ -24,6 +24,15 @@ fn say_open<R: Eprint>(rt: &R, words: &AgentWords) {
     }
 }
 
+/// Prints which file of hosts was read, and what to give.
+fn say_hosts<R: Eprint>(rt: &R, words: &AgentWords) {
+    if let Some(path) = &words.hosts_file {
+        let _ = eprintln!(rt;
+            "ringpop: '{path}' for --hosts-file: give a file of at most 4096 hosts and 131072 bytes, one IPv4 address and port on a line, as 127.0.0.1:7946"
+        );
+    }
+}
+
 /// Prints how many threads an agent with these arguments wanted.
 fn say_agent_threads<R: Eprint>(rt: &R, words: &AgentWords) {
     let hands = words.hands;
@@ -47,8 +56,8 @@ pub fn explain<R: Net + Clock + Wait + Eprint + Copy>(
     fault: &Fault,
 ) {
     match (words, fault) {
-        (Words::Cluster(command), Fault::Cluster(error)) => {
-            explain_command(rt, alloc, command, *error)
+        (Words::Cluster(words), Fault::Cluster(error)) => {
+            explain_command(rt, alloc, &words.cluster, &words.command, *error)
         }
         (
             Words::Lines(_),
@@ -62,6 +71,8 @@ pub fn explain<R: Net + Clock + Wait + Eprint + Copy>(
             );
         }
         (Words::Agent(words), Fault::Agent(AgentError::NotLocal)) => say_open(rt, words),
+        (Words::Agent(words), Fault::Agent(AgentError::CannotRead(_) | AgentError::BadHosts(_))) =>
+            say_hosts(rt, words),
         (Words::Agent(words), Fault::Agent(AgentError::NoThread)) => say_agent_threads(rt, words),
         _ => {}
     }

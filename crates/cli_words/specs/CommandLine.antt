@@ -82,6 +82,14 @@ requests = number_word (codes "requests") 1 most_requests
 abbrev pub hosts : Rule
 hosts = words (codes "host")
 
+-- an option with one value, as a text
+abbrev pub address_option : Text → Rule
+address_option name = record (new_rule name) { long = Some name; value_names = 1 }
+
+-- `--cluster`: the name of the cluster; none by default
+abbrev pub cluster : Rule
+cluster = address_option (codes "cluster")
+
 -- a subcommand of this name, with these options and arguments
 abbrev pub subcommand : Text → List Rule → Shape
 subcommand name rules = record (new_shape name) { rules = rules }
@@ -108,23 +116,19 @@ abbrev pub serve_words : Shape
 serve_words = subcommand (codes "serve")
     (workers ∷ period ∷ replicas ∷ sum ∷ weight ∷ per_message ∷ piggyback ∷ flag (codes "heal") ∷ word (codes "address") ∷ incarnation ∷ requests ∷ hosts ∷ [])
 
--- `ask`: the address of a node, the key and the body; `--any` leaves the choice of the owner to the program, by the options of the ring
+-- `ask`: the address of a node, the key and the body, and the name of the cluster; `--any` leaves the choice of the owner to the program, by the options of the ring
 abbrev pub ask_words : Shape
 ask_words = subcommand (codes "ask")
-    (flag (codes "any") ∷ with_another replicas ∷ with_another sum
+    (flag (codes "any") ∷ with_another replicas ∷ with_another sum ∷ cluster
     ∷ word (codes "address") ∷ word (codes "key") ∷ word (codes "body") ∷ [])
 
--- `members`: the host that is asked; `--lines` prints one change a line, `--table` a table
+-- `members`: the host that is asked, and the name of the cluster; `--lines` prints one change a line, `--table` a table
 abbrev pub members_words : Shape
-members_words = subcommand (codes "members") (flag (codes "lines") ∷ flag (codes "table") ∷ word (codes "host") ∷ [])
+members_words = subcommand (codes "members") (flag (codes "lines") ∷ flag (codes "table") ∷ cluster ∷ word (codes "host") ∷ [])
 
--- `tell`: the host that gets the changes
+-- `tell`: the host that gets the changes, and the name of the cluster
 abbrev pub tell_words : Shape
-tell_words = subcommand (codes "tell") (word (codes "host") ∷ [])
-
--- an option with one value, as a text
-abbrev pub address_option : Text → Rule
-address_option name = record (new_rule name) { long = Some name; value_names = 1 }
+tell_words = subcommand (codes "tell") (cluster ∷ word (codes "host") ∷ [])
 
 -- `--log`: what the log tells, by the name of a level; `info` by default
 abbrev pub log : Rule
@@ -150,10 +154,6 @@ key_field_option = record (new_rule (codes "key-field")) { long = Some (codes "k
 abbrev pub key_field : Rule
 key_field = with_another key_field_option
 
--- `--cluster`: the name of the cluster; none by default
-abbrev pub cluster : Rule
-cluster = address_option (codes "cluster")
-
 -- `--period` of an agent: the milliseconds between two rounds of gossip, from 1 to 60,000; 200 by default
 abbrev pub agent_period : Rule
 agent_period = option (codes "period") (codes "200") 1 60000
@@ -174,11 +174,15 @@ incarnation_option = record (new_rule (codes "incarnation")) {
 abbrev pub leave_after : Rule
 leave_after = option (codes "leave-after") (codes "10") 0 86400
 
+-- `--hosts-file`: the path of a file of hosts; none by default
+abbrev pub hosts_file : Rule
+hosts_file = address_option (codes "hosts-file")
+
 -- `agent`: where it listens, and answers HTTP, and the application's address; whether that is told of the ring; its numbers, and the log; its own address and the hosts to join
 abbrev pub agent_words : Shape
 agent_words = subcommand (codes "agent")
     (address_option (codes "bind") ∷ address_option (codes "http") ∷ flag (codes "http-any") ∷ address_option (codes "app")
-    ∷ flag (codes "no-wait-app") ∷ leave_after ∷ tell_app ∷ flag (codes "any-request") ∷ key_field ∷ cluster ∷ hands ∷ http_connections ∷ agent_period ∷ agent_per_message ∷ replicas ∷ weight ∷ incarnation_option ∷ log ∷ word (codes "address") ∷ hosts ∷ [])
+    ∷ flag (codes "no-wait-app") ∷ leave_after ∷ tell_app ∷ flag (codes "any-request") ∷ key_field ∷ cluster ∷ hosts_file ∷ hands ∷ http_connections ∷ agent_period ∷ agent_per_message ∷ replicas ∷ weight ∷ incarnation_option ∷ log ∷ word (codes "address") ∷ hosts ∷ [])
 
 -- a command with no subcommand
 abbrev pub leaf : Shape → App

@@ -93,7 +93,7 @@ IsOfLines name = (name ≡ codes "fold") ⊎ ((name ≡ codes "hash") ⊎ ((name
 abbrev pub IsOfNodes : Text → Type 0
 IsOfNodes name = (name ≡ codes "serve") ⊎ ((name ≡ codes "ask") ⊎ ((name ≡ codes "members") ⊎ (name ≡ codes "tell")))
 
--- there is a subcommand of this name, each of its arguments is there and in its range, and its hosts are fewer than 2^32
+-- there is a subcommand of this name, each of its arguments is there and in its range, its hosts are fewer than 2^32, and the name of its cluster is one
 pub record IsWhole (name : Text) (rows : List Row) : Type 0 where
   pub known : IsOfLines name ⊎ (IsOfNodes name ⊎ (name ≡ codes "agent"))
   pub hash : name ≡ codes "hash" → IsSome (first_of (codes "text") rows)
@@ -105,6 +105,7 @@ pub record IsWhole (name : Text) (rows : List Row) : Type 0 where
   pub any : name ≡ codes "ask" → IsFlagAt rows (codes "any") true → HasNumber rows (codes "replicas") IsReplicas
   pub members : name ≡ codes "members" → IsSome (first_of (codes "host") rows)
   pub tell : name ≡ codes "tell" → IsSome (first_of (codes "host") rows)
+  pub cluster : IsOfNodes name → HasCluster rows
 
 -- the text is not that of an address
 abbrev pub IsNoAddress : Text → Type 0

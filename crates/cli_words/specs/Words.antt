@@ -1,5 +1,6 @@
 -- The argument of the command line for each part of a command. A `Row` is what `clap` found for a name: its values and how they came.
-use Rattle.std.specs.Prelude.{◌≡◌, ◌⊎◌, ◌≤◌, ℕ, Bool, true, false, List, [], Option, Some, None, IsSomeAnd, Ok, map, codes}
+use Rattle.std.specs.Prelude.{◌≡◌, ◌⊎◌, ◌≤◌, ℕ, Bool, true, false, List, [], Option, Some, None, IsSomeAnd, Ok, String, map, codes, option_map, string_bytes}
+use Rattle.std.specs.Global.{Global}
 use Rattle.std.specs.Str.Parse.{ParsesUnsigned}
 use Rattle.std.specs.declared.num.ParseIntError.{ParseIntError}
 use Rattle.clap.specs.Words.{Row, Text, all_of, first_of, found_of, one_of, rows_of}
@@ -130,6 +131,10 @@ IsKeyFieldAt rows name = IsSomeAnd (first_of (codes "key-field") rows) (λ text.
 abbrev pub IsClusterAt : List Row → Option Text → Type 0
 IsClusterAt rows name = first_of (codes "cluster") rows ≡ name
 
+-- the argument for the file of hosts is this path; without a path, it is absent
+abbrev pub IsHostsFileAt : List Row → Option (String Global) → Type 0
+IsHostsFileAt rows path = first_of (codes "hosts-file") rows ≡ option_map string_bytes path
+
 -- how an agent follows its application is what the arguments of these names say
 pub record IsFollowingAt (rows : List Row) (words : FollowingWords) : Type 0 where
   pub no_wait : IsFlagAt rows (codes "no-wait-app") words.no_wait
@@ -150,7 +155,7 @@ pub record AreAgentNumbersAt (rows : List Row) (words : AgentWords) : Type 0 whe
   pub any_request : IsFlagAt rows (codes "any-request") words.any_request
   pub level : first_of (codes "log") rows ≡ Some (level_name words.level)
 
--- and its addresses are, too, the field that names keys, and the name of the cluster
+-- and its addresses are, too, the field that names keys, the name of the cluster, and the path of the file of hosts
 pub record IsAgentAt (rows : List Row) (words : AgentWords) : Type 0 where
   pub address : IsAddressAt rows (codes "address") words.address
   pub bind : IsOptionAt rows (codes "bind") words.bind
@@ -159,6 +164,7 @@ pub record IsAgentAt (rows : List Row) (words : AgentWords) : Type 0 where
   pub hosts : AreAddressesAt rows (codes "host") words.hosts.items
   pub key_field : IsKeyFieldAt rows words.key_field
   pub cluster : IsClusterAt rows words.cluster
+  pub hosts_file : IsHostsFileAt rows words.hosts_file
   pub numbers : AreAgentNumbersAt rows words
 
 -- the command of a subcommand of this name over lines, by the arguments after it
@@ -180,7 +186,7 @@ IsCommandOf name rows (Tell host) = (name ≡ codes "tell") × IsAddressAt rows 
 -- the command of a subcommand of this name, by the arguments after it
 abbrev pub AreWordsOf : Text → List Row → Words → Type 0
 AreWordsOf name rows (Lines subcommand) = AreLinesOf name rows subcommand
-AreWordsOf name rows (Cluster command) = IsCommandOf name rows command
+AreWordsOf name rows (Cluster words) = IsCommandOf name rows words.command × IsClusterAt rows words.cluster
 AreWordsOf name rows (Agent words) = (name ≡ codes "agent") × IsAgentAt rows words
 
 -- the command of the arguments, by the subcommand that they name and the arguments after it; with none it is `fold`

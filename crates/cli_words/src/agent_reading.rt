@@ -3,20 +3,21 @@ ghost use Rattle.std.specs.Prelude.{◌≡◌, ◌≤◌, Ok, Some, codes, IfErr
 ghost use Rattle.clap.specs.Words.{first_of};
 ghost use Rattle.change_core.specs.Numbers.{greatest_number};
 ghost use Rattle.cli_words.specs.Faults.{IsRefusalOf, IsUsageFault, fault_at};
-ghost use Rattle.cli_words.specs.Whole.{HasAgent, HasAgentNumbers, HasCluster, HasKeyField, HasLeaveAfter, HasLevel, HasNumber, IsAgentRefusal, IsNoAddressAt};
-ghost use Rattle.cli_words.specs.Words.{AreAddressesAt, AreAgentNumbersAt, IsAddressAt, IsAgentAt, IsClusterAt, IsFollowingAt, IsKeyFieldAt, IsNumberAt, IsNumberIfAt, IsOptionAt, level_name, rows_in};
+ghost use Rattle.cli_words.specs.Whole.{HasAgent, HasAgentNumbers, HasKeyField, HasLeaveAfter, HasLevel, HasNumber, IsAgentRefusal, IsNoAddressAt};
+ghost use Rattle.cli_words.specs.Words.{AreAddressesAt, AreAgentNumbersAt, IsAddressAt, IsAgentAt, IsClusterAt, IsFollowingAt, IsHostsFileAt, IsKeyFieldAt, IsNumberAt, IsNumberIfAt, IsOptionAt, level_name, rows_in};
 
 use crate::agent_words::{
     AgentWords, FollowingWords, LogLevel, MAX_HANDS, MAX_HTTP_CONNECTIONS, MAX_LEAVE_AFTER,
     MAX_PERIOD,
 };
-use crate::cluster_options::CLUSTER;
+use crate::cluster_options::cluster_in;
 use crate::cluster_words::{address_at, address_of, hosts_at, incarnation, weight};
 use crate::commands::{
     ADDRESS, ANY_REQUEST, APP, BIND, HANDS, HTTP, HTTP_ANY, HTTP_CONNECTIONS, KEY_FIELD,
     LEAVE_AFTER, LOG, NO_WAIT_APP, PER_MESSAGE, PERIOD, TELL_APP, agent_alone,
 };
 use crate::faults::WordsError;
+use crate::hosts_options::hosts_file_in;
 use crate::words::{absent, flag, number, refusal, replicas};
 use change_core::{Address, Incarnation, MAX_MEMBERS};
 use clap::ArgMatches;
@@ -132,13 +133,14 @@ fn following(matches: &ArgMatches<'_>) -> Option<FollowingWords>
     })
 }
 
-/// Returns the arguments of `agent` with these addresses, this field and this cluster, if and only if each number is there and in its range,
+/// Returns the arguments of `agent` with these addresses, this field, this cluster and this file of hosts, if and only if each number is there and in its range,
 /// and the level of the log is there.
 fn words_with(
     matches: &ArgMatches<'_>,
     addresses: Addresses,
     key_field: HeaderName,
     cluster: Option<ClusterName>,
+    hosts_file: Option<String>,
 ) -> Option<AgentWords>
     ensures address { IfSome result (λ w. w.address ≡ addresses.address) }
     ensures bind { IfSome result (λ w. w.bind ≡ addresses.bind) }
@@ -147,6 +149,7 @@ fn words_with(
     ensures hosts { IfSome result (λ w. w.hosts ≡ addresses.hosts) }
     ensures key_field { IfSome result (λ w. w.key_field ≡ key_field) }
     ensures cluster { IfSome result (λ w. w.cluster ≡ cluster) }
+    ensures hosts_file { IfSome result (λ w. w.hosts_file ≡ hosts_file) }
     ensures numbers { IfSome result (AreAgentNumbersAt (rows_in matches.now)) }
     ensures taken { HasAgentNumbers (rows_in matches.now) → IsSome result }
 {
@@ -176,6 +179,7 @@ fn words_with(
         any_request: flag(matches, ANY_REQUEST),
         key_field,
         cluster,
+        hosts_file,
         hands: hands as u32,
         http_connections: http_connections as u32,
         period,
@@ -239,35 +243,8 @@ fn key_field_in(alloc: Global, matches: &ArgMatches<'_>) -> Result<HeaderName, W
     }
 }
 
-/// Makes the refusal of a text that is the name of no cluster, in the form of `clap`'s errors.
-fn no_cluster(alloc: Global, name: &str) -> WordsError
-    ensures { IsUsageFault result }
-{
-    let text = format!(in alloc;
-        "invalid value '{name}' for '--cluster <NAME>': give 1 to 64 letters, digits, '.', '_' and '-'"
-    );
-    match text {
-        Ok(text) => refusal(agent_alone(alloc), text.as_str()),
-        Err(_) => WordsError::OutOfMemory,
-    }
-}
-
-/// Returns the name of the cluster, if there is one. If its argument is the name of none, the error is `Usage`.
-fn cluster_in(alloc: Global, matches: &ArgMatches<'_>) -> Result<Option<ClusterName>, WordsError>
-    ensures ok { IfOk result (IsClusterAt (rows_in matches.now)) }
-    ensures fault { IfErr result (IsAgentRefusal (HasCluster (rows_in matches.now)) (rows_in matches.now)) }
-{
-    let Some(text) = matches.get_str(CLUSTER) else {
-        return Ok(None);
-    };
-    match ClusterName::new(alloc, text) {
-        Ok(Some(name)) => Ok(Some(name)),
-        Ok(None) => Err(no_cluster(alloc, text)),
-        Err(_) => Err(WordsError::OutOfMemory),
-    }
-}
-
-/// Returns the arguments of `agent`. The addresses are read first, then the field that names keys, then the name of the cluster, then the numbers.
+/// Returns the arguments of `agent`. The addresses are read first, then the field that names keys, then the name of the cluster, then the path of the file of hosts, then the
+/// numbers.
 ///
 /// # Errors
 ///
@@ -281,8 +258,9 @@ pub fn agent_words(alloc: Global, matches: &ArgMatches<'_>) -> Result<AgentWords
 {
     let addresses = addresses_in(alloc, matches)?;
     let key_field = key_field_in(alloc, matches)?;
-    let cluster = cluster_in(alloc, matches)?;
-    match words_with(matches, addresses, key_field, cluster) {
+    let cluster = cluster_in(alloc, "agent", matches)?;
+    let hosts_file = hosts_file_in(alloc, matches)?;
+    match words_with(matches, addresses, key_field, cluster, hosts_file) {
         Some(words) => Ok(words),
         None => Err(refusal_of(alloc, matches)),
     }

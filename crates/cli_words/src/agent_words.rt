@@ -66,6 +66,8 @@ pub struct AgentWords {
     pub key_field: HeaderName,
     /// The name of the cluster, if it has one.
     pub cluster: Option<ClusterName>,
+    /// The path of a file that lists more hosts, if there is one.
+    pub hosts_file: Option<String>,
     /// The most requests of other nodes that the application is given at a time, 1 to 256.
     pub hands: u32,
     /// The most HTTP connections that are open at a time, 1 to 65,536.

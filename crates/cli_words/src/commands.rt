@@ -11,6 +11,7 @@ use crate::help::{
     BELOW, BELOW_AGENT, BELOW_ASK, BELOW_FOLD, BELOW_MEMBERS, BELOW_OWNER, BELOW_SERVE, BELOW_SIM,
     BELOW_TELL,
 };
+use crate::hosts_options::hosts_file_option;
 use change_core::{MAX_MEMBERS, MAX_NUMBER, MAX_WEIGHT};
 use clap::builder::{ValueParser, ValueRange};
 use clap::{Arg, ArgAction, Command};
@@ -409,7 +410,8 @@ fn ask_command_with<'a>(
         "BODY",
         "The text of the request; it may be empty",
     );
-    let words = vec![in alloc; any_flag(alloc), replicas, sum, address, key, body]?;
+    let cluster = cluster_option(alloc);
+    let words = vec![in alloc; any_flag(alloc), replicas, sum, cluster, address, key, body]?;
     leaf_command(
         alloc,
         "ask",
@@ -419,7 +421,7 @@ fn ask_command_with<'a>(
     )
 }
 
-fn ask_command<'a>(alloc: Global) -> Result<Command<'a>, AllocError>
+pub(crate) fn ask_command<'a>(alloc: Global) -> Result<Command<'a>, AllocError>
     ensures { IfOk result (λ c. app_of c ≡ leaf line.ask_words) }
 {
     let replicas = replicas_option(alloc).requires_arg(ANY)?;
@@ -463,10 +465,11 @@ fn table_flag<'a>(alloc: Global) -> Arg<'a>
         )
 }
 
-fn members_command<'a>(alloc: Global) -> Result<Command<'a>, AllocError>
+pub(crate) fn members_command<'a>(alloc: Global) -> Result<Command<'a>, AllocError>
     ensures { IfOk result (λ c. app_of c ≡ leaf line.members_words) }
 {
-    let words = vec![in alloc; lines_flag(alloc), table_flag(alloc), host_word(alloc)]?;
+    let (lines, table) = (lines_flag(alloc), table_flag(alloc));
+    let words = vec![in alloc; lines, table, cluster_option(alloc), host_word(alloc)]?;
     leaf_command(
         alloc,
         "members",
@@ -476,15 +479,17 @@ fn members_command<'a>(alloc: Global) -> Result<Command<'a>, AllocError>
     )
 }
 
-fn tell_command<'a>(alloc: Global) -> Result<Command<'a>, AllocError>
+pub(crate) fn tell_command<'a>(alloc: Global) -> Result<Command<'a>, AllocError>
     ensures { IfOk result (λ c. app_of c ≡ leaf line.tell_words) }
 {
-    Command::new(alloc, "tell")
-        .about(
-            "Reads change lines; sends them to a running node, and prints how many members it then holds",
-        )
-        .after_help(BELOW_TELL)
-        .arg(host_word(alloc))
+    let words = vec![in alloc; cluster_option(alloc), host_word(alloc)]?;
+    leaf_command(
+        alloc,
+        "tell",
+        "Reads change lines; sends them to a running node, and prints how many members it then holds",
+        BELOW_TELL,
+        words,
+    )
 }
 
 /// An option with an address.
@@ -716,6 +721,7 @@ fn agent_command_with<'a>(
         any_request_flag(alloc),
         key_field,
         cluster_option(alloc),
+        hosts_file_option(alloc),
         hands_option(alloc),
         http_connections_option(alloc),
         agent_period_option(alloc),

@@ -9,9 +9,10 @@ mod cluster_words;
 mod commands;
 mod faults;
 mod help;
+mod hosts_options;
 mod words;
 
 pub use agent_words::{AgentWords, FollowingWords, LogLevel};
 pub use bad_arguments::{BadArgument, bad_argument};
 pub use faults::WordsError;
-pub use words::{Words, read_words, words_not_text};
+pub use words::{ClusterWords, Words, read_words, words_not_text};

@@ -11,6 +11,7 @@ ghost use Rattle.cli_words.specs.Words.{AreAskedBy, AreLinesOf, AreWordsOf, IsFl
 
 use crate::agent_reading::agent_words;
 use crate::agent_words::AgentWords;
+use crate::cluster_options::cluster_in;
 use crate::cluster_words::cluster_command_of;
 use crate::commands::{COUNT, KEY, REPLICAS, SUM, TEXT, ringpop_command};
 use crate::faults::WordsError;
@@ -18,9 +19,17 @@ use change_core::MAX_MEMBERS;
 use clap::error::ErrorKind;
 use clap::{ArgMatches, Command};
 use cli_core::{ClusterCommand, OwnerWords, SimWords, Subcommand};
+use cluster_names::ClusterName;
 use hash_ring::MAX_REPLICAS;
 use std::alloc::{AllocError, Global};
 use std::convert::AsStr;
+
+/// A command that speaks to nodes, and the name of their cluster, if it has one.
+#[derive(Debug, PartialEq, Drop)]
+pub struct ClusterWords<'a> {
+    pub command: ClusterCommand<'a>,
+    pub cluster: Option<ClusterName>,
+}
 
 /// The command of the arguments.
 #[derive(Debug, PartialEq, Drop)]
@@ -28,7 +37,7 @@ pub enum Words<'a> {
     /// A command that reads and writes lines.
     Lines(Subcommand<'a>),
     /// A command that speaks to running nodes.
-    Cluster(ClusterCommand<'a>),
+    Cluster(ClusterWords<'a>),
     /// A node next to an application.
     Agent(AgentWords),
 }
@@ -113,7 +122,7 @@ fn lines_of<'a>(name: &str, matches: &ArgMatches<'a>) -> Option<Subcommand<'a>>
 }
 
 /// Returns the command of the subcommand of this name. The error is `Usage` only if there is no such subcommand, or one
-/// of its arguments is absent or not in its range, or there are 2^32 hosts, and `BadAddress`, for `agent` `BadAddressAt`,
+/// of its arguments is absent or not in its range, or there are 2^32 hosts, or the cluster's name is none, and `BadAddress`, for `agent` `BadAddressAt`,
 /// only if an argument that has to be an address is not one.
 fn words_at<'a>(
     alloc: Global,
@@ -128,7 +137,8 @@ fn words_at<'a>(
         return Ok(Words::Agent(words));
     }
     if let Some(command) = cluster_command_of(alloc, name, matches)? {
-        return Ok(Words::Cluster(command));
+        let cluster = cluster_in(alloc, name, matches)?;
+        return Ok(Words::Cluster(ClusterWords { command, cluster }));
     }
     match lines_of(name, matches) {
         Some(subcommand) => Ok(Words::Lines(subcommand)),

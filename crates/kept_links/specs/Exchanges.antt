@@ -55,48 +55,62 @@ module _ {S : Type 0} (contents remaining : S → Option (List ℕ)) (cluster : 
   IsAnsweredFrom leads socket is_kept message None answer = answer ≡ Err Io
   IsAnsweredFrom leads socket is_kept message (Some fresh) answer = leads socket fresh × IsAnsweredOver is_kept message fresh answer
 
-  -- the link sent a message whose connection is kept over a connection of its pool, and had its answer over that
-  abbrev pub UsesSpare : Bool → Message → Result Message LinkError → Type 0
-  UsesSpare is_kept message answer = IsTrue is_kept × ((stream : S) × IsAnsweredOver is_kept message stream answer)
+-- spares were asked once for a connection to an address, if there are any and the connection is to be kept, and gave this one or none; else they are unchanged
+abbrev pub Takes : {P S : Type 0} → (Address → Option S → P → P → Type 0) → Bool → Address → Option S → Option P → Option P → Type 0
+Takes took true to spare (Some old) (Some new) = took to spare old new
+Takes took true to spare None (Some new) = ⊥
+Takes took true to spare old None = (spare ≡ None) × (old ≡ None)
+Takes took false to spare old new = (spare ≡ None) × (new ≡ old)
 
-module _ {N C S : Type 0} where
+module _ {N C P : Type 0} where
   -- how often a link has failed
-  abbrev pub failures_over : KeptLink N C S → ℕ
+  abbrev pub failures_over : KeptLink N C P → ℕ
   failures_over link = link.failures
 
   -- the network that a link uses
-  abbrev pub net_over : KeptLink N C S → N
+  abbrev pub net_over : KeptLink N C P → N
   net_over link = link.net
 
   -- how long the calls of a link may take
-  abbrev pub limits_over : KeptLink N C S → Limits
+  abbrev pub limits_over : KeptLink N C P → Limits
   limits_over link = link.limits
 
   -- the name of the cluster of a link's node, if it has one
-  abbrev pub cluster_over : KeptLink N C S → Option (List ℕ)
+  abbrev pub cluster_over : KeptLink N C P → Option (List ℕ)
   cluster_over link = link.cluster.now
 
-  -- two states of a link differ at most in the line of another cluster that came last
-  pub record IsSameBut (old new : KeptLink N C S) : Type 0 where
+  -- two states of a link differ at most in the line of another cluster that came last and in the connections that rest
+  pub record IsSameBut (old new : KeptLink N C P) : Type 0 where
     pub net : net_over new ≡ net_over old
     pub limits : limits_over new ≡ limits_over old
     pub cluster : cluster_over new ≡ cluster_over old
     pub failures : failures_over new ≡ failures_over old
 
+  -- the connections that rest, which a link uses, if it does
+  abbrev pub spares_over : KeptLink N C P → Option P
+  spares_over link = link.pool
+
   -- whether a link keeps the connection of a content
-  abbrev pub keeps_over : KeptLink N C S → Content → Bool
+  abbrev pub keeps_over : KeptLink N C P → Content → Bool
   keeps_over link content = is_kept link.pool content
 
-module _ {N C S : Type 0} (dialled : Dialled N S) (leads : SocketAddr → S → Type 0) (contents remaining : S → Option (List ℕ)) where
+module _ {N C P S : Type 0} (dialled : Dialled N S) (leads : SocketAddr → S → Type 0) (took : Address → Option S → P → P → Type 0) (contents remaining : S → Option (List ℕ)) where
   -- the link connected once, to the socket of the address within the limit for the message, and had its answer over that
-  abbrev pub ConnectsOnce : Address → Message → Result Message LinkError → KeptLink N C S → KeptLink N C S → Type 0
+  abbrev pub ConnectsOnce : Address → Message → Result Message LinkError → KeptLink N C P → KeptLink N C P → Type 0
   ConnectsOnce to message answer old new =
       (socket : SocketAddr) × IsSocketOf to socket × ((connection : Option S) × dialled socket (limit_for (limits_over old) message.content) connection (net_over old) (net_over new)
       × IsAnsweredFrom contents remaining (cluster_over old) leads socket (keeps_over old message.content) message connection answer)
 
-  -- one call of a link that keeps connections: it connected once; or it did not connect, and used one connection that had rested or has an
-  -- error
-  abbrev pub CallsKept : Address → Message → Result Message LinkError → KeptLink N C S → KeptLink N C S → Type 0
+  -- the link had its answer over the connection that had rested, and did not connect; or, if there is none, it connected once
+  abbrev pub GoesOver : Option S → Address → Message → Result Message LinkError → KeptLink N C P → KeptLink N C P → Type 0
+  GoesOver None to message answer old new = ConnectsOnce to message answer old new
+  GoesOver (Some spare) to message answer old new =
+      (net_over new ≡ net_over old) × IsAnsweredOver contents remaining (cluster_over old) (keeps_over old message.content) message spare answer
+
+  -- one call of a link that keeps connections: it took one that had rested, at most once, and went over that alone, or over a new one if there is
+  -- none; or it used neither, and has an error
+  abbrev pub CallsKept : Address → Message → Result Message LinkError → KeptLink N C P → KeptLink N C P → Type 0
   CallsKept to message answer old new =
       (limits_over new ≡ limits_over old) × (cluster_over new ≡ cluster_over old)
-      × (ConnectsOnce to message answer old new ⊎ ((net_over new ≡ net_over old) × (UsesSpare contents remaining (cluster_over old) (keeps_over old message.content) message answer ⊎ ((e : LinkError) × (answer ≡ Err e)))))
+      × (((spare : Option S) × Takes took (keeps_over old message.content) to spare (spares_over old) (spares_over new) × GoesOver spare to message answer old new)
+      ⊎ ((net_over new ≡ net_over old) × (spares_over new ≡ spares_over old) × ((e : LinkError) × (answer ≡ Err e))))

@@ -3,13 +3,13 @@ ghost use Rattle.std.specs.Prelude.{◌≡◌, ◌≢◌, ◌<◌, ◌-◌, ◌^
 ghost use Rattle.cluster_core.specs.Deadlines.{limit_of, stream_of};
 ghost use Rattle.cluster_core.specs.Limits.{limit_for};
 ghost use Rattle.cluster_core.specs.Sockets.{IsTooLong};
-ghost use Rattle.kept_links.specs.Exchanges.{CallsKept, IsAskedAs, IsMessageOf, IsSameBut, IsSentAs, cluster_over, failures_over, is_request, keeps_over, limits_over, net_over};
+ghost use Rattle.kept_links.specs.Exchanges.{CallsKept, IsAskedAs, IsMessageOf, IsSameBut, IsSentAs, cluster_over, failures_over, is_kept, is_request, keeps_over, limits_over, net_over, spares_over, Takes};
 ghost use Rattle.kept_links.specs.Marks.{inner_of};
 ghost use Rattle.peer_core.specs.Links.{IsNamed, fault_named};
 ghost use Rattle.wire_json.specs.Input.{line_of};
 
 use crate::marks::{Marked, marked_line};
-use crate::pools::Pool;
+use crate::pools::Spares;
 use change_core::Address;
 use cluster_core::{
     Deadline, Dial, Limits, Link, LinkError, Timed, send_owned_line, socket_address,
@@ -19,7 +19,6 @@ use message_core::{Content, Message, WireError};
 use std::alloc::Global;
 use std::io;
 use std::io::{Read, Write};
-use std::net::OpenStream;
 use std::sync::Wait;
 use std::time::Clock;
 use wire_json::{decode, encode};
@@ -112,10 +111,10 @@ fn line_for(
 /// once: if it fails over a connection that rested, it does not go over another. What is not done within the limit for its message counts as
 /// a failure. Where the cluster has a name, each line has it, and an answer without it is none: the call ends as if the connection had been closed.
 #[derive(Drop)]
-pub struct KeptLink<'a, N, C, S> {
+pub struct KeptLink<'a, N, C, P> {
     net: N,
     clock: &'a C,
-    pool: Option<&'a Pool<S>>,
+    pool: Option<P>,
     cluster: &'a Option<ClusterName>,
     limits: Limits,
     failures: u64,
@@ -123,19 +122,20 @@ pub struct KeptLink<'a, N, C, S> {
     foreign: Option<Vec<u8>>,
 }
 
-impl<'a, N, C, S> KeptLink<'a, N, C, S> {
+impl<'a, N, C, P> KeptLink<'a, N, C, P> {
     /// A link of a node of this cluster that has not failed yet, over this network, by this clock, with these limits, whose connections rest in this pool
     /// if it has one.
     pub fn new(
         net: N,
         clock: &'a C,
-        pool: Option<&'a Pool<S>>,
+        pool: Option<P>,
         cluster: &'a Option<ClusterName>,
         limits: Limits,
     ) -> Self
         ensures net { net_over result ≡ net }
         ensures cluster { cluster_over result ≡ cluster.now }
         ensures limits { limits_over result ≡ limits }
+        ensures pool { (content : Content) → keeps_over result content ≡ is_kept pool content }
         ensures failures { failures_over result ≡ 0 }
     {
         KeptLink {
@@ -154,6 +154,7 @@ impl<'a, N, C, S> KeptLink<'a, N, C, S> {
         ensures net { net_over result ≡ net_over self.entry }
         ensures cluster { cluster_over result ≡ cluster_over self.entry }
         ensures limits { limits_over result ≡ limits_over self.entry }
+        ensures pool { (content : Content) → keeps_over result content ≡ keeps_over self.entry content }
         ensures failures { failures_over result ≡ failures }
     {
         KeptLink { failures, ..self }
@@ -175,7 +176,7 @@ impl<'a, N, C, S> KeptLink<'a, N, C, S> {
     }
 }
 
-impl<'a, N, C: Clock, S> KeptLink<'a, N, C, S> {
+impl<'a, N, C: Clock, P> KeptLink<'a, N, C, P> {
     /// Starts the limit for a message with this content.
     fn deadline_for(&self, content: &Content) -> io::Result<Deadline<'a, C>>
         ensures { IfOk result (λ d. limit_of d ≡ limit_for (limits_over self.now) content.now) }
@@ -184,10 +185,16 @@ impl<'a, N, C: Clock, S> KeptLink<'a, N, C, S> {
     }
 }
 
-impl<'a, N, C: Clock, S: Read + Write + OpenStream + Drop> KeptLink<'a, N, C, S> {
-    /// Takes a connection to an address that rests; None if there is none.
-    fn spare<R: Wait>(&self, rt: &R, to: Address) -> Option<S> {
-        self.pool?.take(rt, self.clock, to)
+impl<'a, N, C: Clock, P: Spares> KeptLink<'a, N, C, P> {
+    /// Takes a connection to an address that rests for a message whose connection is kept; None if there is none.
+    fn spare<R: Wait>(&mut self, rt: &R, to: Address, is_kept: bool) -> Option<P::Stream>
+        ensures took { Takes P.took is_kept to result (spares_over self.old) (spares_over self.new) }
+        ensures same { IsSameBut self.old self.new }
+    {
+        match &mut self.pool {
+            Some(pool) if is_kept => pool.take(rt, self.clock, to),
+            _ => None,
+        }
     }
 
     /// Writes a line and its newline to a connection to an address, and returns the message that the next line is. Then the connection rests,
@@ -197,17 +204,18 @@ impl<'a, N, C: Clock, S: Read + Write + OpenStream + Drop> KeptLink<'a, N, C, S>
         rt: &R,
         alloc: Global,
         to: Address,
-        stream: Timed<'_, S, C>,
+        stream: Timed<'_, P::Stream, C>,
         line: Vec<u8>,
     ) -> Result<Message, LinkError>
-        ensures came { IfOk result (IsAskedAs S.contents S.remaining (cluster_over self.old) line.items (stream_of stream.entry)) }
+        ensures came { IfOk result (IsAskedAs P.Stream.contents P.Stream.remaining (cluster_over self.old) line.items (stream_of stream.entry)) }
         ensures same { IsSameBut self.old self.new }
+        ensures spares { spares_over self.new ≡ spares_over self.old }
         ensures named { IfErr result IsNamed }
         ensures unspent { IfErr result (λ e. e ≢ LinkError.Spent) }
     {
         let mut stream = send_owned_line(Marked::new(stream), line)?;
         let answer = get(alloc, self.cluster, &mut self.foreign, &mut stream);
-        if let Some(pool) = self.pool {
+        if let Some(pool) = &self.pool {
             if answer.is_ok() && stream.is_marked() {
                 let stream = stream.into_inner().into_inner();
                 pool.keep(rt, self.clock, to, stream);
@@ -217,7 +225,7 @@ impl<'a, N, C: Clock, S: Read + Write + OpenStream + Drop> KeptLink<'a, N, C, S>
     }
 }
 
-impl<'a, N: Dial<Stream = S>, C: Clock, S: Read + Write + OpenStream + Drop> KeptLink<'a, N, C, S> {
+impl<'a, N: Dial<Stream = P::Stream>, C: Clock, P: Spares> KeptLink<'a, N, C, P> {
     /// Sends a message once, and gives the one that comes back within its limit, which runs from before the connection was made. A link
     /// that is spent is not to send.
     fn ask<R: Wait>(
@@ -228,7 +236,7 @@ impl<'a, N: Dial<Stream = S>, C: Clock, S: Read + Write + OpenStream + Drop> Kep
         message: &Message,
     ) -> Result<Message, LinkError>
         requires { failures_over self.old < 2 ^ 64 - 1 }
-        ensures went { CallsKept N.dialled N.leads S.contents S.remaining to message.now result self.old self.new }
+        ensures went { CallsKept N.dialled N.leads P.took P.Stream.contents P.Stream.remaining to message.now result self.old self.new }
         ensures failures { failures_over self.new ≡ failures_over self.old }
         ensures named { IfErr result IsNamed }
         ensures unspent { IfErr result (λ e. e ≢ LinkError.Spent) }
@@ -239,10 +247,8 @@ impl<'a, N: Dial<Stream = S>, C: Clock, S: Read + Write + OpenStream + Drop> Kep
         let Ok(deadline) = self.deadline_for(&message.content) else {
             return Err(LinkError::Io);
         };
-        if is_kept {
-            if let Some(stream) = self.spare(rt, to) {
-                return self.exchange(rt, alloc, to, Timed::new(stream, deadline), line);
-            }
+        if let Some(stream) = self.spare(rt, to, is_kept) {
+            return self.exchange(rt, alloc, to, Timed::new(stream, deadline), line);
         }
         let limit = self.limits.limit_for(&message.content);
         let Ok(stream) = self.net.dial(&socket_address(to), limit) else {
@@ -252,15 +258,14 @@ impl<'a, N: Dial<Stream = S>, C: Clock, S: Read + Write + OpenStream + Drop> Kep
     }
 }
 
-impl<'a, N: Dial<Stream = S>, C: Clock, S: Read + Write + OpenStream + Drop> Link
-    for KeptLink<'a, N, C, S> {
+impl<'a, N: Dial<Stream = P::Stream>, C: Clock, P: Spares> Link for KeptLink<'a, N, C, P> {
     ghost use Rattle.std.specs.Prelude.{◌+◌, ◌↔◌};
     ghost use Rattle.peer_core.specs.Links.{failures_in};
     ghost use Rattle.cluster_core.specs.Channels.{any_answer};
 
     ghost may_answer = { λ _ _ _. Unit {0} };
 
-    ghost went = { CallsKept N.dialled N.leads S.contents S.remaining };
+    ghost went = { CallsKept N.dialled N.leads P.took P.Stream.contents P.Stream.remaining };
 
     ghost failed = { λ l. l.failures };
 
@@ -276,7 +281,7 @@ impl<'a, N: Dial<Stream = S>, C: Clock, S: Read + Write + OpenStream + Drop> Lin
         message: &Message,
     ) -> Result<Message, LinkError>
         ensures came { any_answer to message.now result }
-        ensures went { CallsKept N.dialled N.leads S.contents S.remaining to message.now result self.old self.new }
+        ensures went { CallsKept N.dialled N.leads P.took P.Stream.contents P.Stream.remaining to message.now result self.old self.new }
         ensures failures { failures_over self.new ≡ failures_over self.old + failures_in result }
         ensures spent { result ≡ Err LinkError.Spent ↔ failures_over self.old ≡ 2 ^ 64 - 1 }
         ensures named { IfErr result IsNamed }

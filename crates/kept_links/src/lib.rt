@@ -10,4 +10,4 @@ mod pools;
 
 pub use kept_links::KeptLink;
 pub use marks::{Marked, marked_line};
-pub use pools::Pool;
+pub use pools::{Pool, Spares};

@@ -4,7 +4,7 @@ ghost use Rattle.kept_links.specs.Pools.{has_room, leads_to};
 
 use change_core::Address;
 use std::alloc::Global;
-use std::io::ErrorKind;
+use std::io::{ErrorKind, Read, Write};
 use std::net::OpenStream;
 use std::sync::atomic::{AtomicU64, Ordering};
 use std::sync::{Mutex, Wait};
@@ -174,5 +174,41 @@ impl<S: OpenStream + Drop> Pool<S> {
             }
             self.count_closed();
         }
+    }
+}
+
+/// Connections that rest, as a link uses them.
+pub trait Spares {
+    ghost use Rattle.std.specs.Prelude.{Option};
+    ghost use Rattle.change_core.specs.declared.addresses.Address.{Address};
+
+    /// A connection.
+    type Stream: Read + Write + OpenStream + Drop;
+
+    /// One call of `take`: an address, the connection if there is one, and the state before and after. Spares can say by it how often they were
+    /// asked for one; a pool that threads share says nothing.
+    ghost took: { Address → Option Self.Stream → Self → Self → Type 0 };
+
+    /// Takes a connection to an address that rests; None if there is none.
+    fn take<R: Wait, C: Clock>(&mut self, rt: &R, clock: &C, to: Address) -> Option<Self::Stream>
+        ensures { took to result self.old self.new };
+
+    /// Lets a connection to an address rest, or closes it.
+    fn keep<R: Wait, C: Clock>(&self, rt: &R, clock: &C, to: Address, stream: Self::Stream);
+}
+
+impl<'p, S: Read + Write + OpenStream + Drop> Spares for &'p Pool<S> {
+    type Stream = S;
+
+    ghost took = { λ _ _ _ _. Unit {0} };
+
+    fn take<R: Wait, C: Clock>(&mut self, rt: &R, clock: &C, to: Address) -> Option<S> {
+        let pool: &Pool<S> = *self;
+        pool.take(rt, clock, to)
+    }
+
+    fn keep<R: Wait, C: Clock>(&self, rt: &R, clock: &C, to: Address, stream: S) {
+        let pool: &Pool<S> = *self;
+        pool.keep(rt, clock, to, stream);
     }
 }

@@ -118,6 +118,11 @@ impl<K: Drop> Lot<K> {
         }
     }
 
+    /// Frees the place of a connection that its worker keeps.
+    pub fn release(&self) {
+        self.free(1);
+    }
+
     /// Closes a connection.
     pub fn close(&self, stream: TcpStream) {
         drop(stream);

@@ -22,9 +22,6 @@ const LISTENER: Token = Token(usize::MAX - 1);
 /// The most events, and the most connections accepted, of one turn.
 const MAX_EVENTS: usize = 256;
 
-/// The milliseconds between two looks for connections whose time is up.
-const BETWEEN_SWEEPS: u64 = 1_000;
-
 /// The milliseconds after which it accepts again where that failed.
 const BETWEEN_FAILURES: u64 = 100;
 
@@ -47,6 +44,8 @@ pub struct Timing {
     pub patience: Duration,
     /// The milliseconds for which a connection may send nothing at first.
     pub idle: u64,
+    /// The milliseconds between two looks for connections whose time is up.
+    pub between_sweeps: u64,
 }
 
 /// A reactor, for the one thread that makes its turns.
@@ -142,7 +141,7 @@ impl<K: Drop> Reactor<K> {
     /// - The error of the system that let no connection be accepted. It is tried again at the next turn.
     pub fn turn<R: Wait>(&mut self, rt: &R, now: u64) -> io::Result<bool> {
         let is_called = self.hand_over(rt);
-        if now >= self.swept.saturating_add(BETWEEN_SWEEPS) {
+        if now >= self.swept.saturating_add(self.timing.between_sweeps) {
             self.swept = now;
             self.lot.close_late(rt, now);
         }

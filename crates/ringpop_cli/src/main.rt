@@ -4,7 +4,7 @@
 use clap::error::ErrorKind as Refused;
 use cli_core::ClusterCommand;
 use cli_run::{Fault, explain, words_run};
-use cli_words::{Words, WordsError, bad_argument, read_words, words_not_text};
+use cli_words::{ClusterWords, Words, WordsError, bad_argument, read_words, words_not_text};
 use std::alloc::{Alloc, Global};
 use std::env::Env;
 use std::fs::Files;
@@ -34,7 +34,12 @@ fn given_words(rt: &(impl Env + Alloc<A = Global>)) -> Result<Vec<String>, Words
 /// Refuses a server's own address 0.0.0.0, by which no other node can call it, with the exit status.
 fn refuse_nowhere<R: Eprint>(rt: &R, words: &Words<'_>) -> Option<ExitCode> {
     match words {
-        Words::Cluster(ClusterCommand::Serve(server)) if server.address.ip() == 0 => {
+        Words::Cluster(
+            ClusterWords {
+                command: ClusterCommand::Serve(server),
+                ..
+            },
+        ) if server.address.ip() == 0 => {
             let address = server.address;
             let error = WordsError::BadAddress;
             let _ = eprintln!(rt;

@@ -131,6 +131,7 @@ fn settings_of(ip: u32, hosts: Vec<Address>) -> Option<Settings> {
         incarnation: Some(Incarnation::new(1)?),
         level: LevelFilter::Off,
         hosts,
+        hosts_file: None,
     })
 }
 

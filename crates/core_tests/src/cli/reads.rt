@@ -8,7 +8,8 @@ use cli_core::{
     AskAnyWords, AskWords, ClusterCommand, MembersForm, MembersWords, OwnerWords, ServeWords,
     SimWords, Subcommand,
 };
-use cli_words::{Words, WordsError, read_words};
+use cli_words::{ClusterWords, Words, WordsError, read_words};
+use cluster_names::ClusterName;
 use std::alloc::Global;
 use std::env::Env;
 use std::process::Abort;
@@ -91,9 +92,29 @@ fn local(rt: &impl Abort) -> Address {
     Address::new(0x7f00_0001, 1).expect(rt, "an address")
 }
 
+/// A command that speaks to nodes whose cluster has no name.
+fn unnamed<'a>(command: ClusterCommand<'a>) -> Words<'a> {
+    Words::Cluster(ClusterWords {
+        command,
+        cluster: None,
+    })
+}
+
+/// One that speaks to nodes of the cluster blue.
+fn of_blue<'a>(rt: &(impl Env + Abort), alloc: Global, command: ClusterCommand<'a>) -> Words<'a> {
+    let cluster = match ClusterName::new(alloc, "blue") {
+        Ok(name) => name,
+        Err(_) => {
+            check_refused(rt);
+            ClusterName::new(alloc, "blue").ok().expect(rt, "memory")
+        }
+    };
+    Words::Cluster(ClusterWords { command, cluster })
+}
+
 /// A request to 127.0.0.1:1.
 fn ask<'a>(rt: &impl Abort, key: &'a str, body: &'a str) -> Words<'a> {
-    Words::Cluster(ClusterCommand::Ask(AskWords {
+    unnamed(ClusterCommand::Ask(AskWords {
         address: local(rt),
         key,
         body,
@@ -104,7 +125,7 @@ fn ask<'a>(rt: &impl Abort, key: &'a str, body: &'a str) -> Words<'a> {
 fn ask_any(rt: &impl Abort, replicas: u32, sum: bool) -> Words<'static>
     requires { IsReplicas replicas }
 {
-    Words::Cluster(ClusterCommand::AskAny(AskAnyWords {
+    unnamed(ClusterCommand::AskAny(AskAnyWords {
         host: local(rt),
         replicas,
         sum,
@@ -132,28 +153,50 @@ fn reads_the_words_of_questions(rt: HostRuntime) {
         form: MembersForm::Digest,
     });
     let line = "ringpop members 127.0.0.1:1";
-    asks(&rt, alloc, line, Words::Cluster(members));
+    asks(&rt, alloc, line, unnamed(members));
     let lines = ClusterCommand::Members(MembersWords {
         host,
         form: MembersForm::Lines,
     });
     let line = "ringpop members --lines 127.0.0.1:1";
-    asks(&rt, alloc, line, Words::Cluster(lines));
+    asks(&rt, alloc, line, unnamed(lines));
     let table = ClusterCommand::Members(MembersWords {
         host,
         form: MembersForm::Table,
     });
     let line = "ringpop members --table 127.0.0.1:1";
-    asks(&rt, alloc, line, Words::Cluster(table));
+    asks(&rt, alloc, line, unnamed(table));
     let tell = ClusterCommand::Tell(host);
-    asks(&rt, alloc, "ringpop tell 127.0.0.1:1", Words::Cluster(tell));
+    asks(&rt, alloc, "ringpop tell 127.0.0.1:1", unnamed(tell));
+}
+
+/// The same with the name of a cluster, before and behind other options.
+#[test]
+fn reads_the_name_of_the_cluster(rt: HostRuntime) {
+    let (alloc, host) = (rt.alloc(), local(&rt));
+    let question = ClusterCommand::Ask(AskWords {
+        address: host,
+        key: "k",
+        body: "b",
+    });
+    let line = "ringpop ask --cluster blue 127.0.0.1:1 k b";
+    asks(&rt, alloc, line, of_blue(&rt, alloc, question));
+    let members = ClusterCommand::Members(MembersWords {
+        host,
+        form: MembersForm::Lines,
+    });
+    let line = "ringpop members --cluster=blue --lines 127.0.0.1:1";
+    asks(&rt, alloc, line, of_blue(&rt, alloc, members));
+    let tell = ClusterCommand::Tell(host);
+    let line = "ringpop tell 127.0.0.1:1 --cluster blue";
+    asks(&rt, alloc, line, of_blue(&rt, alloc, tell));
 }
 
 /// What serves at 127.0.0.1:1 where only the incarnation 1 and one connection are told, but for the hosts.
 fn least_server(rt: &impl Abort, hosts: Vec<Address>) -> Words<'static>
     requires { vec_len hosts < 2 ^ 32 }
 {
-    Words::Cluster(ClusterCommand::Serve(ServeWords {
+    unnamed(ClusterCommand::Serve(ServeWords {
         address: local(rt),
         incarnation: Incarnation::new(1).expect(rt, "an incarnation"),
         requests: 1,
@@ -171,7 +214,7 @@ fn least_server(rt: &impl Abort, hosts: Vec<Address>) -> Words<'static>
 
 /// What serves at 127.0.0.1:1 with the greatest numbers.
 fn greatest_server(rt: &impl Abort, alloc: Global) -> Words<'static> {
-    Words::Cluster(ClusterCommand::Serve(ServeWords {
+    unnamed(ClusterCommand::Serve(ServeWords {
         address: local(rt),
         incarnation: Incarnation::new(MAX_NUMBER).expect(rt, "an incarnation"),
         requests: 1_000_000,

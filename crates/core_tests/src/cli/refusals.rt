@@ -95,7 +95,7 @@ fn names_an_agents_bad_address(rt: HostRuntime) {
 }
 
 /// Arguments, and the start of their error text.
-const REFUSED_WORDS: [(&str, &str); 33] = rows! {
+const REFUSED_WORDS: [(&str, &str); 39] = rows! {
     "ringpop ", "error: unrecognized subcommand ''\n";
     "ringpop server", "error: unrecognized subcommand 'server'\n";
     "ringpop --help", "Names the members of a cluster and the owners of its keys";
@@ -124,13 +124,22 @@ const REFUSED_WORDS: [(&str, &str); 33] = rows! {
     "ringpop agent --key-field X-User 127.0.0.1:1", "error: the following required arguments were not provided:\n  --any-request\n";
     "ringpop agent --cluster a/b 127.0.0.1:1", "error: invalid value 'a/b' for '--cluster <NAME>': give 1 to 64 letters, digits, '.', '_' and '-'\n";
     "ringpop agent --cluster= 127.0.0.1:1", "error: invalid value '' for '--cluster <NAME>': give 1 to 64 letters, digits";
+    "ringpop members --cluster a/b 127.0.0.1:1",
+        "error: invalid value 'a/b' for '--cluster <NAME>': give 1 to 64 letters, digits, '.', '_' and '-'\n\nUsage: ringpop members [OPTIONS] <HOST>\n";
+    "ringpop ask --cluster= 127.0.0.1:1 k b",
+        "error: invalid value '' for '--cluster <NAME>': give 1 to 64 letters, digits, '.', '_' and '-'\n\nUsage: ringpop ask [OPTIONS] <ADDRESS> <KEY> <BODY>\n";
+    "ringpop ask --any --cluster é 127.0.0.1:1 k b", "error: invalid value 'é' for '--cluster <NAME>': give 1 to 64 letters, digits";
+    "ringpop tell --cluster a\"b 127.0.0.1:1",
+        "error: invalid value 'a\"b' for '--cluster <NAME>': give 1 to 64 letters, digits, '.', '_' and '-'\n\nUsage: ringpop tell [OPTIONS] <HOST>\n";
+    "ringpop tell --cluster a/b x", "ringpop: bad address\n";
+    "ringpop serve --cluster a 127.0.0.1:1 1 1", "error: unexpected argument '--cluster' found\n";
     "ringpop ask 10.0.0.01:1 k b", "ringpop: bad address\n";
     "ringpop ask --any x k b", "ringpop: bad address\n";
     "ringpop members 10.0.0.1:0", "ringpop: bad address\n";
     "ringpop members ", "ringpop: bad address\n";
     "ringpop tell x", "ringpop: bad address\n";
     "ringpop tell --help",
-        "Reads change lines; sends them to a running node, and prints how many members it then holds\n\nUsage: ringpop tell <HOST>\n";
+        "Reads change lines; sends them to a running node, and prints how many members it then holds\n\nUsage: ringpop tell [OPTIONS] <HOST>\n";
 };
 
 /// Other words are refused by `clap`, in its own text, with status 2; `--sum` or `--replicas` of `ask` without `--any` among them. Behind

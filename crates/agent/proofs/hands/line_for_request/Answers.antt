@@ -1,42 +1,46 @@
 use Rattle.std.proofs.Common.{◌≡◌, ◌≢◌, Bool, true, false, rules, subst}
 use Rattle.line_service.specs.declared.inputs.Input.{Input}
+use Rattle.agent.specs.Asking.{handler_of}
 use Rattle.agent.specs.Relays.{IsRelayOf}
-use Rattle.agent.specs.Serving.{IsAnsweredHere, IsServed}
+use Rattle.agent.specs.Serving.{IsAnsweredHere, IsServed, asks}
 use Rattle.agent.specs.declared.relays.Relayed.{Relayed}
 use Rattle.agent.specs.declared.relays.Relayed.TheVariants.{NotDone}
 use Rattle.agent.proofs.hands.line_for_request.Goals as goal
 
-pub returns-then-was_asked : goal.returns-then-was_asked
-returns-then-was_asked g c =
-    let asked : c.own_answer-line.result.1 ≡ true = search rules in
+pub returns-then-handler : goal.returns-then-handler
+returns-then-handler g c =
+    let asked : c.own_answer-line.new.handler.was_asked ≡ true = search rules in
     record {
       served = IsServed.here c.own_answer-line.new.caller
-          (subst (λ (b : Bool). IsAnsweredHere c.args.job.now.input c.own_answer-line.result.0 b c.args.caller.now c.own_answer-line.new.caller) asked
-          c.own_answer-line.ensures.answered);
+          (subst (λ (b : Bool). IsAnsweredHere (asks g.A.HandlerMut.handled b (handler_of c.args.handler.now) (handler_of c.own_answer-line.new.handler))
+          c.args.job.now.input c.own_answer-line.result c.args.caller.now c.own_answer-line.new.caller) asked c.own_answer-line.ensures.answered);
     }
 
 pub returns-in-Some : goal.returns-in-Some
 returns-in-Some g c =
-    let unasked : c.own_answer-line.result.1 ≡ false = search rules in
+    let unasked : c.own_answer-line.new.handler.was_asked ≡ false = search rules in
     let done : c.relay-relayed.result ≢ NotDone = search rules in
     record {
-      served = IsServed.there c.own_answer-line.result.0 c.own_answer-line.new.caller c.renew.new.caller c.relay-relayed.new.caller c.relay-relayed.result
-          (subst (λ (b : Bool). IsAnsweredHere c.args.job.now.input c.own_answer-line.result.0 b c.args.caller.now c.own_answer-line.new.caller) unasked
-          c.own_answer-line.ensures.answered) c.relay-relayed.ensures.relayed done (search rules);
+      served = IsServed.there c.own_answer-line.result c.own_answer-line.new.caller c.renew.new.caller c.relay-relayed.new.caller c.relay-relayed.result
+          (subst (λ (b : Bool). IsAnsweredHere (asks g.A.HandlerMut.handled b (handler_of c.args.handler.now) (handler_of c.own_answer-line.new.handler))
+          c.args.job.now.input c.own_answer-line.result c.args.caller.now c.own_answer-line.new.caller) unasked c.own_answer-line.ensures.answered)
+          c.relay-relayed.ensures.relayed done (search rules);
     }
 
 pub returns : goal.returns
 returns g c =
-    let unasked : c.own_answer-line.result.1 ≡ false = search rules in
+    let unasked : c.own_answer-line.new.handler.was_asked ≡ false = search rules in
     let kept : c.relay-relayed.result ≡ NotDone = search rules in
     record {
-      served = IsServed.here_again c.own_answer-line.result.0 c.own_answer-line.new.caller c.renew.new.caller c.relay-relayed.new.caller
-          c.renew-2.new.caller c.own_answer.new.caller c.own_answer.result.1
-          (subst (λ (b : Bool). IsAnsweredHere c.args.job.now.input c.own_answer-line.result.0 b c.args.caller.now c.own_answer-line.new.caller) unasked
-          c.own_answer-line.ensures.answered)
+      served = IsServed.here_again (handler_of c.own_answer-line.new.handler) c.own_answer-line.result c.own_answer-line.new.caller c.renew.new.caller c.relay-relayed.new.caller
+          c.renew-2.new.caller c.own_answer.new.caller c.own_answer.new.handler.was_asked
+          (subst (λ (b : Bool). IsAnsweredHere (asks g.A.HandlerMut.handled b (handler_of c.args.handler.now) (handler_of c.own_answer-line.new.handler))
+          c.args.job.now.input c.own_answer-line.result c.args.caller.now c.own_answer-line.new.caller) unasked c.own_answer-line.ensures.answered)
           (subst
           (λ (r : Relayed). IsRelayOf g.L.Link.may_answer g.L.Link.went c.args.job.now.input r c.args.relay_link.now c.relay-relayed.new.link c.renew.new.caller
           c.relay-relayed.new.caller) kept c.relay-relayed.ensures.relayed)
-          (subst (λ (heard : Input). IsAnsweredHere heard c.own_answer.result.0 c.own_answer.result.1 c.renew-2.new.caller c.own_answer.new.caller)
+          (subst
+          (λ (heard : Input). IsAnsweredHere (asks g.A.HandlerMut.handled c.own_answer.new.handler.was_asked (handler_of c.own_answer-line.new.handler)
+          (handler_of c.own_answer.new.handler)) heard c.own_answer.result c.renew-2.new.caller c.own_answer.new.caller)
           c.relay-relayed.ensures.same c.own_answer.ensures.answered);
     }

@@ -1,14 +1,14 @@
-use Rattle.std.proofs.Common.{Bool}
-use Rattle.agent.specs.declared.applications.Limited.{Limited}
-use Rattle.agent.specs.declared.links.NotedHandler.{NotedHandler}
-use Rattle.agent.proofs.Asking.{answered_here, noting}
+use Rattle.peer_core.specs.Handling.{between}
+use Rattle.agent.proofs.Asking.{answered_here, asks_noted, noted_never, noted_once, noting}
 use Rattle.agent.proofs.hands.own_answer.Goals as goal
 
 pub returns : goal.returns
 returns g c =
-    let asked_of : NotedHandler (Limited g.row.R.Denot) → Bool = λ h. h.was_asked in
+    let handled = g.A.HandlerMut.handled in
+    let was = c.args.handler.now in
+    let is = c.respond.new.handler in
     record {
-      answered = answered_here (noting asked_of) asked_of (λ keys body answer was is called. called.0) c.new-handler.result c.respond-line.new.handler
-          c.new-handler.ensures.asked c.now-now.result c.args.job.now.input c.respond-line.result c.args.caller.now c.respond-line.new.self
-          c.respond-line.ensures.node c.respond-line.ensures.sent c.respond-line.ensures.silent;
+      answered = answered_here (between (noting handled) was is) (asks_noted handled was is c.requires is.was_asked) (noted_once handled was is c.requires)
+          (noted_never handled was is c.requires) c.now-now.result c.args.job.now.input c.respond.result c.args.caller.now c.respond.new.self
+          c.respond.ensures.node c.respond.ensures.sent c.respond.ensures.silent;
     }

@@ -1,17 +1,18 @@
 use Rattle.std.proofs.Common.{◌≡◌, rules}
 use Rattle.std.proofs.lemmas.Option.{IfSome_then}
 use Rattle.std.specs.Prelude.{IsTrue}
-use Rattle.agent.proofs.Relaying.{chosen_after, if_none, kept_by_sender, kept_unnamed, sent_before, sent_later, sent_none}
+use Rattle.agent.proofs.Relaying.{chosen_after, if_none, kept_by_sender, kept_joining, kept_quiet, kept_unnamed, looks_nowhere}
 use Rattle.agent.proofs.Performed.{made_then}
 use Rattle.agent.proofs.relays.agreed_owner.Goals as goal
 
 pub returns-in_err-owner-clause-withheld : goal.returns-in_err-owner-clause-withheld
 returns-in_err-owner-clause-withheld g c =
-    if_none c.from_residual.result (sent_none g.L.Link.may_answer g.L.Link.went _ c.args.link.now c.args.caller.now _ c.in_err-owner.ensures.quiet)
+    if_none c.from_residual.result (kept_quiet g.L.Link.may_answer g.L.Link.went c.args.request.now c.args.link.now c.args.caller.now _ c.in_err-owner.ensures.quiet)
 
 pub returns-then-not-meet_sender-clause-withheld : goal.returns-then-not-meet_sender-clause-withheld
 returns-then-not-meet_sender-clause-withheld g c =
-    sent_later g.L.Link.may_answer g.L.Link.went _ c.args.link.now _ c.args.caller.now _ _ c.in_ok-owner.ensures.quiet c.meet_sender.ensures.sent
+    kept_joining g.L.Link.may_answer g.L.Link.went c.args.request.now c.args.link.now _ c.args.caller.now _ _ _ c.in_ok-owner.ensures.quiet c.meet_sender.ensures.tried
+    (looks_nowhere _)
 
 pub returns-clause-chosen : goal.returns-clause-chosen
 returns-clause-chosen g c =
@@ -24,8 +25,7 @@ returns-clause-chosen g c =
 pub returns-clause-withheld : goal.returns-clause-withheld
 returns-clause-withheld g c =
     if_none c.owner_after_join.result
-    (sent_before g.L.Link.may_answer g.L.Link.went _ c.args.link.now _ c.args.caller.now _ _
-    (sent_later g.L.Link.may_answer g.L.Link.went _ c.args.link.now _ c.args.caller.now _ _ c.in_ok-owner.ensures.quiet c.meet_sender.ensures.sent)
+    (kept_joining g.L.Link.may_answer g.L.Link.went c.args.request.now c.args.link.now _ c.args.caller.now _ _ _ c.in_ok-owner.ensures.quiet c.meet_sender.ensures.tried
     c.owner_after_join.ensures.quiet)
 
 pub returns-in_err-owner-clause-kept : goal.returns-in_err-owner-clause-kept
@@ -34,11 +34,11 @@ returns-in_err-owner-clause-kept g c = if_none c.from_residual.result (kept_unna
 pub returns-then-not-meet_sender-clause-kept : goal.returns-then-not-meet_sender-clause-kept
 returns-then-not-meet_sender-clause-kept g c =
     let same : c.in_ok-owner.owner ≡ c.args.request.now.source = search rules in
-    kept_by_sender c.args.request.now c.in_ok-owner.owner _ c.args.caller.now _ _ same c.in_ok-owner.ensures.named c.meet_sender.ensures.sent
+    kept_by_sender c.args.request.now c.in_ok-owner.owner _ c.args.caller.now _ _ same c.in_ok-owner.ensures.named c.meet_sender.ensures.tried
 
 pub returns-clause-kept : goal.returns-clause-kept
 returns-clause-kept g c =
     let same : c.in_ok-owner.owner ≡ c.args.request.now.source = search rules in
     if_none c.owner_after_join.result
     (kept_by_sender c.args.request.now c.in_ok-owner.owner _ c.args.caller.now _ _ same c.in_ok-owner.ensures.named
-    (made_then _ _ _ _ _ c.meet_sender.ensures.sent c.owner_after_join.ensures.quiet))
+    (made_then _ _ _ _ _ c.meet_sender.ensures.tried c.owner_after_join.ensures.quiet))

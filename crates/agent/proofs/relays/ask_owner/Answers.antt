@@ -1,15 +1,14 @@
-use Rattle.std.proofs.Common.{refl}
 use Rattle.agent.proofs.Relaying.{passes_on, withheld_after}
 use Rattle.agent.proofs.relays.ask_owner.Goals as goal
 
 pub returns-in_default-own-clause-passed : goal.returns-in_default-own-clause-passed
 returns-in_default-own-clause-passed g c =
-    withheld_after g.L.Link.may_answer g.L.Link.went c.args.request.now _ c.in-Some.owner c.own.result c.args.link.now _ c.args.caller.now _ _ refl
+    withheld_after g.L.Link.may_answer g.L.Link.went c.args.request.now c.in-Some.owner c.own.result c.args.link.now _ c.args.caller.now _ _
     c.in-Some.ensures.chosen c.own.ensures.node c.own.ensures.did
 
 pub returns-then-not-has_time-clause-passed : goal.returns-then-not-has_time-clause-passed
 returns-then-not-has_time-clause-passed g c =
-    withheld_after g.L.Link.may_answer g.L.Link.went c.args.request.now _ c.in-Some.owner c.own.result c.args.link.now _ c.args.caller.now _ _ refl
+    withheld_after g.L.Link.may_answer g.L.Link.went c.args.request.now c.in-Some.owner c.own.result c.args.link.now _ c.args.caller.now _ _
     c.in-Some.ensures.chosen c.own.ensures.node c.own.ensures.did
 
 pub returns-clause-passed : goal.returns-clause-passed

@@ -7,4 +7,5 @@ returns c =
     let text = string_bytes c.args.text.now in
     let a0 = c.in_ok-push_times.ensures in
     let a1 = grown text _ _ _ _ a0 c.in_ok-push_times-2.ensures in
-    grown text _ _ _ _ a1 c.in_ok-push_times-3.ensures
+    let a2 = grown text _ _ _ _ a1 c.in_ok-push_times-3.ensures in
+    grown text _ _ _ _ a2 c.in_ok-push_times-4.ensures

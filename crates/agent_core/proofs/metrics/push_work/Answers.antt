@@ -9,4 +9,5 @@ returns c =
     let a1 = grown text _ _ _ _ a0 c.in_ok-push_answers.ensures in
     let a2 = grown text _ _ _ _ a1 c.in_ok-push_histograms.ensures in
     let a3 = grown text _ _ _ _ a2 c.in_ok-push_rounds.ensures in
-    grown text _ _ _ _ a3 c.in_ok-push_others.ensures
+    let a4 = grown text _ _ _ _ a3 c.in_ok-push_changes.ensures in
+    grown text _ _ _ _ a4 c.in_ok-push_others.ensures

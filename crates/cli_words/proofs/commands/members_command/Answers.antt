@@ -6,4 +6,4 @@ use Rattle.cli_words.proofs.commands.members_command.Goals as goal
 pub returns : goal.returns
 returns c =
     leaf_if_built _ _ (codes "members") line.members_words.rules c.leaf_command.result c.leaf_command.ensures c.in_ok-words.ensures.items
-    ((search rules), refl, (c.table_flag.ensures, refl, (c.host_word.ensures, refl, tt)))
+    (c.lines_flag-lines.ensures, refl, (c.table_flag-table.ensures, refl, (c.cluster_option.ensures, refl, (c.host_word.ensures, refl, tt))))

@@ -21,6 +21,13 @@ returns-in-Live-clause-performed g c =
     subst (λ (it : Action). HasMade (Performs c.args.self.now.limit agent.own agent.replicas it c.liveness.result) caller caller) (sym c.in-Live.is)
     (made_none (Performs c.args.self.now.limit agent.own agent.replicas action.Live c.liveness.result) caller caller refl (refl, c.liveness.ensures))
 
+pub returns-in-Log-clause-performed : goal.returns-in-Log-clause-performed
+returns-in-Log-clause-performed g c =
+    let agent = c.args.self.now.agent.now in
+    let caller = c.args.self.now.caller.now in
+    subst (λ (it : Action). HasMade (Performs c.args.self.now.limit agent.own agent.replicas it c.log_level.result) caller caller) (sym c.in-Log.is)
+    (made_none (Performs c.args.self.now.limit agent.own agent.replicas (action.Log c.in-Log.level) c.log_level.result) caller caller refl (refl, c.log_level.ensures))
+
 pub returns-in-Page-clause-performed : goal.returns-in-Page-clause-performed
 returns-in-Page-clause-performed g c =
     let agent = c.args.self.now.agent.now in

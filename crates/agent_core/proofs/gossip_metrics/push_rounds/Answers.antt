@@ -1,6 +1,6 @@
 use Rattle.std.proofs.Common.{string_bytes}
 use Rattle.agent_core.proofs.Growing.{grown}
-use Rattle.agent_core.proofs.metrics.push_rounds.Goals as goal
+use Rattle.agent_core.proofs.gossip_metrics.push_rounds.Goals as goal
 
 pub returns : goal.returns
 returns c =

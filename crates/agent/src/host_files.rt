@@ -1,0 +1,167 @@
+//! The hosts of an agent: those of its settings, and those of a file that is read again while it runs.
+use crate::agents::Agent;
+use crate::errors::AgentError;
+use crate::settings::Settings;
+use agent_core::{MAX_HOSTS_BYTES, Notice, hosts_in};
+use agent_state::{Count, System};
+use change_core::Address;
+use log::{info, warn};
+use std::alloc::{AllocError, Global};
+use std::fs::{File, Files};
+use std::io::{Error, ErrorKind, Read};
+use std::sync::{Mutex, Wait};
+
+/// The hosts on their way from the first thread, which alone has the files, to the threads that ask them.
+#[derive(Drop)]
+pub struct Hosts {
+    own: Address,
+    given: Vec<Address>,
+    file: Option<String>,
+    /// The number of hosts.
+    pub count: Count,
+    known: Mutex<Vec<Address>>,
+    /// The hosts after they changed, if the thread that joins by them has not taken them yet.
+    for_joins: Mutex<Option<Vec<Address>>>,
+    /// The same for the thread of the rounds.
+    for_rounds: Mutex<Option<Vec<Address>>>,
+}
+
+/// Returns the error of an agent for one of reading the file of hosts.
+fn unread(error: Error) -> AgentError {
+    match error.kind() {
+        ErrorKind::OutOfMemory => AgentError::Memory,
+        kind => AgentError::CannotRead(kind),
+    }
+}
+
+/// Reads the hosts that a file lists. It reads no more than one byte more than they may have.
+fn read_hosts<R: Files>(rt: &R, alloc: Global, path: &str) -> Result<Vec<Address>, AgentError> {
+    let file = File::open(rt, path).map_err(unread)?;
+    let mut bytes = Vec::new(alloc);
+    file.take(MAX_HOSTS_BYTES as u64 + 1)
+        .read_to_end(&mut bytes)
+        .map_err(unread)?;
+    Ok(hosts_in(alloc, bytes.as_slice())?)
+}
+
+/// Returns the hosts of settings and those of their file, if there is one, without the node's own address.
+fn list_hosts<R: Files>(
+    rt: &R,
+    alloc: Global,
+    own: Address,
+    given: &[Address],
+    file: &Option<String>,
+) -> Result<Vec<Address>, AgentError> {
+    let mut hosts = Vec::from_slice(alloc, given)?;
+    if let Some(path) = file {
+        let listed = read_hosts(rt, alloc, path.as_str())?;
+        hosts.extend_from_slice(listed.as_slice())?;
+    }
+    hosts.retain(|host| *host != own);
+    Ok(hosts)
+}
+
+impl Hosts {
+    /// Makes the hosts of settings, whose file is read for the first time.
+    ///
+    /// # Errors
+    ///
+    /// - `CannotRead`: the file can't be read.
+    /// - `BadHosts`: it lists no hosts.
+    /// - `Memory`: out of memory.
+    pub fn read<R: Files>(rt: &R, alloc: Global, settings: &Settings) -> Result<Hosts, AgentError> {
+        let own = settings.address;
+        let given = settings.hosts.clone()?;
+        let file = settings.hosts_file.clone()?;
+        let known = list_hosts(rt, alloc, own, given.as_slice(), &file)?;
+        let count = Count::new();
+        count.set(known.len() as u64);
+        Ok(Hosts {
+            own,
+            given,
+            file,
+            count,
+            known: Mutex::new(known),
+            for_joins: Mutex::new(None),
+            for_rounds: Mutex::new(None),
+        })
+    }
+
+    /// Returns whether there are hosts, or may be some later.
+    pub fn may_come(&self) -> bool {
+        self.file.is_some() || self.count.get() > 0
+    }
+
+    /// Returns a copy of the hosts.
+    ///
+    /// # Errors
+    ///
+    /// - `AllocError`: out of memory.
+    pub fn known<W: Wait>(&self, rt: &W) -> Result<Vec<Address>, AllocError> {
+        self.known.lock(rt).clone()
+    }
+
+    /// Takes the hosts for the thread that joins by them, if they changed since it did so last.
+    pub fn take_for_joins<W: Wait>(&self, rt: &W) -> Option<Vec<Address>> {
+        self.for_joins.lock(rt).take()
+    }
+
+    /// Takes the hosts for the thread of the rounds, if they changed since it did so last.
+    pub fn take_for_rounds<W: Wait>(&self, rt: &W) -> Option<Vec<Address>> {
+        self.for_rounds.lock(rt).take()
+    }
+
+    /// Takes these hosts in place of those that are known, and hands them to the threads that ask them. Returns whether they are others.
+    fn set<W: Wait>(&self, rt: &W, hosts: Vec<Address>) -> Result<bool, AllocError> {
+        let mut known = self.known.lock(rt);
+        if known.as_slice() == hosts.as_slice() {
+            return Ok(false);
+        }
+        let (for_joins, for_rounds) = (hosts.clone()?, hosts.clone()?);
+        self.count.set(hosts.len() as u64);
+        *self.for_joins.lock(rt) = Some(for_joins);
+        *self.for_rounds.lock(rt) = Some(for_rounds);
+        *known = hosts;
+        Ok(true)
+    }
+
+    /// Reads the file again. Returns whether the hosts are others than before; on an error they stay.
+    fn renew<R: Files + Wait>(&self, rt: &R, alloc: Global) -> Result<bool, AgentError> {
+        let hosts = list_hosts(rt, alloc, self.own, self.given.as_slice(), &self.file)?;
+        Ok(self.set(rt, hosts)?)
+    }
+}
+
+/// Logs that a file of hosts can't be read, or can again.
+fn log_reading<R: System>(agent: &Agent<R>, file: &str, renewed: Result<bool, AgentError>) {
+    match renewed {
+        Ok(_) => info!(agent.log(); "{file} is read again"),
+        Err(error) => warn!(agent.log(); "the hosts of before stay: {error}, of {file}"),
+    }
+}
+
+/// Logs how many hosts there are after a file of hosts changed.
+fn log_count<R: System>(agent: &Agent<R>, file: &str) {
+    let count = agent.hosts.count.get();
+    info!(agent.log(); "{file} has changed; number of hosts: {count}");
+}
+
+/// Reads an agent's file of hosts again, if there is one. Logs how many hosts there are if they are others than before, and that the file can't be
+/// read, or can again, unless the log said so last.
+pub fn renew_hosts<R: System + Files>(
+    rt: &R,
+    alloc: Global,
+    agent: &Agent<R>,
+    notice: &mut Notice,
+) {
+    let Some(file) = &agent.hosts.file else {
+        return;
+    };
+    let renewed = agent.hosts.renew(rt, alloc);
+    if notice.note(renewed.is_err(), agent.now()) {
+        log_reading(agent, file.as_str(), renewed);
+    }
+    if renewed == Ok(true) {
+        log_count(agent, file.as_str());
+    }
+}

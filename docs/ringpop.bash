@@ -12,7 +12,7 @@ _ringpop() {
         owner) words='--n --replicas --sum --help' ;;
         sim) words='--replicas --sum --help' ;;
         serve) words='--workers --period --replicas --sum --weight --per-message --piggyback --heal --help' ;;
-        agent) words='--bind --http --http-any --app --no-wait-app --leave-after --tell-app --any-request --key-field --cluster --hosts-file --hands --http-connections --period --per-message --replicas --weight --incarnation --log --help' ;;
+        agent) words='--bind --http --http-any --app --no-wait-app --leave-after --tell-app --any-request --key-field --cluster --hosts-file --hands --http-connections --period --per-message --replicas --weight --incarnation --log --log-json --help' ;;
         ask) words='--any --replicas --sum --cluster --help' ;;
         members) words='--lines --table --cluster --help' ;;
         tell) words='--cluster --help' ;;

@@ -45,6 +45,7 @@ complete -c ringpop -n '__ringpop_in agent' -l hands -x -d 'threads for requests
 complete -c ringpop -n '__ringpop_in agent' -l http-connections -x -d 'HTTP connections at a time, 1 to 65536'
 complete -c ringpop -n '__ringpop_in agent' -l incarnation -x -d 'first incarnation'
 complete -c ringpop -n '__ringpop_in agent' -l log -x -a 'off error warn info debug' -d 'level of the log on standard error'
+complete -c ringpop -n '__ringpop_in agent' -l log-json -d 'write the log as JSON'
 complete -c ringpop -n '__ringpop_in ask' -l any -d 'ask the owner of the key, through any node'
 complete -c ringpop -n '__ringpop_in members' -l lines -d 'a change line for each member'
 complete -c ringpop -n '__ringpop_in members' -l table -d 'a table of the members'

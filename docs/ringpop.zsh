@@ -43,7 +43,7 @@ _ringpop() {
                 '--http-connections[HTTP connections at a time, 1 to 65536]:connections:' '--period[milliseconds between two rounds, 1 to 60000]:ms:' \
                 '--per-message[changes in a message, 1 to 4096]:changes:' '--replicas[points for each unit of weight, 1 to 1000]:points:' \
                 '--weight[share of the keys, 1 to 8]:weight:' '--incarnation[first incarnation]:incarnation:' \
-                '--log[level of the log on standard error]:level:(off error warn info debug)' '--help[print help]' ':address:' '*:host:'
+                '--log[level of the log on standard error]:level:(off error warn info debug)' '--log-json[write the log as JSON]' '--help[print help]' ':address:' '*:host:'
             ;;
         ask) _arguments $ring '--cluster[name of the cluster]:name:' '--any[ask the owner of the key, through any node]' '--help[print help]' ':address:' ':key:' ':body:' ;;
         members) _arguments '--cluster[name of the cluster]:name:' '--lines[a change line for each member]' '--table[a table of the members]' '--help[print help]' ':host:' ;;

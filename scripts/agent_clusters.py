@@ -6,8 +6,8 @@ import contextlib
 import json
 import subprocess
 
-from agents import agree, counted, running
-from nodes import NOBODY, PATIENCE, expect, hears, message, wait_until
+from agents import agree, counted, running, well
+from nodes import NOBODY, expect, hears, message, wait_until
 
 
 def refused(agent):
@@ -22,11 +22,9 @@ def words_of(name):
 def exchanged(program, first, reused, other, names=(None, None)):
     """An agent of one cluster, and two of another, the second at the address of one that the former knows."""
     mine, theirs = map(words_of, names)
-    with running(program, first, reused, more=mine) as (left, gone):
-        wait_until("agreed", PATIENCE, lambda: agree([left, gone]))
+    with running(program, first, reused, more=mine, until=agree) as (left, gone):
         gone.end()
-        with running(program, other, reused, more=theirs) as right:
-            wait_until("well", PATIENCE, lambda: all(agent.is_well() for agent in right))
+        with running(program, other, reused, more=theirs, until=well) as right:
             yield left, right
 
 
@@ -60,8 +58,7 @@ def check_lines(program, port):
     """A line has the name of its cluster first, or is refused; an answer has it too, to readers that do not look at it."""
     ping = json.dumps(message("ping", checksum=NOBODY, changes=[]))
     others = ("", '"cluster":"b",', '"cluster":"A",', '"cluster":"aa",', '"cluster": "a",', '"cluster":"a" ,', '"kind":"ping","cluster":"a",')
-    with running(program, port, hosts=(), more=words_of("a")) as (agent,):
-        wait_until("well", PATIENCE, agent.is_well)
+    with running(program, port, hosts=(), more=words_of("a"), until=well) as (agent,):
         for number, other in enumerate(others):
             came, read = answer(agent, "{" + other + ping[1:])
             expect(read["cluster"] == "a" and read["kind"] == "refused" and read["reason"] == "malformed", f"a line with {other!r} is answered {came}")
@@ -78,8 +75,7 @@ def check_commands(program, port, other):
         return came.returncode, came.stdout, came.stderr
 
     given = (("members", "--lines"), ("ask", "--any", "k", "b"), ("tell",))
-    with running(program, port, hosts=(), more=words_of("a")) as (named,), running(program, other, hosts=()) as (nameless,):
-        wait_until("well", PATIENCE, lambda: named.is_well() and nameless.is_well())
+    with running(program, port, hosts=(), more=words_of("a"), until=well) as (named,), running(program, other, hosts=(), until=well) as (nameless,):
         for words in given:
             own, same = asked(named, "a", *words), asked(nameless, None, *words)
             expect(own[::2] == same[::2] == (0, "") and own[1] and same[1], f"{words} of the same cluster: {own}, {same}")

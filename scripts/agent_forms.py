@@ -7,8 +7,8 @@ import base64
 import json
 import sys
 
-from agents import running
-from nodes import PATIENCE, ROOT, Wrong, call, expect, request, wait_until
+from agents import running, well
+from nodes import ROOT, Wrong, call, expect, request
 
 SERVICE = (sys.executable, f"{ROOT}/scripts/any_service.py")
 BINARY = bytes(range(256)) * 40
@@ -42,7 +42,6 @@ def unpacked(text):
 
 
 def told(agent, text):
-    """The text of the Reply to a Forward of this text."""
     answer = call(agent.port, request("k", text))
     expect(answer and answer["kind"] == "reply", f"a Forward is answered {answer}")
     return answer["body"]
@@ -96,8 +95,7 @@ def check_down(agent):
 
 
 def check(program, port):
-    with running(program, port, app=SERVICE) as agents:
-        wait_until("well", PATIENCE, agents[0].is_well)
-        check_asked(agents[0])
-        check_bodies(agents[0])
-        check_down(agents[0])
+    with running(program, port, app=SERVICE, until=well) as (agent,):
+        check_asked(agent)
+        check_bodies(agent)
+        check_down(agent)

@@ -98,7 +98,6 @@ class Hostile:
         print(f"{what}: others are answered after {spent:.3f} s", flush=True)
 
     def hears(self, sent):
-        """All that comes for these bytes, and their end, until the agent hangs up."""
         return hears(self.agent.port + STEP, sent, 10, is_all=True)
 
     def check(self, what, sent, *wanted):
@@ -206,8 +205,7 @@ class Hostile:
             self.check_up("slow clients")
             for it in cut:
                 it.result()
-        if late := {what: spent for what, spent in self.cut.items() if is_late(spent, PATIENCE + 3)}:
-            raise Wrong(f"not cut in time: {late}")
+        expect(not (late := {what: spent for what, spent in self.cut.items() if is_late(spent, PATIENCE + 3)}), f"not cut in time: {late}")
         print("cut after", ", ".join(f"{spent:.0f} s ({what})" for what, spent in self.cut.items()), flush=True)
 
     def deaf(self):
@@ -316,7 +314,6 @@ class SlowService:
         return self.own.said().count(text)
 
     def lines(self):
-        """What the log's lines say of the service."""
         return re.findall(f"the application at {re.escape(self.own.app)} (.*)", self.own.said())
 
     def check_in_turn(self):
@@ -347,6 +344,7 @@ class SlowService:
         said, spent = sum(map(self.said, kinds)) - before, time.monotonic() - begun
         print(f"a node that stops {times} times: {said} lines in {spent:.0f} s", flush=True)
         expect(2 <= said <= spent / QUIET + 1, f"{said} lines about a node that stopped {times} times")
+        expect(self.said(f"{kinds[0]}: the link failed: timed out"), "the log does not say that a stopped node did not answer in time")
 
     def check_silent(self):
         """The first message that is not answered is logged, and the first that is again."""
@@ -363,18 +361,15 @@ class SlowService:
 
 def check_slow_service(program, port):
     app = "python3", str(ROOT / "scripts" / "slow_app.py")
-    with tempfile.NamedTemporaryFile() as log, running(program, port, port + 1, app=app, log=log) as agents:
-        wait_until("agreed", 20, lambda: agree(agents))
+    with tempfile.NamedTemporaryFile() as log, running(program, port, port + 1, app=app, log=log, until=agree) as agents:
         service = SlowService(*agents)
         for part in (service.check_slow, service.check_bad, service.check_in_turn, service.check_silent, service.check_stopped):
             part()
 
 
 def check_address(program, port):
-    """A node whose own address is 0.0.0.0 is refused."""
     ended = subprocess.run([program, "agent", f"0.0.0.0:{port}"], capture_output=True, text=True, timeout=10)
-    if ended.returncode != 1 or ended.stderr != "ringpop: the node's address is 0.0.0.0: give that to --bind\n":
-        raise Wrong(f"0.0.0.0 as the node's address: {ended}")
+    expect(ended.returncode == 1 and ended.stderr == "ringpop: the node's address is 0.0.0.0: give that to --bind\n", f"0.0.0.0 as the node's address: {ended}")
 
 
 def check(program, agents, port):

@@ -1,9 +1,10 @@
 """What an agent does whose standard error is a pipe that is not read, for `scripts/agent unread`.
 
 It makes rounds and answers for a minute, while another one stands still now and then; it counts the lines that it drops, says how many once it is
-read, and stops though it is not read.
+read, and stops though it is not read. One with a log of JSON says it in JSON.
 """
 import fcntl
+import json
 import os
 import re
 import signal
@@ -17,7 +18,8 @@ SECONDS = 60
 # the most lines that wait to be written
 MOST = 1_024
 MEMBERS = [f"10.0.1.{number + 1}:1" for number in range(200)]
-DROPPED = re.compile(rb"\[WARN \] (\d+) lines of the log were dropped here: standard error was not read in time\n")
+SAID = r"(\d+) lines of the log were dropped here: standard error was not read in time"
+DROPPED = re.compile(rf"\[WARN \] {SAID}\n".encode())
 
 
 def raise_lines(agent, incarnation):
@@ -95,13 +97,39 @@ def check_end(agent):
     expect(status == 0 and not is_late(spent, 12), "an agent whose log is not read does not stop")
 
 
-def check(program, agents, port):
+def told_as_json(reader):
+    """How many lines were dropped, as the lines of a log of JSON tell that were read so far."""
+    lines = map(json.loads, reader.read.decode().split("\n")[:-1])
+    told = [re.fullmatch(SAID, line["message"]) for line in lines if line["level"] == "WARN" and not line["target"]]
+    return sum(int(it[1]) for it in told)
+
+
+def check_json(agent, pipe):
+    """A log of JSON says in JSON how many lines were dropped."""
+    wait_until("well", PATIENCE, agent.is_well)
+    for number in range(20):
+        raise_lines(agent, SECONDS + 100 + number)
+        time.sleep(0.3)
+    reader = Reader(pipe)
+    wait_until("written", 10, lambda: counted([agent], "ringpop_log_lines_used") == 0)
+    raise_lines(agent, SECONDS + 200)
+    wait_until("told in JSON", 10, lambda: told_as_json(reader) == counted([agent], "ringpop_log_lines_dropped_total") > 0)
+    reader.end()
+
+
+def start(program, agents, port, *more):
+    """An agent whose standard error is a pipe that holds little, and the end where that is read."""
     pipe, end = os.pipe()
     fcntl.fcntl(pipe, fcntl.F_SETPIPE_SZ, 4_096)
-    agent = Agent(program, port, [it.port for it in agents], log=end)
+    agents.append(Agent(program, port, [it.port for it in agents], log=end, more=more))
     os.close(end)
-    agents.append(agent)
+    return agents[-1], pipe
+
+
+def check(program, agents, port):
+    agent, pipe = start(program, agents, port)
     wait_until("agreed", PATIENCE, lambda: agree(agents))
     check_unread(agent, agents[0])
     check_read(agent, pipe)
     check_end(agent)
+    check_json(*start(program, agents, port + 1, "--log-json"))

@@ -11,7 +11,7 @@ import threading
 import time
 
 from agents import counted
-from nodes import LIMIT, NOBODY, Wrong, call, connect, expect, held, in_time, is_late, message, rest, wait_until
+from nodes import LIMIT, NOBODY, call, connect, expect, held, in_time, is_late, message, rest, wait_until
 
 PING = message("ping", checksum=NOBODY, changes=[])
 SECONDS, SILENT, DRIPPING, DRIP = 10, 32, 100, 0.2
@@ -54,8 +54,7 @@ def check_parts(port):
             stream.sendall(part)
             time.sleep(0.1)
         came = rest(stream)
-    if not came or json.loads(came)["kind"] != "ack":
-        raise Wrong(f"a ping in three parts is answered by {came}")
+    expect(came and json.loads(came)["kind"] == "ack", f"a ping in three parts is answered by {came}")
 
 
 def ping(port):
@@ -83,8 +82,7 @@ def check(agents):
     print(f"{len(spent)} pings beside {most} connections: nine of ten within {usual:.3f} s, the longest {longest:.3f} s", flush=True)
     expect(most > DRIPPING / 2, f"the metrics count {most} connections at most")
     expect(not is_late(usual, 0.05) and not is_late(longest, LIMIT), "pings wait for those who say nothing")
-    if [it.said().count(" is suspect, ") for it in agents] != suspects:
-        raise Wrong("an agent is suspected since others say nothing at its port")
+    expect([it.said().count(" is suspect, ") for it in agents] == suspects, "an agent is suspected since others say nothing at its port")
     in_time(lambda: check_parts(agent.port))
     print(f"a connection that drips is closed within {clients.longest:.2f} s", flush=True)
     expect(not is_late(clients.longest, 2), "a connection that drips is not closed in time")

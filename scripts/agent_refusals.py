@@ -2,7 +2,7 @@
 
 Each answer that an agent makes itself has its word, and no answer of a service has one. A newcomer that is refused says why, in its health, log
 and metrics; a node that becomes full says so, and one that refuses a line at its port logs and counts it. The level of the log changes while an agent
-runs, but not by the page of another site; at debug, and at no other level, each HTTP request has a line.
+runs, but not by the page of another site; at debug, and at no other level, each HTTP request has a line. A log of JSON has an object on each line.
 """
 import itertools
 import json
@@ -14,6 +14,8 @@ from urllib.parse import quote
 from agents import counted, fetch, keys_of, running
 from nodes import PATIENCE, Wrong, address, expect, hears, wait_until
 
+# the members of a line of a log of JSON, and the levels
+LINE, LEVELS = ["time", "address", "level", "target", "message"], ("ERROR", "WARN", "INFO", "DEBUG")
 # the most addresses that a node holds, and the number from which on an agent lets no new one join
 MOST, MARGIN = 4_096, 4_000
 # values of Accept, and whether they name JSON
@@ -84,7 +86,7 @@ def check_margin(program, full, port):
 
 def check_full(program, first, second):
     """A node that becomes full says so, and a newcomer that it refuses, too."""
-    with running(program, first, hosts=()) as (full,):
+    with running(program, first, hosts=(), more=("--log-json",)) as (full,):
         wait_until("well", PATIENCE, full.is_well)
         wait_until("in its third round", 10, lambda: full.rounds() > 1)
         check_margin(program, full, second + 1)
@@ -93,6 +95,7 @@ def check_full(program, first, second):
         wait_until("said to be full", 10, lambda: f"{MOST} of {MOST} addresses are used" in full.said())
         check_newcomer(program, second, first)
         check_line(full)
+        check_log_json(full)
 
 
 def fill(agent, most=MOST):
@@ -117,7 +120,7 @@ def check_line(agent):
     """A line at the port of the node that is not a message is refused, counted and logged."""
     hears(agent.port, b"hello\n")
     wait_until("counted", 5, lambda: counted([agent], 'ringpop_lines_refused_total{reason="malformed"}') == 1)
-    wait_until("logged", 5, lambda: "a line at this node's port was refused: malformed" in agent.said())
+    wait_until("logged", 5, lambda: re.search(r"a line of 127\.0\.0\.1:\d+ was refused: malformed", agent.said()))
 
 
 def log_level(agent, method, query="", fields={}):
@@ -153,6 +156,25 @@ def check_requests(agents):
     said = [line for line in lines if " /log " not in line]
     wanted = [line for name in "bd" for line in (f"POST {path} 503 service", f"GET /nothing/{name} 404 agent")]
     expect(said == wanted, f"the log has the requests {said}")
+
+
+def logged(agent):
+    """The lines of a log of JSON, each with the same members."""
+    lines = [json.loads(line) for line in agent.said().split("\n")[:-1]]
+    for line in lines:
+        is_whole = [*line] == LINE and re.fullmatch(r"\d{4}-\d\d-\d\dT\d\d:\d\d:\d\d\.\d{3}Z", line["time"])
+        expect(is_whole and line["address"] == agent.own and line["level"] in LEVELS, f"a log of JSON has the line {line}")
+    return lines
+
+
+def check_log_json(agent):
+    """The level of a log of JSON changes as that of a text; a line is read back whatever stands in it."""
+    for level, name in (("debug", 'a"\\'), ("error", "b"), ("debug", "c"), ("info", "d")):
+        log_level(agent, "POST", f"?level={level}")
+        fetch(agent.http, "GET", f"/nothing/{name}")
+    wait_until("logged", 5, lambda: "GET /nothing/c" in agent.said())
+    said = [line["message"].split()[1] for line in logged(agent) if (line["level"], line["target"]) == ("DEBUG", "agent::fronts")]
+    expect([it for it in said if it != "/log"] == ['/nothing/a"\\', "/nothing/c"], f"a log of JSON has the requests {said}")
 
 
 def check(program, agents, first, second):

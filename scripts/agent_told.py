@@ -81,7 +81,6 @@ def check(program, first, second):
         begun = time.monotonic()
         agent.process.wait(15)
         last = agent.notices[-1][1]
-        if last["now"]["serving"] or last["before"] != both:
-            raise Wrong(f"at a stop after failures the application is told {agent.notices[-1]}")
+        expect(not last["now"]["serving"] and last["before"] == both, f"at a stop after failures the application is told {agent.notices[-1]}")
         expect(not is_late(time.monotonic() - begun, 9), f"a stop took {time.monotonic() - begun:.1f} s")
         agent.check_fields()

@@ -1,8 +1,8 @@
 """Requests whose wait the client limits by `X-Ringpop-Wait`, for `scripts/agent waits`.
 
 A request whose owner is slow, hangs, or is dead ends in 504 once its wait is over, by a word that says whether it may have been performed; no send
-is begun later, and no node is blamed for it. One with time enough is answered as it is without the field, and a value that is not a number of
-milliseconds is refused by a line that names the field.
+is begun later, and no node and no service is blamed for it. One with time enough is answered as it is without the field, and a value that is not a
+number of milliseconds is refused by a line that names the field.
 """
 import signal
 import sys
@@ -13,6 +13,7 @@ from nodes import PATIENCE, ROOT, Wrong, expect, is_late, wait_until
 
 SLOW = (sys.executable, f"{ROOT}/scripts/slow_app.py")
 LOST, SILENT = "the answer was lost: the owner may have performed the request\n", "the owner does not answer\n"
+NO_WHOLE = "no whole answer of the owner's application came\n"
 # with so long between two rounds it is requests alone that can blame a node; a join tells two nodes of each other, if none leaves until its service is up
 STILL = ("--period", "60000", "--no-wait-app", "--leave-after", "0")
 # what no wait is
@@ -51,12 +52,32 @@ def check_slow(agents, own, other):
         expect(came == (200, "1", None), f"{what}, a request that may wait for longer is answered {came}")
 
 
+def check_blame(agent, key):
+    """The agent's own service fails where it takes longer than its four seconds or takes no connection, and not where its client does not wait."""
+    def failures():
+        return counted([agent], "ringpop_application_failures_total")
+
+    before = failures()
+    for _ in range(10):
+        check_over("own service slow", agent, key, 100, (504, LOST, "answer-lost"), "0.5")
+    expect(failures() == before, f"a service is blamed {failures() - before} times for answers that its clients did not wait for")
+    expect(agent.is_well() and "gave no whole answer" not in agent.said(), f"an agent is not well since its clients do not wait: {agent.said()}")
+    came, _ = ask(agent, key, "20000", "5")
+    expect(came == (502, NO_WHOLE, "application-unresponsive") and failures() == before + 1, f"a service slower than its limit: {came}")
+    agent.stop_application()
+    came, _ = ask(agent, key, "1000")
+    expect(came[0] == 502 and failures() == before + 2, f"a service that takes no connection within a client's wait: {came}")
+    agent.start_application()
+    wait_until("well", PATIENCE, agent.is_well)
+
+
 def check_dead(agents, key, sends):
-    """The owner is dead: its connection is refused at once, and no send is begun once the wait is over."""
+    """The owner is dead: its connection is refused at once, which the log says, and no send is begun once the wait is over."""
     agents[1].kill()
     check_over("owner dead", agents[0], key, 1000, (504, SILENT, "owner-unresponsive"))
     time.sleep(4)
     expect(counted(agents[:1], "ringpop_forwards_total") == sends + 1, "a request is sent again once its wait is over")
+    expect(f"{agents[1].own} did not answer: the link failed: Connection refused" in (said := agents[0].said()), f"the log does not say why: {said}")
     agents[1].start()
     wait_until("back", PATIENCE, lambda: agree(agents))
 
@@ -81,5 +102,6 @@ def check(program, port):
         check_bad(agents[0], own)
         check_bad(agents[0], other)
         check_slow(agents, own, other)
+        check_blame(agents[0], own)
         check_silent(agents, other)
         check_dead(agents, other, counted(agents[:1], "ringpop_forwards_total"))

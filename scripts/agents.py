@@ -12,7 +12,7 @@ import threading
 import time
 from urllib.parse import quote
 
-from nodes import NOBODY, ROOT, STEP, address, call, change, ending, expect, held, in_time, message
+from nodes import NOBODY, PATIENCE, ROOT, STEP, address, call, change, ending, expect, held, in_time, message, wait_until
 
 
 def fetch(at, method, path, body=None, fields={}, seconds=60):
@@ -45,7 +45,6 @@ class Agent:
             stdout=subprocess.DEVNULL, stderr=self.log)
 
     def ask(self, method, path, body=None):
-        """The status and the text of an answer."""
         status, text, _ = fetch(self.http, method, path, body)
         return status, text.decode()
 
@@ -69,15 +68,12 @@ class Agent:
         return answer
 
     def json(self, path):
-        """What it answers to a GET, as JSON."""
         return json.loads(self.ask("GET", path)[1])
 
     def owners(self, key, count=1):
-        """The owners of a key, as it names them."""
         return self.json(f"/owner/{quote(key, safe='')}?n={count}")["owners"]
 
     def said(self):
-        """What is in its log so far."""
         return pathlib.Path(self.log.name).read_text()
 
     def rounds(self):
@@ -153,12 +149,14 @@ def built(service, folder):
 
 
 @contextlib.contextmanager
-def running(program, *ports, hosts=None, kind=Agent, **more):
-    """Agents at these ports, which join one another if no hosts are given, and end with the block."""
+def running(program, *ports, hosts=None, kind=Agent, until=None, **more):
+    """Agents at these ports, which join one another if no hosts are given, and end with the block. It begins once `until` is so of them."""
     with ending() as agents:
         for port in ports:
             agents.append(kind(program, port, ports if hosts is None else hosts, **more))
         try:
+            if until:
+                wait_until(until.__name__, PATIENCE, lambda: until(agents))
             yield agents
         except Exception:
             for agent in agents:
@@ -184,9 +182,13 @@ def at_once(*checks):
         return [it.result() for it in [pool.submit(check) for check in checks]]
 
 
+def well(agents):
+    return all(agent.is_well() for agent in agents)
+
+
 def agree(agents):
     """Whether all agents are well and hold the same members."""
-    return all(agent.is_well() for agent in agents) and len({agent.ask("GET", "/digest")[1] for agent in agents}) == 1
+    return well(agents) and len({agent.ask("GET", "/digest")[1] for agent in agents}) == 1
 
 
 class Load:

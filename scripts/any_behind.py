@@ -3,8 +3,8 @@ import http.server
 import itertools
 import time
 
-from agents import Playing, fetch, running
-from nodes import PATIENCE, expect, wait_until
+from agents import Playing, fetch, running, well
+from nodes import expect
 
 # bytes behind an answer, which come while the connection is kept
 BEHIND = {
@@ -47,8 +47,7 @@ def answer(agent, method, target, fields={}):
 
 def check_behind(program, port):
     """No bytes that a service sends behind an answer become the answer of another request."""
-    with running(program, port, kind=Talking, more=("--any-request",)) as (agent,):
-        wait_until("well", PATIENCE, agent.is_well)
+    with running(program, port, kind=Talking, more=("--any-request",), until=well) as (agent,):
         for behind, first, method in itertools.product(BEHIND, ("GET", "HEAD"), ("GET", "PUT", "POST")):
             answer(agent, first, "/keys/a/first", {"X-Behind": behind})
             time.sleep(3 * LATE)

@@ -7,6 +7,7 @@ import itertools
 import json
 import os
 import pathlib
+import re
 import select
 import signal
 import socket
@@ -55,6 +56,18 @@ def find(program):
     if not program.is_file():
         sys.exit(f"{program}: no program: run rt ci first, or rt run in its crate")
     return str(program.resolve())
+
+
+def crates():
+    """The crates of crates.txt, those below before those above, each with the libraries that its line names."""
+    lines = (line.split("#")[0].partition(":") for line in (ROOT / "crates.txt").read_text().splitlines())
+    return {head.split()[0]: (["std"] if "staticlib" not in head else []) + uses.split() for head, found, uses in lines if found}
+
+
+def fitting(gigabytes):
+    """How many processes of so much memory go side by side."""
+    free = re.search(r"MemAvailable:\s+(\d+)", pathlib.Path("/proc/meminfo").read_text())
+    return max(1, min(len(os.sched_getaffinity(0)), int(free[1]) // (gigabytes * 1_000_000)))
 
 
 def address(port):
@@ -126,7 +139,6 @@ class Node:
             self.kill()
 
     def open_descriptors(self):
-        """The numbers of its open descriptors."""
         return [int(number) for number in os.listdir(f"/proc/{self.process.pid}/fd")]
 
     def counts(self):
@@ -186,7 +198,6 @@ def deaf(port, sent):
 
 
 def is_open(port):
-    """Whether somebody listens at a port."""
     with contextlib.suppress(OSError), connect(port):
         return True
     return False

@@ -2,6 +2,7 @@ pub mod Answering
 pub mod Asking
 pub mod Called
 pub mod Conversing
+pub mod Owning
 pub mod Performed
 pub mod Relaying
 pub mod Unsure

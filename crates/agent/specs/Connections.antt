@@ -1,5 +1,5 @@
 -- What an HTTP connection of an agent reads and writes.
-use Rattle.std.specs.Prelude.{◌≡◌, ℕ, List, [], ◌∷◌, ◌++◌, Option}
+use Rattle.std.specs.Prelude.{◌≡◌, ◌⊎◌, ℕ, List, [], ◌∷◌, ◌++◌, Option, None}
 use Rattle.std.specs.Io.KnownBytes.{Appends, Consumes}
 use Rattle.http_server.specs.Exchange.{Call}
 use Rattle.http_server.specs.History.{History, IsServed}
@@ -23,3 +23,8 @@ pub record SendsAnswers (own replicas : ℕ) (field : Option (List ℕ)) (before
   pub sent : (went : List ℕ) × Appends written wrote went × (after.sent ≡ before.sent ++ went)
   pub served : ∥ IsServed connection_limits after ∥₁
   pub answered : (calls : List Call) × (after.calls ≡ before.calls ++ calls) × HasMade (AnswersEach own replicas field calls) old new
+
+-- a worker's visit of a connection called the node for the answers to its requests alone, or not at all; which bytes came over it is not known
+abbrev pub HasServed : ℕ → ℕ → Option (List ℕ) → Calling → Calling → Type 0
+HasServed own replicas field old new =
+    ((before after : History) × SendsAnswers own replicas field before after None None None None old new) ⊎ (new ≡ old)

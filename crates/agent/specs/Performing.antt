@@ -30,8 +30,9 @@ use Rattle.agent_core.specs.declared.passing.Outgoing.{Outgoing}
 use Rattle.agent_core.specs.declared.passing.Outgoing.TheVariants.{Body}
 use Rattle.agent_core.specs.declared.refusals.Refusal.{Refusal}
 use Rattle.agent_core.specs.declared.refusals.Refusal.TheVariants as refusal
-use Rattle.agent.specs.Asking.{answerer, notes_call, notes_source}
+use Rattle.agent.specs.Asking.{answerer, notes_call}
 use Rattle.agent.specs.Calling.{AnyAnswer, AnyHandling, AnyTimes, Looks, hash_number, hash_of}
+use Rattle.agent.specs.Onces.{Noted, notes_send, unnoted}
 use Rattle.agent_http.specs.Replies.{IsOpenText, IsText}
 use Rattle.agent_http.specs.declared.replies.Reply.{Reply}
 use Rattle.agent_http.specs.declared.replies.Reply.TheVariants.{Handled, Page, Ring, Unchanged}
@@ -139,11 +140,12 @@ ShowsAnswer owner text (Ok shown) = shown ≡ Handled owner text
 ShowsAnswer owner text (Err why) = ⊥
 
 -- a request of keys, answered by the application or by their owner: by views of the node, other nodes and the application may answer anything, at any
--- moments; and what went over the link for it, which noted the node that answered last, and whether the application was asked
-abbrev pub IsRequested : Bool → Option ℕ → List (List ℕ) → List ℕ → Part Sha256Hash (List ℕ)
-IsRequested asked noted keys request r acts =
+-- moments; and what went over the link for it, which noted the node that answered last and whether one may have performed the request without its reply, and
+-- whether the application was asked
+abbrev pub IsRequested : Bool → Bool → Noted → List (List ℕ) → List ℕ → Part Sha256Hash (List ℕ)
+IsRequested is_repeatable asked noted keys request r acts =
     IsRequest hash_of AnyAnswer AnyHandling AnyTimes keys request r acts
-    × SendsRequest hash_of notes_source notes_call keys request r false asked None noted acts
+    × SendsRequest hash_of notes_send notes_call keys request r false asked (unnoted is_repeatable) noted acts
 
 -- The refusal of a request that ended early, by whether a node may have performed it, whether it may be performed twice, and the limit of its wait: that
 -- its answer was lost; or that its owner does not answer, if the wait has a limit and no node can have performed it. None if it can't end early.
@@ -175,8 +177,8 @@ Settled owner is_repeatable limit result outcome =
 abbrev pub AsksOwner : Option ℕ → ℕ → List ℕ → List ℕ → Bool → Outcome → OfActs Sha256Hash
 AsksOwner limit own key request is_repeatable outcome acts =
     Declines refusal.Memory outcome acts
-    ⊎ ((asked : Bool) × (noted : Option ℕ)
-    × After (IsRequested asked noted (key ∷ []) request) (Settled (answerer own asked noted) is_repeatable limit) outcome acts)
+    ⊎ ((asked : Bool) × (noted : Noted)
+    × After (IsRequested is_repeatable asked noted (key ∷ []) request) (Settled (answerer own asked noted.last) is_repeatable limit) outcome acts)
 
 -- the owner of a key, and the node that would own it next, if there is one
 abbrev pub Owners : Type 0

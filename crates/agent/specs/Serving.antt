@@ -7,6 +7,9 @@ use Rattle.peer_core.specs.Handling.{Handled, Handlings}
 use Rattle.peer_core.specs.Links.{MayAnswer, Went}
 use Rattle.line_service.specs.Answering.{Responds}
 use Rattle.line_service.specs.declared.inputs.Input.{Input}
+use Rattle.line_service.specs.declared.inputs.Input.TheVariants as input
+use Rattle.message_core.specs.declared.messages.Content.{Content}
+use Rattle.message_core.specs.declared.messages.Content.TheVariants.{Forward}
 use Rattle.agent.specs.Asking.{AsksFor}
 use Rattle.agent.specs.Calling.{AnyAnswer, Calling, HasMade, hash_of}
 use Rattle.agent.specs.Relays.{IsRelayOf, sent_back}
@@ -17,6 +20,16 @@ use Rattle.agent.specs.declared.relays.Relayed.TheVariants.{NotDone}
 abbrev pub asks : {A : Type 0} → Handled A → Bool → A → A → Handlings
 asks handled true was is = record { once = λ keys body answer. handled keys body answer was is; never = ⊥ }
 asks handled false was is = record { once = λ keys body answer. ⊥; never = is ≡ was }
+
+-- whether a content is a request of a key
+abbrev pub is_forward : Content → Bool
+is_forward (Forward keys body) = true
+is_forward other = false
+
+-- whether an input is a request of a key
+abbrev pub is_request : Input → Bool
+is_request (input.Message message) = is_forward message.content
+is_request other = false
 
 -- the node answers an input by this line, and asks this of its application
 abbrev pub RespondsAsking : Handlings → Input → List ℕ → OfActs Sha256Hash

@@ -1,5 +1,5 @@
 //! HTTP from its start to its end: the thread that accepts connections and watches those that wait, and the workers.
-ghost use Rattle.std.specs.Prelude.{◌≡◌, ◌-◌, ◌/◌, min};
+ghost use Rattle.std.specs.Prelude.{◌≡◌, ◌<◌, ◌-◌, ◌/◌, ℕ, IfErr, min};
 
 use crate::agents::Agent;
 use crate::connections::MAX_IDLE;
@@ -60,7 +60,9 @@ fn places_with(descriptors: u64, wanted: u32) -> u64
 /// # Errors
 ///
 /// - `FewDescriptors`: the system gives this process fewer than 64 descriptors.
-pub fn set_places<R: Host>(agent: &Agent<R>, wanted: u32) -> Result<(), AgentError> {
+pub fn set_places<R: Host>(agent: &Agent<R>, wanted: u32) -> Result<(), AgentError>
+    ensures { IfErr result (λ e. (descriptors : ℕ) × (descriptors < MIN_DESCRIPTORS) × (e ≡ AgentError.FewDescriptors descriptors)) }
+{
     let descriptors = max_descriptors().unwrap_or(u64::MAX);
     if descriptors < MIN_DESCRIPTORS {
         return Err(AgentError::FewDescriptors(descriptors));

@@ -107,7 +107,7 @@ pub struct Agent<R> {
     pub hosts: Hosts,
     /// Whether hosts are given, and not all were asked yet, nor has one answered: no request of a key is answered.
     pub is_starting: Flag,
-    /// Whether a host has answered a join, or is held as serving.
+    /// Whether a host has answered a join, or is held as serving; or there was none at the start, so that the node began by serving alone.
     pub has_joined: Flag,
     pub has_left: Flag,
     /// The watch over the service, held while the node leaves or comes back.

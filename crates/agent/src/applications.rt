@@ -1,8 +1,12 @@
 //! The application, which answers the requests of the keys that this node owns.
-ghost use Rattle.std.specs.Prelude.{◌≡◌, ◌≤◌, ◌*◌, false, IfOk};
-ghost use Rattle.std.specs.Duration.{as_nanos};
+ghost use Rattle.std.specs.Prelude.{◌≡◌, ◌≤◌, ◌<◌, ◌⊎◌, ◌↔◌, false, IfOk, IsTrue};
 ghost use Rattle.agent_core.specs.Packs.{packed};
 ghost use Rattle.agent_core.specs.Refusals.{line_of, status_of};
+ghost use Rattle.std.specs.Prelude.{[], ◌∷◌, IfSome, codes, map, List, ℕ};
+ghost use Rattle.http1.specs.Head.{pairs};
+ghost use Rattle.agent_core.specs.Parts.{joined};
+ghost use Rattle.agent_core.specs.Passing.{answer_text, flat, named};
+ghost use Rattle.agent.specs.Applications.{IsApplicationOf, body_passed, fault_of};
 
 use crate::settings::Settings;
 use agent_core::{
@@ -94,7 +98,9 @@ fn takes_json(field: &Header<'_>) -> bool {
 }
 
 /// Returns the text of a Reply for a failure of a request: no error, so that the asking node does not try again.
-fn failed(alloc: Global, asked: &Asked<'_>, failure: Failure) -> Result<Text, HandlerFault> {
+fn failed(alloc: Global, asked: &Asked<'_>, failure: Failure) -> Result<Text, HandlerFault>
+    ensures { asked.now.wanted ≡ Wanted.Kind → IfOk result (λ text. text ≡ packed (status_of (Refusal.Unanswered failure)) false (line_of (Refusal.Unanswered failure))) }
+{
     let refusal = Refusal::Unanswered(failure);
     match asked.wanted {
         Wanted::Kind => refused(alloc, &refusal),
@@ -106,7 +112,9 @@ fn failed(alloc: Global, asked: &Asked<'_>, failure: Failure) -> Result<Text, Ha
 }
 
 /// Returns the handler's error if an answer has no text.
-fn handler_fault(error: WireError) -> HandlerFault {
+fn handler_fault(error: WireError) -> HandlerFault
+    ensures { result ≡ fault_of error }
+{
     match error {
         WireError::Memory => HandlerFault::Memory,
         _ => HandlerFault::Failed,
@@ -129,7 +137,9 @@ fn out_of_memory(_error: AllocError) -> HandlerFault
 
 /// Returns the text of a Reply for the answer to a request that is a body alone. None if the answer can't be passed on: its
 /// body is too long or not UTF-8, or its status is not 200 to 599.
-fn packed(alloc: Global, answer: &Answer) -> Option<Result<Text, HandlerFault>> {
+fn packed(alloc: Global, answer: &Answer) -> Option<Result<Text, HandlerFault>>
+    ensures { IfSome result (λ made. IfOk made (λ text. text ≡ packed answer.now.status answer.now.is_json answer.now.body.items)) }
+{
     let status = answer.status;
     let text = str::from_utf8(answer.body.as_slice()).ok()?;
     if status < MIN_STATUS || status > MAX_STATUS || text.len() > MAX_BODY_BYTES {
@@ -140,7 +150,10 @@ fn packed(alloc: Global, answer: &Answer) -> Option<Result<Text, HandlerFault>> 
 
 /// Returns the text of a Reply for the answer to a request that is passed on whole. None if the answer can't be passed on: its
 /// body is too long, or its status is not 200 to 599.
-fn packed_whole(alloc: Global, answer: &Answer) -> Option<Result<Text, HandlerFault>> {
+fn packed_whole(alloc: Global, answer: &Answer) -> Option<Result<Text, HandlerFault>>
+    ensures { IfSome result (λ made. IfOk made (λ text. (fields : List (List ℕ × List ℕ)) → answer.now.fields.items ≡ joined (flat fields)
+        → text ≡ answer_text answer.now.status (body_passed answer.now.status answer.now.body.items) fields)) }
+{
     let (status, body) = (answer.status, answer.body.as_slice());
     if status < MIN_STATUS || status > MAX_STATUS || body.len() > MAX_REQUEST_BYTES {
         return None;
@@ -151,7 +164,9 @@ fn packed_whole(alloc: Global, answer: &Answer) -> Option<Result<Text, HandlerFa
 }
 
 /// Returns fields as the client of the application takes them.
-fn headers_of<'a>(alloc: Global, fields: &[Field<'a>]) -> Result<Vec<Header<'a>>, AllocError> {
+fn headers_of<'a>(alloc: Global, fields: &[Field<'a>]) -> Result<Vec<Header<'a>>, AllocError>
+    ensures { IfOk result (λ headers. pairs headers.items ≡ map named fields.now) }
+{
     let mut headers = Vec::with_capacity(alloc, fields.len())?;
     for field in fields {
         headers.push(Header {
@@ -163,7 +178,9 @@ fn headers_of<'a>(alloc: Global, fields: &[Field<'a>]) -> Result<Vec<Header<'a>>
 }
 
 /// Returns the fields of a request that is a body alone, to a service at this host.
-fn text_fields(alloc: Global, host: &str) -> Result<Vec<Header<'_>>, AllocError> {
+fn text_fields(alloc: Global, host: &str) -> Result<Vec<Header<'_>>, AllocError>
+    ensures { IfOk result (λ fields. pairs fields.items ≡ (codes "host", host.now) ∷ (codes "content-type", codes "text/plain; charset=utf-8") ∷ []) }
+{
     let mut fields = Vec::with_capacity(alloc, 2)?;
     fields.push(Header {
         name: b"host",
@@ -207,7 +224,9 @@ impl<R: Host> Application<R> {
         log: Logger<R>,
         stopwatch: Stopwatch,
         settings: &Settings,
-    ) -> Self {
+    ) -> Self
+        ensures { IsApplicationOf settings.now result }
+    {
         Application {
             rt,
             log,
@@ -228,6 +247,11 @@ impl<R: Host> Application<R> {
         let mut kept = self.kept.lock(&self.rt);
         kept.retain(|it| now < it.since.saturating_add(MAX_KEPT_MILLIS));
         kept
+    }
+
+    /// Returns the address of the program; without one, the node's own.
+    fn address(&self) -> Address {
+        self.at.unwrap_or(self.own)
     }
 
     fn now(&self) -> u64 {
@@ -392,17 +416,72 @@ impl<R: Host> Application<R> {
             Some(failure) => self.note_failure(at, failure),
         }
     }
+}
+
+impl<R: Host> Handler for Application<R> {
+    ghost use Rattle.agent.specs.Calling.{AnyHandling};
+
+    ghost may_handle = { λ _. AnyHandling };
+
+    fn handle<W: Wait>(
+        &self,
+        rt: &W,
+        alloc: Global,
+        keys: &Keys,
+        body: &Text,
+    ) -> Result<Text, HandlerFault> {
+        Limited::new(self, MAX_APPLICATION_MILLIS).handle(rt, alloc, keys, body)
+    }
+}
+
+/// The application with a limit for a request and its answer.
+#[derive(Drop)]
+pub struct Limited<'a, R> {
+    application: &'a Application<R>,
+    /// The milliseconds for a request and its answer.
+    millis: u64,
+    /// Whether they are what is left of a client's wait.
+    is_wait: bool,
+}
+
+impl<'a, R: Host> Limited<'a, R> {
+    /// Makes the application with this number of milliseconds for a request, or its own limit if that is less.
+    pub fn new(application: &'a Application<R>, millis: u64) -> Self
+        ensures limit { result.millis ≤ MAX_APPLICATION_MILLIS }
+        ensures own { result.is_wait ≡ false }
+    {
+        Limited {
+            application,
+            millis: millis.min(MAX_APPLICATION_MILLIS),
+            is_wait: false,
+        }
+    }
+
+    /// Makes the application with what is left of a client's wait for a request, or its own limit if that is less.
+    pub fn within(application: &'a Application<R>, left: u64) -> Self
+        ensures limit { result.millis ≤ MAX_APPLICATION_MILLIS }
+        ensures wait { IsTrue result.is_wait ↔ left < MAX_APPLICATION_MILLIS }
+    {
+        Limited {
+            is_wait: left < MAX_APPLICATION_MILLIS,
+            ..Limited::new(application, left)
+        }
+    }
+
+    /// Returns whether a request that has no answer after these milliseconds counts as a failure of the application: not if its client waited no longer.
+    fn is_failure(&self, spent: u64) -> bool
+        ensures { IsTrue result ↔ ((self.now.is_wait ≡ false) ⊎ (spent < self.now.millis)) }
+    {
+        !self.is_wait || spent < self.millis
+    }
 
     /// Returns the answer to a request, by the program within a limit or by the echo, as a text.
-    fn answer_to(
-        &self,
-        alloc: Global,
-        asked: &Asked<'_>,
-        limit: Duration,
-    ) -> Result<Text, HandlerFault> {
-        let answer = match self.at {
-            Some(_) => self.ask_timed(alloc, asked, limit),
-            None => Ok(self.echo(alloc, asked).map_err(out_of_memory)?),
+    fn answer_to(&self, alloc: Global, asked: &Asked<'_>) -> Result<Text, HandlerFault> {
+        let application = self.application;
+        let begun = application.now();
+        let answer = match application.at {
+            Some(_) => application.ask_timed(alloc, asked, Duration::from_millis(self.millis)),
+            None => Ok(application.echo(alloc, asked).map_err(out_of_memory)?),
         };
         let failure = match &answer {
             Ok(answer) => {
@@ -411,14 +490,16 @@ impl<R: Host> Application<R> {
                     Wanted::All { .. } => packed_whole(alloc, answer),
                 };
                 if let Some(text) = text {
-                    self.note_result(None);
+                    application.note_result(None);
                     return text;
                 }
                 Failure::BadAnswer
             }
             Err(failure) => *failure,
         };
-        self.note_result(Some(failure));
+        if self.is_failure(application.now().saturating_sub(begun)) {
+            application.note_result(Some(failure));
+        }
         failed(alloc, asked, failure)
     }
 
@@ -429,36 +510,29 @@ impl<R: Host> Application<R> {
         target: &str,
         host: &str,
         body: &[u8],
-        limit: Duration,
     ) -> Result<Text, HandlerFault> {
         let fields = text_fields(alloc, host).map_err(out_of_memory)?;
         let asked = Asked {
-            at: self.at.unwrap_or(self.own),
+            at: self.application.address(),
             method: b"POST",
             target: target.as_bytes(),
             fields,
             body,
             wanted: Wanted::Kind,
-            is_repeatable: !self.any_request,
+            is_repeatable: !self.application.any_request,
         };
-        self.answer_to(alloc, &asked, limit)
+        self.answer_to(alloc, &asked)
     }
 
     /// Returns the answer to a request that is a body alone: a POST of it as text at the key's path.
-    fn answer_body(
-        &self,
-        alloc: Global,
-        key: &str,
-        body: &[u8],
-        limit: Duration,
-    ) -> Result<Text, HandlerFault> {
+    fn answer_body(&self, alloc: Global, key: &str, body: &[u8]) -> Result<Text, HandlerFault> {
         let mut target = String::from_str(alloc, "/keys/").map_err(out_of_memory)?;
         percent_encode(key.as_bytes(), NON_ALPHANUMERIC)
             .append_to(&mut target)
             .map_err(out_of_memory)?;
-        let at = self.at.unwrap_or(self.own);
+        let at = self.application.address();
         let host = format!(in alloc; "{at}").map_err(|_| HandlerFault::Memory)?;
-        self.answer_text(alloc, target.as_str(), host.as_str(), body, limit)
+        self.answer_text(alloc, target.as_str(), host.as_str(), body)
     }
 
     /// Returns the answer to a request that is passed on whole.
@@ -466,7 +540,6 @@ impl<R: Host> Application<R> {
         &self,
         alloc: Global,
         request: &PassedRequest<'_>,
-        limit: Duration,
     ) -> Result<Text, HandlerFault> {
         let PassedRequest {
             method,
@@ -476,7 +549,7 @@ impl<R: Host> Application<R> {
         } = request;
         let fields = fields.as_slice();
         let asked = Asked {
-            at: self.at.unwrap_or(self.own),
+            at: self.application.address(),
             method,
             target,
             fields: headers_of(alloc, fields).map_err(out_of_memory)?,
@@ -486,70 +559,24 @@ impl<R: Host> Application<R> {
             },
             is_repeatable: may_repeat(method, fields),
         };
-        self.answer_to(alloc, &asked, limit)
+        self.answer_to(alloc, &asked)
     }
 
     /// Returns the answer to a request, by the program within a limit or by the echo.
-    fn answer(
-        &self,
-        alloc: Global,
-        keys: &Keys,
-        text: &Text,
-        limit: Duration,
-    ) -> Result<Text, HandlerFault> {
-        self.handled.add(1);
+    fn answer(&self, alloc: Global, keys: &Keys, text: &Text) -> Result<Text, HandlerFault> {
+        self.application.handled.add(1);
         let key = keys.get(0).ok_or(HandlerFault::Failed)?.as_str();
         let text = text.as_str();
         let Some(bytes) = unpack_bytes(alloc, text).map_err(out_of_memory)? else {
-            return self.answer_body(alloc, key, text.as_bytes(), limit);
+            return self.answer_body(alloc, key, text.as_bytes());
         };
         let bytes = bytes.as_slice();
         if let Some(request) = request_in(alloc, bytes).map_err(out_of_memory)? {
-            return self.answer_whole(alloc, &request, limit);
+            return self.answer_whole(alloc, &request);
         }
         match body_in(bytes) {
-            Some(body) => self.answer_body(alloc, key, body, limit),
-            None => self.answer_body(alloc, key, text.as_bytes(), limit),
-        }
-    }
-}
-
-impl<R: Host> Handler for Application<R> {
-    ghost use Rattle.agent.specs.Calling.{AnyHandling};
-
-    ghost may_handle = { λ _. AnyHandling };
-
-    fn handle<W: Wait>(
-        &self,
-        _rt: &W,
-        alloc: Global,
-        keys: &Keys,
-        body: &Text,
-    ) -> Result<Text, HandlerFault> {
-        self.answer(
-            alloc,
-            keys,
-            body,
-            Duration::from_millis(MAX_APPLICATION_MILLIS),
-        )
-    }
-}
-
-/// The application with a limit for a request and its answer.
-#[derive(Drop)]
-pub struct Limited<'a, R> {
-    application: &'a Application<R>,
-    limit: Duration,
-}
-
-impl<'a, R: Host> Limited<'a, R> {
-    /// Makes the application with this number of milliseconds for a request, or its own limit if that is less.
-    pub fn new(application: &'a Application<R>, millis: u64) -> Self
-        ensures { as_nanos result.limit ≤ MAX_APPLICATION_MILLIS * 1_000_000 }
-    {
-        Limited {
-            application,
-            limit: Duration::from_millis(millis.min(MAX_APPLICATION_MILLIS)),
+            Some(body) => self.answer_body(alloc, key, body),
+            None => self.answer_body(alloc, key, text.as_bytes()),
         }
     }
 }
@@ -566,7 +593,7 @@ impl<'a, R: Host> Handler for Limited<'a, R> {
         keys: &Keys,
         body: &Text,
     ) -> Result<Text, HandlerFault> {
-        self.application.answer(alloc, keys, body, self.limit)
+        self.answer(alloc, keys, body)
     }
 }
 

@@ -1,5 +1,5 @@
 //! HTTP connections of clients: what comes over one while a worker serves it, and what goes.
-ghost use Rattle.std.specs.Prelude.{◌≡◌, ◌<◌, Ok, length};
+ghost use Rattle.std.specs.Prelude.{◌≡◌, ◌<◌, ◌++◌, IsSome, IsTrue, Ok, length};
 ghost use Rattle.std.specs.Io.{ReadsAtMost, WritesAtMost};
 ghost use Rattle.http_server.specs.Connection.{config_of, history};
 ghost use Rattle.http_server.specs.History.{IsDone};
@@ -97,7 +97,10 @@ impl<'a, R: Host> Requests<'a, R> {
     }
 
     /// Returns whether these bytes, the last that came, start with a question that is to wait. They are then kept, and not read.
-    fn sets_aside(&mut self, bytes: &[u8]) -> bool {
+    fn sets_aside(&mut self, bytes: &[u8]) -> bool
+        ensures question { IsTrue result → IsSome self.new.question }
+        ensures kept { IsTrue result → self.new.came.unread.items ≡ self.old.came.unread.items ++ bytes.now }
+    {
         let agent = self.agent;
         let Some(question) = Question::of(bytes, &agent.key_field) else {
             return false;

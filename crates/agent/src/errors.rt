@@ -1,4 +1,7 @@
 //! The errors of an agent.
+ghost use Rattle.std.specs.Prelude.{◌≡◌};
+ghost use Rattle.agent.specs.Errors.{error_of_hosts, error_of_log};
+
 use agent_core::HostsFault;
 use agent_state::LogError;
 use change_core::Address;
@@ -40,6 +43,9 @@ pub enum AgentError {
     /// The file of hosts can't be read, for this reason.
     #[error("cannot read --hosts-file: {0}")]
     CannotRead(ErrorKind),
+    /// The file of hosts is a folder, or a pipe, say, which might be read for ever.
+    #[error("bad --hosts-file: no regular file")]
+    NotAFile,
     /// The file of hosts lists none, for this reason.
     #[error("bad --hosts-file: {0}")]
     BadHosts(HostsFault),
@@ -55,19 +61,25 @@ pub enum AgentError {
 }
 
 impl From<AllocError> for AgentError {
-    fn from(_: AllocError) -> AgentError {
+    fn from(_: AllocError) -> AgentError
+        ensures { result ≡ AgentError.Memory }
+    {
         AgentError::Memory
     }
 }
 
 impl<T: Drop> From<AllocFailed<T>> for AgentError {
-    fn from(_: AllocFailed<T>) -> AgentError {
+    fn from(_: AllocFailed<T>) -> AgentError
+        ensures { result ≡ AgentError.Memory }
+    {
         AgentError::Memory
     }
 }
 
 impl From<HostsFault> for AgentError {
-    fn from(fault: HostsFault) -> AgentError {
+    fn from(fault: HostsFault) -> AgentError
+        ensures { result ≡ error_of_hosts fault }
+    {
         match fault {
             HostsFault::Memory => AgentError::Memory,
             fault => AgentError::BadHosts(fault),
@@ -76,7 +88,9 @@ impl From<HostsFault> for AgentError {
 }
 
 impl From<LogError> for AgentError {
-    fn from(error: LogError) -> AgentError {
+    fn from(error: LogError) -> AgentError
+        ensures { result ≡ error_of_log error }
+    {
         match error {
             LogError::NoThread => AgentError::NoThread,
             LogError::Memory => AgentError::Memory,

@@ -11,6 +11,7 @@ ghost use Rattle.agent_core.specs.declared.actions.Action.TheVariants as action;
 ghost use Rattle.agent.specs.Answers.{IsAnswered, PerformsBy, Settles, ShowsTo};
 ghost use Rattle.agent.specs.Asking.{answerer};
 ghost use Rattle.agent.specs.Calling.{HasMade};
+ghost use Rattle.agent.specs.Onces.{Noted};
 ghost use Rattle.agent.specs.Performing.{AsksIfPlaced, AsksOwner, EndsEarly, Finds, IsFound, IsHealth, IsLiveness, IsRequested, IsUnjoined, Outcome, Performs, SettledBy, ShowsCounts, ShowsLevel, ShowsMembers, ShowsOwners, crowded, digest_by, refusal_of};
 
 use crate::agents::{Agent, Flag, Phase};
@@ -269,8 +270,8 @@ impl<'f, 'a, R: Host> Front<'f, 'a, R> {
 
     /// Returns the answer to a request whose wait has no limit and which may be performed twice, and the node that gave it.
     fn ask_whole(&mut self, keys: Keys, request: Text) -> (Result<Text, ClusterError>, Address)
-        ensures requested { (asked : Bool) × (noted : Option ℕ) × (result.1 ≡ answerer self.old.agent.now.own asked noted)
-            × HasMade (IsRequested asked noted keys request result.0) self.old.caller.now self.new.caller.now }
+        ensures requested { (asked : Bool) × (noted : Noted) × (result.1 ≡ answerer self.old.agent.now.own asked noted.last)
+            × HasMade (IsRequested true asked noted keys request result.0) self.old.caller.now self.new.caller.now }
         ensures agent { self.new.agent ≡ self.old.agent }
     {
         let agent = self.agent;
@@ -292,8 +293,8 @@ impl<'f, 'a, R: Host> Front<'f, 'a, R> {
         request: Text,
         is_repeatable: bool,
     ) -> (Result<Text, ClusterError>, Address, Option<Refusal>)
-        ensures requested { (asked : Bool) × (noted : Option ℕ) × (result.1 ≡ answerer self.old.agent.now.own asked noted)
-            × HasMade (IsRequested asked noted keys request result.0) self.old.caller.now self.new.caller.now }
+        ensures requested { (asked : Bool) × (noted : Noted) × (result.1 ≡ answerer self.old.agent.now.own asked noted.last)
+            × HasMade (IsRequested is_repeatable asked noted keys request result.0) self.old.caller.now self.new.caller.now }
         ensures ending { IfSome result.2 (EndsEarly is_repeatable self.old.limit) }
         ensures agent { self.new.agent ≡ self.old.agent }
     {
@@ -328,8 +329,8 @@ impl<'f, 'a, R: Host> Front<'f, 'a, R> {
         request: Text,
         is_repeatable: bool,
     ) -> (Result<Text, ClusterError>, Address, Option<Refusal>)
-        ensures requested { (asked : Bool) × (noted : Option ℕ) × (result.1 ≡ answerer self.old.agent.now.own asked noted)
-            × HasMade (IsRequested asked noted keys request result.0) self.old.caller.now self.new.caller.now }
+        ensures requested { (asked : Bool) × (noted : Noted) × (result.1 ≡ answerer self.old.agent.now.own asked noted.last)
+            × HasMade (IsRequested is_repeatable asked noted keys request result.0) self.old.caller.now self.new.caller.now }
         ensures ending { IfSome result.2 (EndsEarly is_repeatable self.old.limit) }
         ensures agent { self.new.agent ≡ self.old.agent }
     {

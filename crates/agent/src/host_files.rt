@@ -1,13 +1,17 @@
 //! The hosts of an agent: those of its settings, and those of a file that is read again while it runs.
+ghost use Rattle.std.specs.Prelude.{◌≡◌, IfOk, IsSome, IsTrue};
+ghost use Rattle.std.specs.IoError.{error_kind};
+ghost use Rattle.agent.specs.Errors.{error_of_reading};
+
 use crate::agents::Agent;
 use crate::errors::AgentError;
 use crate::settings::Settings;
-use agent_core::{MAX_HOSTS_BYTES, Notice, hosts_in};
+use agent_core::{MAX_HOSTS_BYTES, hosts_in};
 use agent_state::{Count, System};
 use change_core::Address;
 use log::{info, warn};
 use std::alloc::{AllocError, Global};
-use std::fs::{File, Files};
+use std::fs::{File, Files, metadata};
 use std::io::{Error, ErrorKind, Read};
 use std::sync::{Mutex, Wait};
 
@@ -27,7 +31,9 @@ pub struct Hosts {
 }
 
 /// Returns the error of an agent for one of reading the file of hosts.
-fn unread(error: Error) -> AgentError {
+fn unread(error: Error) -> AgentError
+    ensures { result ≡ error_of_reading (error_kind error) }
+{
     match error.kind() {
         ErrorKind::OutOfMemory => AgentError::Memory,
         kind => AgentError::CannotRead(kind),
@@ -36,6 +42,10 @@ fn unread(error: Error) -> AgentError {
 
 /// Reads the hosts that a file lists. It reads no more than one byte more than they may have.
 fn read_hosts<R: Files>(rt: &R, alloc: Global, path: &str) -> Result<Vec<Address>, AgentError> {
+    // (the opening of a pipe would await its other end)
+    if !metadata(rt, path).map_err(unread)?.is_file() {
+        return Err(AgentError::NotAFile);
+    }
     let file = File::open(rt, path).map_err(unread)?;
     let mut bytes = Vec::new(alloc);
     file.take(MAX_HOSTS_BYTES as u64 + 1)
@@ -69,7 +79,10 @@ impl Hosts {
     /// - `CannotRead`: the file can't be read.
     /// - `BadHosts`: it lists no hosts.
     /// - `Memory`: out of memory.
-    pub fn read<R: Files>(rt: &R, alloc: Global, settings: &Settings) -> Result<Hosts, AgentError> {
+    pub fn read<R: Files>(rt: &R, alloc: Global, settings: &Settings) -> Result<Hosts, AgentError>
+        ensures own { IfOk result (λ hosts. hosts.own ≡ settings.now.address) }
+        ensures given { IfOk result (λ hosts. hosts.given.items ≡ settings.now.hosts.items) }
+    {
         let own = settings.address;
         let given = settings.hosts.clone()?;
         let file = settings.hosts_file.clone()?;
@@ -88,7 +101,9 @@ impl Hosts {
     }
 
     /// Returns whether there are hosts, or may be some later.
-    pub fn may_come(&self) -> bool {
+    pub fn may_come(&self) -> bool
+        ensures { IsSome self.now.file → IsTrue result }
+    {
         self.file.is_some() || self.count.get() > 0
     }
 
@@ -132,11 +147,11 @@ impl Hosts {
     }
 }
 
-/// Logs that a file of hosts can't be read, or can again.
-fn log_reading<R: System>(agent: &Agent<R>, file: &str, renewed: Result<bool, AgentError>) {
-    match renewed {
-        Ok(_) => info!(agent.log(); "{file} is read again"),
-        Err(error) => warn!(agent.log(); "the hosts of before stay: {error}, of {file}"),
+/// Logs why a file of hosts can't be read, or that it can again.
+fn log_reading<R: System>(agent: &Agent<R>, file: &str, fault: Option<AgentError>) {
+    match fault {
+        None => info!(agent.log(); "{file} is read again"),
+        Some(error) => warn!(agent.log(); "the hosts of before stay: {error}, of {file}"),
     }
 }
 
@@ -146,20 +161,22 @@ fn log_count<R: System>(agent: &Agent<R>, file: &str) {
     info!(agent.log(); "{file} has changed; number of hosts: {count}");
 }
 
-/// Reads an agent's file of hosts again, if there is one. Logs how many hosts there are if they are others than before, and that the file can't be
-/// read, or can again, unless the log said so last.
+/// Reads an agent's file of hosts again, if there is one. Logs how many hosts there are if they are others than before, and why the file can't be
+/// read, or that it can again, unless that was told last.
 pub fn renew_hosts<R: System + Files>(
     rt: &R,
     alloc: Global,
     agent: &Agent<R>,
-    notice: &mut Notice,
+    told: &mut Option<AgentError>,
 ) {
     let Some(file) = &agent.hosts.file else {
         return;
     };
     let renewed = agent.hosts.renew(rt, alloc);
-    if notice.note(renewed.is_err(), agent.now()) {
-        log_reading(agent, file.as_str(), renewed);
+    let fault = renewed.err();
+    if fault != *told {
+        log_reading(agent, file.as_str(), fault);
+        *told = fault;
     }
     if renewed == Ok(true) {
         log_count(agent, file.as_str());

@@ -1,4 +1,6 @@
 //! The joins of the hosts, by a thread of their own: a host that does not answer holds up neither a round nor HTTP.
+ghost use Rattle.agent.specs.Joins.{IsAsked};
+
 use crate::agents::Agent;
 use crate::callers::Caller;
 use crate::links::NotedLink;
@@ -50,7 +52,9 @@ pub fn join_one<R: Host>(
 }
 
 /// Returns whether the node holds a host as serving, so that one of its members has met it.
-fn is_held<R: Host>(agent: &Agent<R>, caller: &mut Caller, host: Address) -> bool {
+fn is_held<R: Host>(agent: &Agent<R>, caller: &mut Caller, host: Address) -> bool
+    ensures { IsAsked host result caller.old caller.new }
+{
     match caller.member(&agent.rt, host) {
         Ok(Some(entry)) => entry.status.serving(),
         Ok(None) | Err(_) => false,

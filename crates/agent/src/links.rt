@@ -15,6 +15,7 @@ use log::{info, warn};
 use message_core::{Content, Keys, Message, Text};
 use peer_core::{HandlerFault, HandlerMut, Link, LinkError};
 use std::alloc::Global;
+use std::io;
 use std::sync::Wait;
 use std::time::Instant;
 
@@ -86,8 +87,14 @@ impl<'a, R: Host> NotedLink<'a, R> {
         disowned
     }
 
-    /// Takes the answer of a node to a message: notes who gave it, counts, and logs.
-    pub fn take(&mut self, to: Address, message: &Message, answer: &Result<Message, LinkError>)
+    /// Takes the answer of a node to a message, with the error of the system if the call failed by one: notes who gave it, counts, and logs.
+    pub fn take(
+        &mut self,
+        to: Address,
+        message: &Message,
+        answer: &Result<Message, LinkError>,
+        fault: Option<io::Error>,
+    )
         ensures failures { failures_by self.new.link ≡ failures_by self.old.link }
         ensures noted { self.new.last ≡ source_of answer.now }
     {
@@ -96,12 +103,20 @@ impl<'a, R: Host> NotedLink<'a, R> {
             self.agent.counters.forwards.add(1);
             self.disowned = self.disowned_with(to, answer);
         }
-        self.note(to, answer);
+        self.note(to, answer, fault);
         note_answer(self.agent, to, message, answer);
     }
 
+    /// Logs that a node did not answer, and why.
+    fn warn_silent(&self, to: Address, error: LinkError, fault: Option<io::Error>) {
+        match fault {
+            Some(fault) => warn!(self.agent.log(); "{to} did not answer: {error}: {fault}"),
+            None => warn!(self.agent.log(); "{to} did not answer: {error}"),
+        }
+    }
+
     /// Counts a failed call of a node, and logs it, or that the node answers, unless the log said so last.
-    fn note(&self, to: Address, answer: &Result<Message, LinkError>) {
+    fn note(&self, to: Address, answer: &Result<Message, LinkError>, fault: Option<io::Error>) {
         let Agent {
             rt,
             own,
@@ -128,7 +143,7 @@ impl<'a, R: Host> NotedLink<'a, R> {
             }
             Err(error) => {
                 if notices.note(rt, to, true, now) {
-                    warn!(self.agent.log(); "{to} did not answer: {error}");
+                    self.warn_silent(to, *error, fault);
                 }
             }
         }
@@ -163,7 +178,8 @@ impl<'a, R: Host> Link for NotedLink<'a, R> {
         if answer.is_ok() && matches!(&message.content, Content::Ping(_)) {
             self.agent.counters.pings.add_since(&self.agent.rt, start);
         }
-        self.take(to, message, &answer);
+        let fault = self.link.fault();
+        self.take(to, message, &answer, fault);
         answer
     }
 }

@@ -1,9 +1,9 @@
 //! Requests that may end early: after a send of which nothing is known, one that is to be sent at most once; and one whose wait is over.
-ghost use Rattle.std.specs.Prelude.{◌≡◌, ◌+◌, ◌-◌, ◌^◌, ◌↔◌, None, Err, IfErr, true};
+ghost use Rattle.std.specs.Prelude.{◌≡◌, ◌||◌, ◌+◌, ◌-◌, ◌^◌, ◌↔◌, None, Err, IfErr, false, is_err, true};
 ghost use Rattle.peer_core.specs.Links.{IsNamed, failures_in};
-ghost use Rattle.agent.specs.Onces.{ends_request, is_unsure};
+ghost use Rattle.agent.specs.Onces.{ends_request, is_unsure, noted_by, unnoted};
 
-use crate::agents::{Agent, Flag};
+use crate::agents::Agent;
 use crate::links::{NotedLink, source_of};
 use crate::patience::{Patience, limits_within};
 use crate::peer_links::PeerLink;
@@ -16,40 +16,29 @@ use std::alloc::Global;
 use std::io;
 use std::net::{SocketAddr, TcpStream};
 use std::sync::Wait;
-use std::time::{Clock, Duration};
+use std::time::Duration;
 
 /// A network that notes whether a connection was made.
 #[derive(Drop)]
-struct NotedNet<'l, R> {
+struct NotedNet<R> {
     rt: R,
-    was_made: &'l Flag,
+    was_made: bool,
 }
 
-impl<'l, R: Host> Dial for NotedNet<'l, R> {
+impl<R: Host> Dial for NotedNet<R> {
+    ghost use Rattle.agent.specs.Onces.{made_by};
+
     type Stream = TcpStream;
 
     ghost leads = { λ _ _. Unit {0} };
 
-    ghost dialled = { λ _ _ _ _ _. Unit {0} };
+    // a connection is noted
+    ghost dialled = { λ _ _ connection old new. new.was_made ≡ made_by connection old.was_made };
 
     fn dial(&mut self, to: &SocketAddr, limit: Duration) -> io::Result<TcpStream> {
         let stream = TcpStream::connect_timeout(&self.rt, to, limit)?;
-        self.was_made.set(true);
+        self.was_made = true;
         Ok(stream)
-    }
-}
-
-impl<'l, R: Host> Clock for NotedNet<'l, R> {
-    fn monotonic(&self) -> io::Result<Duration> {
-        self.rt.monotonic()
-    }
-
-    fn since_1970(&self) -> io::Result<Duration> {
-        self.rt.since_1970()
-    }
-
-    fn sleep(&self, duration: Duration) {
-        self.rt.sleep(duration)
     }
 }
 
@@ -89,6 +78,8 @@ struct Sent {
     failures: u64,
     /// Whether a connection was made.
     was_made: bool,
+    /// The error of the system by which the send failed; None if it did not fail by one.
+    fault: Option<io::Error>,
 }
 
 /// Sends a message within this many milliseconds, after this many sends that failed.
@@ -103,11 +94,11 @@ fn send_within<R: Host>(
     ensures failures { result.failures ≡ failures + failures_in result.answer }
     ensures spent { result.answer ≡ Err LinkError.Spent ↔ failures ≡ 2 ^ 64 - 1 }
     ensures named { IfErr result.answer IsNamed }
+    ensures unmade { result.was_made ≡ false → is_err result.answer ≡ true }
 {
-    let was_made = Flag::new(false);
     let net = NotedNet {
         rt: agent.rt,
-        was_made: &was_made,
+        was_made: false,
     };
     let limits = limits_within(agent.timeouts.links, millis);
     let mut link = PeerLink::new(agent, net, limits, failures);
@@ -115,7 +106,8 @@ fn send_within<R: Host>(
     Sent {
         answer,
         failures: link.failures(),
-        was_made: was_made.get(),
+        was_made: link.net().was_made,
+        fault: link.fault(),
     }
 }
 
@@ -143,7 +135,7 @@ impl<'l, 'a, R: Host> OnceLink<'l, 'a, R> {
         noted: &'l mut NotedLink<'a, R>,
         is_repeatable: bool,
     ) -> Self
-        ensures last { result.last ≡ None }
+        ensures noted { noted_by result ≡ unnoted is_repeatable }
     {
         OnceLink {
             patience,
@@ -161,6 +153,8 @@ impl<'l, 'a, R: Host> OnceLink<'l, 'a, R> {
         ensures error { result ≡ Err LinkError.Memory }
         ensures over { self.new.is_over ≡ true }
         ensures last { self.new.last ≡ None }
+        ensures unsure { self.new.is_unsure ≡ self.old.is_unsure }
+        ensures repeatable { self.new.is_repeatable ≡ self.old.is_repeatable }
         ensures failures { self.new.failures ≡ self.old.failures }
     {
         self.is_over = true;
@@ -170,12 +164,14 @@ impl<'l, 'a, R: Host> OnceLink<'l, 'a, R> {
 
     /// Notes an answer. That none came in what was left of the wait says nothing of the node.
     fn note(&mut self, to: Address, message: &Message, sent: &Sent, is_late: bool)
+        ensures unsure { self.new.is_unsure ≡ (self.old.is_unsure || is_unsure sent.now.answer sent.now.was_made) }
+        ensures repeatable { self.new.is_repeatable ≡ self.old.is_repeatable }
         ensures failures { self.new.failures ≡ self.old.failures }
     {
         if is_late && sent.answer.is_err() {
             self.patience.agent.counters.forwards.add(1);
         } else {
-            self.noted.take(to, message, &sent.answer);
+            self.noted.take(to, message, &sent.answer, sent.fault);
         }
         self.is_unsure = self.is_unsure || is_unsure(&sent.answer, sent.was_made);
     }
@@ -183,14 +179,13 @@ impl<'l, 'a, R: Host> OnceLink<'l, 'a, R> {
 
 impl<'l, 'a, R: Host> Link for OnceLink<'l, 'a, R> {
     ghost use Rattle.agent.specs.Calling.{AnyAnswer};
-    ghost use Rattle.agent.specs.Asking.{notes_source};
-    ghost use Rattle.agent.specs.Onces.{EndsIfOver};
+    ghost use Rattle.agent.specs.Onces.{EndsIfOver, noted_by, notes_send};
 
     ghost may_answer = { AnyAnswer };
 
-    // the node that gave the answer is noted
+    // what is known of the request is noted; it ends where a node may have performed it, if it may not be performed twice
     ghost went = { λ to message answer old new. EndsIfOver answer new.is_over
-        × notes_source to message answer old.last new.last };
+        × notes_send to message answer (noted_by old) (noted_by new) };
 
     ghost failed = { λ n. n.failures };
 

@@ -134,7 +134,7 @@ impl<'a, R: Host> Handler for Patience<'a, R> {
             return Err(self.end());
         }
         self.was_asked.set(true);
-        let application = Limited::new(&self.agent.application, left);
+        let application = Limited::within(&self.agent.application, left);
         let answer = application.handle(rt, alloc, keys, body);
         if self.left() == 0 {
             return Err(self.end());

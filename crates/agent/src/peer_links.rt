@@ -1,6 +1,8 @@
 //! A link between the nodes of a cluster, which notes what is of another one.
-ghost use Rattle.std.specs.Prelude.{◌≡◌};
-ghost use Rattle.agent.specs.PeerLinks.{failures_by};
+ghost use Rattle.std.specs.Prelude.{◌≡◌, false};
+ghost use Rattle.kept_links.specs.Exchanges.{keeps_over};
+ghost use Rattle.message_core.specs.declared.messages.Content.{Content};
+ghost use Rattle.agent.specs.PeerLinks.{failures_by, net_by};
 
 use crate::agents::Agent;
 use crate::rejections::{note_foreign_line, note_own_line};
@@ -11,6 +13,7 @@ use kept_links::{KeptLink, Pool};
 use message_core::Message;
 use peer_core::{Link, LinkError};
 use std::alloc::Global;
+use std::io;
 use std::net::TcpStream;
 use std::sync::Wait;
 
@@ -27,12 +30,21 @@ impl<'a, R, N> PeerLink<'a, R, N> {
     /// that it replaces. Each call opens a connection.
     pub fn new(agent: &'a Agent<R>, net: N, limits: Limits, failures: u64) -> Self
         ensures failures { failures_by result ≡ failures }
+        ensures net { net_by result ≡ net }
+        ensures unkept { (content : Content) → keeps_over result.link content ≡ false }
     {
         let link = KeptLink::new(net, &agent.rt, None, &agent.cluster, limits);
         PeerLink {
             agent,
             link: link.after_failures(failures),
         }
+    }
+
+    /// Returns the network that the link uses.
+    pub fn net(&self) -> &N
+        ensures { result.now ≡ net_by self.now }
+    {
+        self.link.net()
     }
 }
 
@@ -50,6 +62,11 @@ impl<'a, R: Host> PeerLink<'a, R, R> {
 }
 
 impl<'a, R: Host, N> PeerLink<'a, R, N> {
+    /// Returns the error of the system by which the last call failed; None if it did not fail by one.
+    pub fn fault(&self) -> Option<io::Error> {
+        self.link.fault()
+    }
+
     /// Notes whose the answer of an address was: of another cluster, or of this one.
     fn note(&self, to: Address, answer: &Result<Message, LinkError>) {
         match self.link.foreign() {
@@ -61,8 +78,10 @@ impl<'a, R: Host, N> PeerLink<'a, R, N> {
 }
 
 impl<'a, R: Host, N: Dial<Stream = TcpStream>> Link for PeerLink<'a, R, N> {
+    ghost use Rattle.std.specs.Prelude.{◌+◌, ◌-◌, ◌^◌, ◌↔◌, Err, IfErr};
+    ghost use Rattle.peer_core.specs.Links.{IsNamed, failures_in};
     ghost use Rattle.agent.specs.Calling.{AnyAnswer};
-    ghost use Rattle.agent.specs.PeerLinks.{failures_by};
+    ghost use Rattle.agent.specs.PeerLinks.{ConnectsAtMostOnce, failures_by};
 
     ghost may_answer = { AnyAnswer };
 
@@ -80,7 +99,14 @@ impl<'a, R: Host, N: Dial<Stream = TcpStream>> Link for PeerLink<'a, R, N> {
         alloc: Global,
         to: Address,
         message: &Message,
-    ) -> Result<Message, LinkError> {
+    ) -> Result<Message, LinkError>
+        ensures came { AnyAnswer to message.now result }
+        ensures went { Unit {0} }
+        ensures failures { failures_by self.new ≡ failures_by self.old + failures_in result }
+        ensures spent { result ≡ Err LinkError.Spent ↔ failures_by self.old ≡ 2 ^ 64 - 1 }
+        ensures named { IfErr result IsNamed }
+        ensures connects { ConnectsAtMostOnce N.dialled to message.now result self.old.link self.new.link }
+    {
         let answer = self.link.call(rt, alloc, to, message);
         self.note(to, &answer);
         answer

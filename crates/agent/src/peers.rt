@@ -1,5 +1,8 @@
 //! Lines of other nodes: one in and one out, and then the next for connections that are kept. Gossip is answered immediately, by threads that never
 //! wait for the application.
+ghost use Rattle.std.specs.Prelude.{◌≡◌, IfSome, IsTrue};
+ghost use Rattle.agent.specs.Serving.{is_request};
+
 use crate::admissions::admit;
 use crate::agents::Agent;
 use crate::applications::{Joining, Overloaded};
@@ -78,7 +81,9 @@ fn answer<R: Host, A: HandlerMut>(
 }
 
 /// Returns whether an input is a request of a key.
-fn is_request(input: &Input) -> bool {
+fn is_request(input: &Input) -> bool
+    ensures { result ≡ is_request input.now }
+{
     matches!(
         input,
         Input::Message(Message {
@@ -112,7 +117,9 @@ fn request_of<R: Host>(
     caller: &mut Caller,
     link: &mut PeerLink<'_, R, R>,
     mut job: Job,
-) -> Option<Job> {
+) -> Option<Job>
+    ensures { IfSome result (λ request. IsTrue (is_request request.input)) }
+{
     job.input = admit(agent, caller, job.input);
     if !is_request(&job.input) {
         answer(agent, alloc, caller, link, &mut &agent.application, job);

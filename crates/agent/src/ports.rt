@@ -1,7 +1,8 @@
 //! The node's port: the thread that accepts connections of other nodes and watches those whose line is not whole, and the readers of lines.
-ghost use Rattle.std.specs.Prelude.{◌≡◌, ◌/◌, ◌++◌, Some, IfOk, IfErr, min, take};
+ghost use Rattle.std.specs.Prelude.{◌≡◌, ◌⊎◌, ◌-◌, ◌/◌, ◌^◌, ◌++◌, ℕ, List, None, Ok, Some, IfOk, IfErr, IfSome, IsFalse, min, take};
+ghost use Rattle.std.specs.Duration.{as_nanos};
 ghost use Rattle.std.specs.Io.KnownBytes.{Consumes};
-ghost use Rattle.agent.specs.Lines.{HearsOwn};
+ghost use Rattle.agent.specs.Lines.{HearsOwn, input_of};
 ghost use Rattle.agent.specs.Ports.{is_over};
 
 use crate::acceptors::note;
@@ -108,7 +109,9 @@ fn heard_in(alloc: Global, cluster: &Option<ClusterName>, line: &[u8]) -> (Heard
 }
 
 /// Returns the milliseconds in which a line has to come.
-fn line_millis<R: Host>(agent: &Agent<R>) -> u64 {
+fn line_millis<R: Host>(agent: &Agent<R>) -> u64
+    ensures { result ≡ min (as_nanos agent.now.timeouts.line / 10 ^ 6) (2 ^ 53 - 1) }
+{
     agent.timeouts.line.as_millis().min(MAX_NUMBER as u128) as u64
 }
 
@@ -134,7 +137,11 @@ fn hear_more<S: Read>(
     stream: &mut S,
     buffer: &mut [u8],
     line: &mut Vec<u8>,
-) -> io::Result<Option<(Heard, bool)>> {
+) -> io::Result<Option<(Heard, bool)>>
+    ensures heard { IfOk result (λ r. IfSome r (λ it. HearsOwn cluster.now (Some line.new.items) it.0 ⊎ ((it.0 ≡ Heard.Input (Input.Refused Reason.Memory)) × (line.new.items ≡ line.old.items)))) }
+    ensures came { (came : List ℕ) × (line.new.items ≡ line.old.items ++ came) }
+    ensures waits { result ≡ Ok None → (line.new.items ≡ line.old.items) ⊎ IsFalse (is_over line.new.items) }
+{
     match read_on(stream, buffer, line) {
         Ok(count) if count > 0 && !is_over(line) => Ok(None),
         Ok(_) => Ok(Some(heard_in(alloc, cluster, line))),
@@ -155,7 +162,10 @@ fn job_of<R: Host>(
     heard: Heard,
     is_marked: bool,
     until: u64,
-) -> Job {
+) -> Job
+    ensures input { result.input ≡ input_of heard }
+    ensures marked { result.is_marked ≡ is_marked }
+{
     let since = Moment::new(until.saturating_sub(line_millis(agent)));
     Job {
         input: input_of(agent, &stream, heard),

@@ -1,6 +1,7 @@
 //! What is refused: messages of this node by other nodes, joins among them, and lines at this node's port.
 ghost use Rattle.std.specs.Prelude.{◌≡◌};
 ghost use Rattle.agent.specs.Lines.{input_of};
+ghost use Rattle.agent.specs.Rejections.{reason_of};
 
 use crate::agents::Agent;
 use crate::lines::Heard;
@@ -35,7 +36,9 @@ pub struct Refused {
 }
 
 /// Returns the reason of an answer that is a refusal.
-fn reason_of(answer: &Result<Message, LinkError>) -> Option<Reason> {
+fn reason_of(answer: &Result<Message, LinkError>) -> Option<Reason>
+    ensures { result ≡ reason_of answer.now }
+{
     match answer {
         Ok(
             Message {
@@ -130,7 +133,7 @@ pub fn note_answer<R: Host>(
 }
 
 /// Counts a line at this node's port that is refused, and logs that there are some, or that lines are read again.
-fn note_input<R: Host>(agent: &Agent<R>, input: &Input) {
+fn note_input<R: Host>(agent: &Agent<R>, stream: &TcpStream, input: &Input) {
     let Agent {
         rt,
         refused,
@@ -151,7 +154,10 @@ fn note_input<R: Host>(agent: &Agent<R>, input: &Input) {
             }
             if is_news {
                 let reason = reason.word();
-                warn!(agent.log(); "a line at this node's port was refused: {reason}");
+                match stream.peer_addr() {
+                    Ok(from) => warn!(agent.log(); "a line of {from} was refused: {reason}"),
+                    Err(_) => warn!(agent.log(); "a line was refused: {reason}"),
+                }
             }
         }
         Input::Message(_) | Input::Nothing => {}
@@ -205,7 +211,7 @@ pub fn input_of<R: Host>(agent: &Agent<R>, stream: &TcpStream, heard: Heard) -> 
     match heard {
         Heard::Input(input) => {
             note_own_line(agent, agent.own);
-            note_input(agent, &input);
+            note_input(agent, stream, &input);
             input
         }
         Heard::Foreign(line) => {

@@ -1,4 +1,7 @@
 //! Rounds of gossip, and the last ones before the end.
+ghost use Rattle.std.specs.Prelude.{◌≡◌};
+ghost use Rattle.agent.specs.Rounds.{MakesRound, silent_in};
+
 use crate::agents::Agent;
 use crate::callers::Caller;
 use crate::hosts::{MAX_FIRST_WAIT, link_of};
@@ -52,7 +55,9 @@ struct Changed {
 }
 
 /// Returns the member that a round could not reach, if there is one.
-fn silent_in(round: &Result<Round, ClusterError>) -> Option<Address> {
+fn silent_in(round: &Result<Round, ClusterError>) -> Option<Address>
+    ensures { result ≡ silent_in round.now }
+{
     match round {
         Ok(Round::Suspected(suspected)) => Some(*suspected),
         _ => None,
@@ -235,7 +240,9 @@ impl<'a, R: Host> Rounds<'a, R> {
     }
 
     /// Makes one round of gossip, which corrects its target unless the node has left.
-    fn gossip(&mut self, now: Moment) -> Result<Round, ClusterError> {
+    fn gossip(&mut self, now: Moment) -> Result<Round, ClusterError>
+        ensures { MakesRound now result self.old.caller self.new.caller }
+    {
         let (agent, link) = (self.agent, &mut self.link);
         if agent.has_left.get() {
             return self.caller.round(&agent.rt, self.alloc, link, now);

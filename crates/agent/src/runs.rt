@@ -1,6 +1,12 @@
 //! The run of an agent, from its settings to its end.
-ghost use Rattle.std.specs.Prelude.{◌≡◌, ◌/◌, ◌++◌, ◌∷◌, [], IfOk, OnOk, min};
+ghost use Rattle.std.specs.Prelude.{◌≡◌, ◌||◌, ◌/◌, ◌*◌, ◌^◌, ◌++◌, ◌∷◌, [], Err, IfErr, IfOk, IfSome, IsFalse, IsNone, IsSome, IsTrue, Ok, OnOk, min};
+ghost use Rattle.std.specs.Duration.{as_nanos};
 ghost use Rattle.std.specs.Io.KnownBytes.{Appends};
+ghost use Rattle.change_core.specs.Address.{ip_of};
+ghost use Rattle.cluster_core.specs.Limits.{IsStandard};
+ghost use Rattle.line_service.specs.Timeouts.{AreStandardTimeouts};
+ghost use Rattle.locked_node.specs.Passes.{opening_of};
+ghost use Rattle.agent.specs.Settings.{IsNodeOf, is_local, seed_of};
 ghost use Rattle.agent.specs.Texts.{agent_text, serving_line};
 ghost use Rattle.wire_json.specs.Input.{AppendsPrefix};
 
@@ -19,7 +25,7 @@ use crate::rounds::make_rounds;
 use crate::services::{await_service, watch_service};
 use crate::settings::Settings;
 use crate::tellers::{Teller, start_notices};
-use agent_core::{Notice, Watch};
+use agent_core::Watch;
 use agent_http::Kept;
 use agent_state::{
     Count, Counters, Logger, Notices, Process, System, Waiting, Watchers, share_log, start_log,
@@ -68,7 +74,10 @@ const MAX_SPREADING: u64 = 5_000;
 
 /// Returns the incarnation at which the node starts. If none is given, it is the milliseconds since 1970, so that each
 /// start has a greater one.
-fn incarnation_of<R: System>(rt: &R, settings: &Settings) -> Result<Incarnation, AgentError> {
+fn incarnation_of<R: System>(rt: &R, settings: &Settings) -> Result<Incarnation, AgentError>
+    ensures given { IfSome settings.now.incarnation (λ incarnation. result ≡ Ok incarnation) }
+    ensures refused { IfErr result (λ e. e ≡ AgentError.NoClock) }
+{
     if let Some(incarnation) = settings.incarnation {
         return Ok(incarnation);
     }
@@ -79,11 +88,10 @@ fn incarnation_of<R: System>(rt: &R, settings: &Settings) -> Result<Incarnation,
 
 /// Returns the seed of the node's random choices. Nodes of different addresses that start at the same incarnation have
 /// different seeds.
-fn seed_of(address: Address, incarnation: Incarnation) -> u64 {
-    address
-        .number()
-        .wrapping_mul(32_768)
-        .wrapping_add(incarnation.number())
+fn seed_of(address: Address, incarnation: Incarnation) -> u64
+    ensures { result ≡ seed_of address incarnation }
+{
+    address.number() * 32_768 + incarnation.number()
 }
 
 /// Makes the node of the settings.
@@ -91,7 +99,9 @@ fn node_of<R: System>(
     rt: &R,
     alloc: Global,
     settings: &Settings,
-) -> Result<NodeState<Sha256Hash>, AgentError> {
+) -> Result<NodeState<Sha256Hash>, AgentError>
+    ensures { IfOk result (IsNodeOf settings.now) }
+{
     let incarnation = incarnation_of(rt, settings)?;
     let config = Config {
         per_message: settings.per_message,
@@ -116,7 +126,9 @@ fn node_of<R: System>(
 }
 
 /// Makes the node of the settings and its passes.
-fn passes_of<R: System>(rt: &R, alloc: Global, settings: &Settings) -> Result<Passes, AgentError> {
+fn passes_of<R: System>(rt: &R, alloc: Global, settings: &Settings) -> Result<Passes, AgentError>
+    ensures { IfOk result (λ passes. IsNodeOf settings.now (opening_of passes.node)) }
+{
     let node = node_of(rt, alloc, settings)?;
     let (node, _pass, passes) = share(alloc, node, PASSES)?;
     Ok(Passes::new(Arc::new(alloc, node)?, passes))
@@ -135,7 +147,10 @@ fn application_of<R: System>(
 }
 
 /// Returns the time limits of the settings: where any request is passed on, a line has more time, since it may be longer.
-fn timeouts_of(settings: &Settings) -> Timeouts {
+fn timeouts_of(settings: &Settings) -> Timeouts
+    ensures standard { IsNone settings.now.key_field → AreStandardTimeouts result }
+    ensures long { IsSome settings.now.key_field → (as_nanos result.line ≡ 2000 * 10 ^ 6) × IsStandard result.links }
+{
     let mut timeouts = Timeouts::standard();
     if settings.key_field.is_some() {
         timeouts.line = Duration::from_millis(MAX_LONG_LINE);
@@ -160,7 +175,8 @@ fn agent_of<R: System + Files>(
     let passes = passes_of(rt, alloc, settings)?;
     let stopwatch = Stopwatch::start(rt);
     let spares = spares_with(max_descriptors().unwrap_or(u64::MAX));
-    let log = start_log(rt, alloc, settings.address, settings.level)?;
+    let is_json = settings.log_json;
+    let log = start_log(rt, alloc, settings.address, settings.level, is_json)?;
     let application = application_of(rt, alloc, &log, stopwatch, settings)?;
     let agent = Agent {
         rt: *rt,
@@ -191,8 +207,8 @@ fn agent_of<R: System + Files>(
         disowners: Notices::new(alloc),
         refused: Refused::new(alloc),
         is_starting: Flag::new(hosts.count.get() > 0),
+        has_joined: Flag::new(hosts.count.get() == 0),
         hosts,
-        has_joined: Flag::new(false),
         has_left: Flag::new(false),
         moving: Mutex::new(Watch::new(settings.following.leave_after.saturating_mul(1_000))),
         is_service_up: Flag::new(true),
@@ -308,13 +324,13 @@ fn say_serving<W: Write>(alloc: Global, address: Address, writer: &mut W) -> Res
 
 /// Looks at what the process uses, and reads the file of hosts, if there is one, now and every five seconds, until the agent is to end.
 fn watch_process<R: System + Files>(rt: &R, alloc: Global, agent: &Agent<R>) {
-    let mut notice = Notice::new();
+    let mut told = None;
     for _ in rt.forever() {
         if agent.is_stopping.get() || agent.is_spent.get() {
             return;
         }
         agent.process.look(rt, alloc);
-        renew_hosts(rt, alloc, agent, &mut notice);
+        renew_hosts(rt, alloc, agent, &mut told);
         agent
             .bell
             .park_timeout(rt, Duration::from_millis(BETWEEN_LOOKS));
@@ -388,7 +404,10 @@ fn set_up<R: System + Files>(
     rt: &R,
     alloc: Global,
     settings: Settings,
-) -> Result<(Arc<Agent<R>, Global>, Option<Arc<Lot<Kept>, Global>>), AgentError> {
+) -> Result<(Arc<Agent<R>, Global>, Option<Arc<Lot<Kept>, Global>>), AgentError>
+    ensures local { IsFalse (is_local settings.http) → IsFalse settings.http_any → result ≡ Err AgentError.NotLocal }
+    ensures address { IsTrue (is_local settings.http || settings.http_any) → ip_of settings.address ≡ 0 → result ≡ Err AgentError.NoAddress }
+{
     if !settings.is_http_local() && !settings.http_any {
         return Err(AgentError::NotLocal);
     }

@@ -1,4 +1,7 @@
 //! The settings of an agent.
+ghost use Rattle.std.specs.Prelude.{◌≡◌, None, cond};
+ghost use Rattle.agent.specs.Settings.{is_local};
+
 use change_core::{Address, Incarnation, Weight};
 use cluster_names::ClusterName;
 use http::HeaderName;
@@ -50,6 +53,8 @@ pub struct Settings {
     pub incarnation: Option<Incarnation>,
     /// The greatest level that the log prints.
     pub level: LevelFilter,
+    /// Whether each line of the log is a JSON object.
+    pub log_json: bool,
     /// The nodes that it asks to admit it.
     pub hosts: Vec<Address>,
     /// The path of a file that lists more of them, if there is one.
@@ -58,7 +63,9 @@ pub struct Settings {
 
 impl Settings {
     /// Returns whether the address for HTTP, if there is one, is in 127.0.0.0/8.
-    pub fn is_http_local(&self) -> bool {
+    pub fn is_http_local(&self) -> bool
+        ensures { result ≡ is_local self.now.http }
+    {
         match self.http {
             Some(address) => address.ip() >> 24 == 127,
             None => true,
@@ -66,7 +73,9 @@ impl Settings {
     }
 
     /// Returns the address of the application, if it is told of the ring.
-    pub fn told_app(&self) -> Option<Address> {
+    pub fn told_app(&self) -> Option<Address>
+        ensures { result ≡ cond self.now.tell_app self.now.app None }
+    {
         if self.tell_app { self.app } else { None }
     }
 }

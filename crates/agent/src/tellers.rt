@@ -1,4 +1,6 @@
 //! The notices by which the application is told of the ring, by a thread of their own: an application that is slow or down holds up no round.
+ghost use Rattle.std.specs.Prelude.{◌≡◌};
+
 use crate::agents::{Agent, Flag};
 use crate::errors::AgentError;
 use crate::questions::ring_digest;
@@ -46,7 +48,9 @@ pub struct Teller {
 
 impl Teller {
     /// Makes the teller of an application that is told, or is not.
-    pub fn new(is_on: bool) -> Self {
+    pub fn new(is_on: bool) -> Self
+        ensures { result.is_on ≡ is_on }
+    {
         Teller {
             is_on,
             has_served: Flag::new(false),

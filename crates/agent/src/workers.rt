@@ -1,7 +1,9 @@
 //! The workers that answer HTTP. One serves a connection while requests come, and parks it once it is idle.
-ghost use Rattle.std.specs.Prelude.{◌≡◌, ◌≢◌, ◌+◌, ◌-◌, ◌^◌, false, true, min, IfSome, box_value};
-ghost use Rattle.http_server.specs.Connection.{config_of};
+ghost use Rattle.std.specs.Prelude.{◌≡◌, ◌≢◌, ◌+◌, ◌-◌, ◌^◌, None, false, true, min, IfSome, box_value};
+ghost use Rattle.http_server.specs.Connection.{config_of, history};
+ghost use Rattle.http_server.specs.History.{History};
 ghost use Rattle.agent_http.specs.Visits.{connection_limits};
+ghost use Rattle.agent.specs.Connections.{HasServed, SendsAnswers};
 
 use crate::agents::{Agent, Flag};
 use crate::callers::Caller;
@@ -59,6 +61,7 @@ fn serve<R: Host>(
     until: u64,
 ) -> Left
     requires { config_of (box_value connection) ≡ connection_limits }
+    ensures { (left : History) × SendsAnswers front.old.agent.now.own front.old.agent.now.replicas front.old.agent.now.key_field (history (box_value connection)) left None None None None front.old.caller.now front.new.caller.now }
 {
     let is_answering = Flag::new(false);
     let mut requests = Requests {
@@ -114,7 +117,9 @@ fn visit<R: Host>(
     ready: &Receiver<reactor::Connection<Kept>>,
     keys: RandomState,
     visited: reactor::Connection<Kept>,
-) {
+)
+    ensures { HasServed front.old.agent.now.own front.old.agent.now.replicas front.old.agent.now.key_field front.old.caller.now front.new.caller.now }
+{
     let agent = front.agent;
     let reactor::Connection {
         stream,

@@ -57,7 +57,7 @@ module _ (ls : List (Bor Text)) where
       slice_get-get_or (map bytes_of ls) i line.now (omega (arith, length-map ls bytes_of))
       ∙ ap Some (get_or-map bytes_of ls i line line.now lt ∙ ap bytes_of (sym is))
 
-  -- it names one that is no address
+  -- it names one that cannot be read as an address
   first_bad : (i : ℕ) (line : Bor Text) (hosts : List ℕ) → i < length ls → line ≡ get_or ls i line → SoFar i hosts
       → IsBadLine line.now → IsFirstBad (map bytes_of ls) (i + 1)
   first_bad i line hosts lt is so_far bad_line = record {

@@ -11,3 +11,4 @@ pub mod Watching
 pub mod Nexting
 pub mod Noting
 pub mod Hosting
+pub mod OneLine

@@ -5,6 +5,7 @@ pub mod Parts
 pub mod Passing
 pub mod Texts
 pub mod Levels
+pub mod LogLines
 pub mod Tellings
 pub mod Metrics
 pub mod Services

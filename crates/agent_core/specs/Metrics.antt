@@ -1,5 +1,6 @@
 -- The counts of an agent, in the text format of Prometheus.
-use Rattle.std.specs.Prelude.{ℕ, ◌+◌, ◌==◌, nat_le, min, Bool, cond, List, [], ◌∷◌, ◌++◌, codes, decimal, length, count_by, sum, take}
+use Rattle.std.specs.Prelude.{ℕ, ◌+◌, ◌==◌, nat_le, min, Bool, cond, List, [], ◌∷◌, ◌++◌, codes, decimal, length, count_by, flat_map, sum, take}
+use Rattle.std.specs.Borrow.{Bor}
 use Rattle.change_core.specs.declared.changes.Change.{Change}
 use Rattle.change_core.specs.declared.statuses.Status.{Status}
 use Rattle.change_core.specs.declared.statuses.Status.TheVariants.{Alive, Suspect, Faulty, Leave, Tombstone}
@@ -34,17 +35,25 @@ within buckets bucket = min (sum (take (bucket + 1) buckets)) 184467440737095516
 unfoldable pub head : List ℕ → List ℕ → List ℕ → List ℕ
 head name kind help = codes "# HELP " ++ (name ++ 32 ∷ (help ++ 10 ∷ (codes "# TYPE " ++ (name ++ 32 ∷ (kind ++ 10 ∷ [])))))
 
--- a line with a name and a number
-unfoldable pub sample : List ℕ → ℕ → List ℕ
-sample name number = name ++ 32 ∷ (decimal number ++ 10 ∷ [])
+-- a sample of a metric: its name, its labels in braces, or none, and its number
+unfoldable pub sample : List ℕ → List ℕ → ℕ → List ℕ
+sample name labels number = name ++ (labels ++ 32 ∷ (decimal number ++ 10 ∷ []))
+
+-- a sample of a metric of this name, by its labels and its number
+abbrev pub labelled : List ℕ → Bor (List ℕ) × ℕ → List ℕ
+labelled name (labels, number) = sample name labels.now number
+
+-- the samples of a metric that says how much there is
+abbrev pub gauge : List ℕ → List ℕ → List (List ℕ × ℕ) → List ℕ
+gauge name help samples = head name (codes "gauge") help ++ flat_map (λ (labels, number). sample name labels number) samples
+
+-- the samples of a metric that only grows
+abbrev pub counter : List ℕ → List ℕ → List (List ℕ × ℕ) → List ℕ
+counter name help samples = head name (codes "counter") help ++ flat_map (λ (labels, number). sample name labels number) samples
 
 -- a line with a name and a number of thousandths
 unfoldable pub milli_sample : List ℕ → ℕ → List ℕ
 milli_sample name millis = name ++ 32 ∷ (decimal millis ++ (codes "e-3" ++ 10 ∷ []))
-
--- a metric that has one sample
-abbrev pub metric : List ℕ → List ℕ → List ℕ → ℕ → List ℕ
-metric name kind help number = head name kind help ++ sample name number
 
 -- the number of members with a status
 unfoldable pub status_sample : List Change → Status → List ℕ
@@ -82,8 +91,7 @@ time_samples name help times = head name (codes "histogram") help ++ bucket_samp
 -- the version
 abbrev pub build_samples : List ℕ
 build_samples =
-    head (codes "ringpop_build_info") (codes "gauge") (codes "The version of the program, as a label.")
-    ++ sample (codes "ringpop_build_info{version=\"1.0.0-dev\"}") 1
+    gauge (codes "ringpop_build_info") (codes "The version of the program, as a label.") ((codes "{version=\"1.0.0-dev\"}", 1) ∷ [])
 
 -- the number of members with each status
 abbrev pub status_samples : List Change → List ℕ
@@ -95,164 +103,153 @@ status_samples members =
     ++ status_sample members Leave
     ++ status_sample members Tombstone
 
--- the number of addresses used, and the most that there can be
-abbrev pub address_samples : ℕ → List ℕ
-address_samples addresses =
-    metric (codes "ringpop_addresses_used") (codes "gauge") (codes "Addresses that the node holds, those of members that left or died included.") addresses
-    ++ metric (codes "ringpop_addresses_max") (codes "gauge") (codes "Addresses that a node can hold.") most_members
-
--- the node's own incarnation, and the digest of its members
-abbrev pub node_samples : Counts → List ℕ
-node_samples counts =
-    metric (codes "ringpop_incarnation") (codes "gauge") (codes "The incarnation of the node, in its own entry at the last change of its members.") counts.incarnation
-    ++ metric (codes "ringpop_digest") (codes "gauge") (codes "The first six bytes of the digest of the members at their last change: nodes that agree have one number.") counts.digest
+-- the number of addresses used and the most that there can be, the node's own incarnation, and the digest of its members
+abbrev pub node_samples : Counts → ℕ → List ℕ
+node_samples counts addresses =
+    gauge (codes "ringpop_addresses_used") (codes "Addresses that the node holds, those of members that left or died included.") ((codes "", addresses) ∷ [])
+    ++ gauge (codes "ringpop_addresses_max") (codes "Addresses that a node can hold.") ((codes "", most_members) ∷ [])
+    ++ gauge (codes "ringpop_incarnation") (codes "The incarnation of the node, in its own entry at the last change of its members.") ((codes "", counts.incarnation) ∷ [])
+    ++ gauge (codes "ringpop_digest") (codes "The first six bytes of the digest of the members at their last change: nodes that agree have one number.") ((codes "", counts.digest) ∷ [])
 
 -- the numbers of requests: by outcome, handled here, sent to another node, and passed on
 abbrev pub request_samples : Counts → List ℕ
 request_samples counts =
-    head (codes "ringpop_requests_total") (codes "counter") (codes "Requests of keys that this agent answered over HTTP, by outcome.")
-    ++ sample (codes "ringpop_requests_total{outcome=\"answered\"}") counts.answered
-    ++ sample (codes "ringpop_requests_total{outcome=\"refused\"}") counts.refused
-    ++ sample (codes "ringpop_requests_total{outcome=\"failed\"}") counts.failed
-    ++ metric (codes "ringpop_handled_total") (codes "counter") (codes "Requests of keys that the service of this agent was to handle, those of other nodes included.") counts.handled
-    ++ metric (codes "ringpop_forwards_total") (codes "counter") (codes "Sends of a request of a key to another node, repeated ones and those passed on included.") counts.forwards
-    ++ metric (codes "ringpop_passed_on_total") (codes "counter") (codes "Requests of other nodes that were passed on to the owner.") counts.passed_on
+    counter (codes "ringpop_requests_total") (codes "Requests of keys that this agent answered over HTTP, by outcome.")
+    ((codes "{outcome=\"answered\"}", counts.answered)
+    ∷ (codes "{outcome=\"refused\"}", counts.refused)
+    ∷ (codes "{outcome=\"failed\"}", counts.failed) ∷ [])
+    ++ counter (codes "ringpop_handled_total") (codes "Requests of keys that the service of this agent was to handle, those of other nodes included.") ((codes "", counts.handled) ∷ [])
+    ++ counter (codes "ringpop_forwards_total") (codes "Sends of a request of a key to another node, repeated ones and those passed on included.") ((codes "", counts.forwards) ∷ [])
+    ++ counter (codes "ringpop_passed_on_total") (codes "Requests of other nodes that were passed on to the owner.") ((codes "", counts.passed_on) ∷ [])
 
 -- the numbers of answers to requests of keys, by who made them and by status
 abbrev pub answer_samples : Counts → List ℕ
 answer_samples counts =
-    head (codes "ringpop_answers_total") (codes "counter") (codes "Answers to requests of keys over HTTP, by who made them and by status.")
-    ++ sample (codes "ringpop_answers_total{from=\"service\",status=\"2xx\"}") counts.by_services.successes
-    ++ sample (codes "ringpop_answers_total{from=\"service\",status=\"3xx\"}") counts.by_services.redirections
-    ++ sample (codes "ringpop_answers_total{from=\"service\",status=\"4xx\"}") counts.by_services.client_errors
-    ++ sample (codes "ringpop_answers_total{from=\"service\",status=\"5xx\"}") counts.by_services.server_errors
-    ++ sample (codes "ringpop_answers_total{from=\"agent\",status=\"2xx\"}") counts.by_agents.successes
-    ++ sample (codes "ringpop_answers_total{from=\"agent\",status=\"3xx\"}") counts.by_agents.redirections
-    ++ sample (codes "ringpop_answers_total{from=\"agent\",status=\"4xx\"}") counts.by_agents.client_errors
-    ++ sample (codes "ringpop_answers_total{from=\"agent\",status=\"5xx\"}") counts.by_agents.server_errors
+    counter (codes "ringpop_answers_total") (codes "Answers to requests of keys over HTTP, by who made them and by status.")
+    ((codes "{from=\"service\",status=\"2xx\"}", counts.by_services.successes)
+    ∷ (codes "{from=\"service\",status=\"3xx\"}", counts.by_services.redirections)
+    ∷ (codes "{from=\"service\",status=\"4xx\"}", counts.by_services.client_errors)
+    ∷ (codes "{from=\"service\",status=\"5xx\"}", counts.by_services.server_errors)
+    ∷ (codes "{from=\"agent\",status=\"2xx\"}", counts.by_agents.successes)
+    ∷ (codes "{from=\"agent\",status=\"3xx\"}", counts.by_agents.redirections)
+    ∷ (codes "{from=\"agent\",status=\"4xx\"}", counts.by_agents.client_errors)
+    ∷ (codes "{from=\"agent\",status=\"5xx\"}", counts.by_agents.server_errors) ∷ [])
 
 -- the number of rounds by outcome
 abbrev pub round_samples : Counts → List ℕ
 round_samples counts =
-    head (codes "ringpop_rounds_total") (codes "counter") (codes "Rounds of gossip, by outcome.")
-    ++ sample (codes "ringpop_rounds_total{outcome=\"idle\"}") counts.idle
-    ++ sample (codes "ringpop_rounds_total{outcome=\"reached\"}") counts.reached
-    ++ sample (codes "ringpop_rounds_total{outcome=\"suspected\"}") counts.suspected
-    ++ sample (codes "ringpop_rounds_total{outcome=\"inconclusive\"}") counts.inconclusive
-    ++ sample (codes "ringpop_rounds_total{outcome=\"error\"}") counts.broken
+    counter (codes "ringpop_rounds_total") (codes "Rounds of gossip, by outcome.")
+    ((codes "{outcome=\"idle\"}", counts.idle)
+    ∷ (codes "{outcome=\"reached\"}", counts.reached)
+    ∷ (codes "{outcome=\"suspected\"}", counts.suspected)
+    ∷ (codes "{outcome=\"inconclusive\"}", counts.inconclusive)
+    ∷ (codes "{outcome=\"error\"}", counts.broken) ∷ [])
 
 -- the numbers of changes of members by the status that they got, and of refutations
 abbrev pub change_samples : ChangeCounts → List ℕ
 change_samples changes =
-    head (codes "ringpop_member_changes_total") (codes "counter") (codes "Changes of other members that this node learnt, by the status that they got.")
-    ++ sample (codes "ringpop_member_changes_total{status=\"alive\"}") changes.alive
-    ++ sample (codes "ringpop_member_changes_total{status=\"suspect\"}") changes.suspect
-    ++ sample (codes "ringpop_member_changes_total{status=\"faulty\"}") changes.faulty
-    ++ sample (codes "ringpop_member_changes_total{status=\"leave\"}") changes.leave
-    ++ sample (codes "ringpop_member_changes_total{status=\"tombstone\"}") changes.tombstone
-    ++ metric (codes "ringpop_refutations_total") (codes "counter") (codes "Rounds after which this node had refuted what others held of it.") changes.refuted
+    counter (codes "ringpop_member_changes_total") (codes "Changes of other members that this node learnt, by the status that they got.")
+    ((codes "{status=\"alive\"}", changes.alive)
+    ∷ (codes "{status=\"suspect\"}", changes.suspect)
+    ∷ (codes "{status=\"faulty\"}", changes.faulty)
+    ∷ (codes "{status=\"leave\"}", changes.leave)
+    ∷ (codes "{status=\"tombstone\"}", changes.tombstone) ∷ [])
+    ++ counter (codes "ringpop_refutations_total") (codes "Rounds after which this node had refuted what others held of it.") ((codes "", changes.refuted) ∷ [])
 
 -- the numbers of failures: of the application, of links, and of allocations
 abbrev pub other_samples : Counts → List ℕ
 other_samples counts =
-    metric (codes "ringpop_application_failures_total") (codes "counter") (codes "Requests that the service did not answer, or by no answer that can be passed on.") counts.application_failures
-    ++ metric (codes "ringpop_link_failures_total") (codes "counter") (codes "Messages to other nodes whose sending failed, or that got no answer.") counts.link_failures
-    ++ metric (codes "ringpop_allocation_failures_total") (codes "counter") (codes "Requests and rounds that ran out of memory.") counts.allocation_failures
+    counter (codes "ringpop_application_failures_total") (codes "Requests that the service did not answer, or by no answer that can be passed on.") ((codes "", counts.application_failures) ∷ [])
+    ++ counter (codes "ringpop_link_failures_total") (codes "Messages to other nodes whose sending failed, or that got no answer.") ((codes "", counts.link_failures) ∷ [])
+    ++ counter (codes "ringpop_allocation_failures_total") (codes "Requests and rounds that ran out of memory.") ((codes "", counts.allocation_failures) ∷ [])
 
 -- the requests that wait: how many of this node's keys and of others', how many may, the share of each other owner, and how many found no place
 abbrev pub waiting_samples : WaitingCounts → List ℕ
 waiting_samples waiting =
-    head (codes "ringpop_waiting_used") (codes "gauge") (codes "Requests of keys that wait for their owner.")
-    ++ sample (codes "ringpop_waiting_used{owner=\"self\"}") waiting.own
-    ++ sample (codes "ringpop_waiting_used{owner=\"others\"}") waiting.others
-    ++ head (codes "ringpop_waiting_max") (codes "gauge") (codes "Requests of keys that may wait for their owner.")
-    ++ sample (codes "ringpop_waiting_max{owner=\"self\"}") 96
-    ++ sample (codes "ringpop_waiting_max{owner=\"others\"}") 128
-    ++ metric (codes "ringpop_waiting_share") (codes "gauge") (codes "Requests that may wait for one other owner while many wait for others.") 32
-    ++ metric (codes "ringpop_waiting_refused_total") (codes "counter") (codes "Requests of keys that found no place among those that wait.") waiting.refused
+    gauge (codes "ringpop_waiting_used") (codes "Requests of keys that wait for their owner.")
+    ((codes "{owner=\"self\"}", waiting.own)
+    ∷ (codes "{owner=\"others\"}", waiting.others) ∷ [])
+    ++ gauge (codes "ringpop_waiting_max") (codes "Requests of keys that may wait for their owner.")
+    ((codes "{owner=\"self\"}", 96)
+    ∷ (codes "{owner=\"others\"}", 128) ∷ [])
+    ++ gauge (codes "ringpop_waiting_share") (codes "Requests that may wait for one other owner while many wait for others.") ((codes "", 32) ∷ [])
+    ++ counter (codes "ringpop_waiting_refused_total") (codes "Requests of keys that found no place among those that wait.") ((codes "", waiting.refused) ∷ [])
 
 -- the connections of nodes that are kept: how many wait at the end that asks, and at the end that answers; how many may; how often one was used
 -- again, and how many were closed
 abbrev pub kept_samples : KeptCounts → List ℕ
 kept_samples kept =
-    head (codes "ringpop_kept_connections_used") (codes "gauge") (codes "Connections between nodes that wait for the next request, at either end.")
-    ++ sample (codes "ringpop_kept_connections_used{end=\"asking\"}") kept.resting
-    ++ sample (codes "ringpop_kept_connections_used{end=\"answering\"}") kept.hands
-    ++ head (codes "ringpop_kept_connections_max") (codes "gauge") (codes "Connections between nodes that may wait so, at either end.")
-    ++ sample (codes "ringpop_kept_connections_max{end=\"asking\"}") kept.max_resting
-    ++ sample (codes "ringpop_kept_connections_max{end=\"answering\"}") kept.max_hands
-    ++ metric (codes "ringpop_kept_connections_reused_total") (codes "counter") (codes "Requests to other nodes over connections that were kept.") kept.reused
-    ++ metric (codes "ringpop_kept_connections_closed_total") (codes "counter") (codes "Connections to other nodes that were kept and then closed.") kept.closed
+    gauge (codes "ringpop_kept_connections_used") (codes "Connections between nodes that wait for the next request, at either end.")
+    ((codes "{end=\"asking\"}", kept.resting)
+    ∷ (codes "{end=\"answering\"}", kept.hands) ∷ [])
+    ++ gauge (codes "ringpop_kept_connections_max") (codes "Connections between nodes that may wait so, at either end.")
+    ((codes "{end=\"asking\"}", kept.max_resting)
+    ∷ (codes "{end=\"answering\"}", kept.max_hands) ∷ [])
+    ++ counter (codes "ringpop_kept_connections_reused_total") (codes "Requests to other nodes over connections that were kept.") ((codes "", kept.reused) ∷ [])
+    ++ counter (codes "ringpop_kept_connections_closed_total") (codes "Connections to other nodes that were kept and then closed.") ((codes "", kept.closed) ∷ [])
 
 -- the connections of clients over HTTP, and those at the node's port: how many are open, how many may be, how many were closed for others, and how
 -- often none was accepted
 abbrev pub connection_samples : (http node : PortCounts) → List ℕ
 connection_samples http node =
-    head (codes "ringpop_connections_used") (codes "gauge") (codes "Connections that are open.")
-    ++ sample (codes "ringpop_connections_used{port=\"http\"}") http.used
-    ++ sample (codes "ringpop_connections_used{port=\"node\"}") node.used
-    ++ head (codes "ringpop_connections_max") (codes "gauge") (codes "Connections that may be open.")
-    ++ sample (codes "ringpop_connections_max{port=\"http\"}") http.max
-    ++ sample (codes "ringpop_connections_max{port=\"node\"}") node.max
-    ++ head (codes "ringpop_connections_evicted_total") (codes "counter") (codes "Connections that were closed for others.")
-    ++ sample (codes "ringpop_connections_evicted_total{port=\"http\"}") http.evicted
-    ++ sample (codes "ringpop_connections_evicted_total{port=\"node\"}") node.evicted
-    ++ head (codes "ringpop_accept_failures_total") (codes "counter") (codes "How often the system let no connection be accepted.")
-    ++ sample (codes "ringpop_accept_failures_total{port=\"http\"}") http.failures
-    ++ sample (codes "ringpop_accept_failures_total{port=\"node\"}") node.failures
+    gauge (codes "ringpop_connections_used") (codes "Connections that are open.")
+    ((codes "{port=\"http\"}", http.used)
+    ∷ (codes "{port=\"node\"}", node.used) ∷ [])
+    ++ gauge (codes "ringpop_connections_max") (codes "Connections that may be open.")
+    ((codes "{port=\"http\"}", http.max)
+    ∷ (codes "{port=\"node\"}", node.max) ∷ [])
+    ++ counter (codes "ringpop_connections_evicted_total") (codes "Connections that were closed for others.")
+    ((codes "{port=\"http\"}", http.evicted)
+    ∷ (codes "{port=\"node\"}", node.evicted) ∷ [])
+    ++ counter (codes "ringpop_accept_failures_total") (codes "How often the system let no connection be accepted.")
+    ((codes "{port=\"http\"}", http.failures)
+    ∷ (codes "{port=\"node\"}", node.failures) ∷ [])
 
--- the workers that serve a connection, and all workers
+-- the workers that serve a connection, the questions about the ring that wait, and the most that there may be
 abbrev pub worker_samples : Counts → List ℕ
 worker_samples counts =
-    metric (codes "ringpop_workers_used") (codes "gauge") (codes "Threads that serve an HTTP connection.") counts.workers_used
-    ++ metric (codes "ringpop_workers_max") (codes "gauge") (codes "Threads for HTTP connections.") counts.workers_max
+    gauge (codes "ringpop_workers_used") (codes "Threads that serve an HTTP connection.") ((codes "", counts.workers_used) ∷ [])
+    ++ gauge (codes "ringpop_workers_max") (codes "Threads for HTTP connections.") ((codes "", counts.workers_max) ∷ [])
+    ++ gauge (codes "ringpop_questions_used") (codes "Questions about the ring that wait.") ((codes "", counts.questions_used) ∷ [])
+    ++ gauge (codes "ringpop_questions_max") (codes "Questions about the ring that may wait.") ((codes "", counts.questions_max) ∷ [])
 
--- the questions about the ring that wait, and the most that may
-abbrev pub question_samples : Counts → List ℕ
-question_samples counts =
-    metric (codes "ringpop_questions_used") (codes "gauge") (codes "Questions about the ring that wait.") counts.questions_used
-    ++ metric (codes "ringpop_questions_max") (codes "gauge") (codes "Questions about the ring that may wait.") counts.questions_max
-
--- whether the service took a connection when it was looked at last
+-- whether the service took a connection when it was looked at last, the notices of the ring that it took and that it did not take, and whether one is
+-- still to be taken
 abbrev pub service_samples : Counts → List ℕ
 service_samples counts =
-    metric (codes "ringpop_service_up") (codes "gauge") (codes "Whether the service took a connection when the agent last looked.") counts.service_up
-
--- the notices of the ring that the application took, those that it did not take, and whether one is still to be taken
-abbrev pub notice_samples : Counts → List ℕ
-notice_samples counts =
-    head (codes "ringpop_notices_total") (codes "counter") (codes "Notices of the ring to the service, by outcome.")
-    ++ sample (codes "ringpop_notices_total{outcome=\"taken\"}") counts.notices_taken
-    ++ sample (codes "ringpop_notices_total{outcome=\"failed\"}") counts.notices_failed
-    ++ metric (codes "ringpop_notices_untold") (codes "gauge") (codes "Whether a ring is still to be told to the service.") counts.notices_untold
+    gauge (codes "ringpop_service_up") (codes "Whether the service took a connection when the agent last looked.") ((codes "", counts.service_up) ∷ [])
+    ++ counter (codes "ringpop_notices_total") (codes "Notices of the ring to the service, by outcome.")
+    ((codes "{outcome=\"taken\"}", counts.notices_taken)
+    ∷ (codes "{outcome=\"failed\"}", counts.notices_failed) ∷ [])
+    ++ gauge (codes "ringpop_notices_untold") (codes "Whether a ring is still to be told to the service.") ((codes "", counts.notices_untold) ∷ [])
 
 -- joins by outcome, messages that other nodes refused, and lines that were refused here by reason
 abbrev pub refusal_samples : RefusalCounts → List ℕ
 refusal_samples refusals =
-    head (codes "ringpop_joins_total") (codes "counter") (codes "Joins that this node asked for, by outcome.")
-    ++ sample (codes "ringpop_joins_total{outcome=\"joined\"}") refusals.joined
-    ++ sample (codes "ringpop_joins_total{outcome=\"refused\"}") refusals.join_refused
-    ++ sample (codes "ringpop_joins_total{outcome=\"failed\"}") refusals.join_failed
-    ++ metric (codes "ringpop_messages_refused_total") (codes "counter") (codes "Messages of this node that another one refused.") refusals.messages
-    ++ head (codes "ringpop_lines_refused_total") (codes "counter") (codes "Lines of other nodes that were refused, by reason.")
-    ++ sample (codes "ringpop_lines_refused_total{reason=\"malformed\"}") refusals.malformed
-    ++ sample (codes "ringpop_lines_refused_total{reason=\"memory\"}") refusals.memory
-    ++ sample (codes "ringpop_lines_refused_total{reason=\"cluster\"}") refusals.cluster
+    counter (codes "ringpop_joins_total") (codes "Joins that this node asked for, by outcome.")
+    ((codes "{outcome=\"joined\"}", refusals.joined)
+    ∷ (codes "{outcome=\"refused\"}", refusals.join_refused)
+    ∷ (codes "{outcome=\"failed\"}", refusals.join_failed) ∷ [])
+    ++ counter (codes "ringpop_messages_refused_total") (codes "Messages of this node that another one refused.") ((codes "", refusals.messages) ∷ [])
+    ++ counter (codes "ringpop_lines_refused_total") (codes "Lines of other nodes that were refused, by reason.")
+    ((codes "{reason=\"malformed\"}", refusals.malformed)
+    ∷ (codes "{reason=\"memory\"}", refusals.memory)
+    ∷ (codes "{reason=\"cluster\"}", refusals.cluster) ∷ [])
 
 -- the log lines that wait, the most that may, and those that were dropped
 abbrev pub log_samples : LogCounts → List ℕ
 log_samples log =
-    metric (codes "ringpop_log_lines_used") (codes "gauge") (codes "Lines of the log that wait to be written.") log.used
-    ++ metric (codes "ringpop_log_lines_max") (codes "gauge") (codes "Lines of the log that may wait.") log.max
-    ++ metric (codes "ringpop_log_lines_dropped_total") (codes "counter") (codes "Lines of the log that were dropped.") log.dropped
+    gauge (codes "ringpop_log_lines_used") (codes "Lines of the log that wait to be written.") ((codes "", log.used) ∷ [])
+    ++ gauge (codes "ringpop_log_lines_max") (codes "Lines of the log that may wait.") ((codes "", log.max) ∷ [])
+    ++ counter (codes "ringpop_log_lines_dropped_total") (codes "Lines of the log that were dropped.") ((codes "", log.dropped) ∷ [])
 
 -- what the process uses of the machine, and when it started
 abbrev pub process_samples : ProcessCounts → List ℕ
 process_samples process =
-    metric (codes "process_resident_memory_bytes") (codes "gauge") (codes "Memory that the process holds.") process.memory
-    ++ metric (codes "process_open_fds") (codes "gauge") (codes "Descriptors that are open.") process.descriptors
-    ++ metric (codes "process_max_fds") (codes "gauge") (codes "Descriptors that may be open.") process.max_descriptors
-    ++ metric (codes "process_start_time_seconds") (codes "gauge") (codes "When the process started, in seconds since 1970.") process.started
+    gauge (codes "process_resident_memory_bytes") (codes "Memory that the process holds.") ((codes "", process.memory) ∷ [])
+    ++ gauge (codes "process_open_fds") (codes "Descriptors that are open.") ((codes "", process.descriptors) ∷ [])
+    ++ gauge (codes "process_max_fds") (codes "Descriptors that may be open.") ((codes "", process.max_descriptors) ∷ [])
+    ++ gauge (codes "process_start_time_seconds") (codes "When the process started, in seconds since 1970.") ((codes "", process.started) ∷ [])
     ++ head (codes "process_cpu_seconds_total") (codes "counter") (codes "Processor time that the process used.")
     ++ milli_sample (codes "process_cpu_seconds_total") process.cpu_millis
 
@@ -267,7 +264,7 @@ histogram_samples counts =
 -- what a node is, and what it knows of others
 abbrev pub node_texts : Counts → List Change → List ℕ
 node_texts counts members =
-    build_samples ++ status_samples members ++ address_samples (length members) ++ node_samples counts ++ process_samples counts.process
+    build_samples ++ status_samples members ++ node_samples counts (length members) ++ process_samples counts.process
 
 -- what was asked and done
 abbrev pub work_texts : Counts → List ℕ
@@ -278,12 +275,12 @@ work_texts counts =
 -- what is held, and of how much
 abbrev pub limit_texts : Counts → List ℕ
 limit_texts counts =
-    waiting_samples counts.waiting ++ kept_samples counts.kept ++ connection_samples counts.http counts.node ++ worker_samples counts ++ question_samples counts
+    waiting_samples counts.waiting ++ kept_samples counts.kept ++ connection_samples counts.http counts.node ++ worker_samples counts
     ++ log_samples counts.log
 
 -- what goes between the node, its service and other nodes
 abbrev pub link_texts : Counts → List ℕ
-link_texts counts = service_samples counts ++ notice_samples counts ++ refusal_samples counts.refusals
+link_texts counts = service_samples counts ++ refusal_samples counts.refusals
 
 -- the whole text
 abbrev pub metrics_text : Counts → List Change → List ℕ

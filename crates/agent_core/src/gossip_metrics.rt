@@ -4,39 +4,24 @@ ghost use Rattle.agent_core.specs.Metrics.{change_samples, round_samples};
 
 use crate::counts::ChangeCounts;
 use crate::metrics::Counts;
-use crate::samples::{push_head, push_metric, push_sample};
+use crate::samples::push_counter;
 use std::alloc::AllocError;
 
 /// Appends the number of rounds by outcome.
 pub(crate) fn push_rounds(text: &mut String, counts: &Counts) -> Result<(), AllocError>
     ensures { OnOk result (string_bytes text.new ≡ string_bytes text.old ++ round_samples counts.now) }
 {
-    push_head(
+    push_counter(
         text,
         "ringpop_rounds_total",
-        "counter",
         "Rounds of gossip, by outcome.",
-    )?;
-    push_sample(text, "ringpop_rounds_total{outcome=\"idle\"}", counts.idle)?;
-    push_sample(
-        text,
-        "ringpop_rounds_total{outcome=\"reached\"}",
-        counts.reached,
-    )?;
-    push_sample(
-        text,
-        "ringpop_rounds_total{outcome=\"suspected\"}",
-        counts.suspected,
-    )?;
-    push_sample(
-        text,
-        "ringpop_rounds_total{outcome=\"inconclusive\"}",
-        counts.inconclusive,
-    )?;
-    push_sample(
-        text,
-        "ringpop_rounds_total{outcome=\"error\"}",
-        counts.broken,
+        &[
+            ("{outcome=\"idle\"}", counts.idle),
+            ("{outcome=\"reached\"}", counts.reached),
+            ("{outcome=\"suspected\"}", counts.suspected),
+            ("{outcome=\"inconclusive\"}", counts.inconclusive),
+            ("{outcome=\"error\"}", counts.broken),
+        ],
     )?;
     Ok(())
 }
@@ -45,43 +30,23 @@ pub(crate) fn push_rounds(text: &mut String, counts: &Counts) -> Result<(), Allo
 pub(crate) fn push_changes(text: &mut String, changes: &ChangeCounts) -> Result<(), AllocError>
     ensures { OnOk result (string_bytes text.new ≡ string_bytes text.old ++ change_samples changes.now) }
 {
-    push_head(
+    push_counter(
         text,
         "ringpop_member_changes_total",
-        "counter",
         "Changes of other members that this node learnt, by the status that they got.",
+        &[
+            ("{status=\"alive\"}", changes.alive),
+            ("{status=\"suspect\"}", changes.suspect),
+            ("{status=\"faulty\"}", changes.faulty),
+            ("{status=\"leave\"}", changes.leave),
+            ("{status=\"tombstone\"}", changes.tombstone),
+        ],
     )?;
-    push_sample(
-        text,
-        "ringpop_member_changes_total{status=\"alive\"}",
-        changes.alive,
-    )?;
-    push_sample(
-        text,
-        "ringpop_member_changes_total{status=\"suspect\"}",
-        changes.suspect,
-    )?;
-    push_sample(
-        text,
-        "ringpop_member_changes_total{status=\"faulty\"}",
-        changes.faulty,
-    )?;
-    push_sample(
-        text,
-        "ringpop_member_changes_total{status=\"leave\"}",
-        changes.leave,
-    )?;
-    push_sample(
-        text,
-        "ringpop_member_changes_total{status=\"tombstone\"}",
-        changes.tombstone,
-    )?;
-    push_metric(
+    push_counter(
         text,
         "ringpop_refutations_total",
-        "counter",
         "Rounds after which this node had refuted what others held of it.",
-        changes.refuted,
+        &[("", changes.refuted)],
     )?;
     Ok(())
 }

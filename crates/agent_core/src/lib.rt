@@ -11,6 +11,7 @@ mod host_lists;
 mod key_lists;
 pub mod laws;
 mod levels;
+mod log_lines;
 mod metrics;
 mod packs;
 mod pages;
@@ -38,6 +39,7 @@ pub use counts::{
 pub use host_lists::{HostsFault, MAX_HOSTS, MAX_HOSTS_BYTES, hosts_in};
 pub use key_lists::{KeyList, MAX_LISTED};
 pub use levels::{LogLevel, level_line};
+pub use log_lines::json_line;
 pub use metrics::{Counts, metrics_text};
 pub use packs::{MAX_BODY_BYTES, MAX_STATUS, MIN_STATUS, Packed, pack, unpack};
 pub use pages::PAGE;

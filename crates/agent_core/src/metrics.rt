@@ -1,14 +1,14 @@
 //! The counts of an agent, in the text format of Prometheus (version 0.0.4).
 ghost use Rattle.std.specs.Prelude.{◌≡◌, ◌++◌, IfOk, OnOk, count_by, length, string_bytes};
 ghost use Rattle.change_core.specs.Status.{rank};
-ghost use Rattle.agent_core.specs.Metrics.{address_samples, answer_samples, build_samples, connection_samples, histogram_samples, holds, kept_samples, limit_texts, link_texts, log_samples, metrics_text, node_samples, node_texts, notice_samples, other_samples, process_samples, question_samples, refusal_samples, request_samples, service_samples, status_sample, status_samples, waiting_samples, work_texts, worker_samples};
+ghost use Rattle.agent_core.specs.Metrics.{answer_samples, build_samples, connection_samples, histogram_samples, holds, kept_samples, limit_texts, link_texts, log_samples, metrics_text, node_samples, node_texts, other_samples, process_samples, refusal_samples, request_samples, service_samples, status_sample, status_samples, waiting_samples, work_texts, worker_samples};
 
 use crate::counts::{
     ChangeCounts, KeptCounts, LogCounts, PortCounts, ProcessCounts, RefusalCounts, StatusCounts,
     TimeCounts, WaitingCounts,
 };
 use crate::gossip_metrics::{push_changes, push_rounds};
-use crate::samples::{push_head, push_metric, push_millis, push_sample, push_times};
+use crate::samples::{push_counter, push_gauge, push_head, push_millis, push_times};
 use crate::shares::{MAX_OWN, MAX_WAITING, OWNER_SHARE};
 use change_core::{Change, MAX_MEMBERS, Status};
 use std::alloc::{AllocError, Global};
@@ -114,13 +114,12 @@ fn push_status(text: &mut String, members: &[Change], status: Status) -> Result<
 fn push_build(text: &mut String) -> Result<(), AllocError>
     ensures { OnOk result (string_bytes text.new ≡ string_bytes text.old ++ build_samples) }
 {
-    push_head(
+    push_gauge(
         text,
         "ringpop_build_info",
-        "gauge",
         "The version of the program, as a label.",
+        &[("{version=\"1.0.0-dev\"}", 1)],
     )?;
-    push_sample(text, "ringpop_build_info{version=\"1.0.0-dev\"}", 1)?;
     Ok(())
 }
 
@@ -142,44 +141,33 @@ fn push_statuses(text: &mut String, members: &[Change]) -> Result<(), AllocError
     Ok(())
 }
 
-/// Appends the number of addresses used, and the most that there can be.
-fn push_addresses(text: &mut String, addresses: usize) -> Result<(), AllocError>
-    ensures { OnOk result (string_bytes text.new ≡ string_bytes text.old ++ address_samples addresses) }
+/// Appends the number of addresses used and the most that there can be, the node's own incarnation, and the digest of its members.
+fn push_node(text: &mut String, counts: &Counts, addresses: usize) -> Result<(), AllocError>
+    ensures { OnOk result (string_bytes text.new ≡ string_bytes text.old ++ node_samples counts.now addresses) }
 {
-    push_metric(
+    push_gauge(
         text,
         "ringpop_addresses_used",
-        "gauge",
         "Addresses that the node holds, those of members that left or died included.",
-        addresses as u64,
+        &[("", addresses as u64)],
     )?;
-    push_metric(
+    push_gauge(
         text,
         "ringpop_addresses_max",
-        "gauge",
         "Addresses that a node can hold.",
-        MAX_MEMBERS as u64,
+        &[("", MAX_MEMBERS as u64)],
     )?;
-    Ok(())
-}
-
-/// Appends the node's own incarnation, and the digest of its members.
-fn push_node(text: &mut String, counts: &Counts) -> Result<(), AllocError>
-    ensures { OnOk result (string_bytes text.new ≡ string_bytes text.old ++ node_samples counts.now) }
-{
-    push_metric(
+    push_gauge(
         text,
         "ringpop_incarnation",
-        "gauge",
         "The incarnation of the node, in its own entry at the last change of its members.",
-        counts.incarnation,
+        &[("", counts.incarnation)],
     )?;
-    push_metric(
+    push_gauge(
         text,
         "ringpop_digest",
-        "gauge",
         "The first six bytes of the digest of the members at their last change: nodes that agree have one number.",
-        counts.digest,
+        &[("", counts.digest)],
     )?;
     Ok(())
 }
@@ -188,47 +176,33 @@ fn push_node(text: &mut String, counts: &Counts) -> Result<(), AllocError>
 fn push_requests(text: &mut String, counts: &Counts) -> Result<(), AllocError>
     ensures { OnOk result (string_bytes text.new ≡ string_bytes text.old ++ request_samples counts.now) }
 {
-    push_head(
+    push_counter(
         text,
         "ringpop_requests_total",
-        "counter",
         "Requests of keys that this agent answered over HTTP, by outcome.",
+        &[
+            ("{outcome=\"answered\"}", counts.answered),
+            ("{outcome=\"refused\"}", counts.refused),
+            ("{outcome=\"failed\"}", counts.failed),
+        ],
     )?;
-    push_sample(
-        text,
-        "ringpop_requests_total{outcome=\"answered\"}",
-        counts.answered,
-    )?;
-    push_sample(
-        text,
-        "ringpop_requests_total{outcome=\"refused\"}",
-        counts.refused,
-    )?;
-    push_sample(
-        text,
-        "ringpop_requests_total{outcome=\"failed\"}",
-        counts.failed,
-    )?;
-    push_metric(
+    push_counter(
         text,
         "ringpop_handled_total",
-        "counter",
         "Requests of keys that the service of this agent was to handle, those of other nodes included.",
-        counts.handled,
+        &[("", counts.handled)],
     )?;
-    push_metric(
+    push_counter(
         text,
         "ringpop_forwards_total",
-        "counter",
         "Sends of a request of a key to another node, repeated ones and those passed on included.",
-        counts.forwards,
+        &[("", counts.forwards)],
     )?;
-    push_metric(
+    push_counter(
         text,
         "ringpop_passed_on_total",
-        "counter",
         "Requests of other nodes that were passed on to the owner.",
-        counts.passed_on,
+        &[("", counts.passed_on)],
     )?;
     Ok(())
 }
@@ -237,51 +211,44 @@ fn push_requests(text: &mut String, counts: &Counts) -> Result<(), AllocError>
 fn push_answers(text: &mut String, counts: &Counts) -> Result<(), AllocError>
     ensures { OnOk result (string_bytes text.new ≡ string_bytes text.old ++ answer_samples counts.now) }
 {
-    push_head(
+    push_counter(
         text,
         "ringpop_answers_total",
-        "counter",
         "Answers to requests of keys over HTTP, by who made them and by status.",
-    )?;
-    push_sample(
-        text,
-        "ringpop_answers_total{from=\"service\",status=\"2xx\"}",
-        counts.by_services.successes,
-    )?;
-    push_sample(
-        text,
-        "ringpop_answers_total{from=\"service\",status=\"3xx\"}",
-        counts.by_services.redirections,
-    )?;
-    push_sample(
-        text,
-        "ringpop_answers_total{from=\"service\",status=\"4xx\"}",
-        counts.by_services.client_errors,
-    )?;
-    push_sample(
-        text,
-        "ringpop_answers_total{from=\"service\",status=\"5xx\"}",
-        counts.by_services.server_errors,
-    )?;
-    push_sample(
-        text,
-        "ringpop_answers_total{from=\"agent\",status=\"2xx\"}",
-        counts.by_agents.successes,
-    )?;
-    push_sample(
-        text,
-        "ringpop_answers_total{from=\"agent\",status=\"3xx\"}",
-        counts.by_agents.redirections,
-    )?;
-    push_sample(
-        text,
-        "ringpop_answers_total{from=\"agent\",status=\"4xx\"}",
-        counts.by_agents.client_errors,
-    )?;
-    push_sample(
-        text,
-        "ringpop_answers_total{from=\"agent\",status=\"5xx\"}",
-        counts.by_agents.server_errors,
+        &[
+            (
+                "{from=\"service\",status=\"2xx\"}",
+                counts.by_services.successes,
+            ),
+            (
+                "{from=\"service\",status=\"3xx\"}",
+                counts.by_services.redirections,
+            ),
+            (
+                "{from=\"service\",status=\"4xx\"}",
+                counts.by_services.client_errors,
+            ),
+            (
+                "{from=\"service\",status=\"5xx\"}",
+                counts.by_services.server_errors,
+            ),
+            (
+                "{from=\"agent\",status=\"2xx\"}",
+                counts.by_agents.successes,
+            ),
+            (
+                "{from=\"agent\",status=\"3xx\"}",
+                counts.by_agents.redirections,
+            ),
+            (
+                "{from=\"agent\",status=\"4xx\"}",
+                counts.by_agents.client_errors,
+            ),
+            (
+                "{from=\"agent\",status=\"5xx\"}",
+                counts.by_agents.server_errors,
+            ),
+        ],
     )?;
     Ok(())
 }
@@ -290,26 +257,23 @@ fn push_answers(text: &mut String, counts: &Counts) -> Result<(), AllocError>
 fn push_others(text: &mut String, counts: &Counts) -> Result<(), AllocError>
     ensures { OnOk result (string_bytes text.new ≡ string_bytes text.old ++ other_samples counts.now) }
 {
-    push_metric(
+    push_counter(
         text,
         "ringpop_application_failures_total",
-        "counter",
         "Requests that the service did not answer, or by no answer that can be passed on.",
-        counts.application_failures,
+        &[("", counts.application_failures)],
     )?;
-    push_metric(
+    push_counter(
         text,
         "ringpop_link_failures_total",
-        "counter",
         "Messages to other nodes whose sending failed, or that got no answer.",
-        counts.link_failures,
+        &[("", counts.link_failures)],
     )?;
-    push_metric(
+    push_counter(
         text,
         "ringpop_allocation_failures_total",
-        "counter",
         "Requests and rounds that ran out of memory.",
-        counts.allocation_failures,
+        &[("", counts.allocation_failures)],
     )?;
     Ok(())
 }
@@ -318,43 +282,35 @@ fn push_others(text: &mut String, counts: &Counts) -> Result<(), AllocError>
 fn push_waiting(text: &mut String, waiting: &WaitingCounts) -> Result<(), AllocError>
     ensures { OnOk result (string_bytes text.new ≡ string_bytes text.old ++ waiting_samples waiting.now) }
 {
-    push_head(
+    push_gauge(
         text,
         "ringpop_waiting_used",
-        "gauge",
         "Requests of keys that wait for their owner.",
+        &[
+            ("{owner=\"self\"}", waiting.own),
+            ("{owner=\"others\"}", waiting.others),
+        ],
     )?;
-    push_sample(text, "ringpop_waiting_used{owner=\"self\"}", waiting.own)?;
-    push_sample(
-        text,
-        "ringpop_waiting_used{owner=\"others\"}",
-        waiting.others,
-    )?;
-    push_head(
+    push_gauge(
         text,
         "ringpop_waiting_max",
-        "gauge",
         "Requests of keys that may wait for their owner.",
+        &[
+            ("{owner=\"self\"}", MAX_OWN),
+            ("{owner=\"others\"}", MAX_WAITING as u64),
+        ],
     )?;
-    push_sample(text, "ringpop_waiting_max{owner=\"self\"}", MAX_OWN)?;
-    push_sample(
-        text,
-        "ringpop_waiting_max{owner=\"others\"}",
-        MAX_WAITING as u64,
-    )?;
-    push_metric(
+    push_gauge(
         text,
         "ringpop_waiting_share",
-        "gauge",
         "Requests that may wait for one other owner while many wait for others.",
-        OWNER_SHARE as u64,
+        &[("", OWNER_SHARE as u64)],
     )?;
-    push_metric(
+    push_counter(
         text,
         "ringpop_waiting_refused_total",
-        "counter",
         "Requests of keys that found no place among those that wait.",
-        waiting.refused,
+        &[("", waiting.refused)],
     )?;
     Ok(())
 }
@@ -363,51 +319,35 @@ fn push_waiting(text: &mut String, waiting: &WaitingCounts) -> Result<(), AllocE
 fn push_kept(text: &mut String, kept: &KeptCounts) -> Result<(), AllocError>
     ensures { OnOk result (string_bytes text.new ≡ string_bytes text.old ++ kept_samples kept.now) }
 {
-    push_head(
+    push_gauge(
         text,
         "ringpop_kept_connections_used",
-        "gauge",
         "Connections between nodes that wait for the next request, at either end.",
+        &[
+            ("{end=\"asking\"}", kept.resting),
+            ("{end=\"answering\"}", kept.hands),
+        ],
     )?;
-    push_sample(
-        text,
-        "ringpop_kept_connections_used{end=\"asking\"}",
-        kept.resting,
-    )?;
-    push_sample(
-        text,
-        "ringpop_kept_connections_used{end=\"answering\"}",
-        kept.hands,
-    )?;
-    push_head(
+    push_gauge(
         text,
         "ringpop_kept_connections_max",
-        "gauge",
         "Connections between nodes that may wait so, at either end.",
+        &[
+            ("{end=\"asking\"}", kept.max_resting),
+            ("{end=\"answering\"}", kept.max_hands),
+        ],
     )?;
-    push_sample(
-        text,
-        "ringpop_kept_connections_max{end=\"asking\"}",
-        kept.max_resting,
-    )?;
-    push_sample(
-        text,
-        "ringpop_kept_connections_max{end=\"answering\"}",
-        kept.max_hands,
-    )?;
-    push_metric(
+    push_counter(
         text,
         "ringpop_kept_connections_reused_total",
-        "counter",
         "Requests to other nodes over connections that were kept.",
-        kept.reused,
+        &[("", kept.reused)],
     )?;
-    push_metric(
+    push_counter(
         text,
         "ringpop_kept_connections_closed_total",
-        "counter",
         "Connections to other nodes that were kept and then closed.",
-        kept.closed,
+        &[("", kept.closed)],
     )?;
     Ok(())
 }
@@ -420,139 +360,97 @@ fn push_connections(
 ) -> Result<(), AllocError>
     ensures { OnOk result (string_bytes text.new ≡ string_bytes text.old ++ connection_samples http.now node.now) }
 {
-    push_head(
+    push_gauge(
         text,
         "ringpop_connections_used",
-        "gauge",
         "Connections that are open.",
+        &[
+            ("{port=\"http\"}", http.used),
+            ("{port=\"node\"}", node.used),
+        ],
     )?;
-    push_sample(text, "ringpop_connections_used{port=\"http\"}", http.used)?;
-    push_sample(text, "ringpop_connections_used{port=\"node\"}", node.used)?;
-    push_head(
+    push_gauge(
         text,
         "ringpop_connections_max",
-        "gauge",
         "Connections that may be open.",
+        &[("{port=\"http\"}", http.max), ("{port=\"node\"}", node.max)],
     )?;
-    push_sample(text, "ringpop_connections_max{port=\"http\"}", http.max)?;
-    push_sample(text, "ringpop_connections_max{port=\"node\"}", node.max)?;
-    push_head(
+    push_counter(
         text,
         "ringpop_connections_evicted_total",
-        "counter",
         "Connections that were closed for others.",
+        &[
+            ("{port=\"http\"}", http.evicted),
+            ("{port=\"node\"}", node.evicted),
+        ],
     )?;
-    push_sample(
-        text,
-        "ringpop_connections_evicted_total{port=\"http\"}",
-        http.evicted,
-    )?;
-    push_sample(
-        text,
-        "ringpop_connections_evicted_total{port=\"node\"}",
-        node.evicted,
-    )?;
-    push_head(
+    push_counter(
         text,
         "ringpop_accept_failures_total",
-        "counter",
         "How often the system let no connection be accepted.",
-    )?;
-    push_sample(
-        text,
-        "ringpop_accept_failures_total{port=\"http\"}",
-        http.failures,
-    )?;
-    push_sample(
-        text,
-        "ringpop_accept_failures_total{port=\"node\"}",
-        node.failures,
+        &[
+            ("{port=\"http\"}", http.failures),
+            ("{port=\"node\"}", node.failures),
+        ],
     )?;
     Ok(())
 }
 
-/// Appends the number of workers that serve a connection, and of all workers.
+/// Appends the numbers of workers that serve a connection and of questions about the ring that wait, and the most that there may be.
 fn push_workers(text: &mut String, counts: &Counts) -> Result<(), AllocError>
     ensures { OnOk result (string_bytes text.new ≡ string_bytes text.old ++ worker_samples counts.now) }
 {
-    push_metric(
+    push_gauge(
         text,
         "ringpop_workers_used",
-        "gauge",
         "Threads that serve an HTTP connection.",
-        counts.workers_used,
+        &[("", counts.workers_used)],
     )?;
-    push_metric(
+    push_gauge(
         text,
         "ringpop_workers_max",
-        "gauge",
         "Threads for HTTP connections.",
-        counts.workers_max,
+        &[("", counts.workers_max)],
     )?;
-    Ok(())
-}
-
-/// Appends the number of questions about the ring that wait, and the most that may.
-fn push_questions(text: &mut String, counts: &Counts) -> Result<(), AllocError>
-    ensures { OnOk result (string_bytes text.new ≡ string_bytes text.old ++ question_samples counts.now) }
-{
-    push_metric(
+    push_gauge(
         text,
         "ringpop_questions_used",
-        "gauge",
         "Questions about the ring that wait.",
-        counts.questions_used,
+        &[("", counts.questions_used)],
     )?;
-    push_metric(
+    push_gauge(
         text,
         "ringpop_questions_max",
-        "gauge",
         "Questions about the ring that may wait.",
-        counts.questions_max,
+        &[("", counts.questions_max)],
     )?;
     Ok(())
 }
 
-/// Appends whether the service took a connection when it was looked at last.
+/// Appends whether the service took a connection when it was looked at last, the numbers of notices of the ring by outcome, and whether one is still to be taken.
 fn push_service(text: &mut String, counts: &Counts) -> Result<(), AllocError>
     ensures { OnOk result (string_bytes text.new ≡ string_bytes text.old ++ service_samples counts.now) }
 {
-    push_metric(
+    push_gauge(
         text,
         "ringpop_service_up",
-        "gauge",
         "Whether the service took a connection when the agent last looked.",
-        counts.service_up,
+        &[("", counts.service_up)],
     )?;
-    Ok(())
-}
-
-/// Appends the numbers of notices of the ring: by outcome, and whether one is still to be taken.
-fn push_notices(text: &mut String, counts: &Counts) -> Result<(), AllocError>
-    ensures { OnOk result (string_bytes text.new ≡ string_bytes text.old ++ notice_samples counts.now) }
-{
-    push_head(
+    push_counter(
         text,
         "ringpop_notices_total",
-        "counter",
         "Notices of the ring to the service, by outcome.",
+        &[
+            ("{outcome=\"taken\"}", counts.notices_taken),
+            ("{outcome=\"failed\"}", counts.notices_failed),
+        ],
     )?;
-    push_sample(
-        text,
-        "ringpop_notices_total{outcome=\"taken\"}",
-        counts.notices_taken,
-    )?;
-    push_sample(
-        text,
-        "ringpop_notices_total{outcome=\"failed\"}",
-        counts.notices_failed,
-    )?;
-    push_metric(
+    push_gauge(
         text,
         "ringpop_notices_untold",
-        "gauge",
         "Whether a ring is still to be told to the service.",
-        counts.notices_untold,
+        &[("", counts.notices_untold)],
     )?;
     Ok(())
 }
@@ -561,54 +459,31 @@ fn push_notices(text: &mut String, counts: &Counts) -> Result<(), AllocError>
 fn push_refusals(text: &mut String, refusals: &RefusalCounts) -> Result<(), AllocError>
     ensures { OnOk result (string_bytes text.new ≡ string_bytes text.old ++ refusal_samples refusals.now) }
 {
-    push_head(
+    push_counter(
         text,
         "ringpop_joins_total",
-        "counter",
         "Joins that this node asked for, by outcome.",
+        &[
+            ("{outcome=\"joined\"}", refusals.joined),
+            ("{outcome=\"refused\"}", refusals.join_refused),
+            ("{outcome=\"failed\"}", refusals.join_failed),
+        ],
     )?;
-    push_sample(
-        text,
-        "ringpop_joins_total{outcome=\"joined\"}",
-        refusals.joined,
-    )?;
-    push_sample(
-        text,
-        "ringpop_joins_total{outcome=\"refused\"}",
-        refusals.join_refused,
-    )?;
-    push_sample(
-        text,
-        "ringpop_joins_total{outcome=\"failed\"}",
-        refusals.join_failed,
-    )?;
-    push_metric(
+    push_counter(
         text,
         "ringpop_messages_refused_total",
-        "counter",
         "Messages of this node that another one refused.",
-        refusals.messages,
+        &[("", refusals.messages)],
     )?;
-    push_head(
+    push_counter(
         text,
         "ringpop_lines_refused_total",
-        "counter",
         "Lines of other nodes that were refused, by reason.",
-    )?;
-    push_sample(
-        text,
-        "ringpop_lines_refused_total{reason=\"malformed\"}",
-        refusals.malformed,
-    )?;
-    push_sample(
-        text,
-        "ringpop_lines_refused_total{reason=\"memory\"}",
-        refusals.memory,
-    )?;
-    push_sample(
-        text,
-        "ringpop_lines_refused_total{reason=\"cluster\"}",
-        refusals.cluster,
+        &[
+            ("{reason=\"malformed\"}", refusals.malformed),
+            ("{reason=\"memory\"}", refusals.memory),
+            ("{reason=\"cluster\"}", refusals.cluster),
+        ],
     )?;
     Ok(())
 }
@@ -617,26 +492,23 @@ fn push_refusals(text: &mut String, refusals: &RefusalCounts) -> Result<(), Allo
 fn push_log(text: &mut String, log: &LogCounts) -> Result<(), AllocError>
     ensures { OnOk result (string_bytes text.new ≡ string_bytes text.old ++ log_samples log.now) }
 {
-    push_metric(
+    push_gauge(
         text,
         "ringpop_log_lines_used",
-        "gauge",
         "Lines of the log that wait to be written.",
-        log.used,
+        &[("", log.used)],
     )?;
-    push_metric(
+    push_gauge(
         text,
         "ringpop_log_lines_max",
-        "gauge",
         "Lines of the log that may wait.",
-        log.max,
+        &[("", log.max)],
     )?;
-    push_metric(
+    push_counter(
         text,
         "ringpop_log_lines_dropped_total",
-        "counter",
         "Lines of the log that were dropped.",
-        log.dropped,
+        &[("", log.dropped)],
     )?;
     Ok(())
 }
@@ -645,34 +517,31 @@ fn push_log(text: &mut String, log: &LogCounts) -> Result<(), AllocError>
 fn push_process(text: &mut String, process: &ProcessCounts) -> Result<(), AllocError>
     ensures { OnOk result (string_bytes text.new ≡ string_bytes text.old ++ process_samples process.now) }
 {
-    push_metric(
+    push_gauge(
         text,
         "process_resident_memory_bytes",
-        "gauge",
         "Memory that the process holds.",
-        process.memory,
+        &[("", process.memory)],
     )?;
-    push_metric(
+    push_gauge(
         text,
         "process_open_fds",
-        "gauge",
         "Descriptors that are open.",
-        process.descriptors,
+        &[("", process.descriptors)],
     )?;
-    push_metric(
+    push_gauge(
         text,
         "process_max_fds",
-        "gauge",
         "Descriptors that may be open.",
-        process.max_descriptors,
+        &[("", process.max_descriptors)],
     )?;
-    push_metric(
+    push_gauge(
         text,
         "process_start_time_seconds",
-        "gauge",
         "When the process started, in seconds since 1970.",
-        process.started,
+        &[("", process.started)],
     )?;
+
     push_head(
         text,
         "process_cpu_seconds_total",
@@ -720,8 +589,7 @@ fn push_nodes(text: &mut String, counts: &Counts, members: &[Change]) -> Result<
 {
     push_build(text)?;
     push_statuses(text, members)?;
-    push_addresses(text, members.len())?;
-    push_node(text, counts)?;
+    push_node(text, counts, members.len())?;
     push_process(text, &counts.process)?;
     Ok(())
 }
@@ -747,7 +615,6 @@ fn push_limits(text: &mut String, counts: &Counts) -> Result<(), AllocError>
     push_kept(text, &counts.kept)?;
     push_connections(text, &counts.http, &counts.node)?;
     push_workers(text, counts)?;
-    push_questions(text, counts)?;
     push_log(text, &counts.log)?;
     Ok(())
 }
@@ -757,7 +624,6 @@ fn push_links(text: &mut String, counts: &Counts) -> Result<(), AllocError>
     ensures { OnOk result (string_bytes text.new ≡ string_bytes text.old ++ link_texts counts.now) }
 {
     push_service(text, counts)?;
-    push_notices(text, counts)?;
     push_refusals(text, &counts.refusals)?;
     Ok(())
 }

@@ -1,6 +1,6 @@
 //! The samples of metrics, in the text format of Prometheus (version 0.0.4).
-ghost use Rattle.std.specs.Prelude.{◌≡◌, ◌<◌, ◌++◌, OnOk, string_bytes};
-ghost use Rattle.agent_core.specs.Metrics.{bucket_sample, bucket_samples, head, metric, milli_sample, sample, time_samples, within};
+ghost use Rattle.std.specs.Prelude.{◌≡◌, ◌<◌, ◌++◌, OnOk, codes, flat_map, string_bytes};
+ghost use Rattle.agent_core.specs.Metrics.{bucket_sample, bucket_samples, head, labelled, milli_sample, time_samples, within};
 
 use crate::counts::{BUCKETS, TimeCounts};
 use std::alloc::AllocError;
@@ -31,11 +31,42 @@ pub(crate) fn push_head(
     Ok(())
 }
 
-/// Appends a sample: its name, a space, the number and a newline.
-pub(crate) fn push_sample(text: &mut String, name: &str, number: u64) -> Result<(), AllocError>
-    ensures { OnOk result (string_bytes text.new ≡ string_bytes text.old ++ sample name.now number) }
+/// Appends the samples of a metric.
+fn push_samples(text: &mut String, name: &str, samples: &[(&str, u64)]) -> Result<(), AllocError>
+    ensures { OnOk result (string_bytes text.new ≡ string_bytes text.old ++ flat_map (labelled name.now) samples.now) }
 {
-    write!(text, "{name} {number}\n")?;
+    for sample in samples {
+        let (labels, number) = sample;
+        write!(text, "{name}{labels} {number}\n")?;
+    }
+    Ok(())
+}
+
+/// Appends a metric that says how much there is of something, with its samples: for each its labels in braces, or none, and its number.
+pub(crate) fn push_gauge(
+    text: &mut String,
+    name: &str,
+    help: &str,
+    samples: &[(&str, u64)],
+) -> Result<(), AllocError>
+    ensures { OnOk result (string_bytes text.new ≡ string_bytes text.old ++ (head name.now (codes "gauge") help.now ++ flat_map (labelled name.now) samples.now)) }
+{
+    push_head(text, name, "gauge", help)?;
+    push_samples(text, name, samples)?;
+    Ok(())
+}
+
+/// Appends a metric that only grows, with its samples.
+pub(crate) fn push_counter(
+    text: &mut String,
+    name: &str,
+    help: &str,
+    samples: &[(&str, u64)],
+) -> Result<(), AllocError>
+    ensures { OnOk result (string_bytes text.new ≡ string_bytes text.old ++ (head name.now (codes "counter") help.now ++ flat_map (labelled name.now) samples.now)) }
+{
+    push_head(text, name, "counter", help)?;
+    push_samples(text, name, samples)?;
     Ok(())
 }
 
@@ -44,21 +75,6 @@ pub(crate) fn push_millis(text: &mut String, name: &str, millis: u64) -> Result<
     ensures { OnOk result (string_bytes text.new ≡ string_bytes text.old ++ milli_sample name.now millis) }
 {
     write!(text, "{name} {millis}e-3\n")?;
-    Ok(())
-}
-
-/// Appends a metric that has one sample.
-pub(crate) fn push_metric(
-    text: &mut String,
-    name: &str,
-    kind: &str,
-    help: &str,
-    number: u64,
-) -> Result<(), AllocError>
-    ensures { OnOk result (string_bytes text.new ≡ string_bytes text.old ++ metric name.now kind.now help.now number) }
-{
-    push_head(text, name, kind, help)?;
-    push_sample(text, name, number)?;
     Ok(())
 }
 

@@ -1,4 +1,7 @@
 //! The counters of an agent.
+ghost use Rattle.std.specs.Prelude.{◌≡◌};
+ghost use Rattle.agent_state.specs.Answers.{told};
+
 use agent_core::{
     BUCKETS, ChangeCounts, Counts, KeptCounts, LogCounts, PortCounts, ProcessCounts, Refusal,
     RefusalCounts, StatusCounts, TimeCounts, WaitingCounts, bucket_of, unpack,
@@ -205,7 +208,9 @@ impl Changes {
 }
 
 /// Returns the status of an answer, and whether a service gave it, not an agent, which may be the owner's.
-pub fn told(reply: &Result<Reply, Refusal>) -> (u16, bool) {
+pub fn told(reply: &Result<Reply, Refusal>) -> (u16, bool)
+    ensures { result ≡ told reply.now }
+{
     match reply {
         Ok(Reply::Handled { text, .. }) => {
             let packed = unpack(text.as_str());

@@ -4,7 +4,7 @@ ghost use Rattle.std.specs.Prelude.{[], Some};
 
 use crate::counters::Count;
 use crate::systems::{Host, System};
-use agent_core::{LogCounts, LogLevel};
+use agent_core::{LogCounts, LogLevel, json_line};
 use change_core::Address;
 use crossbeam_channel::{Receiver, Sender, bounded};
 use jiff::Timestamp;
@@ -57,12 +57,14 @@ struct Entry {
     text: Option<String>,
 }
 
-/// A sink of log records. Each line begins with the time in UTC and the node's address.
+/// A sink of log records. Each line has the time in UTC and the node's address.
 #[derive(Drop)]
 pub struct Journal<R> {
     rt: R,
     alloc: Global,
     own: Address,
+    /// Whether each line is a JSON object.
+    is_json: bool,
     /// The number of the level of the log.
     level: Count,
     entries: Sender<Entry>,
@@ -107,8 +109,7 @@ impl<R: Host> Log for Journal<R> {
         if !self.has(record.level()) {
             return;
         }
-        let dated = self.dated(Line::new(record));
-        match format!(in self.alloc; "{dated}") {
+        match self.line(record) {
             Ok(text) => self.put(text),
             Err(_) => self.lose(1),
         }
@@ -137,13 +138,37 @@ impl<R: Host> Journal<R> {
         level as u64 <= self.level.get()
     }
 
-    /// Returns the text with the present time and the node's address before it.
-    fn dated<D: Display + Drop>(&self, text: D) -> Dated<D> {
-        Dated {
+    /// Returns the line of a record at the present time, without its newline.
+    fn line<D: Display, K: Source, S: Spans>(
+        &self,
+        record: &Record<'_, D, K, S>,
+    ) -> Result<String, AllocError> {
+        if self.is_json {
+            return self.json(record.metadata(), record.args());
+        }
+        let dated = Dated {
             time: self.time(),
             own: self.own,
-            text,
-        }
+            text: Line::new(record),
+        };
+        format!(in self.alloc; "{dated}")
+    }
+
+    /// Returns the line of a message at the present time as JSON, without its newline.
+    fn json<D: Display>(&self, metadata: &Metadata<'_>, message: &D) -> Result<String, AllocError> {
+        let time = match self.time() {
+            Some(time) => Some(format!(in self.alloc; "{time:.3}")?),
+            None => None,
+        };
+        let message = format!(in self.alloc; "{message}")?;
+        json_line(
+            self.alloc,
+            time.as_deref(),
+            self.own,
+            metadata.level().as_str(),
+            metadata.target(),
+            message.as_str(),
+        )
     }
 
     /// Returns the present time; None if there is no clock, or it shows a time after the year 9999.
@@ -173,9 +198,21 @@ impl<R: Host> Journal<R> {
     }
 
     /// Writes a line to standard error.
-    fn write<D: Display + Drop>(&self, line: D) {
+    fn write(&self, line: &str) {
         if self.rt.eprintln(line).is_err() {
             self.lose(1);
+        }
+    }
+
+    /// Writes how many lines were dropped, or leaves it to a later line if it runs out of memory.
+    fn write_dropped(&self, dropped: u64) {
+        let text = format_args!(
+            "{dropped} lines of the log were dropped here: standard error was not read in time"
+        );
+        let record = Record::new(Metadata::new(Level::Warn, ""), text, (), ());
+        match self.line(&record) {
+            Ok(line) => self.write(line.as_str()),
+            Err(_) => self.untold.add(dropped),
         }
     }
 
@@ -183,9 +220,7 @@ impl<R: Host> Journal<R> {
     fn write_entry(&self, entry: Entry) -> bool {
         let Entry { dropped, text } = entry;
         if dropped > 0 {
-            self.write(self.dated(format_args!(
-                "[WARN ] {dropped} lines of the log were dropped here: standard error was not read in time"
-            )));
+            self.write_dropped(dropped);
         }
         match &text {
             Some(text) => self.write(text.as_str()),
@@ -239,7 +274,7 @@ fn write_lines<R: Host>(journal: Arc<Journal<R>, Global>, entries: Receiver<Entr
     }
 }
 
-/// Makes the log of the node at an address, which has written what is at most at a level, and starts the thread that writes it.
+/// Makes the log of the node at an address, which has written what is at most at a level, perhaps as JSON, and starts the thread that writes it.
 ///
 /// # Errors
 ///
@@ -250,12 +285,14 @@ pub fn start_log<R: System>(
     alloc: Global,
     own: Address,
     level: LevelFilter,
+    is_json: bool,
 ) -> Result<Logger<R>, LogError> {
     let (entries, received) = bounded(alloc, MAX_LINES)?;
     let journal = Journal {
         rt: *rt,
         alloc,
         own,
+        is_json,
         level: Count::new(),
         entries,
         untold: Count::new(),

@@ -27,6 +27,8 @@ macro_rules! rows {
 #[cfg(test)]
 mod host_list_tests;
 #[cfg(test)]
+mod log_line_tests;
+#[cfg(test)]
 mod pack_tests;
 #[cfg(test)]
 mod page_tests;

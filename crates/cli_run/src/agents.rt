@@ -68,6 +68,7 @@ fn settings_of(alloc: Global, words: &AgentWords) -> Result<Settings, AgentError
     ensures weight { IfOk result (λ s. s.weight ≡ words.now.weight) }
     ensures incarnation { IfOk result (λ s. s.incarnation ≡ words.now.incarnation) }
     ensures level { IfOk result (λ s. s.level ≡ filter_of words.now.level) }
+    ensures log_json { IfOk result (λ s. s.log_json ≡ words.now.log_json) }
     ensures hosts_file { IfOk result (λ s. option_map string_bytes s.hosts_file ≡ option_map string_bytes words.now.hosts_file) }
     ensures hosts { IfOk result (λ s. s.hosts.items ≡ other_hosts words.now.hosts.items words.now.address) }
 {
@@ -92,6 +93,7 @@ fn settings_of(alloc: Global, words: &AgentWords) -> Result<Settings, AgentError
         weight: words.weight,
         incarnation: words.incarnation,
         level: filter_of(words.level),
+        log_json: words.log_json,
         hosts_file: words.hosts_file.clone()?,
         hosts: other_hosts(alloc, words.hosts.as_slice(), words.address)?,
     })

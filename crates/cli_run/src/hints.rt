@@ -71,8 +71,12 @@ pub fn explain<R: Net + Clock + Wait + Eprint + Copy>(
             );
         }
         (Words::Agent(words), Fault::Agent(AgentError::NotLocal)) => say_open(rt, words),
-        (Words::Agent(words), Fault::Agent(AgentError::CannotRead(_) | AgentError::BadHosts(_))) =>
-            say_hosts(rt, words),
+        (
+            Words::Agent(words),
+            Fault::Agent(
+                AgentError::CannotRead(_) | AgentError::NotAFile | AgentError::BadHosts(_),
+            ),
+        ) => say_hosts(rt, words),
         (Words::Agent(words), Fault::Agent(AgentError::NoThread)) => say_agent_threads(rt, words),
         _ => {}
     }

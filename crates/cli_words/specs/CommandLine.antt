@@ -182,7 +182,7 @@ hosts_file = address_option (codes "hosts-file")
 abbrev pub agent_words : Shape
 agent_words = subcommand (codes "agent")
     (address_option (codes "bind") ∷ address_option (codes "http") ∷ flag (codes "http-any") ∷ address_option (codes "app")
-    ∷ flag (codes "no-wait-app") ∷ leave_after ∷ tell_app ∷ flag (codes "any-request") ∷ key_field ∷ cluster ∷ hosts_file ∷ hands ∷ http_connections ∷ agent_period ∷ agent_per_message ∷ replicas ∷ weight ∷ incarnation_option ∷ log ∷ word (codes "address") ∷ hosts ∷ [])
+    ∷ flag (codes "no-wait-app") ∷ leave_after ∷ tell_app ∷ flag (codes "any-request") ∷ key_field ∷ cluster ∷ hosts_file ∷ hands ∷ http_connections ∷ agent_period ∷ agent_per_message ∷ replicas ∷ weight ∷ incarnation_option ∷ log ∷ flag (codes "log-json") ∷ word (codes "address") ∷ hosts ∷ [])
 
 -- a command with no subcommand
 abbrev pub leaf : Shape → App

@@ -154,6 +154,7 @@ pub record AreAgentNumbersAt (rows : List Row) (words : AgentWords) : Type 0 whe
   pub tell_app : IsFlagAt rows (codes "tell-app") words.tell_app
   pub any_request : IsFlagAt rows (codes "any-request") words.any_request
   pub level : first_of (codes "log") rows ≡ Some (level_name words.level)
+  pub log_json : IsFlagAt rows (codes "log-json") words.log_json
 
 -- and its addresses are, too, the field that names keys, the name of the cluster, and the path of the file of hosts
 pub record IsAgentAt (rows : List Row) (words : AgentWords) : Type 0 where

@@ -14,10 +14,11 @@ use crate::cluster_options::cluster_in;
 use crate::cluster_words::{address_at, address_of, hosts_at, incarnation, weight};
 use crate::commands::{
     ADDRESS, ANY_REQUEST, APP, BIND, HANDS, HTTP, HTTP_ANY, HTTP_CONNECTIONS, KEY_FIELD,
-    LEAVE_AFTER, LOG, NO_WAIT_APP, PER_MESSAGE, PERIOD, TELL_APP, agent_alone,
+    LEAVE_AFTER, NO_WAIT_APP, PER_MESSAGE, PERIOD, TELL_APP, agent_alone,
 };
 use crate::faults::WordsError;
 use crate::hosts_options::hosts_file_in;
+use crate::log_options::{LOG, LOG_JSON};
 use crate::words::{absent, flag, number, refusal, replicas};
 use change_core::{Address, Incarnation, MAX_MEMBERS};
 use clap::ArgMatches;
@@ -188,6 +189,7 @@ fn words_with(
         weight,
         incarnation: incarnation_if(matches),
         level,
+        log_json: flag(matches, LOG_JSON),
         hosts,
     })
 }

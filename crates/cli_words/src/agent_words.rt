@@ -84,6 +84,8 @@ pub struct AgentWords {
     pub incarnation: Option<Incarnation>,
     /// The level of the log.
     pub level: LogLevel,
+    /// Whether each line of the log is a JSON object.
+    pub log_json: bool,
     /// The nodes that are asked to admit the node.
     pub hosts: Vec<Address>,
     pub ghost hands_range: { (1 ≤ hands) × (hands ≤ 256) },

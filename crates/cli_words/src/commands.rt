@@ -12,6 +12,7 @@ use crate::help::{
     BELOW_TELL,
 };
 use crate::hosts_options::hosts_file_option;
+use crate::log_options::{log_json_flag, log_option};
 use change_core::{MAX_MEMBERS, MAX_NUMBER, MAX_WEIGHT};
 use clap::builder::{ValueParser, ValueRange};
 use clap::{Arg, ArgAction, Command};
@@ -110,9 +111,6 @@ pub const HTTP_CONNECTIONS: &str = "http-connections";
 
 /// The argument for the most changes that a message carries.
 pub const PER_MESSAGE: &str = "per-message";
-
-/// The argument for the level of the log.
-pub const LOG: &str = "log";
 
 /// An option with a whole number in a range.
 fn option<'a>(
@@ -673,17 +671,6 @@ fn incarnation_option<'a>(alloc: Global) -> Arg<'a>
         )
 }
 
-/// The option for the level of the log.
-fn log_option<'a>(alloc: Global) -> Arg<'a>
-    ensures { rule_of result ≡ line.log }
-{
-    Arg::new(alloc, LOG)
-        .long(LOG)
-        .value_name("LEVEL")
-        .default_value("info")
-        .help("What the log on standard error has: off, error, warn, info or debug")
-}
-
 /// The address by which other nodes name an agent's node.
 fn agent_address<'a>(alloc: Global) -> Arg<'a>
     ensures { rule_of result ≡ line.word (codes "address") }
@@ -730,6 +717,7 @@ fn agent_command_with<'a>(
         weight_option(alloc),
         incarnation_option(alloc),
         log_option(alloc),
+        log_json_flag(alloc),
         agent_address(alloc),
         hosts_word(alloc, hosts),
     ]?;

@@ -10,6 +10,7 @@ mod commands;
 mod faults;
 mod help;
 mod hosts_options;
+mod log_options;
 mod words;
 
 pub use agent_words::{AgentWords, FollowingWords, LogLevel};

@@ -8,7 +8,7 @@ ghost use Rattle.kept_links.specs.Marks.{inner_of};
 ghost use Rattle.peer_core.specs.Links.{IsNamed, fault_named};
 ghost use Rattle.wire_json.specs.Input.{line_of};
 
-use crate::marks::{Marked, marked_line};
+use crate::marks::{Marked, marked_line, noted};
 use crate::pools::Spares;
 use change_core::Address;
 use cluster_core::{
@@ -120,6 +120,8 @@ pub struct KeptLink<'a, N, C, P> {
     failures: u64,
     /// The line of another cluster that answered the last call; None if none did.
     foreign: Option<Vec<u8>>,
+    /// The error of the system by which the last call failed; None if it did not fail by one.
+    fault: Option<io::Error>,
 }
 
 impl<'a, N, C, P> KeptLink<'a, N, C, P> {
@@ -146,6 +148,7 @@ impl<'a, N, C, P> KeptLink<'a, N, C, P> {
             limits,
             failures: 0,
             foreign: None,
+            fault: None,
         }
     }
 
@@ -160,9 +163,21 @@ impl<'a, N, C, P> KeptLink<'a, N, C, P> {
         KeptLink { failures, ..self }
     }
 
+    /// Returns the network that the link uses.
+    pub fn net(&self) -> &N
+        ensures { result.now ≡ net_over self.now }
+    {
+        &self.net
+    }
+
     /// Returns the line of another cluster that answered the last call; None if none did.
     pub fn foreign(&self) -> Option<&[u8]> {
         self.foreign.as_deref()
+    }
+
+    /// Returns the error of the system by which the last call failed; None if it did not fail by one.
+    pub fn fault(&self) -> Option<io::Error> {
+        self.fault
     }
 
     /// Returns whether the connection of a message is to be kept: a Forward's, if the link has a pool.
@@ -213,8 +228,12 @@ impl<'a, N, C: Clock, P: Spares> KeptLink<'a, N, C, P> {
         ensures named { IfErr result IsNamed }
         ensures unspent { IfErr result (λ e. e ≢ LinkError.Spent) }
     {
-        let mut stream = send_owned_line(Marked::new(stream), line)?;
-        let answer = get(alloc, self.cluster, &mut self.foreign, &mut stream);
+        let mut stream = Marked::new(stream);
+        let answer = match send_owned_line(&mut stream, line) {
+            Ok(stream) => get(alloc, self.cluster, &mut self.foreign, stream),
+            Err(fault) => Err(fault),
+        };
+        self.fault = stream.fault;
         if let Some(pool) = &self.pool {
             if answer.is_ok() && stream.is_marked() {
                 let stream = stream.into_inner().into_inner();
@@ -251,7 +270,8 @@ impl<'a, N: Dial<Stream = P::Stream>, C: Clock, P: Spares> KeptLink<'a, N, C, P>
             return self.exchange(rt, alloc, to, Timed::new(stream, deadline), line);
         }
         let limit = self.limits.limit_for(&message.content);
-        let Ok(stream) = self.net.dial(&socket_address(to), limit) else {
+        let dialled = self.net.dial(&socket_address(to), limit);
+        let Ok(stream) = noted(dialled, &mut self.fault) else {
             return Err(LinkError::Io);
         };
         self.exchange(rt, alloc, to, Timed::new(stream, deadline), line)
@@ -289,6 +309,7 @@ impl<'a, N: Dial<Stream = P::Stream>, C: Clock, P: Spares> Link for KeptLink<'a,
             → (result ≡ Err (LinkError.Wire WireError.LineTooLong)) ⊎ (result ≡ Err LinkError.Memory) }
     {
         self.foreign = None;
+        self.fault = None;
         if self.failures == u64::MAX {
             return Err(LinkError::Spent);
         }

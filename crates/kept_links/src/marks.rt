@@ -6,7 +6,7 @@ ghost use Rattle.kept_links.specs.Marks.{IsMarked, inner_of, marked_text, notes_
 ghost use Rattle.wire_json.specs.Lines.{max_line};
 
 use std::io;
-use std::io::{Read, Write};
+use std::io::{ErrorKind, Read, Write};
 use wire_json::MAX_LINE;
 
 /// Adds the mark to a line, unless it would be longer than a line may be, or memory runs out for it and the newline, which is not added.
@@ -31,11 +31,26 @@ fn is_marked(bytes: &[u8]) -> bool
     }
 }
 
-/// A stream that notes whether what was read last is the end of a marked line, with nothing after it.
+/// Returns the outcome of a step, whose error is noted. A step that lasted for its whole limit may end with `WouldBlock`, which is noted as `TimedOut`.
+pub(crate) fn noted<T>(outcome: io::Result<T>, fault: &mut Option<io::Error>) -> io::Result<T>
+    ensures { result ≡ outcome }
+{
+    if let Err(error) = &outcome {
+        *fault = Some(match error.kind() {
+            ErrorKind::WouldBlock => ErrorKind::TimedOut.into(),
+            _ => *error,
+        });
+    }
+    outcome
+}
+
+/// A stream that notes whether what was read last is the end of a marked line, with nothing after it, and the last error.
 #[derive(Drop)]
 pub struct Marked<S> {
     stream: S,
     is_marked: bool,
+    /// The last error of the stream; None if there was none.
+    pub(crate) fault: Option<io::Error>,
 }
 
 impl<S> Marked<S> {
@@ -47,6 +62,7 @@ impl<S> Marked<S> {
         Marked {
             stream,
             is_marked: false,
+            fault: None,
         }
     }
 
@@ -73,7 +89,7 @@ impl<S: Read> Read for Marked<S> {
         ensures bytes { ReadConsumes (S.remaining (inner_of self.old)) (S.remaining (inner_of self.new)) result buf.new }
         ensures noted { IfOk result (λ count. IsTrue (notes_mark self.new) ↔ IsMarked (take count buf.new)) }
     {
-        let count = self.stream.read(buf)?;
+        let count = noted(self.stream.read(buf), &mut self.fault)?;
         self.is_marked = is_marked(&buf[..count]);
         Ok(count)
     }
@@ -86,7 +102,7 @@ impl<S: Write> Write for Marked<S> {
         ensures bound { WritesAtMost result buf.now }
         ensures bytes { WriteAppends (S.contents (inner_of self.old)) (S.contents (inner_of self.new)) result buf.now }
     {
-        self.stream.write(buf)
+        noted(self.stream.write(buf), &mut self.fault)
     }
 
     fn flush(&mut self) -> io::Result<()>

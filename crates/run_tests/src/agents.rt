@@ -130,6 +130,7 @@ fn settings_of(ip: u32, hosts: Vec<Address>) -> Option<Settings> {
         weight: Weight::new(1)?,
         incarnation: Some(Incarnation::new(1)?),
         level: LevelFilter::Off,
+        log_json: false,
         hosts,
         hosts_file: None,
     })

@@ -9,5 +9,4 @@ returns c =
     let a1 = grown text _ _ _ _ a0 c.in_ok-push_kept.ensures in
     let a2 = grown text _ _ _ _ a1 c.in_ok-push_connections.ensures in
     let a3 = grown text _ _ _ _ a2 c.in_ok-push_workers.ensures in
-    let a4 = grown text _ _ _ _ a3 c.in_ok-push_questions.ensures in
-    grown text _ _ _ _ a4 c.in_ok-push_log.ensures
+    grown text _ _ _ _ a3 c.in_ok-push_log.ensures

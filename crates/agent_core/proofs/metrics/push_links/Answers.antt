@@ -6,5 +6,4 @@ pub returns : goal.returns
 returns c =
     let text = string_bytes c.args.text.now in
     let a0 = c.in_ok-push_service.ensures in
-    let a1 = grown text _ _ _ _ a0 c.in_ok-push_notices.ensures in
-    grown text _ _ _ _ a1 c.in_ok-push_refusals.ensures
+    grown text _ _ _ _ a0 c.in_ok-push_refusals.ensures

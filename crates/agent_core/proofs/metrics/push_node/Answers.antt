@@ -5,5 +5,7 @@ use Rattle.agent_core.proofs.metrics.push_node.Goals as goal
 pub returns : goal.returns
 returns c =
     let text = string_bytes c.args.text.now in
-    let a0 = c.in_ok-push_metric.ensures in
-    grown text _ _ _ _ a0 c.in_ok-push_metric-2.ensures
+    let a0 = c.in_ok-push_gauge.ensures in
+    let a1 = grown text _ _ _ _ a0 c.in_ok-push_gauge-2.ensures in
+    let a2 = grown text _ _ _ _ a1 c.in_ok-push_gauge-3.ensures in
+    grown text _ _ _ _ a2 c.in_ok-push_gauge-4.ensures

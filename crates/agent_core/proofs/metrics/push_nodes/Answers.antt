@@ -7,6 +7,5 @@ returns c =
     let text = string_bytes c.args.text.now in
     let a0 = c.in_ok-push_build.ensures in
     let a1 = grown text _ _ _ _ a0 c.in_ok-push_statuses.ensures in
-    let a2 = grown text _ _ _ _ a1 c.in_ok-push_addresses.ensures in
-    let a3 = grown text _ _ _ _ a2 c.in_ok-push_node.ensures in
-    grown text _ _ _ _ a3 c.in_ok-push_process.ensures
+    let a2 = grown text _ _ _ _ a1 c.in_ok-push_node.ensures in
+    grown text _ _ _ _ a2 c.in_ok-push_process.ensures

@@ -5,11 +5,7 @@ use Rattle.agent_core.proofs.metrics.push_waiting.Goals as goal
 pub returns : goal.returns
 returns c =
     let text = string_bytes c.args.text.now in
-    let a0 = c.in_ok-push_head.ensures in
-    let a1 = grown text _ _ _ _ a0 c.in_ok-push_sample.ensures in
-    let a2 = grown text _ _ _ _ a1 c.in_ok-push_sample-2.ensures in
-    let a3 = grown text _ _ _ _ a2 c.in_ok-push_head-2.ensures in
-    let a4 = grown text _ _ _ _ a3 c.in_ok-push_sample-3.ensures in
-    let a5 = grown text _ _ _ _ a4 c.in_ok-push_sample-4.ensures in
-    let a6 = grown text _ _ _ _ a5 c.in_ok-push_metric.ensures in
-    grown text _ _ _ _ a6 c.in_ok-push_metric-2.ensures
+    let a0 = c.in_ok-push_gauge.ensures in
+    let a1 = grown text _ _ _ _ a0 c.in_ok-push_gauge-2.ensures in
+    let a2 = grown text _ _ _ _ a1 c.in_ok-push_gauge-3.ensures in
+    grown text _ _ _ _ a2 c.in_ok-push_counter.ensures

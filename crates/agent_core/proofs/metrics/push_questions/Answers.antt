@@ -1,9 +1,0 @@
-use Rattle.std.proofs.Common.{string_bytes}
-use Rattle.agent_core.proofs.Growing.{grown}
-use Rattle.agent_core.proofs.metrics.push_questions.Goals as goal
-
-pub returns : goal.returns
-returns c =
-    let text = string_bytes c.args.text.now in
-    let a0 = c.in_ok-push_metric.ensures in
-    grown text _ _ _ _ a0 c.in_ok-push_metric-2.ensures

@@ -68,7 +68,7 @@ module _ {A : Type 0} (handled : Handled A) where
       → (option_cmp nat_cmp (weight_of a other) (weight_of a one) ≡ Less) ⊎ (option_cmp nat_cmp (weight_of b one) (weight_of b other) ≡ Less)
 
 -- No node performed the request for which this answer came: the node called does not own the keys; or no answer came, and the link was spent and sent
--- nothing, or made no connection. That it made none is what the link notes.
+-- nothing, or noted no connection. A note is all that this says: that it is true is not said here.
 abbrev pub IsUndone : Result Message LinkError → Type 0
 IsUndone answer = (was_made : Bool) × (is_unsure answer was_made ≡ false)
 

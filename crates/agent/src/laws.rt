@@ -13,10 +13,10 @@ pub fn one_application<A: HandlerMut>()
     ensures differ { AskersDiffer A.handled }
 {}
 
-/// A request that may not be performed twice is performed at most once, as far as links tell what they did. Of the Forwards that go out for it only the last may
-/// have reached a node that performed it: of each before, the node called said that it does not own the keys, or no connection was made. If none is left to
-/// send, this node's application was asked, once, or nothing was performed. And if the client gets an answer, the request was performed once: by the
-/// application of this node, or at the node which the last Forward went to, whose Reply is the answer.
+/// A request that may not be performed twice is performed at most once, as far as its link notes. Of the Forwards that go out for it only the last may
+/// have reached a node that performed it: of each before, the node called said that it does not own the keys, or the link noted no connection. If none is left
+/// to send, this node's application was asked, once, or nothing was performed. And if the client gets an answer, the request was performed once: by the
+/// application of this node, or by the node that the last Forward went to or passed it on to, whose Reply is the answer.
 pub fn performed_once()
     ensures sent { RequestsEndOnce }
     ensures answered { AnswersAreDoneOnce }

@@ -183,6 +183,11 @@ impl Handler for Echo {
     }
 }
 
+/// The same, willing.
+pub(crate) const WILLING: Echo = Echo {
+    mood: Mood::Willing,
+};
+
 /// A handler that answers so, and counts how often it is asked.
 #[derive(Drop)]
 pub(crate) struct Counting {

@@ -5,12 +5,10 @@ ghost use Rattle.locked_node.specs.Passes.{Fits};
 
 use crate::fakes::{Counting, Mood};
 use crate::messages::{keys, number_of, text};
-use crate::shared::{ALONE, AMONG_ONE, Caller, Shared, Start, check_refused, let_go, met};
+use crate::shared::{ALONE, AMONG_ONE, Caller, Host, Shared, Start, comes, let_go, met};
 use change_core::{Address, Moment};
 use cluster_core::{Clock, ClusterError, Link, LinkError, handle_or_forward};
 use std::alloc::Global;
-use std::env::Env;
-use std::process::Abort;
 use std::sync::Wait;
 use std::sync::atomic::{AtomicU64, Ordering};
 use wire_json::{Content, Message, Text};
@@ -161,41 +159,17 @@ fn wrong(link: Mood) -> Asked {
 }
 
 /// The result of a request, how often it was sent, at which moments, and how often the handler was asked.
-#[derive(Clone, Copy, PartialEq, Eq)]
-pub(crate) struct Came {
-    pub(crate) answer: Result<&'static str, ClusterError>,
-    pub(crate) sent: usize,
-    moments: [u64; 4],
-    pub(crate) handled: u64,
-}
+pub(crate) type Came = (Result<&'static str, ClusterError>, usize, [u64; 4], u64);
 
 /// The answer of the handler.
-pub(crate) const HANDLED: Came = Came {
-    answer: Ok("body"),
-    sent: 0,
-    moments: [0; 4],
-    handled: 1,
-};
+pub(crate) const HANDLED: Came = (Ok("body"), 0, [0; 4], 1);
 
 /// The owner's answer to the first sending.
-pub(crate) const REPLIED: Came = Came {
-    answer: Ok("x"),
-    sent: 1,
-    moments: [0; 4],
-    handled: 0,
-};
+pub(crate) const REPLIED: Came = (Ok("x"), 1, [0; 4], 0);
 
-/// The end of a request that was not sent.
-fn untried(error: ClusterError) -> Came {
-    Came {
-        answer: Err(error),
-        sent: 0,
-        ..REPLIED
-    }
-}
-
-fn words_in(answer: &Result<Text, ClusterError>) -> Result<&'static str, ClusterError> {
-    match answer {
+/// The words of an answer, which is let go.
+fn words_in(answer: Result<Text, ClusterError>) -> Result<&'static str, ClusterError> {
+    match &answer {
         Ok(text) if text.as_str() == "x" => Ok("x"),
         Ok(text) if text.as_str() == "body" => Ok("body"),
         Ok(_) => Ok("another"),
@@ -204,13 +178,7 @@ fn words_in(answer: &Result<Text, ClusterError>) -> Result<&'static str, Cluster
 }
 
 /// The result of a request with the body `body`.
-pub(crate) fn try_request<R: Wait + Env + Abort>(
-    rt: &R,
-    alloc: Global,
-    shared: &Shared,
-    pass: &mut Caller,
-    asked: &Asked,
-) -> Came
+pub(crate) fn try_request(rt: &impl Host, shared: &Shared, pass: &mut Caller, asked: &Asked) -> Came
     requires { Fits shared.now pass.old }
     ensures { Fits shared.now pass.new }
 {
@@ -223,60 +191,40 @@ pub(crate) fn try_request<R: Wait + Env + Abort>(
         failures: 0,
     };
     let handler = Counting::new(asked.handler);
-    let keys = keys(rt, alloc, asked.keys);
-    let body = text(rt, alloc, "body");
+    let (alloc, keys, body) = (rt.alloc(), keys(rt, asked.keys), text(rt, "body"));
+    let mut asks = &handler;
     let answer = handle_or_forward(
-        rt,
-        alloc,
-        shared,
-        pass,
-        &mut link,
-        &mut &handler,
-        &clock,
-        keys,
-        body,
+        rt, alloc, shared, pass, &mut link, &mut asks, &clock, keys, body,
     );
-    let words = words_in(&answer);
-    drop(answer);
-    Came {
-        answer: words,
-        sent: link.sent,
-        moments: link.moments,
-        handled: handler.calls(),
-    }
+    (words_in(answer), link.sent, link.moments, handler.calls())
 }
 
 /// Its result at a new node.
-fn first_request<R: Wait + Env + Abort>(rt: &R, alloc: Global, asked: &Asked) -> Came {
-    let (shared, mut pass) = met(rt, alloc, &asked.start);
-    let came = try_request(rt, alloc, &shared, &mut pass, asked);
+fn first_request(rt: &impl Host, asked: &Asked) -> Came {
+    let (shared, mut pass) = met(rt, &asked.start);
+    let came = try_request(rt, &shared, &mut pass, asked);
     let_go(shared, pass);
     came
 }
 
 /// Checks its result; if it ran out of memory, what it does at another node.
-fn check<R: Wait + Env + Abort>(rt: &R, alloc: Global, asked: &Asked, wanted: &Came) {
-    let mut came = first_request(rt, alloc, asked);
-    if came != *wanted && came.answer == Err(ClusterError::Memory) {
-        check_refused(rt);
-        came = first_request(rt, alloc, asked);
-    }
-    assert!(rt; came == *wanted);
+fn check(rt: &impl Host, asked: &Asked, wanted: Came) {
+    comes!(rt; first_request(rt, asked) => wanted, |came| came.0 == Err(ClusterError::Memory));
 }
 
-const ABANDONED: Came = Came {
-    answer: Err(ClusterError::RetriesSpent),
-    sent: 4,
-    moments: [0, 3_000, 9_000, 21_000],
-    handled: 0,
-};
+const ABANDONED: Came = (
+    Err(ClusterError::RetriesSpent),
+    4,
+    [0, 3_000, 9_000, 21_000],
+    0,
+);
 
 /// A request for `zzzz1` at A with B, over a link that fails or answers otherwise: sent from A to B at 0, 3,000, 9,000 and 21,000, then
 /// retries spent.
 #[test]
 fn a_request_is_sent_four_times_and_abandoned(rt: HostRuntime) {
-    check(&rt, rt.alloc(), &wrong(Mood::Broken), &ABANDONED);
-    check(&rt, rt.alloc(), &wrong(Mood::Failing), &ABANDONED);
+    check(&rt, &wrong(Mood::Broken), ABANDONED);
+    check(&rt, &wrong(Mood::Failing), ABANDONED);
 }
 
 /// The same where each failure takes 100: sent at 0, 3,100, 9,200 and 21,300.
@@ -284,65 +232,64 @@ fn a_request_is_sent_four_times_and_abandoned(rt: HostRuntime) {
 fn a_failure_is_noted_when_it_is_known(rt: HostRuntime) {
     let mut asked = wrong(Mood::Broken);
     asked.takes = 100;
-    let mut wanted = ABANDONED;
-    wanted.moments = [0, 3_100, 9_200, 21_300];
-    check(&rt, rt.alloc(), &asked, &wanted);
+    let moments = [0, 3_100, 9_200, 21_300];
+    check(
+        &rt,
+        &asked,
+        (Err(ClusterError::RetriesSpent), 4, moments, 0),
+    );
 }
 
-/// How many sendings go wrong, and the result of the request.
-static REPLIES: [(usize, Came); 4] = rows! {
-    0, REPLIED;
-    1, Came { sent: 2, moments: [0, 3_000, 0, 0], ..REPLIED };
-    2, Came { sent: 3, moments: [0, 3_000, 9_000, 0], ..REPLIED };
-    3, Came { sent: 4, moments: [0, 3_000, 9_000, 21_000], ..REPLIED };
-};
+/// How many sendings go wrong, and how often and when the request is sent.
+static REPLIES: [(usize, usize, [u64; 4]); 4] = [
+    (0, 1, [0; 4]),
+    (1, 2, [0, 3_000, 0, 0]),
+    (2, 3, [0, 3_000, 9_000, 0]),
+    (3, 4, [0, 3_000, 9_000, 21_000]),
+];
 
 /// After none to three failures B replies `x`: `x`, after one to four sends. The handler is never asked.
 #[test]
 fn the_owner_answers_a_request(rt: HostRuntime) {
     let mut asked = wrong(Mood::Broken);
-    for (wrong, wanted) in &REPLIES {
-        asked.wrong = *wrong;
-        check(&rt, rt.alloc(), &asked, wanted);
+    for &(wrong, sent, moments) in &REPLIES {
+        asked.wrong = wrong;
+        check(&rt, &asked, (Ok("x"), sent, moments, 0));
     }
 }
 
-/// How the handler answers, and the result of the request.
-static HANDLERS: [(Mood, Result<&'static str, ClusterError>); 3] = [
-    (Mood::Willing, Ok("body")),
-    (Mood::Failing, Err(ClusterError::HandlerFault)),
-    (Mood::Starved, Err(ClusterError::Memory)),
-];
+/// Checks the result of a request of a node that owns it, where the handler answers so: it is asked once, and nothing is sent.
+fn check_handled(rt: &impl Host, handler: Mood, answer: Result<&'static str, ClusterError>) {
+    check(rt, &Asked { handler, ..HERE }, (answer, 0, [0; 4], 1));
+}
 
 /// A request that A owns: the handler's text, handler fault, or memory; the handler is asked once, and nothing is sent.
 #[test]
 fn a_request_is_handled_here(rt: HostRuntime) {
-    for &(handler, answer) in &HANDLERS {
-        let asked = Asked { handler, ..HERE };
-        check(&rt, rt.alloc(), &asked, &Came { answer, ..HANDLED });
-    }
+    check_handled(&rt, Mood::Willing, Ok("body"));
+    check_handled(&rt, Mood::Failing, Err(ClusterError::HandlerFault));
+    check_handled(&rt, Mood::Starved, Err(ClusterError::Memory));
 }
 
-/// Keys `zzzz0` and `zzzz1`: diverged. At A that has left: `nobody`. Nothing is sent, and no handler asked.
+/// Keys `zzzz0` and `zzzz1`: diverged. Nothing is sent, and no handler asked.
 #[test]
 fn keys_of_two_owners_are_not_sent(rt: HostRuntime) {
     let mut asked = THERE;
     asked.keys = ("zzzz0", "zzzz1");
-    check(&rt, rt.alloc(), &asked, &untried(ClusterError::Diverged));
+    check(&rt, &asked, (Err(ClusterError::Diverged), 0, [0; 4], 0));
 }
 
-/// Keys `zzzz0` and `zzzz1`: diverged. At A that has left: `nobody`. Nothing is sent, and no handler asked.
+/// At A that has left: `nobody`. Nothing is sent, and no handler asked.
 #[test]
 fn a_request_that_nobody_owns_is_not_sent(rt: HostRuntime) {
     let mut asked = HERE;
     asked.start.has_left = true;
-    check(&rt, rt.alloc(), &asked, &untried(ClusterError::Nobody));
+    check(&rt, &asked, (Err(ClusterError::Nobody), 0, [0; 4], 0));
 }
 
 /// A link without memory: memory, after one send.
 #[test]
 fn no_memory_of_a_link_ends_a_request(rt: HostRuntime) {
-    let mut wanted = untried(ClusterError::Memory);
-    wanted.sent = 1;
-    check(&rt, rt.alloc(), &wrong(Mood::Starved), &wanted);
+    let wanted = (Err(ClusterError::Memory), 1, [0; 4], 0);
+    check(&rt, &wrong(Mood::Starved), wanted);
 }

@@ -87,7 +87,7 @@ fn answer_within<R: Clock + Abort>(
 static CALLS: [(Call, usize); 3] = [(Call::Read, 4), (Call::Write, 4), (Call::Flush, 0)];
 
 /// A stream of which the first 0, 1, 2 and 1,000 calls are interrupted, with a limit of an hour: a read and a write of four bytes, and a
-/// flush. One of which all are, with a limit of 20 milliseconds: timed out each time, and not before it.
+/// flush.
 #[test]
 fn what_is_interrupted_is_tried_again(rt: HostRuntime) {
     let hour = Duration::from_secs(3_600);
@@ -98,8 +98,7 @@ fn what_is_interrupted_is_tried_again(rt: HostRuntime) {
     }
 }
 
-/// A stream of which the first 0, 1, 2 and 1,000 calls are interrupted, with a limit of an hour: a read and a write of four bytes, and a
-/// flush. One of which all are, with a limit of 20 milliseconds: timed out each time, and not before it.
+/// A stream of which all calls are, with a limit of 20 milliseconds: timed out each time, and not before it.
 #[test]
 fn what_is_always_interrupted_ends_at_its_deadline(rt: HostRuntime) {
     let limit = Duration::from_millis(20);

@@ -1,18 +1,14 @@
 //! A link whose connections are kept, over a network of the test's own.
 use crate::messages::{content, member, message, request};
-use crate::shared::check_refused;
+use crate::shared::{Host, again};
 use change_core::Address;
 use cluster_core::{Dial, Limits, Link, LinkError};
 use kept_links::{KeptLink, Pool};
 use message_core::{Content, Message};
-use std::alloc::Global;
 use std::cell::Cell;
-use std::env::Env;
 use std::io;
 use std::io::{ErrorKind, Read, Write};
 use std::net::{OpenStream, SocketAddr};
-use std::process::Abort;
-use std::sync::Wait;
 use std::time::{Clock, Duration};
 
 /// What a node does at the end of an answer, and until the next request.
@@ -146,9 +142,8 @@ impl Clock for Nodes {
 
 /// Sends a message to two nodes in turn, until a connection is found closed; the number of connections made, and of marked lines. None if an
 /// allocation failed.
-fn dialled_for<R: Wait>(
-    rt: &R,
-    alloc: Global,
+fn dialled_for(
+    rt: &impl Host,
     manner: Manner,
     to: &[Address; 2],
     message: &Message,
@@ -160,11 +155,11 @@ fn dialled_for<R: Wait>(
         answered: Cell::new(0),
         marked: Cell::new(0),
     };
-    let pool = Pool::new(alloc, 4);
+    let pool = Pool::new(rt.alloc(), 4);
     let cluster = None;
     let mut link = KeptLink::new(&nodes, &nodes, Some(&pool), &cluster, Limits::standard());
     for address in to {
-        match link.call(rt, alloc, *address, message) {
+        match link.call(rt, rt.alloc(), *address, message) {
             Ok(_) => {}
             Err(LinkError::Closed) => break,
             Err(_) => return None,
@@ -172,6 +167,20 @@ fn dialled_for<R: Wait>(
         nodes.now.set(nodes.now.get().wrapping_add(manner.rest));
     }
     Some((nodes.dialled.get(), nodes.marked.get()))
+}
+
+/// A message that is sent to two nodes in turn makes the wanted number of connections and of marked lines.
+fn check(rt: &impl Host, manner: Manner, to: &[Address; 2], message: &Message, wanted: (u64, u64)) {
+    assert!(rt; again!(rt, dialled_for(rt, manner, to, message) == Some(wanted)));
+}
+
+fn make_manner(answer: &'static str, waits: Option<usize>, rest: u64) -> Manner {
+    Manner {
+        answer,
+        waits,
+        rest,
+        answers: u64::MAX,
+    }
 }
 
 /// How a node answers, what waits in the meantime, for how long, and how many connections two requests to it take.
@@ -187,64 +196,35 @@ static MANNERS: [(&str, Option<usize>, u64, u64); 9] = [
     (TWO, None, 0, 2),
 ];
 
-fn make_manner(answer: &'static str, waits: Option<usize>, rest: u64) -> Manner {
-    Manner {
-        answer,
-        waits,
-        rest,
-        answers: u64::MAX,
-    }
-}
-
-/// A message that is sent to two nodes in turn makes the wanted number of connections and of marked lines.
-fn check<R: Wait + Env + Abort>(
-    rt: &R,
-    alloc: Global,
-    manner: Manner,
-    to: &[Address; 2],
-    message: &Message,
-    wanted: (u64, u64),
-) {
-    if dialled_for(rt, alloc, manner, to, message) != Some(wanted) {
-        check_refused(rt);
-        assert!(rt; dialled_for(rt, alloc, manner, to, message) == Some(wanted));
-    }
-}
-
 /// Two requests to one node that keeps connections or does not, that closes them or sends more in the meantime, and between which they
 /// rest for long or not: the second goes over the first one's connection, or over another, and both are answered.
 #[test]
 fn a_connection_is_kept_if_both_sides_keep_it(rt: HostRuntime) {
-    let alloc = rt.alloc();
-    let to = member(&rt, 1);
-    let forward = request(&rt, alloc, ("a", "b"), "body");
+    let to = [member(&rt, 1), member(&rt, 1)];
+    let forward = request(&rt, ("a", "b"), "body");
     for &(answer, waits, rest, wanted) in &MANNERS {
-        let it = make_manner(answer, waits, rest);
-        check(&rt, alloc, it, &[to, to], &forward, (wanted, 2));
+        let manner = make_manner(answer, waits, rest);
+        check(&rt, manner, &to, &forward, (wanted, 2));
     }
 }
 
 /// A request to each of two nodes, and two pings to one, by nodes that keep each connection: each goes over its own, and a ping is not marked.
 #[test]
 fn a_connection_is_kept_for_requests_of_its_node(rt: HostRuntime) {
-    let alloc = rt.alloc();
     let (first, second) = (member(&rt, 1), member(&rt, 3));
     let keeps = make_manner(MARKED, None, 0);
-    let forward = request(&rt, alloc, ("a", "b"), "body");
-    check(&rt, alloc, keeps, &[first, second], &forward, (2, 2));
-    let ping = message(&rt, 2, Content::Ping(content(&rt, alloc, &[])));
-    check(&rt, alloc, keeps, &[first, first], &ping, (2, 0));
+    let forward = request(&rt, ("a", "b"), "body");
+    check(&rt, keeps, &[first, second], &forward, (2, 2));
+    let ping = message(&rt, 2, Content::Ping(content(&rt, &[])));
+    check(&rt, keeps, &[first, first], &ping, (2, 0));
 }
 
 /// Two requests to a node that keeps its connection and closes it at the second one: that goes over no other.
 #[test]
 fn a_request_goes_over_one_connection(rt: HostRuntime) {
-    let alloc = rt.alloc();
-    let to = member(&rt, 1);
-    let forward = request(&rt, alloc, ("a", "b"), "body");
-    let closes = Manner {
-        answers: 1,
-        ..make_manner(MARKED, None, 0)
-    };
-    check(&rt, alloc, closes, &[to, to], &forward, (1, 2));
+    let to = [member(&rt, 1), member(&rt, 1)];
+    let forward = request(&rt, ("a", "b"), "body");
+    let mut closes = make_manner(MARKED, None, 0);
+    closes.answers = 1;
+    check(&rt, closes, &to, &forward, (1, 2));
 }

@@ -1,41 +1,21 @@
 //! What a thread of a service does by a member of its node: joins, requests with rounds between them, leaving and
 //! coming back. If an allocation failed, a test continues with another node, once.
 use crate::fakes::{Counting, Fake, Mood};
+use crate::forwarding::Still;
 use crate::messages::{keys, member as address, moment, text};
-use crate::shared::{ALONE, AMONG_ONE, Start, check_refused, let_go, met};
-use change_core::{Moment, Status};
+use crate::shared::{ALONE, AMONG_ONE, Host, Start, again, comes, let_go, met};
+use change_core::Status;
 use cluster_core::{
     CallError, Clock, ClusterError, Handler, JoinError, LeaveError, Link, Member, RejoinError,
     RequestError, RoundError,
 };
 use hash_ring::SumHash;
-use std::alloc::Global;
-use std::env::Env;
-use std::process::Abort;
 use std::sync::Wait;
-
-/// A clock that is never waited for.
-#[derive(Drop)]
-struct Zero;
-
-impl Clock for Zero {
-    ghost time = { record { told = λ _. Unit {0}; waited = λ _. Unit {0} } };
-
-    fn now(&self) -> Moment {
-        match Moment::new(0) {
-            Some(now) => now,
-            None => unreachable!(),
-        }
-    }
-
-    fn wait_until<R: Wait>(&self, _rt: &R, _moment: u64) {}
-}
 
 /// A loop as a service has it, over any link, handler and clock: a request for each rider, and a round after each.
 /// Returns the number of requests whose answer was their body.
-fn serve_riders<R: Wait + Env + Abort, L: Link, A: Handler, C: Clock>(
-    rt: &R,
-    alloc: Global,
+fn serve_riders<L: Link, A: Handler, C: Clock>(
+    rt: &impl Host,
     member: &mut Member<'_, SumHash, L>,
     handler: &A,
     clock: &C,
@@ -43,8 +23,8 @@ fn serve_riders<R: Wait + Env + Abort, L: Link, A: Handler, C: Clock>(
 ) -> Result<u32, ClusterError> {
     let mut answered = 0u32;
     for rider in riders {
-        let keys = keys(rt, alloc, (*rider, *rider));
-        let answer = member.request(rt, &mut &*handler, clock, keys, text(rt, alloc, "body"))?;
+        let keys = keys(rt, (*rider, *rider));
+        let answer = member.request(rt, &mut &*handler, clock, keys, text(rt, "body"))?;
         if answer.as_str() == "body" {
             answered = answered.wrapping_add(1);
         }
@@ -57,12 +37,13 @@ fn serve_riders<R: Wait + Env + Abort, L: Link, A: Handler, C: Clock>(
 type Served = (Result<u32, ClusterError>, u64, u64);
 
 /// The node owns the first rider, and its peer the second one.
-fn serve_two<R: Wait + Env + Abort>(rt: &R, alloc: Global) -> Served {
-    let (shared, mut pass) = met(rt, alloc, &AMONG_ONE);
+fn serve_two(rt: &impl Host) -> Served {
+    let (shared, mut pass) = met(rt, &AMONG_ONE);
     let mut link = Fake::new(Mood::Willing, Mood::Willing);
     let handler = Counting::new(Mood::Willing);
-    let mut member = Member::new(&shared, &mut pass, &mut link, alloc);
-    let answered = serve_riders(rt, alloc, &mut member, &handler, &Zero, &["zzzz0", "zzzz1"]);
+    let clock = Still::new();
+    let mut member = Member::new(&shared, &mut pass, &mut link, rt.alloc());
+    let answered = serve_riders(rt, &mut member, &handler, &clock, &["zzzz0", "zzzz1"]);
     drop(member);
     let served = (answered, link.calls, handler.calls());
     let_go(shared, pass);
@@ -71,14 +52,7 @@ fn serve_two<R: Wait + Env + Abort>(rt: &R, alloc: Global) -> Served {
 
 #[test]
 fn a_service_answers_requests_between_rounds(rt: HostRuntime) {
-    let wanted: Served = (Ok(2), 3, 1);
-    let mut served = serve_two(&rt, rt.alloc());
-    let (answered, _, _) = served;
-    if answered == Err(ClusterError::Memory) {
-        check_refused(&rt);
-        served = serve_two(&rt, rt.alloc());
-    }
-    assert!(&rt; served == wanted);
+    comes!(&rt; serve_two(&rt) => (Ok(2), 3, 1), |served| served.0 == Err(ClusterError::Memory));
 }
 
 /// Leaves and comes back this often, and returns the node's incarnation then.
@@ -97,14 +71,10 @@ fn come_and_go<R: Wait, L: Link>(
     Ok(member.own(rt)?.incarnation.number())
 }
 
-fn come_and_go_alone<R: Wait + Env + Abort>(
-    rt: &R,
-    alloc: Global,
-    times: u32,
-) -> Result<u64, ClusterError> {
-    let (shared, mut pass) = met(rt, alloc, &ALONE);
+fn come_and_go_alone(rt: &impl Host, times: u32) -> Result<u64, ClusterError> {
+    let (shared, mut pass) = met(rt, &ALONE);
     let mut link = Fake::new(Mood::Willing, Mood::Willing);
-    let mut member = Member::new(&shared, &mut pass, &mut link, alloc);
+    let mut member = Member::new(&shared, &mut pass, &mut link, rt.alloc());
     let incarnation = come_and_go(rt, &mut member, times);
     drop(member);
     let_go(shared, pass);
@@ -113,12 +83,7 @@ fn come_and_go_alone<R: Wait + Env + Abort>(
 
 #[test]
 fn a_member_that_is_back_has_the_next_incarnation(rt: HostRuntime) {
-    let mut incarnation = come_and_go_alone(&rt, rt.alloc(), 3);
-    if incarnation == Err(ClusterError::Memory) {
-        check_refused(&rt);
-        incarnation = come_and_go_alone(&rt, rt.alloc(), 3);
-    }
-    assert!(&rt; incarnation == Ok(10));
+    comes!(&rt; come_and_go_alone(&rt, 3) => Ok(10), |number| number == Err(ClusterError::Memory));
 }
 
 /// What a member's calls are refused by, one after the other: join, round, request, view, members, leave, rejoin.
@@ -142,34 +107,24 @@ static REFUSALS: [Row; 3] = rows! {
 };
 
 /// What the calls of a member are refused by, once it made one.
-fn refused_by<R: Wait + Env + Abort, L: Link>(
-    rt: &R,
-    alloc: Global,
-    member: &mut Member<'_, SumHash, L>,
-    mood: Mood,
-) -> Refused {
-    let handler = Counting::new(mood);
+fn refused_by<L: Link>(rt: &impl Host, member: &mut Member<'_, SumHash, L>, mood: Mood) -> Refused {
+    let (handler, clock) = (Counting::new(mood), Still::new());
     let now = moment(rt, 0);
     assert!(rt; member.own(rt).is_ok());
     let joined = member.join(rt, &[address(rt, 2)], now).err();
     let round = member.round(rt, now).err();
-    let keys = keys(rt, alloc, ("zzzz0", "zzzz0"));
-    let answer = member.request(rt, &mut &handler, &Zero, keys, text(rt, alloc, "body"));
+    let keys = keys(rt, ("zzzz0", "zzzz0"));
+    let answer = member.request(rt, &mut &handler, &clock, keys, text(rt, "body"));
     let copied = (member.view(rt).err(), member.members(rt).err());
     let gone = (member.leave(rt).err(), member.rejoin(rt).err());
     (joined, round, answer.err(), copied, gone)
 }
 
-fn first_refused<R: Wait + Env + Abort>(
-    rt: &R,
-    alloc: Global,
-    start: &Start,
-    mood: Mood,
-) -> Refused {
-    let (shared, mut pass) = met(rt, alloc, start);
+fn first_refused(rt: &impl Host, start: &Start, mood: Mood) -> Refused {
+    let (shared, mut pass) = met(rt, start);
     let mut link = Fake::new(mood, mood);
-    let mut member = Member::new(&shared, &mut pass, &mut link, alloc);
-    let refused = refused_by(rt, alloc, &mut member, mood);
+    let mut member = Member::new(&shared, &mut pass, &mut link, rt.alloc());
+    let refused = refused_by(rt, &mut member, mood);
     drop(member);
     let_go(shared, pass);
     refused
@@ -178,11 +133,6 @@ fn first_refused<R: Wait + Env + Abort>(
 #[test]
 fn each_call_of_a_member_says_why_it_is_refused(rt: HostRuntime) {
     for (start, mood, wanted) in &REFUSALS {
-        let mut refused = first_refused(&rt, rt.alloc(), start, *mood);
-        if refused != *wanted {
-            check_refused(&rt);
-            refused = first_refused(&rt, rt.alloc(), start, *mood);
-        }
-        assert!(&rt; refused == *wanted);
+        assert!(&rt; again!(&rt, first_refused(&rt, start, *mood) == *wanted));
     }
 }

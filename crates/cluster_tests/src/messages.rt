@@ -1,8 +1,6 @@
 //! Members, updates and messages of 10.0.0.1:1 and its like. If an allocation fails the call is made again.
-use crate::shared::check_refused;
+use crate::shared::{Host, made};
 use change_core::{Address, Change, Digest, Incarnation, Moment, Sourced, Status, Weight};
-use std::alloc::Global;
-use std::env::Env;
 use std::process::Abort;
 use wire_json::{Changes, Content, Keys, Message, News, Text};
 
@@ -41,21 +39,11 @@ pub(crate) fn news(rt: &impl Abort, number: u8, incarnation: u64, status: Status
     }
 }
 
-fn changes(rt: &(impl Env + Abort), alloc: Global, given: &[Sourced]) -> Changes {
-    match Changes::from_slice(alloc, given) {
-        Ok(changes) => changes,
-        Err(_) => {
-            check_refused(rt);
-            Changes::from_slice(alloc, given).ok().expect(rt, "changes")
-        }
-    }
-}
-
 /// The digest of no members, and these changes.
-pub(crate) fn content(rt: &(impl Env + Abort), alloc: Global, given: &[Sourced]) -> News {
+pub(crate) fn content(rt: &impl Host, given: &[Sourced]) -> News {
     News {
         checksum: Digest::new([0; 32]),
-        changes: changes(rt, alloc, given),
+        changes: made!(rt, Changes::from_slice(rt.alloc(), given)),
     }
 }
 
@@ -68,46 +56,24 @@ pub(crate) fn message(rt: &impl Abort, number: u8, content: Content) -> Message 
     }
 }
 
-pub(crate) fn text(rt: &(impl Env + Abort), alloc: Global, words: &str) -> Text {
-    match Text::new(alloc, words) {
-        Ok(text) => text,
-        Err(_) => {
-            check_refused(rt);
-            Text::new(alloc, words).ok().expect(rt, "a text")
-        }
-    }
+/// A ping of 10.0.0.`number`:1 with this change.
+pub(crate) fn ping(rt: &impl Host, number: u8, told: Sourced) -> Message {
+    message(rt, number, Content::Ping(content(rt, &[told])))
 }
 
-/// A list of one key.
-fn one_key(rt: &(impl Env + Abort), alloc: Global, first: &str) -> Keys {
-    match Keys::new(alloc, text(rt, alloc, first)) {
-        Ok(keys) => keys,
-        Err(_) => {
-            check_refused(rt);
-            let keys = Keys::new(alloc, text(rt, alloc, first));
-            keys.ok().expect(rt, "keys")
-        }
-    }
+pub(crate) fn text(rt: &impl Host, words: &str) -> Text {
+    made!(rt, Text::new(rt.alloc(), words))
 }
 
 /// Two keys.
-pub(crate) fn keys(rt: &(impl Env + Abort), alloc: Global, both: (&str, &str)) -> Keys {
+pub(crate) fn keys(rt: &impl Host, both: (&str, &str)) -> Keys {
     let (first, second) = both;
-    let mut keys = one_key(rt, alloc, first);
-    if keys.push(text(rt, alloc, second)).is_err() {
-        check_refused(rt);
-        assert!(rt; keys.push(text(rt, alloc, second)).is_ok());
-    }
+    let mut keys = made!(rt, Keys::new(rt.alloc(), text(rt, first)));
+    made!(rt, keys.push(text(rt, second)));
     keys
 }
 
 /// A request for two keys by 10.0.0.2:1, with this body.
-pub(crate) fn request(
-    rt: &(impl Env + Abort),
-    alloc: Global,
-    both: (&str, &str),
-    body: &str,
-) -> Message {
-    let keys = keys(rt, alloc, both);
-    message(rt, 2, Content::Forward(keys, text(rt, alloc, body)))
+pub(crate) fn request(rt: &impl Host, both: (&str, &str), body: &str) -> Message {
+    message(rt, 2, Content::Forward(keys(rt, both), text(rt, body)))
 }

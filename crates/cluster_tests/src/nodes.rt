@@ -1,12 +1,9 @@
 //! New nodes. If an allocation fails the call is made again.
 use crate::messages::{member, moment};
-use crate::shared::check_refused;
-use change_core::{Incarnation, Moment};
+use crate::shared::{Host, made};
+use change_core::{Incarnation, Moment, Sourced};
 use hash_ring::SumHash;
 use node_core::{Config, NodeState, Received};
-use std::alloc::Global;
-use std::env::Env;
-use std::process::Abort;
 use wire_json::Message;
 
 /// The standard configuration, with two points for each unit of weight and this many members.
@@ -19,8 +16,7 @@ pub(crate) fn config(max: usize) -> Config {
 
 /// The node 10.0.0.`number`:1 of this configuration that starts at this incarnation and moment.
 pub(crate) fn created(
-    rt: &(impl Env + Abort),
-    alloc: Global,
+    rt: &impl Host,
     number: u8,
     config: &Config,
     first: Incarnation,
@@ -28,23 +24,22 @@ pub(crate) fn created(
     now: Moment,
 ) -> NodeState<SumHash> {
     let own = member(rt, number);
-    if let Ok(node) = NodeState::new(alloc, *config, SumHash, own, first, seed, now) {
-        return node;
-    }
-    check_refused(rt);
-    let again = NodeState::new(alloc, *config, SumHash, own, first, seed, now);
-    again.ok().expect(rt, "a node")
+    made!(
+        rt,
+        NodeState::new(rt.alloc(), *config, SumHash, own, first, seed, now)
+    )
 }
 
 /// The node 10.0.0.`number`:1 at 7 with this many members at most.
-pub(crate) fn state(
-    rt: &(impl Env + Abort),
-    alloc: Global,
-    number: u8,
-    max: usize,
-) -> NodeState<SumHash> {
+pub(crate) fn state(rt: &impl Host, number: u8, max: usize) -> NodeState<SumHash> {
     let first = Incarnation::new(7).expect(rt, "an incarnation");
-    created(rt, alloc, number, &config(max), first, 1, moment(rt, 0))
+    created(rt, number, &config(max), first, 1, moment(rt, 0))
+}
+
+/// Takes a change at moment 0.
+pub(crate) fn hear(rt: &impl Host, node: &mut NodeState<SumHash>, told: Sourced) {
+    let (given, now) = ([told], moment(rt, 0));
+    made!(rt, node.take(&given, now));
 }
 
 /// The answer to a message, if there is one.

@@ -3,20 +3,17 @@
 
 use crate::fakes::{Counting, Mood};
 use crate::forwarding::Still;
-use crate::messages::{keys, member, moment, news, number_of, request, text};
+use crate::messages::{keys, member, moment, news, request, text};
 use crate::nodes::state;
 use crate::posts::Tally;
-use crate::shared::{ALONE, Start, again, let_go, met};
+use crate::shared::{ALONE, Host, Start, System, again, let_go, met};
 use change_core::{Address, Status};
 use cluster_core::{Cluster, handle_or_forward};
 use hash_ring::SumHash;
 use node_core::NodeState;
-use std::alloc::Global;
-use std::env::Env;
 use std::process::Abort;
+use std::sync::Arc;
 use std::sync::atomic::{AtomicU64, Ordering};
-use std::sync::{Arc, Wait};
-use std::thread::Threads;
 use wire_json::{Content, Message};
 
 /// The nodes that serve: 10.0.0.2:1, 10.0.0.3:1 and 10.0.0.4:1.
@@ -32,10 +29,10 @@ const OUTSIDE: Start = Start {
 };
 
 /// The three nodes, each of which holds all as serving; None if an allocation failed.
-fn agreed(rt: &(impl Env + Abort), alloc: Global) -> Option<Vec<NodeState<SumHash>>> {
-    let mut nodes = Vec::new(alloc);
+fn agreed(rt: &impl Host) -> Option<Vec<NodeState<SumHash>>> {
+    let mut nodes = Vec::new(rt.alloc());
     for number in &SERVING {
-        let mut node = state(rt, alloc, *number, 4096);
+        let mut node = state(rt, *number, 4096);
         for other in &SERVING {
             let told = [news(rt, *other, 7, Status::Alive)];
             node.take(&told, moment(rt, 0)).ok()?;
@@ -68,16 +65,11 @@ fn is_due(rt: &impl Abort, answer: &Message, asked: Address, owner: Address) -> 
 }
 
 /// Whether each node that is sent a request answers as is due.
-fn all_are_due<R: Wait + Env + Abort>(
-    rt: &R,
-    alloc: Global,
-    cluster: &Cluster<SumHash>,
-    owner: Address,
-) -> bool {
+fn all_are_due(rt: &impl Host, cluster: &Cluster<SumHash>, owner: Address) -> bool {
     for number in &SERVING {
         let asked = member(rt, *number);
-        let sent = request(rt, alloc, KEY, "x");
-        let Ok(answer) = cluster.ask(rt, alloc, asked, &sent) else {
+        let sent = request(rt, KEY, "x");
+        let Ok(answer) = cluster.ask(rt, rt.alloc(), asked, &sent) else {
             return false;
         };
         if !is_due(rt, &answer, asked, owner) {
@@ -88,28 +80,16 @@ fn all_are_due<R: Wait + Env + Abort>(
 }
 
 /// Whether a request that enters at the node that has left has the owner's text. The handler of that node is not called.
-fn is_done_from_outside<R: Wait + Env + Abort>(
-    rt: &R,
-    alloc: Global,
-    cluster: &Cluster<SumHash>,
-) -> bool {
+fn is_done_from_outside(rt: &impl Host, cluster: &Cluster<SumHash>) -> bool {
     let Ok(mut link) = cluster.link() else {
         return false;
     };
-    let (shared, mut pass) = met(rt, alloc, &OUTSIDE);
+    let (shared, mut pass) = met(rt, &OUTSIDE);
     let handler = Counting::new(Mood::Willing);
-    let (asked, body) = (keys(rt, alloc, KEY), text(rt, alloc, "x"));
-    let clock = Still::new();
+    let (alloc, asked, body) = (rt.alloc(), keys(rt, KEY), text(rt, "x"));
+    let (clock, mut asks) = (Still::new(), &handler);
     let answer = handle_or_forward(
-        rt,
-        alloc,
-        &shared,
-        &mut pass,
-        &mut link,
-        &mut &handler,
-        &clock,
-        asked,
-        body,
+        rt, alloc, &shared, &mut pass, &mut link, &mut asks, &clock, asked, body,
     );
     let_go(shared, pass);
     assert!(rt; handler.calls() == 0);
@@ -121,25 +101,22 @@ fn is_done_from_outside<R: Wait + Env + Abort>(
 
 /// Whether the key has one owner by all three nodes; each that is sent a request answers as is due, by one call of a handler in all; and so
 /// does a request from outside, by one more.
-fn one_handles<R: Threads + Wait + Env + Abort + Copy + Send + 'static>(
-    rt: &R,
-    alloc: Global,
-) -> Option<bool> {
-    let calls = Arc::new(alloc, AtomicU64::new(0)).ok()?;
+fn one_handles(rt: &impl System) -> Option<bool> {
+    let calls = Arc::new(rt.alloc(), AtomicU64::new(0)).ok()?;
     let tally = Tally::new(Arc::try_clone(&calls).ok()?);
-    let nodes = agreed(rt, alloc)?;
+    let nodes = agreed(rt)?;
     let owner = owner_by_all(nodes.as_slice());
-    let cluster = Cluster::start(rt, alloc, nodes, 1, tally).ok()?;
+    let cluster = Cluster::start(rt, rt.alloc(), nodes, 1, tally).ok()?;
     let is_so = match owner {
         Some(owner) => {
-            all_are_due(rt, alloc, &cluster, owner)
+            all_are_due(rt, &cluster, owner)
                 && calls.load(Ordering::SeqCst) == 1
-                && is_done_from_outside(rt, alloc, &cluster)
+                && is_done_from_outside(rt, &cluster)
                 && calls.load(Ordering::SeqCst) == 2
         }
         None => false,
     };
-    let is_ended = cluster.stop(rt, alloc).is_ok();
+    let is_ended = cluster.stop(rt, rt.alloc()).is_ok();
     Some(is_so && is_ended)
 }
 
@@ -148,6 +125,5 @@ fn one_handles<R: Threads + Wait + Env + Abort + Copy + Send + 'static>(
 /// A's own handler is not called.
 #[test]
 fn one_of_three_nodes_handles_a_request(rt: HostRuntime) {
-    let alloc: Global = rt.alloc();
-    assert!(&rt; again!(&rt, one_handles(&rt, alloc) == Some(true)));
+    assert!(&rt; again!(&rt, one_handles(&rt) == Some(true)));
 }

@@ -8,8 +8,8 @@ use crate::fakes::{Fake, Mood};
 use crate::messages::{member, moment};
 use crate::nodes::state;
 use crate::shared::{
-    ALONE, AMONG_ONE, AMONG_THREE, Caller, Shared, Start, again, check_refused, let_go, met, share,
-    status,
+    ALONE, AMONG_ONE, AMONG_THREE, Caller, Host, Shared, Start, again, comes, let_go, made, met,
+    share, status,
 };
 use change_core::{Address, Moment, Status};
 use cluster_core::{ClusterError, Link, LinkError, Round, gossip_round, join};
@@ -17,7 +17,6 @@ use detector_core::Running;
 use hash_ring::SumHash;
 use node_core::{ChangeList, NodeError, NodeState, Received, StopCause};
 use std::alloc::Global;
-use std::env::Env;
 use std::process::Abort;
 use std::sync::Wait;
 use turn_lock::LockError;
@@ -33,6 +32,8 @@ pub(crate) enum End {
     /// It was not about the member that was pinged.
     Astray,
 }
+
+pub(crate) const OUT_OF_MEMORY: Result<End, ClusterError> = Err(ClusterError::Memory);
 
 /// How a round ended, how often its link was asked, and how often that failed.
 pub(crate) type Ended = (Result<End, ClusterError>, u64, u64);
@@ -52,54 +53,52 @@ fn end_of(round: Round, pinged: Option<Address>) -> End {
     }
 }
 
-/// A round whose peers answer first in one mood, and then in another.
-pub(crate) fn round_in<R: Wait + Abort>(
-    rt: &R,
-    alloc: Global,
-    shared: &Shared,
-    pass: &mut Caller,
-    moods: (Mood, Mood),
-) -> Ended
+/// In which mood the peers answer first, and then.
+type Moods = (Mood, Mood);
+
+/// A round whose peers answer in these moods.
+pub(crate) fn round_in(rt: &impl Host, shared: &Shared, pass: &mut Caller, moods: Moods) -> Ended
     requires { Fits shared.now pass.old }
     ensures { Fits shared.now pass.new }
 {
     let (first, later) = moods;
     let mut link = Fake::new(first, later);
     let now = moment(rt, 0);
-    let end = match gossip_round(rt, alloc, shared, pass, &mut link, now) {
+    let end = match gossip_round(rt, rt.alloc(), shared, pass, &mut link, now) {
         Ok(round) => Ok(end_of(round, link.pinged)),
         Err(error) => Err(error),
     };
     (end, link.calls, link.failures())
 }
 
-/// How a node starts, in which mood the others are at first and then, and how its first round is to end.
-type Row = (Start, (Mood, Mood), Ended);
-
-fn first_round<R: Wait + Env + Abort>(
-    rt: &R,
-    alloc: Global,
-    start: &Start,
-    moods: (Mood, Mood),
-) -> Ended {
-    let (shared, mut pass) = met(rt, alloc, start);
-    let ended = round_in(rt, alloc, &shared, &mut pass, moods);
+fn first_round(rt: &impl Host, start: &Start, moods: Moods) -> Ended {
+    let (shared, mut pass) = met(rt, start);
+    let ended = round_in(rt, &shared, &mut pass, moods);
     let_go(shared, pass);
     ended
 }
 
+/// How a node starts, how the others answer, and how its first round is to end.
+type Row = (Start, Moods, Ended);
+
 /// Checks how rounds end; if one was out of memory before it came so far, how that of another node does.
-fn check_rounds<R: Wait + Env + Abort>(rt: &R, alloc: Global, rows: &[Row]) {
+fn check_rounds(rt: &impl Host, rows: &[Row]) {
     for (start, moods, wanted) in rows {
-        let mut found = first_round(rt, alloc, start, *moods);
-        let (end, _, _) = found;
-        if found != *wanted && end == OUT_OF_MEMORY {
-            check_refused(rt);
-            found = first_round(rt, alloc, start, *moods);
-        }
-        assert!(rt; found == *wanted);
+        comes!(rt; first_round(rt, start, *moods) => *wanted, |found| found.0 == OUT_OF_MEMORY);
     }
 }
+
+const BROKEN: Moods = (Mood::Broken, Mood::Broken);
+
+const STARVED: Moods = (Mood::Starved, Mood::Starved);
+
+const WILLING: Moods = (Mood::Willing, Mood::Willing);
+
+const FAILING: Moods = (Mood::Failing, Mood::Failing);
+
+const STRANGE: Moods = (Mood::Strange, Mood::Strange);
+
+const TELLING: Moods = (Mood::Telling, Mood::Telling);
 
 /// With room for itself and one other.
 const FULL_WITH_ONE: Start = Start {
@@ -138,23 +137,8 @@ static ROUNDS: [Row; 14] = rows! {
 /// memory, after one question.
 #[test]
 fn a_round_ends_by_what_the_peers_answer(rt: HostRuntime) {
-    check_rounds(&rt, rt.alloc(), &ROUNDS);
+    check_rounds(&rt, &ROUNDS);
 }
-
-const SEVEN_TURNS: Start = Start {
-    turns: 7,
-    ..AMONG_THREE
-};
-
-const EIGHT_TURNS: Start = Start {
-    turns: 8,
-    ..AMONG_THREE
-};
-
-static SPENT: [Row; 2] = [
-    (SEVEN_TURNS, BROKEN, (Err(ClusterError::PassSpent), 3, 3)),
-    (EIGHT_TURNS, BROKEN, (Ok(End::Inconclusive), 3, 3)),
-];
 
 /// Eight calls: expire, probe, a ping, lost, and for each of two helpers a ping-req and that it failed. A second `lost` would be
 /// a ninth.
@@ -162,11 +146,18 @@ static SPENT: [Row; 2] = [
 /// is lost once.
 #[test]
 fn a_probe_is_lost_once(rt: HostRuntime) {
-    check_rounds(&rt, rt.alloc(), &SPENT);
+    let mut start = AMONG_THREE;
+    start.turns = 7;
+    check_rounds(
+        &rt,
+        &[(start, BROKEN, (Err(ClusterError::PassSpent), 3, 3))],
+    );
+    start.turns = 8;
+    check_rounds(&rt, &[(start, BROKEN, (Ok(End::Inconclusive), 3, 3))]);
 }
 
 /// The number of the probe that runs, and whether it waits for a helper.
-fn running<R: Wait + Abort>(rt: &R, shared: &Shared, pass: &mut Caller) -> Option<(u64, bool)>
+fn running(rt: &impl Host, shared: &Shared, pass: &mut Caller) -> Option<(u64, bool)>
     requires { Fits shared.now pass.old }
     ensures { Fits shared.now pass.new }
 {
@@ -175,7 +166,7 @@ fn running<R: Wait + Abort>(rt: &R, shared: &Shared, pass: &mut Caller) -> Optio
 }
 
 /// Whether a probe can't start since another runs.
-fn is_busy<R: Wait + Abort>(rt: &R, shared: &Shared, pass: &mut Caller) -> bool
+fn is_busy(rt: &impl Host, shared: &Shared, pass: &mut Caller) -> bool
     requires { Fits shared.now pass.old }
     ensures { Fits shared.now pass.new }
 {
@@ -184,67 +175,53 @@ fn is_busy<R: Wait + Abort>(rt: &R, shared: &Shared, pass: &mut Caller) -> bool
 }
 
 /// How the others answer a round, how it is to end, and the number of the probe that then runs, and whether that waits for a helper.
-type Step = ((Mood, Mood), Ended, Option<(u64, bool)>);
+type Step = (Moods, Ended, Option<(u64, bool)>);
 
-fn take_step<R: Wait + Abort>(
-    rt: &R,
-    alloc: Global,
-    shared: &Shared,
-    pass: &mut Caller,
-    step: &Step,
-) -> bool
+fn take_step(rt: &impl Host, shared: &Shared, pass: &mut Caller, step: Step) -> bool
     requires { Fits shared.now pass.old }
     ensures { Fits shared.now pass.new }
 {
     let (moods, wanted, left) = step;
-    let found = round_in(rt, alloc, shared, pass, *moods);
+    let found = round_in(rt, shared, pass, moods);
     let (end, _, _) = found;
-    if found != *wanted && end == OUT_OF_MEMORY {
+    if found != wanted && end == OUT_OF_MEMORY {
         return false;
     }
-    assert!(rt; found == *wanted && running(rt, shared, pass) == *left);
+    assert!(rt; found == wanted && running(rt, shared, pass) == left);
     assert!(rt; left.is_none() || is_busy(rt, shared, pass));
     true
 }
 
-/// Takes another step, if there is one.
-fn take_another<R: Wait + Abort>(
-    rt: &R,
-    alloc: Global,
+/// Takes a step, and another if there is one.
+fn take_steps(
+    rt: &impl Host,
     shared: &Shared,
     pass: &mut Caller,
-    step: &Option<Step>,
+    steps: (Step, Option<Step>),
 ) -> bool
     requires { Fits shared.now pass.old }
     ensures { Fits shared.now pass.new }
 {
-    match step {
-        Some(step) => take_step(rt, alloc, shared, pass, step),
+    let (first, second) = steps;
+    if !take_step(rt, shared, pass, first) {
+        return false;
+    }
+    match second {
+        Some(step) => take_step(rt, shared, pass, step),
         None => true,
     }
 }
 
 /// The members that a node holds. After a failed allocation it is asked again.
-fn held<R: Wait + Env + Abort>(rt: &R, shared: &Shared, pass: &mut Caller) -> ChangeList
+fn held(rt: &impl Host, shared: &Shared, pass: &mut Caller) -> ChangeList
     requires { Fits shared.now pass.old }
     ensures { Fits shared.now pass.new }
 {
-    if let Ok(members) = shared.members(rt, pass).ok().expect(rt, "a turn") {
-        return members;
-    }
-    check_refused(rt);
-    let members = shared.members(rt, pass).ok().expect(rt, "a turn");
-    members.ok().expect(rt, "members")
+    made!(rt, shared.members(rt, pass).ok().expect(rt, "a turn"))
 }
 
 /// Checks as what a node holds the others.
-fn check_held<R: Wait + Env + Abort>(
-    rt: &R,
-    shared: &Shared,
-    pass: &mut Caller,
-    others: u8,
-    wanted: Status,
-)
+fn check_held(rt: &impl Host, shared: &Shared, pass: &mut Caller, others: u8, wanted: Status)
     requires { Fits shared.now pass.old }
 {
     let mut number = 1u8;
@@ -256,124 +233,59 @@ fn check_held<R: Wait + Env + Abort>(
     assert!(rt; number == others.wrapping_add(2));
 }
 
-/// How many others there are, a round, perhaps another, and as what the others are held at the end.
-type Scene = (u8, Step, Option<Step>, Status);
-
-fn play_scene<R: Wait + Env + Abort>(
-    rt: &R,
-    alloc: Global,
-    shared: &Shared,
-    pass: &mut Caller,
-    scene: &Scene,
-) -> bool
-    requires { Fits shared.now pass.old }
-{
-    let (others, first, second, held) = scene;
-    if !take_step(rt, alloc, shared, pass, first) {
-        return false;
+fn plays(rt: &impl Host, others: u8, steps: (Step, Option<Step>), held: Status) -> bool {
+    let (shared, mut pass) = met(rt, &Start { others, ..ALONE });
+    let came = take_steps(rt, &shared, &mut pass, steps);
+    if came {
+        check_held(rt, &shared, &mut pass, others, held);
     }
-    if !take_another(rt, alloc, shared, pass, second) {
-        return false;
-    }
-    check_held(rt, shared, pass, *others, *held);
-    true
-}
-
-fn plays<R: Wait + Env + Abort>(rt: &R, alloc: Global, scene: &Scene) -> bool {
-    let (others, _, _, _) = scene;
-    let start = Start {
-        others: *others,
-        ..ALONE
-    };
-    let (shared, mut pass) = met(rt, alloc, &start);
-    let came = play_scene(rt, alloc, &shared, &mut pass, scene);
     let_go(shared, pass);
     came
 }
 
-fn check_scene<R: Wait + Env + Abort>(rt: &R, alloc: Global, scene: &Scene) {
-    assert!(rt; again!(rt, plays(rt, alloc, scene)));
+/// Checks a round of a node with this many others, perhaps another round, and as what the others are held at the end.
+fn check_steps(rt: &impl Host, others: u8, steps: (Step, Option<Step>), held: Status) {
+    assert!(rt; again!(rt, plays(rt, others, steps, held)));
 }
 
-const BROKEN: (Mood, Mood) = (Mood::Broken, Mood::Broken);
-
-const STARVED: (Mood, Mood) = (Mood::Starved, Mood::Starved);
-
-const WILLING: (Mood, Mood) = (Mood::Willing, Mood::Willing);
-
-const FAILING: (Mood, Mood) = (Mood::Failing, Mood::Failing);
-
-const STRANGE: (Mood, Mood) = (Mood::Strange, Mood::Strange);
-
-const TELLING: (Mood, Mood) = (Mood::Telling, Mood::Telling);
-
-const OUT_OF_MEMORY: Result<End, ClusterError> = Err(ClusterError::Memory);
-
-static ALL_FAILED: Scene = (
-    3,
-    (BROKEN, (Ok(End::Inconclusive), 3, 3), None),
-    None,
-    Status::Alive,
-);
-
-/// After the inconclusive round B, C and D are alive, and no probe runs. After the suspected one B is suspect.
+/// After an inconclusive round B, C and D are alive, and no probe runs.
 #[test]
 fn helpers_that_all_failed_leave_the_target_alive(rt: HostRuntime) {
-    check_scene(&rt, rt.alloc(), &ALL_FAILED);
+    let first = (BROKEN, (Ok(End::Inconclusive), 3, 3), None);
+    check_steps(&rt, 3, (first, None), Status::Alive);
 }
 
-static SUSPECTED: Scene = (
-    1,
-    (BROKEN, (Ok(End::Suspected), 1, 1), None),
-    None,
-    Status::Suspect,
-);
-
-/// After the inconclusive round B, C and D are alive, and no probe runs. After the suspected one B is suspect.
+/// After a suspected one B is suspect, and no probe runs.
 #[test]
 fn a_suspected_target_is_held_so(rt: HostRuntime) {
-    check_scene(&rt, rt.alloc(), &SUSPECTED);
+    let first = (BROKEN, (Ok(End::Suspected), 1, 1), None);
+    check_steps(&rt, 1, (first, None), Status::Suspect);
 }
-
-/// The second round pings the target of the first one again, about which no helper was asked.
-static PINGED_ANEW: Scene = (
-    1,
-    (STARVED, (OUT_OF_MEMORY, 1, 0), Some((1, false))),
-    Some((WILLING, (Ok(End::Reached), 2, 0), None)),
-    Status::Alive,
-);
 
 /// A round over a link without memory: the probe {1, B, none} runs on, and another is busy. The next round pings B again, and then probes
 /// once more: two questions, reached.
 #[test]
 fn a_probe_of_which_nobody_was_asked_is_pinged_anew(rt: HostRuntime) {
-    check_scene(&rt, rt.alloc(), &PINGED_ANEW);
+    let first = (STARVED, (OUT_OF_MEMORY, 1, 0), Some((1, false)));
+    let second = (WILLING, (Ok(End::Reached), 2, 0), None);
+    check_steps(&rt, 1, (first, Some(second)), Status::Alive);
 }
-
-/// The second round asks no helper for which the first one waits.
-static ABANDONED: Scene = (
-    3,
-    (
-        (Mood::Broken, Mood::Starved),
-        (OUT_OF_MEMORY, 2, 1),
-        Some((1, true)),
-    ),
-    Some((WILLING, (Ok(End::Reached), 1, 0), None)),
-    Status::Alive,
-);
 
 /// The same once a helper is to be asked: the probe waits for a helper. The next round asks no helper of it, and probes once.
 #[test]
 fn helpers_that_a_probe_waits_for_have_failed(rt: HostRuntime) {
-    check_scene(&rt, rt.alloc(), &ABANDONED);
+    let moods = (Mood::Broken, Mood::Starved);
+    let first = (moods, (OUT_OF_MEMORY, 2, 1), Some((1, true)));
+    let second = (WILLING, (Ok(End::Reached), 1, 0), None);
+    check_steps(&rt, 3, (first, Some(second)), Status::Alive);
 }
 
 /// Makes a round by a pass of two turns; false where that was out of memory before they were spent.
-fn spend<R: Wait + Abort>(rt: &R, alloc: Global, shared: &Shared, pass: &mut Caller) -> bool
+fn spend(rt: &impl Host, shared: &Shared, pass: &mut Caller) -> bool
     requires { Fits shared.now pass.old }
     ensures { Fits shared.now pass.new }
 {
-    let ended = round_in(rt, alloc, shared, pass, WILLING);
+    let ended = round_in(rt, shared, pass, WILLING);
     if ended == (OUT_OF_MEMORY, 0, 0) {
         return false;
     }
@@ -391,7 +303,7 @@ fn unasked(rt: &impl Abort) -> Option<Running> {
 }
 
 /// Checks by another pass of two turns that a probe was left, where the first pass came so far.
-fn look_at_rest<R: Wait + Abort>(rt: &R, shared: &Shared, pass: &mut Caller, is_left: bool)
+fn look_at_rest(rt: &impl Host, shared: &Shared, pass: &mut Caller, is_left: bool)
     requires { Fits shared.now pass.old }
     ensures { Fits shared.now pass.new }
 {
@@ -403,16 +315,14 @@ fn look_at_rest<R: Wait + Abort>(rt: &R, shared: &Shared, pass: &mut Caller, is_
 }
 
 /// Checks that the closed node has the probe still that a spent pass has left.
-fn leaves_a_probe<R: Wait + Env + Abort>(rt: &R, alloc: Global) -> bool {
-    let start = Start {
-        turns: 2,
-        ..AMONG_ONE
-    };
-    let (shared, mut passes) = share(rt, alloc, &start, 2);
+fn leaves_a_probe(rt: &impl Host) -> bool {
+    let mut start = AMONG_ONE;
+    start.turns = 2;
+    let (shared, mut passes) = share(rt, &start, 2);
     let mut second = passes.pop().expect(rt, "a pass");
     let mut first = passes.pop().expect(rt, "another");
     passes.clear();
-    let is_left = spend(rt, alloc, &shared, &mut first);
+    let is_left = spend(rt, &shared, &mut first);
     look_at_rest(rt, &shared, &mut second, is_left);
     passes.push(first).ok().expect(rt, "room");
     passes.push(second).ok().expect(rt, "room");
@@ -427,8 +337,61 @@ fn leaves_a_probe<R: Wait + Env + Abort>(rt: &R, alloc: Global) -> bool {
 /// spent; the closed node has that probe.
 #[test]
 fn a_round_whose_pass_is_spent_leaves_its_probe(rt: HostRuntime) {
-    let alloc = rt.alloc();
-    assert!(&rt; again!(&rt, leaves_a_probe(&rt, alloc)));
+    assert!(&rt; again!(&rt, leaves_a_probe(&rt)));
+}
+
+/// The result of a join, and how often the link was asked.
+type Joined = (Result<u32, ClusterError>, u64);
+
+/// A join of two hosts or none, in this mood.
+pub(crate) fn join_hosts(
+    rt: &impl Host,
+    shared: &Shared,
+    pass: &mut Caller,
+    has_hosts: bool,
+    mood: Mood,
+) -> Joined
+    requires { Fits shared.now pass.old }
+    ensures { Fits shared.now pass.new }
+{
+    let all = [member(rt, 2), member(rt, 3)];
+    let hosts = if has_hosts { &all[..] } else { &all[..0] };
+    let mut link = Fake::new(mood, mood);
+    let now = moment(rt, 0);
+    let joined = join(rt, rt.alloc(), shared, pass, &mut link, hosts, now);
+    (joined, link.calls)
+}
+
+fn first_join(rt: &impl Host, start: &Start, has_hosts: bool, mood: Mood) -> Joined {
+    let (shared, mut pass) = met(rt, start);
+    let came = join_hosts(rt, &shared, &mut pass, has_hosts, mood);
+    let_go(shared, pass);
+    came
+}
+
+const NONE_JOINED: Result<u32, ClusterError> = Err(ClusterError::NoneJoined);
+
+/// With room for itself.
+const FULL_ALONE: Start = Start { max: 1, ..ALONE };
+
+/// How a node starts, whether there are hosts, in which mood they are, the expected result of the join, and how often the link is asked.
+static JOININGS: [(Start, bool, Mood, Joined); 6] = [
+    (ALONE, true, Mood::Willing, (Ok(2), 2)),
+    (FULL_ALONE, true, Mood::Telling, (Ok(2), 2)),
+    (ALONE, true, Mood::Failing, (NONE_JOINED, 2)),
+    (ALONE, true, Mood::Broken, (NONE_JOINED, 2)),
+    (ALONE, true, Mood::Starved, (Err(ClusterError::Memory), 1)),
+    (ALONE, false, Mood::Willing, (NONE_JOINED, 0)),
+];
+
+/// Where a join was out of memory that its link had, that of another node is looked at.
+/// A join with two hosts that answer: 2, also if their answers tell a full node of one more. That answer otherwise or fail: none joined. Over a link without memory: memory. With no hosts:
+/// none joined. Each host is asked once, and none after the failed allocation.
+#[test]
+fn a_join_counts_the_hosts_that_answer(rt: HostRuntime) {
+    for (start, has_hosts, mood, wanted) in &JOININGS {
+        comes!(&rt; first_join(&rt, start, *has_hosts, *mood) => *wanted, |came| came.0 == Err(ClusterError::Memory));
+    }
 }
 
 /// A link to one other node, which sends its answer to a message.
@@ -476,85 +439,13 @@ impl Link for Direct {
     }
 }
 
-/// The result of a join of two hosts or none, and how often the link was asked.
-pub(crate) fn join_hosts<R: Wait + Abort>(
-    rt: &R,
-    alloc: Global,
-    shared: &Shared,
-    pass: &mut Caller,
-    has_hosts: bool,
-    mood: Mood,
-) -> (Result<u32, ClusterError>, u64)
-    requires { Fits shared.now pass.old }
-    ensures { Fits shared.now pass.new }
-{
-    let all = [member(rt, 2), member(rt, 3)];
-    let hosts = if has_hosts { &all[..] } else { &all[..0] };
-    let mut link = Fake::new(mood, mood);
-    let now = moment(rt, 0);
-    let joined = join(rt, alloc, shared, pass, &mut link, hosts, now);
-    (joined, link.calls)
-}
-
-const NONE_JOINED: Result<u32, ClusterError> = Err(ClusterError::NoneJoined);
-
-/// With room for itself.
-const FULL_ALONE: Start = Start { max: 1, ..ALONE };
-
-/// How a node starts, whether there are hosts, in which mood they are, the expected result of the join, and how often the link is asked.
-type Joining = (Start, bool, Mood, (Result<u32, ClusterError>, u64));
-
-fn first_join<R: Wait + Env + Abort>(
-    rt: &R,
-    alloc: Global,
-    start: &Start,
-    has_hosts: bool,
-    mood: Mood,
-) -> (Result<u32, ClusterError>, u64) {
-    let (shared, mut pass) = met(rt, alloc, start);
-    let came = join_hosts(rt, alloc, &shared, &mut pass, has_hosts, mood);
-    let_go(shared, pass);
-    came
-}
-
-static JOININGS: [Joining; 6] = [
-    (ALONE, true, Mood::Willing, (Ok(2), 2)),
-    (FULL_ALONE, true, Mood::Telling, (Ok(2), 2)),
-    (ALONE, true, Mood::Failing, (NONE_JOINED, 2)),
-    (ALONE, true, Mood::Broken, (NONE_JOINED, 2)),
-    (ALONE, true, Mood::Starved, (Err(ClusterError::Memory), 1)),
-    (ALONE, false, Mood::Willing, (NONE_JOINED, 0)),
-];
-
-/// Where a join was out of memory that its link had, that of another node is looked at.
-/// A join with two hosts that answer: 2, also if their answers tell a full node of one more. That answer otherwise or fail: none joined. Over a link without memory: memory. With no hosts:
-/// none joined. Each host is asked once, and none after the failed allocation.
-#[test]
-fn a_join_counts_the_hosts_that_answer(rt: HostRuntime) {
-    for (start, has_hosts, mood, wanted) in &JOININGS {
-        let mut came = first_join(&rt, rt.alloc(), start, *has_hosts, *mood);
-        let (joined, _) = came;
-        if came != *wanted && joined == Err(ClusterError::Memory) {
-            check_refused(&rt);
-            came = first_join(&rt, rt.alloc(), start, *has_hosts, *mood);
-        }
-        assert!(&rt; came == *wanted);
-    }
-}
-
 /// Checks that a node joins another and then reaches it.
-fn check_meeting<R: Wait + Abort>(
-    rt: &R,
-    alloc: Global,
-    shared: &Shared,
-    pass: &mut Caller,
-    link: &mut Direct,
-) -> bool
+fn check_meeting(rt: &impl Host, shared: &Shared, pass: &mut Caller, link: &mut Direct) -> bool
     requires { Fits shared.now pass.old }
 {
     let now = moment(rt, 0);
     let target = member(rt, 2);
-    let joined = join(rt, alloc, shared, pass, link, &[target], now);
+    let joined = join(rt, rt.alloc(), shared, pass, link, &[target], now);
     let held = status(rt, shared, pass, 2);
     if joined == Err(ClusterError::Memory) || held.is_none() {
         return false;
@@ -566,7 +457,7 @@ fn check_meeting<R: Wait + Abort>(
         None => false,
     };
     assert!(rt; is_heard);
-    let round = gossip_round(rt, alloc, shared, pass, link, now);
+    let round = gossip_round(rt, rt.alloc(), shared, pass, link, now);
     if round == Err(ClusterError::Memory) {
         return false;
     }
@@ -574,13 +465,13 @@ fn check_meeting<R: Wait + Abort>(
     true
 }
 
-fn meets<R: Wait + Env + Abort>(rt: &R, alloc: Global) -> bool {
+fn meets(rt: &impl Host) -> bool {
     let mut link = Direct {
-        node: state(rt, alloc, 2, 4096),
+        node: state(rt, 2, 4096),
         failures: 0,
     };
-    let (shared, mut pass) = met(rt, alloc, &ALONE);
-    let met = check_meeting(rt, alloc, &shared, &mut pass, &mut link);
+    let (shared, mut pass) = met(rt, &ALONE);
+    let met = check_meeting(rt, &shared, &mut pass, &mut link);
     let_go(shared, pass);
     drop(link);
     met
@@ -589,6 +480,5 @@ fn meets<R: Wait + Env + Abort>(rt: &R, alloc: Global) -> bool {
 /// A joins B, which then holds A as alive at 7; A holds B as alive, and reaches it in a round.
 #[test]
 fn two_nodes_join_and_reach_each_other(rt: HostRuntime) {
-    let alloc = rt.alloc();
-    assert!(&rt; again!(&rt, meets(&rt, alloc)));
+    assert!(&rt; again!(&rt, meets(&rt)));
 }

@@ -4,14 +4,11 @@ ghost use Rattle.locked_node.specs.Passes.{Fits};
 use crate::fakes::{Counting, Fake, Mood};
 use crate::messages::{content, keys, member, message, moment, news, number_of, text};
 use crate::shared::{
-    ALONE, AMONG_ONE, Caller, Shared, Start, again, check_refused, let_go, met, status,
+    ALONE, AMONG_ONE, Caller, Host, Shared, Start, again, check_refused, let_go, met, status,
 };
 use change_core::Status;
 use cluster_core::serve_one;
-use std::alloc::Global;
-use std::env::Env;
 use std::process::Abort;
-use std::sync::Wait;
 use turn_lock::LockError;
 use wire_json::{Content, Message, News, Reason};
 
@@ -24,6 +21,9 @@ const WILLING: Moods = (Mood::Willing, Mood::Willing);
 
 /// A member, its incarnation and its status, as it says them itself.
 type Told = (u8, u64, Status);
+
+/// That 10.0.0.2:1 is alive at 5.
+const FIVE: Told = (2, 5, Status::Alive);
 
 /// A message of 10.0.0.2:1.
 #[derive(Clone, Copy)]
@@ -44,33 +44,25 @@ enum Given {
 
 const ONE_KEY: Given = Given::Request("zzzz1", "zzzz1");
 
-fn told(rt: &(impl Env + Abort), alloc: Global, change: Told) -> News {
-    let (number, incarnation, status) = change;
-    content(rt, alloc, &[news(rt, number, incarnation, status)])
-}
-
-/// That 10.0.0.2:1 is alive at 1.
-fn alive(rt: &(impl Env + Abort), alloc: Global) -> News {
-    told(rt, alloc, (2, 1, Status::Alive))
-}
-
 /// The content of each.
-fn content_of(rt: &(impl Env + Abort), alloc: Global, given: &Given) -> Content {
+fn content_of(rt: &impl Host, given: &Given) -> Content {
+    let (number, incarnation, status) = match *given {
+        Given::Join(told) | Given::Ping(told) | Given::PingReq(told, _) => told,
+        _ => (2, 1, Status::Alive),
+    };
+    let told = content(rt, &[news(rt, number, incarnation, status)]);
     match *given {
-        Given::Join(news) => Content::Join(told(rt, alloc, news)),
-        Given::Ping(news) => Content::Ping(told(rt, alloc, news)),
-        Given::PingReq(news, target) => {
-            Content::PingReq(told(rt, alloc, news), member(rt, target))
-        }
-        Given::Joined => Content::Joined(alive(rt, alloc)),
-        Given::Ack => Content::Ack(alive(rt, alloc)),
-        Given::Word => Content::PingReqAck(alive(rt, alloc), member(rt, 3), true),
-        Given::Reply => Content::Reply(text(rt, alloc, "body")),
+        Given::Join(_) => Content::Join(told),
+        Given::Ping(_) => Content::Ping(told),
+        Given::PingReq(_, target) => Content::PingReq(told, member(rt, target)),
+        Given::Joined => Content::Joined(told),
+        Given::Ack => Content::Ack(told),
+        Given::Word => Content::PingReqAck(told, member(rt, 3), true),
+        Given::Reply => Content::Reply(text(rt, "body")),
         Given::Refused => Content::Refused(Reason::Full),
         Given::NotOwner => Content::NotOwner,
         Given::Request(first, second) => {
-            let keys = keys(rt, alloc, (first, second));
-            Content::Forward(keys, text(rt, alloc, "body"))
+            Content::Forward(keys(rt, (first, second)), text(rt, "body"))
         }
     }
 }
@@ -118,9 +110,9 @@ fn said_in(rt: &impl Abort, content: &Content) -> Said {
     }
 }
 
-/// What the node 10.0.0.1:1 has answered.
-fn said_by(rt: &impl Abort, answer: &Result<Message, LockError>) -> Said {
-    match answer {
+/// What the node 10.0.0.1:1 has answered, which is let go.
+fn said_by(rt: &impl Abort, answer: Result<Message, LockError>) -> Said {
+    match &answer {
         Ok(message) => {
             assert!(rt; number_of(message.source) == 1);
             said_in(rt, &message.content)
@@ -133,9 +125,8 @@ fn said_by(rt: &impl Abort, answer: &Result<Message, LockError>) -> Said {
 }
 
 /// The answer to a message.
-fn serve<R: Wait + Abort>(
-    rt: &R,
-    alloc: Global,
+fn serve(
+    rt: &impl Host,
     shared: &Shared,
     pass: &mut Caller,
     moods: Moods,
@@ -147,20 +138,9 @@ fn serve<R: Wait + Abort>(
     let (link_mood, handler_mood) = moods;
     let mut link = Fake::new(link_mood, link_mood);
     let handler = Counting::new(handler_mood);
-    let now = moment(rt, 0);
-    let answer = serve_one(
-        rt,
-        alloc,
-        shared,
-        pass,
-        &mut link,
-        &mut &handler,
-        now,
-        given,
-    );
-    let said = said_by(rt, &answer);
-    drop(answer);
-    (said, link.calls, handler.calls())
+    let (alloc, now, mut asks) = (rt.alloc(), moment(rt, 0), &handler);
+    let answer = serve_one(rt, alloc, shared, pass, &mut link, &mut asks, now, given);
+    (said_by(rt, answer), link.calls, handler.calls())
 }
 
 /// A member, and as what it is held.
@@ -172,36 +152,29 @@ type Row = (Start, Given, Moods, Answer, Held);
 
 /// Checks the answer to a message. If it runs out of memory the link and the handler were asked no more than else, and
 /// it has this answer when it comes again.
-fn check_row<R: Wait + Env + Abort>(
-    rt: &R,
-    alloc: Global,
-    shared: &Shared,
-    pass: &mut Caller,
-    row: &Row,
-)
+fn check_row(rt: &impl Host, shared: &Shared, pass: &mut Caller, row: &Row)
     requires { Fits shared.now pass.old }
 {
-    let (_, given, moods, wanted, held) = row;
+    let (_, given, moods, wanted, (number, held_as)) = row;
     let (_, wanted_calls, wanted_handled) = wanted;
-    let (number, held_as) = held;
-    let given = message(rt, 2, content_of(rt, alloc, given));
-    let mut answer = serve(rt, alloc, shared, pass, *moods, &given);
+    let given = message(rt, 2, content_of(rt, given));
+    let mut answer = serve(rt, shared, pass, *moods, &given);
     let (said, calls, handled) = answer;
     if answer != *wanted && said == Said::Refused(Reason::Memory) {
         check_refused(rt);
         assert!(rt; calls <= *wanted_calls && handled <= *wanted_handled);
-        answer = serve(rt, alloc, shared, pass, *moods, &given);
+        answer = serve(rt, shared, pass, *moods, &given);
     }
     drop(given);
     assert!(rt; answer == *wanted);
     assert!(rt; status(rt, shared, pass, *number) == *held_as);
 }
 
-fn check<R: Wait + Env + Abort>(rt: &R, alloc: Global, rows: &[Row]) {
+fn check(rt: &impl Host, rows: &[Row]) {
     for row in rows {
         let (start, _, _, _, _) = row;
-        let (shared, mut pass) = met(rt, alloc, start);
-        check_row(rt, alloc, &shared, &mut pass, row);
+        let (shared, mut pass) = met(rt, start);
+        check_row(rt, &shared, &mut pass, row);
         let_go(shared, pass);
     }
 }
@@ -214,33 +187,19 @@ const NO_SECOND: Held = (2, None);
 
 const THIRD: Held = (3, Some(Status::Alive));
 
-const JOIN: Row = (
-    ALONE,
-    Given::Join((2, 5, Status::Alive)),
-    WILLING,
-    (Said::Joined, 0, 0),
-    SECOND,
-);
-
 /// A join of B with (B,5,alive) at A: a joined with (A,7,alive) and (B,5,alive), both with source A at 7. Neither the link nor the
 /// handler is called, here and in each item up to the rounds that does not name one of them.
 #[test]
 fn a_join_is_answered_by_all_members(rt: HostRuntime) {
-    check(&rt, rt.alloc(), &[JOIN]);
+    let answer = (Said::Joined, 0, 0);
+    check(&rt, &[(ALONE, Given::Join(FIVE), WILLING, answer, SECOND)]);
 }
-
-const PING: Row = (
-    ALONE,
-    Given::Ping((2, 5, Status::Alive)),
-    WILLING,
-    (Said::Ack, 0, 0),
-    SECOND,
-);
 
 /// A ping of B with (B,5,alive) at A: an ack with (A,7,alive).
 #[test]
 fn a_ping_is_answered_by_an_ack(rt: HostRuntime) {
-    check(&rt, rt.alloc(), &[PING]);
+    let answer = (Said::Ack, 0, 0);
+    check(&rt, &[(ALONE, Given::Ping(FIVE), WILLING, answer, SECOND)]);
 }
 
 /// With room for one member.
@@ -269,7 +228,7 @@ static STOPS: [Row; 6] = rows! {
 /// exhausted.
 #[test]
 fn a_taking_that_stops_is_refused_by_its_cause(rt: HostRuntime) {
-    check(&rt, rt.alloc(), &STOPS);
+    check(&rt, &STOPS);
 }
 
 /// A change that is new.
@@ -295,7 +254,7 @@ const MISSED: Answer = (Said::Word(3, false), 1, 0);
 
 static TARGETS: [Row; 8] = rows! {
     ALONE, ABOUT, WILLING, REACHED, THIRD;
-    ALONE, Given::PingReq((2, 5, Status::Alive), 3), WILLING, REACHED, SECOND;
+    ALONE, Given::PingReq(FIVE, 3), WILLING, REACHED, SECOND;
     ALONE, ABOUT, STRANGE_LINK, MISSED, THIRD;
     FULL, Given::PingReq((1, 7, Status::Alive), 3), TELLING_LINK, REACHED, NO_SECOND;
     ALONE, ABOUT, FAILING_LINK, MISSED, THIRD;
@@ -309,7 +268,7 @@ static TARGETS: [Row; 8] = rows! {
 /// then.
 #[test]
 fn a_ping_req_tells_whether_its_target_was_reached(rt: HostRuntime) {
-    check(&rt, rt.alloc(), &TARGETS);
+    check(&rt, &TARGETS);
 }
 
 const REPLY: Answer = (Said::Body, 0, 1);
@@ -324,7 +283,7 @@ static HANDLED: [Row; 3] = rows! {
 /// and the link never.
 #[test]
 fn a_request_is_handled_by_the_owner_of_its_keys(rt: HostRuntime) {
-    check(&rt, rt.alloc(), &HANDLED);
+    check(&rt, &HANDLED);
 }
 
 static ELSEWHERE: [Row; 2] = rows! {
@@ -335,51 +294,42 @@ static ELSEWHERE: [Row; 2] = rows! {
 /// A request for `zzzz1` at A with B: not owner. For `zzzz0` and `zzzz1`: refused diverged.
 #[test]
 fn a_request_for_others_is_not_handled(rt: HostRuntime) {
-    check(&rt, rt.alloc(), &ELSEWHERE);
+    check(&rt, &ELSEWHERE);
 }
-
-const LEFT: Start = Start {
-    has_left: true,
-    ..ALONE
-};
-
-const TO_NOBODY: Row = (
-    LEFT,
-    ONE_KEY,
-    WILLING,
-    (Said::Refused(Reason::Nobody), 0, 0),
-    NO_SECOND,
-);
 
 /// A request at A that has left, alone: refused as `nobody`.
 #[test]
 fn a_request_to_nobody_is_refused(rt: HostRuntime) {
-    check(&rt, rt.alloc(), &[TO_NOBODY]);
+    let mut start = ALONE;
+    start.has_left = true;
+    let answer = (Said::Refused(Reason::Nobody), 0, 0);
+    check(&rt, &[(start, ONE_KEY, WILLING, answer, NO_SECOND)]);
 }
 
-const UNEXPECTED: Answer = (Said::Refused(Reason::Unexpected), 0, 0);
-
-static ANSWERS: [Row; 6] = [
-    (ALONE, Given::Joined, WILLING, UNEXPECTED, NO_SECOND),
-    (ALONE, Given::Ack, WILLING, UNEXPECTED, NO_SECOND),
-    (ALONE, Given::Word, WILLING, UNEXPECTED, NO_SECOND),
-    (ALONE, Given::Reply, WILLING, UNEXPECTED, NO_SECOND),
-    (ALONE, Given::NotOwner, WILLING, UNEXPECTED, NO_SECOND),
-    (ALONE, Given::Refused, WILLING, UNEXPECTED, NO_SECOND),
+static ANSWERS: [Given; 6] = [
+    Given::Joined,
+    Given::Ack,
+    Given::Word,
+    Given::Reply,
+    Given::NotOwner,
+    Given::Refused,
 ];
 
 /// Joined, ack, ping-req-ack, reply, not owner and refused: refused unexpected, and nothing is taken.
 #[test]
 fn answers_are_unexpected(rt: HostRuntime) {
-    check(&rt, rt.alloc(), &ANSWERS);
+    let answer = (Said::Refused(Reason::Unexpected), 0, 0);
+    for given in &ANSWERS {
+        check(&rt, &[(ALONE, *given, WILLING, answer, NO_SECOND)]);
+    }
 }
 
 /// The answers to a request that comes twice, by a pass with one turn.
-fn answers_of_one_turn<R: Wait + Env + Abort>(rt: &R, alloc: Global) -> (Answer, Answer) {
-    let (shared, mut pass) = met(rt, alloc, &Start { turns: 1, ..ALONE });
-    let given = message(rt, 2, content_of(rt, alloc, &ONE_KEY));
-    let first = serve(rt, alloc, &shared, &mut pass, WILLING, &given);
-    let second = serve(rt, alloc, &shared, &mut pass, WILLING, &given);
+fn answers_of_one_turn(rt: &impl Host) -> (Answer, Answer) {
+    let (shared, mut pass) = met(rt, &Start { turns: 1, ..ALONE });
+    let given = message(rt, 2, content_of(rt, &ONE_KEY));
+    let first = serve(rt, &shared, &mut pass, WILLING, &given);
+    let second = serve(rt, &shared, &mut pass, WILLING, &given);
     drop(given);
     let_go(shared, pass);
     (first, second)
@@ -388,6 +338,6 @@ fn answers_of_one_turn<R: Wait + Env + Abort>(rt: &R, alloc: Global) -> (Answer,
 /// A request that A owns, twice by a pass with one turn: answered, and then pass spent, with neither the handler nor the link asked.
 #[test]
 fn a_spent_pass_is_refused(rt: HostRuntime) {
-    let (alloc, wanted) = (rt.alloc(), (REPLY, (Said::Spent, 0, 0)));
-    assert!(&rt; again!(&rt, answers_of_one_turn(&rt, alloc) == wanted));
+    let wanted = (REPLY, (Said::Spent, 0, 0));
+    assert!(&rt; again!(&rt, answers_of_one_turn(&rt) == wanted));
 }

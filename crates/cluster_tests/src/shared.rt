@@ -1,10 +1,10 @@
-//! Nodes that are shared. If an allocation fails the call is made again.
+//! Nodes that are shared, and what a test does if an allocation fails: it tries again.
 ghost use Rattle.std.specs.Prelude.{IfSome};
 ghost use Rattle.std.specs.List.{All};
 ghost use Rattle.locked_node.specs.Passes.{Fits, IsNew};
 
-use crate::messages::{member, moment, news};
-use crate::nodes::state;
+use crate::messages::{member, news};
+use crate::nodes::{hear, state};
 use change_core::Status;
 use hash_ring::SumHash;
 use locked_node::{LockedNode, NodePass};
@@ -13,6 +13,18 @@ use std::alloc::Global;
 use std::env::Env;
 use std::process::Abort;
 use std::sync::Wait;
+use std::thread::Threads;
+use std::time::Clock;
+
+/// What a test without threads needs of the system.
+pub(crate) trait Host: AllocGlobal + Wait + Env + Abort {}
+
+impl<R: AllocGlobal + Wait + Env + Abort> Host for R {}
+
+/// The same with threads and a clock. Each thread has a copy of it.
+pub(crate) trait System: Host + Threads + Clock + Copy + Send + 'static {}
+
+impl<R: Host + Threads + Clock + Copy + Send + 'static> System for R {}
 
 pub(crate) type Shared = LockedNode<SumHash>;
 
@@ -60,7 +72,34 @@ macro_rules! again {
     };
 }
 
+/// What is made: by the first attempt, or by another if an allocation failed.
+macro_rules! made {
+    ($rt:expr, $attempt:expr) => {
+        match $attempt {
+            Ok(made) => made,
+            Err(_) => {
+                crate::shared::check_refused($rt);
+                $attempt.ok().expect($rt, "memory")
+            }
+        }
+    };
+}
+
+/// Checks what an attempt comes to: the first, or another if the first was out of memory, and that was not wanted.
+macro_rules! comes {
+    ($rt:expr; $attempt:expr => $wanted:expr, |$came:ident| $is_starved:expr) => {{
+        let mut $came = $attempt;
+        if $came != $wanted && $is_starved {
+            crate::shared::check_refused($rt);
+            $came = $attempt;
+        }
+        assert!($rt; $came == $wanted);
+    }};
+}
+
 pub(crate) use again;
+pub(crate) use comes;
+pub(crate) use made;
 
 /// A node that is shared by this many passes, each for this many calls.
 pub(crate) fn try_share(
@@ -80,51 +119,39 @@ pub(crate) fn try_share(
     }
 }
 
-/// Learns of 10.0.0.`number`:1 as alive at 1.
-fn hear(rt: &(impl Env + Abort), node: &mut NodeState<SumHash>, number: u8) {
-    let given = [news(rt, number, 1, Status::Alive)];
-    let now = moment(rt, 0);
-    if node.take(&given, now).is_err() {
-        check_refused(rt);
-        assert!(rt; node.take(&given, now).is_ok());
-    }
-}
-
 /// The node before it is shared.
-fn begun(rt: &(impl Env + Abort), alloc: Global, start: &Start) -> NodeState<SumHash> {
-    let mut node = state(rt, alloc, 1, start.max);
+fn begun(rt: &impl Host, start: &Start) -> NodeState<SumHash> {
+    let mut node = state(rt, 1, start.max);
     for number in 0..start.others {
-        hear(rt, &mut node, number.wrapping_add(2));
+        hear(
+            rt,
+            &mut node,
+            news(rt, number.wrapping_add(2), 1, Status::Alive),
+        );
     }
-    if start.has_left && node.leave().is_err() {
-        check_refused(rt);
-        assert!(rt; node.leave().is_ok());
+    if start.has_left {
+        made!(rt, node.leave());
     }
     node
 }
 
 /// The node with its passes.
-pub(crate) fn share(
-    rt: &(impl Env + Abort),
-    alloc: Global,
-    start: &Start,
-    passes: u32,
-) -> (Shared, Vec<Caller>)
+pub(crate) fn share(rt: &impl Host, start: &Start, passes: u32) -> (Shared, Vec<Caller>)
     ensures { All (Fits result.0) result.1.items }
 {
     let turns = start.turns;
-    if let Some(made) = try_share(alloc, begun(rt, alloc, start), passes, turns) {
+    if let Some(made) = try_share(rt.alloc(), begun(rt, start), passes, turns) {
         return made;
     }
     check_refused(rt);
-    try_share(alloc, begun(rt, alloc, start), passes, turns).expect(rt, "a locked node")
+    try_share(rt.alloc(), begun(rt, start), passes, turns).expect(rt, "a locked node")
 }
 
 /// The node with its one pass.
-pub(crate) fn met(rt: &(impl Env + Abort), alloc: Global, start: &Start) -> (Shared, Caller)
+pub(crate) fn met(rt: &impl Host, start: &Start) -> (Shared, Caller)
     ensures { Fits result.0 result.1 }
 {
-    let (shared, mut passes) = share(rt, alloc, start, 1);
+    let (shared, mut passes) = share(rt, start, 1);
     let pass = passes.pop().expect(rt, "a pass");
     (shared, pass)
 }
@@ -136,8 +163,8 @@ pub(crate) fn let_go(shared: Shared, pass: Caller) {
 }
 
 /// The status that a node holds a member in.
-pub(crate) fn status<R: Wait + Abort>(
-    rt: &R,
+pub(crate) fn status(
+    rt: &impl Host,
     shared: &Shared,
     pass: &mut Caller,
     number: u8,
@@ -146,8 +173,5 @@ pub(crate) fn status<R: Wait + Abort>(
     ensures { Fits shared.now pass.new }
 {
     let held = shared.member(rt, pass, member(rt, number));
-    match held.ok().expect(rt, "a turn") {
-        Some(entry) => Some(entry.status),
-        None => None,
-    }
+    Some(held.ok().expect(rt, "a turn")?.status)
 }

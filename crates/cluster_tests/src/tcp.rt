@@ -1,52 +1,40 @@
 //! A link over sockets, and a peer of the test's own.
-use crate::messages::{content, member, message, news, number_of, request};
-use crate::shared::check_refused;
+use crate::messages::{content, member, message, news, number_of, ping, request};
+use crate::shared::{Host, System, check_refused, comes, made};
 use change_core::{Address, Status};
 use cluster_core::{Limits, Link, LinkError, TcpLink, send_line, socket_address};
 use std::alloc::Global;
-use std::env::Env;
 use std::io::{BufReader, Read, Write};
 use std::net::{Net, TcpListener, TcpStream};
 use std::process::Abort;
-use std::sync::Wait;
-use std::thread::{JoinHandle, Threads};
+use std::thread::JoinHandle;
 use std::time::{Clock, Duration};
 use std::{io, thread};
 use wire_json::{Content, Field, Message, WireError, encode, read_line};
 
-fn ping(rt: &(impl Env + Abort), alloc: Global) -> Message {
-    let told = content(rt, alloc, &[news(rt, 9, 1, Status::Alive)]);
-    message(rt, 9, Content::Ping(told))
+/// A ping that tells of 10.0.0.9:1.
+fn any_ping(rt: &impl Host) -> Message {
+    ping(rt, 9, news(rt, 9, 1, Status::Alive))
 }
 
-/// How many bytes of white space a peer writes before its answer, and how long it rests before each.
-#[derive(Clone, Copy)]
-struct Drip {
-    bytes: u32,
-    rest: Duration,
+/// How fast a peer answers, and how long a link waits.
+#[derive(Clone, Copy, PartialEq, Eq)]
+enum Pace {
+    /// At once; an hour for each call, so that a busy machine fails none.
+    AtOnce,
+    /// After white space over three seconds in all; two seconds for a ping, in which also a busy machine gives a peer its line.
+    Slow,
 }
 
-/// No white space.
-const AT_ONCE: Drip = Drip {
-    bytes: 0,
-    rest: Duration::ZERO,
-};
-
-/// An hour for each call, so that a busy machine fails none.
-fn patient() -> Limits {
+fn limits_at(pace: Pace) -> Limits {
     let hour = Duration::from_secs(3_600);
     Limits {
-        ping: hour,
+        ping: match pace {
+            Pace::AtOnce => hour,
+            Pace::Slow => Duration::from_secs(2),
+        },
         helper: hour,
         other: hour,
-    }
-}
-
-/// The same, but two seconds for a ping, in which also a busy machine gives a peer its line.
-fn short_pings() -> Limits {
-    Limits {
-        ping: Duration::from_secs(2),
-        ..patient()
     }
 }
 
@@ -58,46 +46,46 @@ fn heard<S: Read + Drop>(alloc: Global, stream: S) -> Option<Vec<u8>> {
     line?
 }
 
-/// Writes slowly, and writes these bytes.
-fn write_slowly<R: Clock, W: Write>(rt: &R, stream: &mut W, drip: Drip, bytes: &[u8]) {
-    for _ in 0..drip.bytes {
-        thread::sleep(rt, drip.rest);
-        if stream.write(b" ").is_err() {
-            return;
+/// Writes these bytes, at this pace.
+fn write_at<W: Write>(rt: &impl System, stream: &mut W, pace: Pace, bytes: &[u8]) {
+    if pace == Pace::Slow {
+        for _ in 0..30 {
+            thread::sleep(rt, Duration::from_millis(100));
+            if stream.write(b" ").is_err() {
+                return;
+            }
         }
     }
     let _written = stream.write_all(bytes);
 }
 
-/// Reads a line of a connection, writes slowly, and writes these bytes. It gives the line back.
-fn answer_on<R: Clock>(
-    rt: &R,
-    alloc: Global,
+/// Reads a line of a connection, and writes these bytes. It gives the line back.
+fn answer_on(
+    rt: &impl System,
     stream: &mut TcpStream,
-    drip: Drip,
+    pace: Pace,
     bytes: &[u8],
 ) -> Option<Vec<u8>> {
-    let line = heard(alloc, &mut *stream)?;
-    write_slowly(rt, stream, drip, bytes);
+    let line = heard(rt.alloc(), &mut *stream)?;
+    write_at(rt, stream, pace, bytes);
     Some(line)
 }
 
 /// The same with one connection that it accepts.
-fn answer_once<R: Clock>(
-    rt: &R,
-    alloc: Global,
+fn answer_once(
+    rt: &impl System,
     listener: &TcpListener,
-    drip: Drip,
+    pace: Pace,
     bytes: &[u8],
 ) -> Option<Vec<u8>> {
     let (mut stream, _) = listener.accept().ok()?;
-    let line = answer_on(rt, alloc, &mut stream, drip, bytes);
+    let line = answer_on(rt, &mut stream, pace, bytes);
     drop(stream);
     line
 }
 
 /// Connects, writes these bytes and hangs up.
-fn knock<R: Net<Listener = TcpListener, Stream = TcpStream>>(
+fn knock<R: System + Net<Listener = TcpListener, Stream = TcpStream>>(
     rt: &R,
     to: Address,
     bytes: &[u8],
@@ -110,7 +98,7 @@ fn knock<R: Net<Listener = TcpListener, Stream = TcpStream>>(
 }
 
 /// A port of this machine that is listened at; none where there was none.
-fn listen<R: Net<Listener = TcpListener, Stream = TcpStream>>(
+fn listen<R: System + Net<Listener = TcpListener, Stream = TcpStream>>(
     rt: &R,
 ) -> Option<(TcpListener, Address)> {
     let listener = TcpListener::bind(rt, "127.0.0.1:0").ok()?;
@@ -135,8 +123,9 @@ enum Said {
     Fault(LinkError),
 }
 
-fn said_in(answer: &Result<Message, LinkError>) -> Said {
-    match answer {
+/// What an answer is, which is let go.
+fn said_in(answer: Result<Message, LinkError>) -> Said {
+    match &answer {
         Ok(message) => {
             let is_ack = matches!(&message.content, Content::Ack(_));
             if is_ack && number_of(message.source) == 3 {
@@ -156,34 +145,46 @@ const OUT_OF_MEMORY: Said = Said::Fault(LinkError::Memory);
 
 /// A peer in its own thread that answers one connection by these bytes; None if an allocation failed or the thread was
 /// not made.
-fn start_peer<R: Threads + Clock + Copy + Send + 'static>(
-    rt: &R,
-    alloc: Global,
+fn start_peer(
+    rt: &impl System,
     listener: TcpListener,
-    drip: Drip,
+    pace: Pace,
     bytes: &[u8],
 ) -> Option<JoinHandle<Option<Vec<u8>>>> {
-    let bytes = Vec::from_slice(alloc, bytes).ok()?;
-    let clock = *rt;
+    let bytes = Vec::from_slice(rt.alloc(), bytes).ok()?;
+    let runtime = *rt;
     thread::spawn(
         rt,
-        move || answer_once(&clock, alloc, &listener, drip, bytes.as_slice()),
+        move || answer_once(&runtime, &listener, pace, bytes.as_slice()),
     )
     .ok()
 }
 
 /// What a link answers to a message, and how often it then has failed.
-fn answer_of<N: Net + Clock, R: Wait>(
-    rt: &R,
-    alloc: Global,
+fn answer_of<N: Net + Clock>(
+    rt: &impl Host,
     link: &mut TcpLink<N>,
     to: Address,
     message: &Message,
 ) -> Answered {
-    let answer = link.call(rt, alloc, to, message);
-    let said = said_in(&answer);
-    drop(answer);
+    let said = said_in(link.call(rt, rt.alloc(), to, message));
     (said, link.failures())
+}
+
+/// The same of a link with the limits of this pace, for which a peer waits: one that is not connected to is knocked at.
+fn answer_by_peer<R: System + Net<Listener = TcpListener, Stream = TcpStream>>(
+    rt: &R,
+    pace: Pace,
+    to: Address,
+    message: &Message,
+) -> Answered {
+    let mut link = TcpLink::with_limits(rt, limits_at(pace));
+    let answered = answer_of(rt, &mut link, to, message);
+    drop(link);
+    if answered.0 == OUT_OF_MEMORY {
+        let _knocked = knock(rt, to, b"");
+    }
+    answered
 }
 
 /// Whether a peer has read this message; None if an allocation failed.
@@ -195,86 +196,42 @@ fn has_read(alloc: Global, line: Option<Vec<u8>>, message: &Message) -> Option<b
     Some(is_read)
 }
 
-/// What a link with these limits answers to a message, which a peer reads, where the peer then writes slowly and writes
-/// these bytes; None if an allocation failed.
-fn try_call<
-    R: Net<Listener = TcpListener, Stream = TcpStream>
-        + Threads
-        + Wait
-        + Clock
-        + Copy
-        + Send
-        + Env
-        + Abort
-        + 'static,
->(
+/// What a link answers to a message, which a peer reads, where the peer then writes these bytes at this pace; None if an
+/// allocation failed.
+fn try_call<R: System + Net<Listener = TcpListener, Stream = TcpStream>>(
     rt: &R,
-    alloc: Global,
-    limits: Limits,
+    pace: Pace,
     message: &Message,
-    drip: Drip,
     bytes: &[u8],
 ) -> Option<Answered> {
     let (listener, to) = listen(rt)?;
-    let peer = start_peer(rt, alloc, listener, drip, bytes)?;
-    let mut link = TcpLink::with_limits(rt, limits);
-    let (said, failures) = answer_of(rt, alloc, &mut link, to, message);
-    drop(link);
-    if said == OUT_OF_MEMORY {
-        let _knocked = knock(rt, to, b"");
-    }
-    let is_read = has_read(alloc, peer.join(rt), message)?;
-    if said == OUT_OF_MEMORY {
+    let peer = start_peer(rt, listener, pace, bytes)?;
+    let answered = answer_by_peer(rt, pace, to, message);
+    let is_read = has_read(rt.alloc(), peer.join(rt), message)?;
+    if answered.0 == OUT_OF_MEMORY {
         return None;
     }
     assert!(rt; is_read);
-    Some((said, failures))
+    Some(answered)
 }
 
 /// Checks what a link answers, the message let go; if an allocation failed, with another peer.
-fn check<
-    R: Net<Listener = TcpListener, Stream = TcpStream>
-        + Threads
-        + Wait
-        + Clock
-        + Copy
-        + Send
-        + Env
-        + Abort
-        + 'static,
->(
+fn check<R: System + Net<Listener = TcpListener, Stream = TcpStream>>(
     rt: &R,
-    alloc: Global,
-    limits: Limits,
+    pace: Pace,
     message: Message,
-    drip: Drip,
     bytes: &[u8],
     wanted: Answered,
 ) {
-    let mut answered = try_call(rt, alloc, limits, &message, drip, bytes);
-    if answered.is_none() {
-        check_refused(rt);
-        answered = try_call(rt, alloc, limits, &message, drip, bytes);
-    }
-    drop(message);
-    assert!(rt; answered == Some(wanted));
+    comes!(rt; try_call(rt, pace, &message, bytes) => Some(wanted), |answered| answered.is_none());
 }
 
 /// An Ack of 10.0.0.3:1, as a line.
-fn ack_line(rt: &(impl Env + Abort), alloc: Global) -> Vec<u8> {
-    let ack = message(rt, 3, Content::Ack(content(rt, alloc, &[])));
-    let mut line = match encode(alloc, &ack) {
-        Ok(line) => line,
-        Err(_) => {
-            check_refused(rt);
-            encode(alloc, &ack).ok().expect(rt, "a line")
-        }
-    };
+fn ack_line(rt: &impl Host) -> Vec<u8> {
+    let ack = message(rt, 3, Content::Ack(content(rt, &[])));
+    let mut line = made!(rt, encode(rt.alloc(), &ack));
     drop(ack);
-    if line.push(b'\n').is_err() {
-        check_refused(rt);
-        line.push(b'\n').ok().expect(rt, "room");
-    }
+    made!(rt, line.push(b'\n'));
     line
 }
 
@@ -282,60 +239,43 @@ const HEARD: Answered = (Said::Ack, 0);
 
 const LEFT: Answered = (Said::Fault(LinkError::Io), 1);
 
+const CLOSED: Answered = (Said::Fault(LinkError::Closed), 1);
+
 /// A line that is not an answer.
 fn faulty(error: WireError) -> Answered {
     (Said::Fault(LinkError::Wire(error)), 0)
 }
 
-/// Over sockets: a ping is answered by an ack, and the peer gives back what it has read, which is the ping's line. A peer that closes at
-/// once: closed, one failure. One that answers `[]`, `{` or `{}`: not an object, not JSON, kind is missing; no failure. Nothing listens,
-/// as is assumed of port 1 of 127.0.0.1: the link failed, one failure each time.
+/// Over sockets: a ping is answered by an ack, and the peer gives back what it has read, which is the ping's line.
 #[test]
 fn a_line_goes_out_and_a_line_comes_back(rt: HostRuntime) {
-    let alloc: Global = rt.alloc();
-    let line = ack_line(&rt, alloc);
-    let ping = ping(&rt, alloc);
-    check(&rt, alloc, patient(), ping, AT_ONCE, line.as_slice(), HEARD);
+    let line = ack_line(&rt);
+    check(&rt, Pace::AtOnce, any_ping(&rt), line.as_slice(), HEARD);
 }
 
-/// Over sockets: a ping is answered by an ack, and the peer gives back what it has read, which is the ping's line. A peer that closes at
-/// once: closed, one failure. One that answers `[]`, `{` or `{}`: not an object, not JSON, kind is missing; no failure. Nothing listens,
-/// as is assumed of port 1 of 127.0.0.1: the link failed, one failure each time.
+/// A peer that closes at once: closed, one failure. One that answers `[]`, `{` or `{}`: not an object, not JSON, kind is missing; no
+/// failure.
 #[test]
 fn what_is_no_answer_is_a_fault(rt: HostRuntime) {
     let rows = [
-        ("", (Said::Fault(LinkError::Closed), 1)),
+        ("", CLOSED),
         ("[]\n", faulty(WireError::NotObject)),
         ("{", faulty(WireError::BadJson)),
         ("{}\n", faulty(WireError::MissingField(Field::Kind))),
     ];
-    let alloc: Global = rt.alloc();
     for &(text, wanted) in &rows {
-        let ping = ping(&rt, alloc);
-        check(
-            &rt,
-            alloc,
-            patient(),
-            ping,
-            AT_ONCE,
-            text.as_bytes(),
-            wanted,
-        );
+        check(&rt, Pace::AtOnce, any_ping(&rt), text.as_bytes(), wanted);
     }
 }
 
 /// What a link answers to a ping where the peer hangs up at once and reads nothing; None if an allocation failed.
-fn try_unread<
-    R: Net<Listener = TcpListener, Stream = TcpStream> + Threads + Wait + Clock + Env + Abort,
->(rt: &R, alloc: Global, message: &Message) -> Option<Answered> {
+fn try_unread<R: System + Net<Listener = TcpListener, Stream = TcpStream>>(
+    rt: &R,
+    message: &Message,
+) -> Option<Answered> {
     let (listener, to) = listen(rt)?;
     let peer = thread::spawn(rt, move || listener.accept().is_ok()).ok()?;
-    let mut link = TcpLink::with_limits(rt, patient());
-    let answered = answer_of(rt, alloc, &mut link, to, message);
-    drop(link);
-    if answered.0 == OUT_OF_MEMORY {
-        let _knocked = knock(rt, to, b"");
-    }
+    let answered = answer_by_peer(rt, Pace::AtOnce, to, message);
     assert!(rt; peer.join(rt));
     if answered.0 == OUT_OF_MEMORY {
         return None;
@@ -346,112 +286,59 @@ fn try_unread<
 /// A peer that hangs up without reading the ping: the link failed, or was closed if the peer was sooner; one failure.
 #[test]
 fn a_peer_that_reads_nothing_is_a_fault(rt: HostRuntime) {
-    let alloc: Global = rt.alloc();
-    let ping = ping(&rt, alloc);
-    let mut answered = try_unread(&rt, alloc, &ping);
+    let ping = any_ping(&rt);
+    let mut answered = try_unread(&rt, &ping);
     if answered.is_none() {
         check_refused(&rt);
-        answered = try_unread(&rt, alloc, &ping);
+        answered = try_unread(&rt, &ping);
     }
     drop(ping);
-    let closed = (Said::Fault(LinkError::Closed), 1);
-    assert!(rt; answered == Some(LEFT) || answered == Some(closed));
+    assert!(rt; answered == Some(LEFT) || answered == Some(CLOSED));
 }
 
 /// An answer that is cut behind any of its bytes: not JSON, no failure; without its newline alone it is heard.
 #[test]
 fn an_answer_may_be_cut_anywhere(rt: HostRuntime) {
-    let alloc: Global = rt.alloc();
-    let mut line = ack_line(&rt, alloc);
+    let mut line = ack_line(&rt);
     let mut wanted = HEARD;
     for _ in 1..line.len() {
         let _last = line.pop();
-        let ping = ping(&rt, alloc);
-        check(
-            &rt,
-            alloc,
-            patient(),
-            ping,
-            AT_ONCE,
-            line.as_slice(),
-            wanted,
-        );
+        check(&rt, Pace::AtOnce, any_ping(&rt), line.as_slice(), wanted);
         wanted = faulty(WireError::BadJson);
     }
 }
 
-/// Some white space, over three seconds in all.
-fn slowly() -> Drip {
-    Drip {
-        bytes: 30,
-        rest: Duration::from_millis(100),
-    }
-}
-
 /// A peer that writes thirty bytes of white space over three seconds and then its answer: left at a limit of two seconds, the link
-/// failed, one failure; heard where the question is a ping-req, whose limit is longer.
+/// failed, one failure.
 #[test]
 fn a_peer_that_drips_is_left_at_the_limit(rt: HostRuntime) {
-    let alloc: Global = rt.alloc();
-    let line = ack_line(&rt, alloc);
-    let ping = ping(&rt, alloc);
-    check(
-        &rt,
-        alloc,
-        short_pings(),
-        ping,
-        slowly(),
-        line.as_slice(),
-        LEFT,
-    );
+    let line = ack_line(&rt);
+    check(&rt, Pace::Slow, any_ping(&rt), line.as_slice(), LEFT);
 }
 
-/// A peer that writes thirty bytes of white space over three seconds and then its answer: left at a limit of two seconds, the link
-/// failed, one failure; heard where the question is a ping-req, whose limit is longer.
+/// The same peer is heard where the question is a ping-req, whose limit is longer.
 #[test]
 fn a_helper_has_longer_than_a_pinged_node(rt: HostRuntime) {
-    let alloc: Global = rt.alloc();
-    let line = ack_line(&rt, alloc);
-    let wanted = content(&rt, alloc, &[]);
-    let asked = message(&rt, 9, Content::PingReq(wanted, member(&rt, 3)));
-    check(
-        &rt,
-        alloc,
-        short_pings(),
-        asked,
-        slowly(),
-        line.as_slice(),
-        HEARD,
-    );
+    let line = ack_line(&rt);
+    let asked = Content::PingReq(content(&rt, &[]), member(&rt, 3));
+    let asked = message(&rt, 9, asked);
+    check(&rt, Pace::Slow, asked, line.as_slice(), HEARD);
 }
 
 /// This many letters.
-fn letters(rt: &(impl Env + Abort), alloc: Global, count: usize) -> Vec<u8> {
-    let mut letters = Vec::new(alloc);
-    if letters.resize(count, b'a').is_err() {
-        check_refused(rt);
-        assert!(rt; letters.resize(count, b'a').is_ok());
-    }
+fn letters(rt: &impl Host, count: usize) -> Vec<u8> {
+    let mut letters = Vec::new(rt.alloc());
+    made!(rt, letters.resize(count, b'a'));
     letters
 }
 
-/// A peer that answers 1,048,577 letters: line too long, no failure. A forward with a body of as many, for a port where nothing listens:
-/// line too long, no failure.
+/// A peer that answers 1,048,577 letters: line too long, no failure.
 #[test]
 fn an_answer_may_be_too_long(rt: HostRuntime) {
-    let alloc: Global = rt.alloc();
-    let endless = letters(&rt, alloc, 1_048_577);
+    let endless = letters(&rt, 1_048_577);
     let asked = message(&rt, 9, Content::NotOwner);
     let too_long = faulty(WireError::LineTooLong);
-    check(
-        &rt,
-        alloc,
-        patient(),
-        asked,
-        AT_ONCE,
-        endless.as_slice(),
-        too_long,
-    );
+    check(&rt, Pace::AtOnce, asked, endless.as_slice(), too_long);
 }
 
 /// The first port of this machine, an unused one.
@@ -459,60 +346,36 @@ fn nobody(rt: &impl Abort) -> Address {
     Address::new(0x7f00_0001, 1).expect(rt, "an address")
 }
 
-/// What a link answers to a message, and how often it then has failed; if out of memory, when it is asked again.
-fn answer_again<N: Net + Clock, R: Wait + Env + Abort>(
+/// Checks what a link that has failed this often answers to a message; if out of memory, when it is asked again.
+fn check_link<R: System + Net<Listener = TcpListener, Stream = TcpStream>>(
     rt: &R,
-    alloc: Global,
-    link: &mut TcpLink<N>,
-    to: Address,
-    message: &Message,
-) -> Answered {
-    let (said, failures) = answer_of(rt, alloc, link, to, message);
-    if said == OUT_OF_MEMORY {
-        check_refused(rt);
-        return answer_of(rt, alloc, link, to, message);
-    }
-    (said, failures)
-}
-
-/// Checks what a link that has failed this often answers to a message, which is let go.
-fn check_link<R: Net<Listener = TcpListener, Stream = TcpStream> + Wait + Clock + Env + Abort>(
-    rt: &R,
-    alloc: Global,
     failures: u64,
     to: Address,
     message: Message,
     wanted: Answered,
 ) {
     let mut link = TcpLink::new(rt).after_failures(failures);
-    let answered = answer_again(rt, alloc, &mut link, to, &message);
-    drop(message);
-    drop(link);
-    assert!(rt; answered == wanted);
+    comes!(rt; answer_of(rt, &mut link, to, &message) => wanted, |answered| answered.0 == OUT_OF_MEMORY);
 }
 
-/// Over sockets: a ping is answered by an ack, and the peer gives back what it has read, which is the ping's line. A peer that closes at
-/// once: closed, one failure. One that answers `[]`, `{` or `{}`: not an object, not JSON, kind is missing; no failure. Nothing listens,
-/// as is assumed of port 1 of 127.0.0.1: the link failed, one failure each time.
+/// Nothing listens, as is assumed of port 1 of 127.0.0.1: the link failed, one failure each time.
 #[test]
 fn nobody_listens(rt: HostRuntime) {
-    let alloc: Global = rt.alloc();
     for failures in 0..2 {
         let wanted = (Said::Fault(LinkError::Io), failures + 1);
-        check_link(&rt, alloc, failures, nobody(&rt), ping(&rt, alloc), wanted);
+        check_link(&rt, failures, nobody(&rt), any_ping(&rt), wanted);
     }
 }
 
 /// Whether the first that connects where a spent link was to send is one that knocks.
-fn sends_nothing<R: Net<Listener = TcpListener, Stream = TcpStream> + Wait + Clock + Env + Abort>(
+fn sends_nothing<R: System + Net<Listener = TcpListener, Stream = TcpStream>>(
     rt: &R,
-    alloc: Global,
 ) -> Option<bool> {
     let (listener, to) = listen(rt)?;
     let spent = (Said::Fault(LinkError::Spent), u64::MAX);
-    check_link(rt, alloc, u64::MAX, to, ping(rt, alloc), spent);
+    check_link(rt, u64::MAX, to, any_ping(rt), spent);
     let line = match knock(rt, to, b"knock\n") {
-        Some(()) => answer_once(rt, alloc, &listener, AT_ONCE, b""),
+        Some(()) => answer_once(rt, &listener, Pace::AtOnce, b""),
         None => None,
     };
     drop(listener);
@@ -522,31 +385,20 @@ fn sends_nothing<R: Net<Listener = TcpListener, Stream = TcpStream> + Wait + Clo
     Some(is_first)
 }
 
-/// A link whose failures are 2^64 - 1: spent, and its failures stay; over channels the node has heard nothing, and where a socket listens
-/// the first to connect is another.
+/// A link whose failures are 2^64 - 1: spent, its failures stay, and the first to connect where it was to send is another.
 #[test]
 fn a_spent_link_sends_nothing(rt: HostRuntime) {
-    let alloc: Global = rt.alloc();
-    let is_first = match sends_nothing(&rt, alloc) {
-        Some(is_first) => Some(is_first),
-        None => {
-            check_refused(&rt);
-            sends_nothing(&rt, alloc)
-        }
-    };
-    assert!(&rt; is_first == Some(true));
+    comes!(&rt; sends_nothing(&rt) => Some(true), |is_first| is_first.is_none());
 }
 
-/// A peer that answers 1,048,577 letters: line too long, no failure. A forward with a body of as many, for a port where nothing listens:
-/// line too long, no failure.
+/// A forward with a body of 1,048,577 letters, for a port where nothing listens: line too long, no failure.
 #[test]
 fn a_message_too_long_is_not_sent(rt: HostRuntime) {
-    let alloc: Global = rt.alloc();
-    let body = letters(&rt, alloc, 1_048_577);
+    let body = letters(&rt, 1_048_577);
     let body = str::from_utf8(body.as_slice()).ok().expect(&rt, "letters");
-    let request = request(&rt, alloc, ("a", "b"), body);
+    let request = request(&rt, ("a", "b"), body);
     let too_long = faulty(WireError::LineTooLong);
-    check_link(&rt, alloc, 0, nobody(&rt), request, too_long);
+    check_link(&rt, 0, nobody(&rt), request, too_long);
 }
 
 /// A writer that takes all that it is given, and counts how often and how much that is.
@@ -573,17 +425,6 @@ const EMPTY: Tally = Tally {
     bytes: 0,
 };
 
-/// What is made of a line of this many letters.
-fn made_of(rt: &(impl Env + Abort), alloc: Global, length: usize) -> Tally {
-    let line = letters(rt, alloc, length);
-    if let Ok(tally) = send_line(alloc, EMPTY, line.as_slice()) {
-        return tally;
-    }
-    check_refused(rt);
-    let again = send_line(alloc, EMPTY, line.as_slice());
-    again.ok().expect(rt, "all is written")
-}
-
 /// How long a line is, and how long it is with its newline.
 static LENGTHS: [(usize, usize); 5] = [
     (0, 1),
@@ -597,7 +438,8 @@ static LENGTHS: [(usize, usize); 5] = [
 #[test]
 fn a_line_and_its_newline_are_one_write(rt: HostRuntime) {
     for &(length, bytes) in &LENGTHS {
-        let tally = made_of(&rt, rt.alloc(), length);
+        let line = letters(&rt, length);
+        let tally = made!(&rt, send_line(rt.alloc(), EMPTY, line.as_slice()));
         assert!(&rt; tally.writes == 1 && tally.bytes == bytes);
     }
 }

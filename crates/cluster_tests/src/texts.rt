@@ -43,54 +43,30 @@ const LINK_ERRORS: [(LinkError, &str); 5] = [
     (LinkError::Memory, "out of memory"),
 ];
 
-/// Errors of a member's calls, each with the error of a cluster that it is.
-const ROUND_ERRORS: [(RoundError, ClusterError); 7] = [
-    (RoundError::ForeignPass, ClusterError::ForeignPass),
-    (RoundError::PassSpent, ClusterError::PassSpent),
-    (RoundError::Busy, ClusterError::Busy),
-    (RoundError::Spent, ClusterError::Spent),
-    (RoundError::StaleProbe, ClusterError::StaleProbe),
-    (RoundError::NotAsked, ClusterError::NotAsked),
-    (RoundError::Memory, ClusterError::Memory),
-];
+/// Errors of a member's calls, each with the error of a cluster that it is: the one of the same name.
+macro_rules! errors {
+    ($kind:ident: $($name:ident)+) => {
+        [$(($kind::$name, ClusterError::$name)),+]
+    };
+}
 
-const JOIN_ERRORS: [(JoinError, ClusterError); 4] = [
-    (JoinError::NoneJoined, ClusterError::NoneJoined),
-    (JoinError::ForeignPass, ClusterError::ForeignPass),
-    (JoinError::PassSpent, ClusterError::PassSpent),
-    (JoinError::Memory, ClusterError::Memory),
-];
+const ROUND_ERRORS: [(RoundError, ClusterError); 7] =
+    errors!(RoundError: ForeignPass PassSpent Busy Spent StaleProbe NotAsked Memory);
 
-const REQUEST_ERRORS: [(RequestError, ClusterError); 7] = [
-    (RequestError::Diverged, ClusterError::Diverged),
-    (RequestError::Nobody, ClusterError::Nobody),
-    (RequestError::RetriesSpent, ClusterError::RetriesSpent),
-    (RequestError::HandlerFault, ClusterError::HandlerFault),
-    (RequestError::ForeignPass, ClusterError::ForeignPass),
-    (RequestError::PassSpent, ClusterError::PassSpent),
-    (RequestError::Memory, ClusterError::Memory),
-];
+const JOIN_ERRORS: [(JoinError, ClusterError); 4] =
+    errors!(JoinError: NoneJoined ForeignPass PassSpent Memory);
 
-const CALL_ERRORS: [(CallError, ClusterError); 3] = [
-    (CallError::ForeignPass, ClusterError::ForeignPass),
-    (CallError::PassSpent, ClusterError::PassSpent),
-    (CallError::Memory, ClusterError::Memory),
-];
+const REQUEST_ERRORS: [(RequestError, ClusterError); 7] = errors!(RequestError:
+    Diverged Nobody RetriesSpent HandlerFault ForeignPass PassSpent Memory);
 
-const LEAVE_ERRORS: [(LeaveError, ClusterError); 4] = [
-    (LeaveError::ForeignPass, ClusterError::ForeignPass),
-    (LeaveError::PassSpent, ClusterError::PassSpent),
-    (LeaveError::AlreadyLeft, ClusterError::AlreadyLeft),
-    (LeaveError::Memory, ClusterError::Memory),
-];
+const CALL_ERRORS: [(CallError, ClusterError); 3] =
+    errors!(CallError: ForeignPass PassSpent Memory);
 
-const REJOIN_ERRORS: [(RejoinError, ClusterError); 5] = [
-    (RejoinError::ForeignPass, ClusterError::ForeignPass),
-    (RejoinError::PassSpent, ClusterError::PassSpent),
-    (RejoinError::NotLeft, ClusterError::NotLeft),
-    (RejoinError::Exhausted, ClusterError::Exhausted),
-    (RejoinError::Memory, ClusterError::Memory),
-];
+const LEAVE_ERRORS: [(LeaveError, ClusterError); 4] =
+    errors!(LeaveError: ForeignPass PassSpent AlreadyLeft Memory);
+
+const REJOIN_ERRORS: [(RejoinError, ClusterError); 5] =
+    errors!(RejoinError: ForeignPass PassSpent NotLeft Exhausted Memory);
 
 /// The text of an error of a cluster.
 fn text_of(wanted: ClusterError) -> Option<&'static str> {

@@ -5,10 +5,10 @@
 ghost use Rattle.std.specs.Prelude.{IfSome};
 ghost use Rattle.locked_node.specs.Passes.{Fits};
 
-use crate::fakes::{Echo, Fake, Mood};
+use crate::fakes::{Fake, Mood, WILLING};
 use crate::messages::{member, moment};
 use crate::nodes::{answer_in, config, created};
-use crate::shared::{Caller, Shared, again, try_share};
+use crate::shared::{Caller, Host, Shared, again, try_share};
 use change_core::{Address, Change, Incarnation, Moment, Status};
 use cluster_core::{ClusterError, Link, LinkError, Round, gossip_round, join, serve_one};
 use hash_ring::SumHash;
@@ -16,14 +16,9 @@ use node_core::{Config, NodeState, Received};
 use rand_core::{Rng, SeedableRng};
 use rand_pcg::Pcg32;
 use std::alloc::Global;
-use std::env::Env;
 use std::process::Abort;
 use std::sync::Wait;
 use wire_json::{Message, decode, encode};
-
-const WILLING: Echo = Echo {
-    mood: Mood::Willing,
-};
 
 /// A message that is held back, as its line.
 #[derive(Drop)]
@@ -61,6 +56,7 @@ enum Happening {
 /// The nodes that make no call just now, what is on its way between them, what each has said of itself, and what happened.
 #[derive(Drop)]
 struct World {
+    alloc: Global,
     nodes: Vec<NodeState<SumHash>>,
     held: Vec<Held>,
     said: Vec<Change>,
@@ -130,8 +126,8 @@ impl World {
     }
 
     /// Holds a message back, or loses it if an allocation failed.
-    fn hold(&mut self, alloc: Global, to: Address, message: &Message) {
-        if let Ok(line) = encode(alloc, message) {
+    fn hold(&mut self, to: Address, message: &Message) {
+        if let Ok(line) = encode(self.alloc, message) {
             let _held = self.held.push(Held { to, line }).ok();
         }
     }
@@ -156,25 +152,9 @@ fn unlock(shared: Shared, pass: Caller, passes: Vec<Caller>) -> Option<NodeState
     shared.close(passes).ok()
 }
 
-/// What a shared node answers to a message.
-fn answer_by<R: Wait, L: Link>(
-    rt: &R,
-    alloc: Global,
-    shared: &Shared,
-    pass: &mut Caller,
-    link: &mut L,
-    now: Moment,
-    message: &Message,
-) -> Option<Message>
-    requires { Fits shared.now pass.old }
-    ensures { Fits shared.now pass.new }
-{
-    serve_one(rt, alloc, shared, pass, link, &mut &WILLING, now, message).ok()
-}
-
 /// What a node answers to a message, and the node after it.
-fn serve_by<R: Wait, L: Link>(
-    rt: &R,
+fn serve_by<L: Link>(
+    rt: &impl Wait,
     alloc: Global,
     node: NodeState<SumHash>,
     link: &mut L,
@@ -182,20 +162,20 @@ fn serve_by<R: Wait, L: Link>(
     message: &Message,
 ) -> Option<(NodeState<SumHash>, Message)> {
     let (shared, mut pass, passes) = lock(alloc, node)?;
-    let answer = answer_by(rt, alloc, &shared, &mut pass, link, now, message);
-    unlock(shared, pass, passes).zip(answer)
+    let mut asks = &WILLING;
+    let answer = serve_one(rt, alloc, &shared, &mut pass, link, &mut asks, now, message);
+    unlock(shared, pass, passes).zip(answer.ok())
 }
 
-/// What the node of an address answers, if it is there, by way of this link.
-fn answer_near<R: Wait>(
-    rt: &R,
-    alloc: Global,
+/// What the node of an address answers, if it is there; it reaches no other.
+fn answer_near(
+    rt: &impl Wait,
     world: &mut World,
     to: Address,
     message: &Message,
 ) -> Option<Message> {
     let node = world.call_away(to)?;
-    let now = world.now;
+    let (alloc, now) = (world.alloc, world.now);
     let mut nobody = Fake::new(Mood::Broken, Mood::Broken);
     let (node, answer) = serve_by(rt, alloc, node, &mut nobody, now, message)?;
     world.come_back(node);
@@ -223,7 +203,7 @@ impl<'a> Link for Near<'a> {
     fn call<R: Wait>(
         &mut self,
         rt: &R,
-        alloc: Global,
+        _alloc: Global,
         to: Address,
         message: &Message,
     ) -> Result<Message, LinkError> {
@@ -233,7 +213,7 @@ impl<'a> Link for Near<'a> {
         self.world.note(message);
         if self.world.dice.next_u32() % 4 == 0 {
             self.world.happens(Happening::LostByHelper);
-        } else if let Some(answer) = answer_near(rt, alloc, self.world, to, message) {
+        } else if let Some(answer) = answer_near(rt, self.world, to, message) {
             return Ok(answer);
         }
         self.failures += 1;
@@ -242,16 +222,15 @@ impl<'a> Link for Near<'a> {
 }
 
 /// What the node of an address answers, if it is there; it reaches others in turn.
-fn answer_far<R: Wait>(
-    rt: &R,
-    alloc: Global,
+fn answer_far(
+    rt: &impl Wait,
     world: &mut World,
     to: Address,
     message: &Message,
 ) -> Option<Message> {
     let node = world.call_away(to)?;
     let before = node.own();
-    let now = world.now;
+    let (alloc, now) = (world.alloc, world.now);
     let mut near = Near {
         world: &mut *world,
         failures: 0,
@@ -265,34 +244,22 @@ fn answer_far<R: Wait>(
 }
 
 /// What comes of a message: it is lost, held back, answered in vain, answered twice, or answered.
-fn deliver<R: Wait>(
-    rt: &R,
-    alloc: Global,
-    world: &mut World,
-    to: Address,
-    message: &Message,
-) -> Option<Message> {
+fn deliver(rt: &impl Wait, world: &mut World, to: Address, message: &Message) -> Option<Message> {
     match world.dice.next_u32() % 8 {
-        0 => {
-            world.happens(Happening::Lost);
-            None
-        }
-        1 => {
-            world.hold(alloc, to, message);
-            None
-        }
+        0 => world.happens(Happening::Lost),
+        1 => world.hold(to, message),
         2 => {
-            drop(answer_far(rt, alloc, world, to, message));
+            drop(answer_far(rt, world, to, message));
             world.happens(Happening::Unheard);
-            None
         }
         3 => {
-            drop(answer_far(rt, alloc, world, to, message));
+            drop(answer_far(rt, world, to, message));
             world.happens(Happening::Repeated);
-            answer_far(rt, alloc, world, to, message)
+            return answer_far(rt, world, to, message);
         }
-        _ => answer_far(rt, alloc, world, to, message),
+        _ => return answer_far(rt, world, to, message),
     }
+    None
 }
 
 /// The link of whoever makes rounds and joins.
@@ -316,7 +283,7 @@ impl<'a> Link for Far<'a> {
     fn call<R: Wait>(
         &mut self,
         rt: &R,
-        alloc: Global,
+        _alloc: Global,
         to: Address,
         message: &Message,
     ) -> Result<Message, LinkError> {
@@ -324,7 +291,7 @@ impl<'a> Link for Far<'a> {
             return Err(LinkError::Spent);
         }
         self.world.note(message);
-        if let Some(answer) = deliver(rt, alloc, self.world, to, message) {
+        if let Some(answer) = deliver(rt, self.world, to, message) {
             return Ok(answer);
         }
         self.failures += 1;
@@ -343,8 +310,8 @@ fn note_round(world: &mut World, round: Result<Round, ClusterError>) {
     }
 }
 
-/// A round by way of this world.
-fn round_far<R: Wait>(rt: &R, alloc: Global, shared: &Shared, pass: &mut Caller, world: &mut World)
+/// A round of a node by way of this world, or a join with all three addresses, its own among them.
+fn go_far(rt: &impl Host, shared: &Shared, pass: &mut Caller, world: &mut World, joins: bool)
     requires { Fits shared.now pass.old }
     ensures { Fits shared.now pass.new }
 {
@@ -353,75 +320,41 @@ fn round_far<R: Wait>(rt: &R, alloc: Global, shared: &Shared, pass: &mut Caller,
         world: &mut *world,
         failures: 0,
     };
-    let round = gossip_round(rt, alloc, shared, pass, &mut link, now);
-    note_round(world, round);
-}
-
-/// A round of a node, and the node after it.
-fn round_by<R: Wait>(
-    rt: &R,
-    alloc: Global,
-    node: NodeState<SumHash>,
-    world: &mut World,
-) -> Option<NodeState<SumHash>> {
-    let (shared, mut pass, passes) = lock(alloc, node)?;
-    round_far(rt, alloc, &shared, &mut pass, world);
-    unlock(shared, pass, passes)
-}
-
-/// A join by way of this world.
-fn join_far<R: Wait>(
-    rt: &R,
-    alloc: Global,
-    shared: &Shared,
-    pass: &mut Caller,
-    world: &mut World,
-    hosts: &[Address; 3],
-)
-    requires { Fits shared.now pass.old }
-    ensures { Fits shared.now pass.new }
-{
-    let now = world.now;
-    let hosts = hosts.as_slice();
-    let mut link = Far {
-        world: &mut *world,
-        failures: 0,
-    };
-    let joined = join(rt, alloc, shared, pass, &mut link, hosts, now);
-    if joined.is_ok() {
-        world.happens(Happening::Restarted);
+    if joins {
+        let all = [member(rt, 1), member(rt, 2), member(rt, 3)];
+        let joined = join(rt, rt.alloc(), shared, pass, &mut link, &all, now);
+        if joined.is_ok() {
+            world.happens(Happening::Restarted);
+        }
+    } else {
+        let round = gossip_round(rt, rt.alloc(), shared, pass, &mut link, now);
+        note_round(world, round);
     }
 }
 
-/// A join of a node with all three addresses, its own among them, and the node after it.
-fn join_by<R: Wait>(
-    rt: &R,
-    alloc: Global,
+/// The node after it.
+fn go_by(
+    rt: &impl Host,
     node: NodeState<SumHash>,
     world: &mut World,
-    hosts: &[Address; 3],
+    joins: bool,
 ) -> Option<NodeState<SumHash>> {
-    let (shared, mut pass, passes) = lock(alloc, node)?;
-    join_far(rt, alloc, &shared, &mut pass, world, hosts);
+    let (shared, mut pass, passes) = lock(rt.alloc(), node)?;
+    go_far(rt, &shared, &mut pass, world, joins);
     unlock(shared, pass, passes)
-}
-
-/// Has a message that was held back come.
-fn deliver_held<R: Wait>(rt: &R, alloc: Global, world: &mut World, to: Address, line: &[u8]) {
-    if let Ok(message) = decode(alloc, line) {
-        drop(answer_far(rt, alloc, world, to, &message));
-        drop(message);
-        world.happens(Happening::Late);
-    }
 }
 
 /// One message that was held back comes, perhaps.
-fn release<R: Wait>(rt: &R, alloc: Global, world: &mut World) {
+fn release(rt: &impl Host, world: &mut World) {
     if world.dice.next_u32() % 2 == 0 {
         return;
     }
-    if let Some(held) = world.held.pop() {
-        deliver_held(rt, alloc, world, held.to, held.line.as_slice());
+    let Some(held) = world.held.pop() else {
+        return;
+    };
+    if let Ok(message) = decode(rt.alloc(), held.line.as_slice()) {
+        drop(answer_far(rt, world, held.to, &message));
+        world.happens(Happening::Late);
     }
 }
 
@@ -431,19 +364,6 @@ fn hasty() -> Config {
     hasty.suspect_ms = 1_000;
     hasty.faulty_ms = 2_000;
     hasty
-}
-
-/// The node as it starts again, at the incarnation after its last.
-fn restarted(
-    rt: &(impl Env + Abort),
-    alloc: Global,
-    number: u8,
-    old: &NodeState<SumHash>,
-    world: &mut World,
-) -> NodeState<SumHash> {
-    let next = old.own().incarnation.next().expect(rt, "an incarnation");
-    let seed = world.dice.next_u64();
-    created(rt, alloc, number, &hasty(), next, seed, world.now)
 }
 
 /// Leaves, or comes back.
@@ -472,47 +392,45 @@ fn has_buried(world: &World, node: &NodeState<SumHash>) -> bool {
     false
 }
 
-/// The node after it started again and joined; None if an allocation failed.
-fn start_anew<R: Wait + Env + Abort>(
-    rt: &R,
-    alloc: Global,
+/// The node after it started again, at the incarnation after its last, and joined; None if an allocation failed.
+fn start_anew(
+    rt: &impl Host,
     number: u8,
     old: NodeState<SumHash>,
     world: &mut World,
 ) -> Option<NodeState<SumHash>> {
-    let node = restarted(rt, alloc, number, &old, world);
+    let next = old.own().incarnation.next().expect(rt, "an incarnation");
     drop(old);
+    let seed = world.dice.next_u64();
+    let node = created(rt, number, &hasty(), next, seed, world.now);
     world.say(node.own());
-    let all = [member(rt, 1), member(rt, 2), member(rt, 3)];
-    join_by(rt, alloc, node, world, &all)
+    go_by(rt, node, world, true)
 }
 
 /// A node after its step: it starts again and joins, leaves or comes back, or makes a round.
-fn moved<R: Wait + Env + Abort>(
-    rt: &R,
-    alloc: Global,
+fn moved(
+    rt: &impl Host,
     number: u8,
     node: NodeState<SumHash>,
     world: &mut World,
 ) -> Option<NodeState<SumHash>> {
     match world.dice.next_u32() % 64 {
-        0 => start_anew(rt, alloc, number, node, world),
+        0 => start_anew(rt, number, node, world),
         1 => {
             let mut node = node;
             turn_round(world, &mut node);
             Some(node)
         }
-        _ => round_by(rt, alloc, node, world),
+        _ => go_by(rt, node, world, false),
     }
 }
 
 /// One step of a node; None if an allocation failed.
-fn step<R: Wait + Env + Abort>(rt: &R, alloc: Global, world: &mut World, number: u8) -> Option<()> {
-    let later = world.now.number().wrapping_add(200);
-    world.now = moment(rt, later);
-    release(rt, alloc, world);
+fn step(rt: &impl Host, world: &mut World, number: u8) -> Option<()> {
+    world.now = moment(rt, world.now.number().wrapping_add(200));
+    release(rt, world);
     let node = world.call_away(member(rt, number))?;
-    let node = moved(rt, alloc, number, node, world)?;
+    let node = moved(rt, number, node, world)?;
     if has_buried(world, &node) {
         world.happens(Happening::Buried);
     }
@@ -610,11 +528,12 @@ fn agree(world: &World) -> Option<bool> {
 }
 
 /// Three nodes that know no other.
-fn begin(rt: &(impl Env + Abort), alloc: Global, seed: u64) -> World {
+fn begin(rt: &impl Host, seed: u64) -> World {
     let mut world = World {
-        nodes: Vec::new(alloc),
-        held: Vec::new(alloc),
-        said: Vec::new(alloc),
+        alloc: rt.alloc(),
+        nodes: Vec::new(rt.alloc()),
+        held: Vec::new(rt.alloc()),
+        said: Vec::new(rt.alloc()),
         happened: [false; Happening::Buried as usize + 1],
         is_starved: false,
         dice: Pcg32::seed_from_u64(seed),
@@ -622,7 +541,7 @@ fn begin(rt: &(impl Env + Abort), alloc: Global, seed: u64) -> World {
     };
     let first = Incarnation::new(7).expect(rt, "an incarnation");
     for number in 1..4 {
-        let node = created(rt, alloc, number, &hasty(), first, seed, world.now);
+        let node = created(rt, number, &hasty(), first, seed, world.now);
         world.come_back(node);
     }
     world
@@ -643,40 +562,28 @@ fn come_to_agree(world: &mut World) -> Option<bool> {
     agree(world)
 }
 
-/// Makes this many steps, checks after each that no node holds what was not asserted, checks that everything happened,
-/// and then that all agree; None if an allocation failed.
-fn play<R: Wait + Env + Abort>(
-    rt: &R,
-    alloc: Global,
-    world: &mut World,
-    seed: u64,
-    steps: u32,
-) -> Option<()> {
-    for at in 0..steps {
-        let number = (at % 3) as u8 + 1;
-        step(rt, alloc, world, number)?;
+/// Makes 1,100 steps, checks after each that no node holds what was not asserted, checks that everything happened, and then
+/// that all agree; None if an allocation failed.
+fn play(rt: &impl Host, world: &mut World, seed: u64) -> Option<()> {
+    for at in 0..1_100u32 {
+        step(rt, world, (at % 3) as u8 + 1)?;
         if world.is_starved || world.nodes.len() != 3 {
             return None;
         }
-        check(
-            rt,
-            are_founded(world),
-            seed,
-            at,
-            "an entry that nobody said",
-        );
+        let is_founded = are_founded(world);
+        check(rt, is_founded, seed, at, "an entry that nobody said");
     }
     let all_happened = !world.happened.contains(&false);
-    check(rt, all_happened, seed, steps, "too little happened");
+    check(rt, all_happened, seed, 1_100, "too little happened");
     let agreed = come_to_agree(world)?;
-    check(rt, agreed, seed, steps, "the digests differ");
+    check(rt, agreed, seed, 1_100, "the digests differ");
     Some(())
 }
 
 /// The same of a new world.
-fn run<R: Wait + Env + Abort>(rt: &R, alloc: Global, seed: u64, steps: u32) -> Option<()> {
-    let mut world = begin(rt, alloc, seed);
-    let done = play(rt, alloc, &mut world, seed, steps);
+fn run(rt: &impl Host, seed: u64) -> Option<()> {
+    let mut world = begin(rt, seed);
+    let done = play(rt, &mut world, seed);
     drop(world);
     done
 }
@@ -688,8 +595,7 @@ fn run<R: Wait + Env + Abort>(rt: &R, alloc: Global, seed: u64, steps: u32) -> O
 /// a tombstone, and rounds end as reached, as suspected and as inconclusive. After full synchronisations the digests are equal.
 #[test]
 fn nobody_holds_what_was_not_said(rt: HostRuntime) {
-    let alloc = rt.alloc();
     for seed in 1..4 {
-        assert!(&rt; again!(&rt, run(&rt, alloc, seed, 1_100).is_some()));
+        assert!(&rt; again!(&rt, run(&rt, seed).is_some()));
     }
 }

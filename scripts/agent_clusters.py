@@ -7,7 +7,7 @@ import json
 import subprocess
 
 from agents import agree, counted, running, well
-from nodes import NOBODY, expect, hears, message, wait_until
+from nodes import NOBODY, address, expect, hears, message, wait_until
 
 
 def refused(agent):
@@ -89,11 +89,20 @@ def check_commands(program, port, other):
         expect(set(named.members()) == {named.own}, f"a command is a member: {named.members()}")
 
 
+def check_serve(program, port, other):
+    """`serve`, whose node is of no cluster with a name, says so of a host that is of one, and not that no message came from it."""
+    with running(program, port, hosts=(), more=words_of("a"), until=well) as (named,):
+        came = subprocess.run([program, "serve", address(other), "1", "1", named.own], capture_output=True, text=True, timeout=20)
+        said = f"ringpop: no host joined\nringpop: {named.own} is of cluster a and takes no node without this name, as serve makes it\n"
+        expect((came.returncode, came.stdout, came.stderr) == (1, "", said), f"serve with a host of a cluster that has a name: {came}")
+
+
 def check(program, first, reused, other, newcomer):
     with exchanged(program, first, reused, other, ("a", "b")) as (left, right):
         check_apart(left, right)
         check_newcomer(program, newcomer, right[0])
     check_lines(program, newcomer)
     check_commands(program, first, other)
+    check_serve(program, first, other)
     with exchanged(program, first, reused, other) as (left, right):
         wait_until("one cluster without names", 20, lambda: agree([left, *right]) and len(left.members()) == 3)

@@ -2,20 +2,25 @@
 
 One that starts with an empty file serves alone, stays well while the host that the file gets is not up, and joins by it once it is. A file with a bad line
 is told once in the log, by the line's number, and changes nothing, and so is each other fault, as that the file is a pipe; once it can be read again, the
-log says that. A host that comes later is joined by healing. At the start a file that is absent, is a pipe or has a bad line is refused with status 1, and
+log says that. A host that comes later is joined by healing. The same hosts in another order, or twice, change nothing, and a list that comes while hosts are
+asked that do not answer is taken up before the next one is. At the start a file that is absent, is a pipe or has a bad line is refused with status 1, and
 both lines of the refusal say why.
 """
 import contextlib
 import os
 import pathlib
+import socket
 import subprocess
 import tempfile
+import time
 
 from agents import agree, running, well
 from nodes import address, expect, wait_until
 
 # the seconds within which a change of the file has its effect: it is read each five seconds, and healing comes each ten rounds
 READ, HEALED = 8, 20
+# hosts that say nothing, each of which is asked for half a second
+SILENT = 40
 
 
 def write(file, text):
@@ -61,6 +66,28 @@ def check_healing(program, file, alone, port):
         print(f"a host was joined {spent:.1f} s after the file of a member named it")
 
 
+def check_same(file, alone, hosts):
+    """The same hosts in another order, and twice, change nothing."""
+    write(file, "".join(f"{it}\n" for it in hosts))
+    wait_until("read both hosts", READ, lambda: f"{file} has changed; number of hosts: {len(hosts)}\n" in alone.said())
+    before = alone.said().count(" has changed; ")
+    write(file, "".join(f"{it}\n" for it in (*reversed(hosts), *hosts)))
+    time.sleep(READ)
+    expect(alone.said().count(" has changed; ") == before, f"the same hosts are told as others: {alone.said()}")
+
+
+def check_silent(program, file, port, host):
+    """A list that comes while hosts are asked that say nothing, each for half a second, is taken up before all of them were."""
+    with contextlib.ExitStack() as all_of_it:
+        silent = [all_of_it.enter_context(socket.create_server(("127.0.0.1", 0))) for _ in range(SILENT)]
+        file.write_text("".join(f"{address(it.getsockname()[1])}\n" for it in silent))
+        (waiting,) = all_of_it.enter_context(running(program, port, hosts=(), more=("--hosts-file", str(file)), until=lambda agents: agents[0].is_up()))
+        expect(not waiting.is_well(), "an agent is well while its hosts are asked for the first time")
+        write(file, f"{host.own}\n")
+        spent = wait_until("took up the list at once", READ, waiting.is_well)
+        print(f"an agent that asked {SILENT} silent hosts was ready {spent:.1f} s after its file named another one")
+
+
 def check_refused(program, port, folder):
     """A file that lists no hosts at the start is refused."""
     cases = {"absent": None, "bad": b"# one\n127.0.0.1:1\n\n127.0.0.1\n", "long": b"#" * 131_073, "many": b"1.1.1.1:1\n" * 4_097, "latin": b"# \xe4\n", "pipe": None}
@@ -90,4 +117,6 @@ def check(program, port, second, third):
         (host,) = all_of_it.enter_context(running(program, second, hosts=(), until=well))
         check_join(file, alone, host)
         check_bad(file, alone, host)
+        check_same(file, alone, (host.own, "127.0.0.1:1"))
         check_healing(program, file, alone, third)
+        check_silent(program, folder / "silent", third, host)

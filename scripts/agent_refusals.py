@@ -158,6 +158,20 @@ def check_requests(agents):
     expect(said == wanted, f"the log has the requests {said}")
 
 
+def check_unread(agent):
+    """At the level debug a request that HTTP itself refuses has a line, without what the agent does not know, and at info it has none."""
+    port = int(agent.http.split(":")[1])
+    requests = b"no HTTP\r\n\r\n", b"POST /keys/a HTTP/1.1\r\nHost: a\r\nContent-Length: 1048577\r\n\r\n"
+    for level in ("info", "debug"):
+        log_level(agent, "POST", f"?level={level}")
+        statuses = [hears(port, sent).split()[1].decode() for sent in requests]
+        expect(statuses == ["400", "413"], f"requests that HTTP refuses are answered {statuses}")
+    wait_until("logged", 5, lambda: "- - 413 " in agent.said())
+    log_level(agent, "POST", "?level=info")
+    said = re.findall(r"\[DEBUG agent::http_refusals\] (.*)", agent.said())
+    expect(said == [f"- - {status} agent - ms 127.0.0.1" for status in statuses], f"the log has of requests that HTTP refuses {said}")
+
+
 def logged(agent):
     """The lines of a log of JSON, each with the same members."""
     lines = [json.loads(line) for line in agent.said().split("\n")[:-1]]
@@ -180,5 +194,6 @@ def check_log_json(agent):
 def check(program, agents, first, second):
     check_level(agents[0])
     check_requests(agents)
+    check_unread(agents[0])
     check_full(program, first, second)
     check_words(agents)

@@ -27,13 +27,13 @@ use Rattle.agent_core.specs.declared.refusals.Refusal.{Refusal}
 use Rattle.line_service.specs.Answering.{AnswersInput, IsSilent, Responds, StaysSilent}
 use Rattle.line_service.specs.declared.inputs.Input.{Input}
 use Rattle.line_service.specs.declared.inputs.Input.TheVariants as input
-use Rattle.agent.specs.Asking.{AsksFor, answerer, handler_of, notes_call}
+use Rattle.agent.specs.Asking.{AsksFor, answerer, handler_of, notes_asking, notes_call}
 use Rattle.agent.specs.Calling.{AnyAnswer, AnyHandling, AnyTimes, Calling, HasMade, hash_of}
 use Rattle.agent.specs.Onces.{Noted, notes_send, unnoted}
 use Rattle.agent.specs.Serving.{IsAnsweredHere, RespondsAsking, asks}
 use Rattle.agent.specs.declared.links.NotedHandler.{NotedHandler}
 use Rattle.agent.specs.Performing.{AsksOwner, EndsEarly, IsRequested, Outcome, SettledBy}
-use Rattle.agent.proofs.Performed.{made_as, settled_as}
+use Rattle.agent.proofs.Performed.{made_as}
 use Rattle.agent.proofs.Relaying.{made_both}
 
 -- one call of a handler that notes its calls, by one of the other that it has
@@ -42,7 +42,8 @@ noting handled keys body answer was is = notes_call keys body answer was.was_ask
 
 -- a handler that notes each of its calls, as far as a request says
 module _ {A : Type 0} (handled : Handled A) (asked_of : A → Bool)
-    (notes : (keys : List (List ℕ)) (body : List ℕ) (answer : Result (List ℕ) HandlerFault) (was is : A) → handled keys body answer was is → asked_of is ≡ true) where
+    (notes : (keys : List (List ℕ)) (body : List ℕ) (answer : Result (List ℕ) HandlerFault) (was is : A) → handled keys body answer was is
+    → notes_asking keys body answer (asked_of was) (asked_of is)) where
   -- and a link that notes its sends
   module _ {L : Type 0} (went : Went L) (noted_of : L → Noted)
       (marks : (to : Address) (message : Message) (answer : Result Message LinkError) (old new : L) → went to message answer old new
@@ -56,7 +57,7 @@ module _ {A : Type 0} (handled : Handled A) (asked_of : A → Bool)
         Failed.sent view answer (owner, owned, other, marks owner (message_from view (content.Forward keys body)) answer old mid goes) fails (failed_as k mid new rest h)
 
     ends_as : (r : Result (List ℕ) ClusterError) (was is : A) (old new : L) (acts : List (Act Sha256Hash)) → EndsBy hash_of went handled keys body r was is old new acts
-        → EndsBy hash_of notes_send notes_call keys body r (asked_of was) (asked_of is) (noted_of old) (noted_of new) acts
+        → EndsBy hash_of notes_send notes_asking keys body r (asked_of was) (asked_of is) (noted_of old) (noted_of new) acts
     ends_as r was is old new acts (EndsBy.by_error e refused) = EndsBy.by_error e refused
     ends_as r was is old new acts (EndsBy.by_handler answer (view, just, owned, called) same) =
         EndsBy.by_handler answer (view, just, owned, notes keys body answer was is called) same
@@ -66,14 +67,14 @@ module _ {A : Type 0} (handled : Handled A) (asked_of : A → Bool)
     few_as : (r : Result (List ℕ) ClusterError) (was is : A) (old new : L) (acts : List (Act Sha256Hash))
         → (n : ℕ) × (n < most_sends) × ((mid : L) × Then (Failed hash_of went keys body n old mid) (EndsBy hash_of went handled keys body r was is mid new) acts)
         → (n : ℕ) × (n < most_sends) × ((mid : Noted) × Then (Failed hash_of notes_send keys body n (noted_of old) mid)
-        (EndsBy hash_of notes_send notes_call keys body r (asked_of was) (asked_of is) mid (noted_of new)) acts)
+        (EndsBy hash_of notes_send notes_asking keys body r (asked_of was) (asked_of is) mid (noted_of new)) acts)
     few_as r was is old new acts (n, few, (mid, (first, last, e, failed, ends))) =
         (n, few, (noted_of mid, (first, last, e, failed_as n old mid first failed, ends_as r was is mid new last ends)))
 
     -- what goes over the link for a request
     sends_as : (r : Result (List ℕ) ClusterError) (was is : A) (old new : L) (acts : List (Act Sha256Hash))
         → SendsRequest hash_of went handled keys body r was is old new acts
-        → SendsRequest hash_of notes_send notes_call keys body r (asked_of was) (asked_of is) (noted_of old) (noted_of new) acts
+        → SendsRequest hash_of notes_send notes_asking keys body r (asked_of was) (asked_of is) (noted_of old) (noted_of new) acts
     sends_as (Err error.RetriesSpent) was is old new acts (same, failed) = (ap asked_of same, failed_as most_sends old new acts failed)
     sends_as r was is old new acts h = few_as r was is old new acts h
 
@@ -81,11 +82,11 @@ module _ {A : Type 0} (handled : Handled A) (asked_of : A → Bool)
     pub makes_noted : (r : Result (List ℕ) ClusterError) (was is : A) (old new : L) (is_repeatable : Bool) → asked_of was ≡ false
         → noted_of old ≡ unnoted is_repeatable
         → (node : LockedNode Sha256Hash) (before after : NodePass Sha256Hash) → Makes node (SendsRequest hash_of went handled keys body r was is old new) before after
-        → Makes node (SendsRequest hash_of notes_send notes_call keys body r false (asked_of is) (unnoted is_repeatable) (noted_of new)) before after
+        → Makes node (SendsRequest hash_of notes_send notes_asking keys body r false (asked_of is) (unnoted is_repeatable) (noted_of new)) before after
     makes_noted r was is old new is_repeatable unasked fresh node before after makes =
-        makes_as (SendsRequest hash_of notes_send notes_call keys body r false (asked_of is) (unnoted is_repeatable) (noted_of new))
-        (λ acts h. subst (λ (b : Bool). SendsRequest hash_of notes_send notes_call keys body r b (asked_of is) (unnoted is_repeatable) (noted_of new) acts) unasked
-        (subst (λ (start : Noted). SendsRequest hash_of notes_send notes_call keys body r (asked_of was) (asked_of is) start (noted_of new) acts) fresh
+        makes_as (SendsRequest hash_of notes_send notes_asking keys body r false (asked_of is) (unnoted is_repeatable) (noted_of new))
+        (λ acts h. subst (λ (b : Bool). SendsRequest hash_of notes_send notes_asking keys body r b (asked_of is) (unnoted is_repeatable) (noted_of new) acts) unasked
+        (subst (λ (start : Noted). SendsRequest hash_of notes_send notes_asking keys body r (asked_of was) (asked_of is) start (noted_of new) acts) fresh
         (sends_as r was is old new acts h))) makes
 
 -- what was asked of one that was not called before: it was called once if it notes that, and else never
@@ -153,10 +154,10 @@ module _ (keys : List (List ℕ)) (request : List ℕ) (r : Result (List ℕ) Cl
     (old new : Calling) where
   -- what was requested of a handler that notes its calls was requested of one that may answer anything
   pub made_requested : (Answers : MayHandle) → new.node ≡ old.node → Does old.node (IsRequest hash_of AnyAnswer Answers AnyTimes keys request) r old.pass new.pass
-      → Makes old.node (SendsRequest hash_of notes_send notes_call keys request r false asked (unnoted is_repeatable) noted) old.pass new.pass
+      → Makes old.node (SendsRequest hash_of notes_send notes_asking keys request r false asked (unnoted is_repeatable) noted) old.pass new.pass
       → HasMade (IsRequested is_repeatable asked noted keys request r) old new
   made_requested Answers same does sent =
-      made_both (IsRequest hash_of AnyAnswer AnyHandling AnyTimes keys request r) (SendsRequest hash_of notes_send notes_call keys request r false asked (unnoted is_repeatable) noted)
+      made_both (IsRequest hash_of AnyAnswer AnyHandling AnyTimes keys request r) (SendsRequest hash_of notes_send notes_asking keys request r false asked (unnoted is_repeatable) noted)
       old new
       (record {
         node = same;
@@ -167,16 +168,8 @@ module _ (keys : List (List ℕ)) (request : List ℕ) (r : Result (List ℕ) Cl
 
   -- so the owner of a key was asked, and this came of it
   pub made_asked : (limit : Option ℕ) (own : Address) (key : List ℕ) (ending : Option Refusal) (outcome : Outcome) → keys ≡ key ∷ []
-      → IfSome ending (EndsEarly is_repeatable limit) → HasMade (IsRequested is_repeatable asked noted keys request r) old new → SettledBy (answerer own asked noted.last) ending r outcome
+      → IfSome ending (EndsEarly is_repeatable limit asked noted) → HasMade (IsRequested is_repeatable asked noted keys request r) old new → SettledBy (answerer own asked noted.last) ending r outcome
       → HasMade (AsksOwner limit own key request is_repeatable outcome) old new
   made_asked limit own key ending outcome one may made comes =
       made_as (AsksOwner limit own key request is_repeatable outcome) (IsRequested is_repeatable asked noted keys request r) old new
-      (λ acts both. inr (
-        asked,
-        noted,
-        (
-          r,
-          subst (λ (ks : List (List ℕ)). IsRequested is_repeatable asked noted ks request r acts) one both,
-          settled_as (answerer own asked noted.last) is_repeatable limit ending r outcome may comes,
-        ),
-      )) made
+      (λ acts both. inr (asked, noted, ending, may, (r, subst (λ (ks : List (List ℕ)). IsRequested is_repeatable asked noted ks request r acts) one both, comes))) made

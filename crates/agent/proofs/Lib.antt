@@ -4,6 +4,7 @@ pub mod Called
 pub mod Conversing
 pub mod Owning
 pub mod Performed
+pub mod Refusing
 pub mod Relaying
 pub mod Unsure
 pub mod Written

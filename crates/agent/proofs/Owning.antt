@@ -1,28 +1,33 @@
 -- Which agents ask their applications for a request, and how often one was performed that may not be performed twice.
 use Rattle.std.proofs.Common.{◌≡◌, ◌≢◌, ◌∙◌, ◌⊎◌, ℕ, ◌<◌, Bool, true, false, cond, refl, sym, ap, subst, inl, inr, arith, Some, Option, Result, Ok, Err, List, [], ◌∷◌, ◌++◌, length, map, get_or, true≢false}
-use Rattle.std.specs.Prelude.{◌||◌, Contains}
+use Rattle.std.specs.Prelude.{◌||◌, None, Contains}
 use Rattle.std.specs.List.{All}
 use Rattle.std.proofs.lemmas.Bool.{or_parts}
-use Rattle.std.proofs.lemmas.List.Elements.{All-cons, All-nil, All-tail, Contains-append_left}
+use Rattle.std.proofs.lemmas.List.Elements.{All-tail, Contains-append_left}
 use Rattle.change_core.specs.declared.addresses.Address.{Address}
 use Rattle.hash_ring.specs.Points.{owner}
 use Rattle.hash_ring.specs.declared.hash.Sha256Hash.{Sha256Hash}
 use Rattle.hash_ring.specs.declared.servers.Server.{Server}
 use Rattle.hash_ring.proofs.Disagreement.{owners_differ}
+use Rattle.message_core.specs.Messages.{kind_of}
+use Rattle.message_core.specs.declared.kinds.Kind.TheVariants as kind
 use Rattle.message_core.specs.declared.messages.Content.{Content}
 use Rattle.message_core.specs.declared.messages.Content.TheVariants as content
 use Rattle.message_core.specs.declared.messages.Message.{Message}
 use Rattle.node_core.specs.Viewing.{Viewed}
-use Rattle.forward_core.specs.Routes.{AllOwnedBy}
-use Rattle.peer_core.specs.Acts.{Act, Just, looked}
+use Rattle.forward_core.specs.Attempts.{most_sends}
+use Rattle.peer_core.specs.Acts.{Act, Just, Then, looked}
 use Rattle.peer_core.specs.Forwarding.{IsFailure}
 use Rattle.peer_core.specs.Handling.{Handled, between}
 use Rattle.peer_core.specs.Handlings.{Ends, FailsOver, IsHandledSo, OwnsAll}
-use Rattle.peer_core.specs.Resending.{ForwardsOver, Sending}
-use Rattle.peer_core.specs.Serving.{Serves}
+use Rattle.peer_core.specs.Links.{Went}
+use Rattle.peer_core.specs.Resending.{ForwardsOver, IsResultOf, Sending, SendsRequest, result_of_handler}
+use Rattle.peer_core.specs.Serving.{message_from}
 use Rattle.peer_core.specs.declared.errors.ClusterError.{ClusterError}
+use Rattle.peer_core.specs.declared.errors.ClusterError.TheVariants as error
+use Rattle.peer_core.specs.declared.errors.HandlerFault.{HandlerFault}
+use Rattle.peer_core.specs.declared.errors.HandlerFault.TheVariants as fault
 use Rattle.peer_core.specs.declared.errors.LinkError.{LinkError}
-use Rattle.peer_core.specs.declared.errors.LinkError.TheVariants as link
 use Rattle.peer_core.proofs.HandlingCounts.{requests_handled, servings_handled}
 use Rattle.peer_core.proofs.Served.{serves_as}
 use Rattle.peer_core.proofs.Servings.{has_later}
@@ -30,11 +35,11 @@ use Rattle.line_service.specs.declared.inputs.Input.TheVariants as input
 use Rattle.agent_core.specs.declared.passing.Outgoing.{Outgoing}
 use Rattle.agent_core.specs.declared.refusals.Refusal.{Refusal}
 use Rattle.agent_core.specs.Passing.{sent_text}
-use Rattle.agent.specs.Asking.{AsksFor, answerer, notes_call}
+use Rattle.agent.specs.Asking.{AsksFor, answerer, notes_asking, notes_call}
 use Rattle.agent.specs.Calling.{AnyAnswer, hash_number, hash_of}
-use Rattle.agent.specs.Onces.{Noted, is_unsure, notes_send, unnoted}
-use Rattle.agent.specs.Owning.{AnswersAreDoneOnce, AskersDiffer, AskersOwn, EndsAtOne, FailsUndone, HasAsked, IsDoneOnce, EndsOnce, IsUndone, LooksSo, OneAsks, OwnsEach, RequestsEndOnce, answers_of}
-use Rattle.agent.specs.Performing.{AsksIfPlaced, AsksOwner, IsRequested, Outcome, Owners, Settled}
+use Rattle.agent.specs.Onces.{Noted, is_other, is_unsure, notes_send, unnoted, was_made}
+use Rattle.agent.specs.Owning.{AnswersAreDoneOnce, AskersDiffer, AskersOwn, EndsAtOne, EndsOnce, ErrorsAreUndone, FailsUndone, HasAsked, IsUndone, LooksSo, OneAsks, OthersAreSure, RequestsEndOnce, ShownAreDoneOnce, undone_send}
+use Rattle.agent.specs.Performing.{AsksOwner, Outcome, SettledBy}
 use Rattle.agent.specs.Serving.{asks}
 use Rattle.agent_http.specs.declared.replies.Reply.TheVariants as shown
 
@@ -51,7 +56,7 @@ seen_before view acts xs ys e has =
 module _ {A : Type 0} (handled : Handled A) (keys : List (List ℕ)) where
   -- a request for which the application was asked
   requested_owns : (request : List ℕ) (r : Result (List ℕ) ClusterError) (old new : Noted) (acts : List (Act Sha256Hash))
-      → Ends hash_of notes_send notes_call keys request r false true old new acts → OwnsAll hash_of keys acts
+      → Ends hash_of notes_send notes_asking keys request r false true old new acts → OwnsAll hash_of keys acts
   requested_owns request r old new acts (failed, mid, inl (few, (xs, ys, e, over, (view, just, inl (owned, called, stays))))) = (view, last_seen view acts xs ys e just, owned)
   requested_owns request r old new acts (failed, mid, inl (few, (xs, ys, e, over, (view, just, inr (unmoved, gone))))) = absurd (true≢false unmoved)
   requested_owns request r old new acts (failed, mid, inr (why, is, unmoved, stays, over, how)) = absurd (true≢false unmoved)
@@ -70,94 +75,246 @@ module _ {A : Type 0} (handled : Handled A) (keys : List (List ℕ)) where
 
   asked_owns : (acts : List (Act Sha256Hash)) → HasAsked handled keys acts → OwnsAll hash_of keys acts
   asked_owns acts (HasAsked.by_client is_repeatable noted request r (requested, sent)) =
-      requested_owns request r (unnoted is_repeatable) noted acts (requests_handled hash_of notes_send notes_call keys request r false true (unnoted is_repeatable) noted acts sent)
+      requested_owns request r (unnoted is_repeatable) noted acts (requests_handled hash_of notes_send notes_asking keys request r false true (unnoted is_repeatable) noted acts sent)
   asked_owns acts (HasAsked.by_node was is message body told asked) = served_owns was is message body told acts asked
 
-  -- so the agent owns the keys among the servers that its views name
-  owns_each : (own replicas : ℕ) (servers : List Server) (acts : List (Act Sha256Hash)) → OwnsAll hash_of keys acts → LooksSo own replicas servers acts
-      → OwnsEach own replicas servers keys
-  owns_each own replicas servers acts (view, has, owned) looks =
+  -- so the agent owns the first of the keys among the servers that its views name
+  owns_first : (own replicas : ℕ) (servers : List Server) (acts : List (Act Sha256Hash)) → 0 < length keys → HasAsked handled keys acts
+      → LooksSo own replicas servers acts → owner hash_number replicas servers (get_or keys 0 []) ≡ Some own
+  owns_first own replicas servers acts some asked looks =
+      let (view, has, owned) = asked_owns acts asked in
       let (own_is, replicas_is, servers_is) = looks view has in
-      λ k d within.
-      subst (λ (a : Address). owner hash_number replicas servers (get_or keys k d) ≡ Some a) own_is
-      (subst (λ (ss : List Server). owner hash_number replicas ss (get_or keys k d) ≡ Some view.own) servers_is
-      (subst (λ (n : ℕ). owner hash_number n view.servers (get_or keys k d) ≡ Some view.own) replicas_is (owned k d within)))
+      subst (λ (a : Address). owner hash_number replicas servers (get_or keys 0 []) ≡ Some a) own_is
+      (subst (λ (ss : List Server). owner hash_number replicas ss (get_or keys 0 []) ≡ Some view.own) servers_is
+      (subst (λ (n : ℕ). owner hash_number n view.servers (get_or keys 0 []) ≡ Some view.own) replicas_is (owned 0 [] some)))
 
 module _ {A : Type 0} (handled : Handled A) where
   pub askers_own : AskersOwn handled
-  askers_own keys own replicas servers acts asked looks = owns_each handled keys own replicas servers acts (asked_owns handled keys acts asked) looks
+  askers_own keys acts asked = let (view, has, owned) = asked_owns handled keys acts asked in (view, (has, owned))
 
   pub one_asks : OneAsks handled
   one_asks keys some a b replicas servers acts more by_a looks_a by_b looks_b =
-      let of_a : OwnsEach a replicas servers keys = askers_own keys a replicas servers acts by_a looks_a in
-      let of_b : OwnsEach b replicas servers keys = askers_own keys b replicas servers more by_b looks_b in
-      let both : Some a ≡ Some b = sym (of_a 0 [] some) ∙ of_b 0 [] some in cc
+      let of_a : owner hash_number replicas servers (get_or keys 0 []) ≡ Some a = owns_first handled keys a replicas servers acts some by_a looks_a in
+      let of_b : owner hash_number replicas servers (get_or keys 0 []) ≡ Some b = owns_first handled keys b replicas servers more some by_b looks_b in
+      let both : Some a ≡ Some b = sym of_a ∙ of_b in (cc, of_a)
 
   pub askers_differ : AskersDiffer handled
-  askers_differ keys some a b replicas one other acts more by_a looks_a by_b looks_b apart =
-      owners_differ hash_number replicas one other (get_or keys 0 []) a b (askers_own keys a replicas one acts by_a looks_a 0 [] some)
-      (askers_own keys b replicas other more by_b looks_b 0 [] some) apart
+  askers_differ keys some acts more by_one by_other =
+      let (one, seen, owned) = asked_owns handled keys acts by_one in
+      let (other, watched, held) = asked_owns handled keys more by_other in (
+        one,
+        other,
+        (seen, owned),
+        (watched, held),
+        λ alike apart.
+            owners_differ hash_number one.replicas one.servers other.servers (get_or keys 0 []) one.own other.own (owned 0 [] some)
+            (subst (λ (n : ℕ). owner hash_number n other.servers (get_or keys 0 []) ≡ Some other.own) (sym alike) (held 0 [] some)) apart,
+      )
 
--- after a failure a request goes on
-unended : (answer : Result Message LinkError) → IsFailure answer → answer ≢ Err link.Memory
-unended answer fails e = subst IsFailure e fails refl
+-- no Reply came
+abbrev NoReply : Result Message LinkError → Type 0
+NoReply (Ok message) = kind_of message.content ≢ kind.Reply
+NoReply (Err e) = Unit {0}
 
-module _ (keys : List (List ℕ)) (request : List ℕ) where
-  -- no node performed one of the Forwards that failed, if the request may not be performed twice
-  undone : (failed : List (Sending Sha256Hash)) (old new : Noted) → old.is_repeatable ≡ false → old.is_unsure ≡ false → All IsFailure (answers_of failed)
-      → ForwardsOver hash_of notes_send keys request failed old new → All IsUndone (answers_of failed) × (new.is_unsure ≡ false)
-  undone [] old new once sure fails same = (All-nil IsUndone, ap (λ (n : Noted). n.is_unsure) same ∙ sure)
-  undone ((view, answer) ∷ sends) old new once sure fails (mid, (owner, owned, other, (source, (stays, doubt))), rest) =
-      let failed : IsFailure answer = fails 0 answer (omega arith) in
-      let ((was_made, noted), keeps) = doubt once (unended answer failed) in
-      let (others, last) = undone sends mid new (stays ∙ once) (keeps failed sure) (All-tail IsFailure answer (answers_of sends) fails) rest in
-      (All-cons IsUndone answer (answers_of sends) (was_made, (or_parts old.is_unsure (is_unsure answer was_made) (sym noted ∙ keeps failed sure)).1) others, last)
+-- an answer of which no doubt is noted shows that no node performed the request
+undone_content : (told : Content) → kind_of told ≢ kind.Reply → is_other told ≡ false → told ≡ content.NotOwner
+undone_content (content.Join news) none sure = absurd (true≢false sure)
+undone_content (content.Ping news) none sure = absurd (true≢false sure)
+undone_content (content.PingReq news target) none sure = absurd (true≢false sure)
+undone_content (content.Forward keys body) none sure = absurd (true≢false sure)
+undone_content (content.Joined news) none sure = absurd (true≢false sure)
+undone_content (content.Ack news) none sure = absurd (true≢false sure)
+undone_content (content.PingReqAck news target reached) none sure = absurd (true≢false sure)
+undone_content (content.Reply body) none sure = absurd (none refl)
+undone_content content.NotOwner none sure = refl
+undone_content (content.Refused why) none sure = absurd (true≢false sure)
 
-  ends_once : (r : Result (List ℕ) ClusterError) (asked : Bool) (last : Noted) (acts : List (Act Sha256Hash))
-      → Ends hash_of notes_send notes_call keys request r false asked (unnoted false) last acts → EndsOnce asked last keys request r acts
-  ends_once r asked last acts (failed, mid, inl (few, (xs, ys, e, (part, fails, over), ends))) =
-      let (none, sure) = undone failed (unnoted false) mid refl refl fails over in
-      (failed, mid, inl (few, (xs, ys, e, ((part, fails, over), none, sure), ends)))
-  ends_once r asked last acts (failed, mid, inr (why, is, unmoved, stays, (part, fails, over), how)) =
-      let (none, sure) = undone failed (unnoted false) mid refl refl fails over in
-      (failed, mid, inr (why, is, unmoved, ((part, fails, over), none, sure)))
+undone_by : (answer : Result Message LinkError) (made : Bool) → NoReply answer → is_unsure answer made ≡ false → IsUndone answer made
+undone_by (Ok message) made none sure = undone_content message.content none sure
+undone_by (Err e) made none sure = sure
 
-  done_once : (text : List ℕ) (asked : Bool) (last : Noted) (acts : List (Act Sha256Hash)) → EndsOnce asked last keys request (Ok text) acts
-      → IsDoneOnce asked last keys request text acts
-  done_once text asked last acts (failed, mid, inl (few, ends)) = (failed, mid, few, ends)
-  done_once text asked last acts (failed, mid, inr (why, is, unmoved, over)) = absurd cc
+failed_unanswered : (answer : Result Message LinkError) → IsFailure answer → NoReply answer
+failed_unanswered (Ok message) fails = fails
+failed_unanswered (Err e) fails = tt
 
-pub requests_end_once : RequestsEndOnce
-requests_end_once asked noted keys request r acts (requested, sent) =
-    ends_once keys request r asked noted acts (requests_handled hash_of notes_send notes_call keys request r false asked (unnoted false) noted acts sent)
+refused_unanswered : (e : ClusterError) (it : Result Message LinkError) → IsResultOf it (Err e) → NoReply it
+refused_unanswered e (Err x) is = tt
+refused_unanswered error.Memory (Ok m) is = absurd cc
+refused_unanswered e (Ok m) is = absurd is
+
+-- the errors by which a request ends that a node may have performed
+handler_doubt : (e : ClusterError) (it : Result (List ℕ) HandlerFault) → e ≢ error.Memory → e ≢ error.HandlerFault → Err e ≡ result_of_handler it → ⊥
+handler_doubt e (Ok text) other own same = cc
+handler_doubt e (Err fault.Failed) other own same = own cc
+handler_doubt e (Err fault.Memory) other own same = other cc
+
+owner_doubt : (e : ClusterError) (it : Result Message LinkError) → e ≢ error.Memory → IsResultOf it (Err e) → ⊥
+owner_doubt error.Memory it other is = other refl
+owner_doubt e it other is = is
+
+module _ {L : Type 0} (went : Went L) (noted_of : L → Noted)
+    (marks : (to : Address) (message : Message) (answer : Result Message LinkError) (old new : L) → went to message answer old new
+    → notes_send to message answer (noted_of old) (noted_of new)) where
+  -- no node performed the request by one call, after which no doubt is noted
+  undone_call : (to : Address) (message : Message) (answer : Result Message LinkError) (old new : L) → (noted_of old).is_repeatable ≡ false → NoReply answer
+      → (noted_of new).is_unsure ≡ false → went to message answer old new → undone_send went noted_of to message answer old new
+  undone_call to message answer old new once none sure goes =
+      let (source, (stays, doubts)) = marks to message answer old new goes in (
+        goes,
+        undone_by answer (was_made (noted_of old).made (noted_of new).made) none
+            (or_parts (noted_of old).is_unsure (is_unsure answer (was_made (noted_of old).made (noted_of new).made)) (sym (doubts once).0 ∙ sure)).1,
+      )
+
+  module _ (keys : List (List ℕ)) (request : List ℕ) where
+    -- nor by one of the Forwards that failed, if it may not be performed twice
+    undone : (failed : List (Sending Sha256Hash)) (old new : L) → (noted_of old).is_repeatable ≡ false → (noted_of old).is_unsure ≡ false
+        → All IsFailure (map (λ (s : Sending Sha256Hash). s.1) failed) → ForwardsOver hash_of went keys request failed old new
+        → ForwardsOver hash_of (undone_send went noted_of) keys request failed old new × ((noted_of new).is_unsure ≡ false) × ((noted_of new).is_repeatable ≡ false)
+    undone [] old new once sure fails same =
+        (same, (ap (λ (l : L). (noted_of l).is_unsure) same ∙ sure), (ap (λ (l : L). (noted_of l).is_repeatable) same ∙ once))
+    undone ((view, answer) ∷ sends) old new once sure fails (mid, (owner, owned, other, goes), rest) =
+        let failed : IsFailure answer = fails 0 answer (omega arith) in
+        let (source, (stays, doubts)) = marks owner (message_from view (content.Forward keys request)) answer old mid goes in
+        let still : (noted_of mid).is_unsure ≡ false = (doubts once).2 failed sure in
+        let (others, last, kept) = undone sends mid new (stays ∙ once) still (All-tail IsFailure answer (map (λ (s : Sending Sha256Hash). s.1) sends) fails) rest in (
+          (
+            mid,
+            (owner, owned, other, undone_call owner (message_from view (content.Forward keys request)) answer old mid once (failed_unanswered answer failed) still goes),
+            others,
+          ),
+          last,
+          kept,
+        )
+
+    fails_undone : (failed : List (Sending Sha256Hash)) (old mid : L) (acts : List (Act Sha256Hash)) → noted_of old ≡ unnoted false
+        → FailsOver hash_of went keys request failed old mid acts
+        → FailsUndone went noted_of keys request failed old mid acts × ((noted_of mid).is_repeatable ≡ false)
+    fails_undone failed old mid acts fresh (part, fails, over) =
+        let (so, sure, once) = undone failed old mid (ap (λ (n : Noted). n.is_repeatable) fresh) (ap (λ (n : Noted). n.is_unsure) fresh) fails over in
+        (((part, fails, so), sure), once)
+
+    module _ {A : Type 0} (handled : Handled A) where
+      ends_once : (r : Result (List ℕ) ClusterError) (was is : A) (old new : L) (acts : List (Act Sha256Hash)) → noted_of old ≡ unnoted false
+          → Ends hash_of went handled keys request r was is old new acts → EndsOnce went handled noted_of keys request r was is old new acts
+      ends_once r was is old new acts fresh (failed, mid, inl (few, (xs, ys, e, over, ends))) =
+          (failed, mid, inl (few, (xs, ys, e, (fails_undone failed old mid xs fresh over).0, ends)))
+      ends_once r was is old new acts fresh (failed, mid, inr (why, refused, unmoved, stays, over, how)) =
+          (failed, mid, inr (why, refused, unmoved, stays, (fails_undone failed old mid acts fresh over).0))
+
+      done_once : (text : List ℕ) (was is : A) (old new : L) (acts : List (Act Sha256Hash))
+          → EndsOnce went handled noted_of keys request (Ok text) was is old new acts
+          → (failed : List (Sending Sha256Hash)) × (mid : L) × (length failed < most_sends)
+          × Then (FailsUndone went noted_of keys request failed old mid) (EndsAtOne went handled keys request (Ok text) was is mid new) acts
+      done_once text was is old new acts (failed, mid, inl (few, ends)) = (failed, mid, few, ends)
+      done_once text was is old new acts (failed, mid, inr (why, refused, unmoved, stays, over)) = absurd cc
+
+      -- one that ended by an error, of which no doubt is left, was not performed
+      not_done : (e : ClusterError) (was is : A) (old new : L) (acts : List (Act Sha256Hash)) → noted_of old ≡ unnoted false → (noted_of new).is_unsure ≡ false
+          → Ends hash_of went handled keys request (Err e) was is old new acts
+          → Ends hash_of (undone_send went noted_of) handled keys request (Err e) was is old new acts
+      not_done e was is old new acts fresh sure (failed, mid, inl (few, (xs, ys, parts, over, (view, just, inl here)))) =
+          (failed, mid, inl (few, (xs, ys, parts, (fails_undone failed old mid xs fresh over).0.0, (view, just, inl here))))
+      not_done e was is old new acts fresh sure
+          (failed, mid, inl (few, (xs, ys, parts, over, (view, just, inr (unmoved, (answer, (owner, owned, other, goes), ends)))))) =
+          let (so, once) = fails_undone failed old mid xs fresh over in (
+            failed,
+            mid,
+            inl (
+              few,
+              (
+                xs,
+                ys,
+                parts,
+                so.0,
+                (
+                  view,
+                  just,
+                  inr (
+                    unmoved,
+                    (
+                      answer,
+                      (
+                        owner,
+                        owned,
+                        other,
+                        undone_call owner (message_from view (content.Forward keys request)) answer mid new once (refused_unanswered e answer ends) sure goes,
+                      ),
+                      ends,
+                    ),
+                  ),
+                ),
+              ),
+            ),
+          )
+      not_done e was is old new acts fresh sure (failed, mid, inr (why, refused, unmoved, stays, over, how)) =
+          (failed, mid, inr (why, refused, unmoved, stays, (fails_undone failed old mid acts fresh over).0.0, how))
+
+      refused_sure : (e : ClusterError) (was is : A) (old new : L) (acts : List (Act Sha256Hash)) → e ≢ error.Memory
+          → EndsOnce went handled noted_of keys request (Err e) was is old new acts → ((noted_of new).is_unsure ≡ false) × (e ≢ error.HandlerFault → is ≡ was)
+      refused_sure e was is old new acts other (failed, mid, inl (few, (xs, ys, parts, over, (view, just, inl (owned, (answer, called, same), stays))))) =
+          (ap (λ (l : L). (noted_of l).is_unsure) stays ∙ over.1, λ own. absurd (handler_doubt e answer other own same))
+      refused_sure e was is old new acts other (failed, mid, inl (few, (xs, ys, parts, over, (view, just, inr (unmoved, (answer, goes, ends)))))) =
+          absurd (owner_doubt e answer other ends)
+      refused_sure e was is old new acts other (failed, mid, inr (why, refused, unmoved, stays, over)) =
+          (ap (λ (l : L). (noted_of l).is_unsure) stays ∙ over.1, λ own. unmoved)
+
+-- so ends each request over such a link
+module _ {L A : Type 0} (went : Went L) (handled : Handled A) (noted_of : L → Noted)
+    (marks : (to : Address) (message : Message) (answer : Result Message LinkError) (old new : L) → went to message answer old new
+    → notes_send to message answer (noted_of old) (noted_of new)) where
+  pub requests_end_once : RequestsEndOnce went handled noted_of
+  requests_end_once keys request r was is old new acts fresh sent =
+      ends_once went noted_of marks keys request handled r was is old new acts fresh (requests_handled hash_of went handled keys request r was is old new acts sent)
+
+  pub answers_are_done_once : AnswersAreDoneOnce went handled noted_of
+  answers_are_done_once keys request text was is old new acts fresh sent =
+      done_once went noted_of marks keys request handled text was is old new acts (requests_end_once keys request (Ok text) was is old new acts fresh sent)
+
+  pub errors_are_undone : ErrorsAreUndone went handled noted_of
+  errors_are_undone keys request e was is old new acts fresh sure sent =
+      not_done went noted_of marks keys request handled e was is old new acts fresh sure
+      (requests_handled hash_of went handled keys request (Err e) was is old new acts sent)
+
+  pub others_are_sure : OthersAreSure went handled noted_of
+  others_are_sure keys request e was is old new acts other fresh sent =
+      refused_sure went noted_of marks keys request handled e was is old new acts other (requests_end_once keys request (Err e) was is old new acts fresh sent)
+
+-- the application was asked if the result is a text
+asked_here : (keys : List (List ℕ)) (request text : List ℕ) (asked : Bool) (mid last : Noted) (acts : List (Act Sha256Hash))
+    → EndsAtOne notes_send notes_asking keys request (Ok text) false asked mid last acts → EndsAtOne notes_send notes_call keys request (Ok text) false asked mid last acts
+asked_here keys request text asked mid last acts (view, just, inl (owned, (answer, inl called, is), stays)) = (view, just, inl (owned, (answer, called, is), stays))
+asked_here keys request text asked mid last acts (view, just, inl (owned, (answer, inr (unmoved, over), is), stays)) = absurd cc
+asked_here keys request text asked mid last acts (view, just, inr there) = (view, just, inr there)
 
 -- what a client gets is the text of the request, by the node that the reply names
 module _ (limit : Option ℕ) (own : ℕ) (key : List ℕ) (owner : ℕ) (text : List ℕ) where
   abbrev Answered : Outcome
   Answered = Ok (shown.Handled owner text)
 
-  settled_so : (named : ℕ) (result : Result (List ℕ) ClusterError) → Settled named false limit result Answered → (owner ≡ named) × (result ≡ Ok text)
-  settled_so named (Ok given) (inl is) = (cc, cc)
-  settled_so named (Err e) (inl is) = absurd cc
-  settled_so named result (inr (why, ends, is, refused)) = absurd cc
+  settled_so : (named : ℕ) (ending : Option Refusal) (result : Result (List ℕ) ClusterError) → SettledBy named ending result Answered → (owner ≡ named) × (result ≡ Ok text)
+  settled_so named None (Ok given) is = (cc, cc)
+  settled_so named (Some why) (Ok given) is = (cc, cc)
+  settled_so named (Some why) (Err error.Memory) is = absurd cc
+  settled_so named None (Err e) is = absurd cc
+  settled_so named (Some why) (Err e) is = absurd cc
 
   asked_so : (request : List ℕ) (acts : List (Act Sha256Hash)) → AsksOwner limit own key request false Answered acts
-      → (asked : Bool) × (noted : Noted) × (owner ≡ answerer own asked noted.last) × IsDoneOnce asked noted (key ∷ []) request text acts
+      → (asked : Bool) × (noted : Noted) × (owner ≡ answerer own asked noted.last)
+      × ((failed : List (Sending Sha256Hash)) × (mid : Noted) × (length failed < most_sends)
+      × Then (FailsUndone notes_send (λ n. n) (key ∷ []) request failed (unnoted false) mid)
+      (EndsAtOne notes_send notes_call (key ∷ []) request (Ok text) false asked mid noted) acts)
   asked_so request acts (inl (none, is)) = absurd cc
-  asked_so request acts (inr (asked, noted, (result, requested, settled))) =
-      let (named, is) = settled_so (answerer own asked noted.last) result settled in (
-        asked,
-        noted,
-        named,
-        done_once (key ∷ []) request text asked noted acts
-            (requests_end_once asked noted (key ∷ []) request (Ok text) acts
-            (subst (λ (it : Result (List ℕ) ClusterError). IsRequested false asked noted (key ∷ []) request it acts) is requested)),
-      )
+  asked_so request acts (inr (asked, noted, ending, may, (result, requested, settled))) =
+      let (named, is) = settled_so (answerer own asked noted.last) ending result settled in
+      let (failed, mid, few, (xs, ys, e, over, ends)) =
+      answers_are_done_once notes_send notes_asking (λ n. n) (λ to message answer was new goes. goes) (key ∷ []) request text false asked (unnoted false) noted acts refl
+      (subst (λ (it : Result (List ℕ) ClusterError). SendsRequest hash_of notes_send notes_asking (key ∷ []) request it false asked (unnoted false) noted acts) is requested.1) in
+      (asked, noted, named, (failed, mid, few, (xs, ys, e, over, asked_here (key ∷ []) request text asked mid noted ys ends)))
 
-pub answers_are_done_once : AnswersAreDoneOnce
-answers_are_done_once limit own replicas key request owner text acts (inl (none, is)) = absurd cc
-answers_are_done_once limit own replicas key request owner text acts (inr (Err why, (xs, ys, e, finds, (none, is)))) = absurd cc
-answers_are_done_once limit own replicas key request owner text acts (inr (Ok found, (xs, ys, e, finds, inl (none, is)))) = absurd cc
-answers_are_done_once limit own replicas key request owner text acts (inr (Ok found, (xs, ys, e, finds, inr asks))) =
-    let (asked, noted, named, done) = asked_so limit own key owner text (sent_text found.1 request) ys asks in
+pub shown_are_done_once : ShownAreDoneOnce
+shown_are_done_once limit own replicas key request owner text acts (inl (none, is)) = absurd cc
+shown_are_done_once limit own replicas key request owner text acts (inr (Err why, (xs, ys, e, finds, (none, is)))) = absurd cc
+shown_are_done_once limit own replicas key request owner text acts (inr (Ok found, (xs, ys, e, finds, inl (none, is)))) = absurd cc
+shown_are_done_once limit own replicas key request owner text acts (inr (Ok found, (xs, ys, e, finds, inr sent))) =
+    let (asked, noted, named, done) = asked_so limit own key owner text (sent_text found.1 request) ys sent in
     (found, asked, noted, named, (xs, ys, e, finds, done))

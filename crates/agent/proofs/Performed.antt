@@ -18,7 +18,7 @@ use Rattle.agent_core.specs.declared.actions.Action.TheVariants as action
 use Rattle.agent_core.specs.declared.refusals.Refusal.{Refusal}
 use Rattle.agent_core.specs.declared.refusals.Refusal.TheVariants as refusal
 use Rattle.agent.specs.Calling.{Calling, HasMade, Looks}
-use Rattle.agent.specs.Performing.{After, AsksIfPlaced, AsksOwner, EndsEarly, Finds, IsFound, Outcome, Owners, Performs, Settled, SettledBy, Shows, ShowsOwners, crowded, first_owners}
+use Rattle.agent.specs.Performing.{After, AsksIfPlaced, AsksOwner, Finds, IsFound, Outcome, Owners, Performs, Shows, ShowsOwners, crowded, first_owners}
 use Rattle.agent_http.specs.Replies.{IsText}
 
 module _ (So : OfActs Sha256Hash) where
@@ -66,13 +66,6 @@ pub made_body : (limit : Option ℕ) (own replicas : ℕ) (key body : List ℕ) 
 made_body limit own replicas key body outcome a b made =
     made_as (Performs limit own replicas (action.Handle key body) outcome) (Performs limit own replicas (action.Pass key (Body (text_of_body body)) true) outcome) a b
     (λ acts. ⊎_elim (λ declined. inl (inl declined)) (λ handled. inr handled)) made
-
--- what comes of a request that could end early so
-pub settled_as : (owner : ℕ) (is_repeatable : Bool) (limit : Option ℕ) (ending : Option Refusal) (result : Result (List ℕ) ClusterError) (outcome : Outcome)
-    → IfSome ending (EndsEarly is_repeatable limit) → SettledBy owner ending result outcome → Settled owner is_repeatable limit result outcome
-settled_as owner is_repeatable limit ending result outcome may (inl comes) = inl comes
-settled_as owner is_repeatable limit ending result outcome may (inr ended) =
-    inr (ended.0, subst (λ (it : Option Refusal). IfSome it (EndsEarly is_repeatable limit)) ended.1 may, ended.2, ended.3)
 
 -- no place for a request
 pub made_crowded : (limit : Option ℕ) (own : ℕ) (found : Owners) (key : List ℕ) (request : Outgoing) (is_repeatable : Bool) (why : Refusal) (old : Calling)

@@ -1,5 +1,5 @@
 -- Whether the application of an agent is asked, and which node answers.
-use Rattle.std.specs.Prelude.{◌≡◌, ℕ, Bool, true, false, Option, Some, None, Result, Ok, Err}
+use Rattle.std.specs.Prelude.{◌≡◌, ◌⊎◌, ℕ, Bool, true, false, Option, Some, None, Result, Ok, Err}
 use Rattle.change_core.specs.declared.addresses.Address.{Address}
 use Rattle.hash_ring.specs.declared.hash.Sha256Hash.{Sha256Hash}
 use Rattle.message_core.specs.declared.messages.Message.{Message}
@@ -8,6 +8,7 @@ use Rattle.peer_core.specs.Handling.{Handled, Handlings}
 use Rattle.peer_core.specs.Links.{Went}
 use Rattle.peer_core.specs.Serving.{Serves}
 use Rattle.peer_core.specs.declared.errors.ClusterError.{ClusterError}
+use Rattle.peer_core.specs.declared.errors.HandlerFault.TheVariants as fault
 use Rattle.peer_core.specs.declared.errors.LinkError.{LinkError}
 use Rattle.line_service.specs.declared.inputs.Input.{Input}
 use Rattle.line_service.specs.declared.inputs.Input.TheVariants as input
@@ -26,6 +27,10 @@ notes_source to message answer old new = new ≡ source_of answer
 -- a call of the application is noted
 abbrev pub notes_call : Handled Bool
 notes_call keys body answer was is = is ≡ true
+
+-- what a request asks of the application: a call of it is noted, and there is none if the wait of the request was over before
+abbrev pub notes_asking : Handled Bool
+notes_asking keys body answer was is = notes_call keys body answer was is ⊎ ((is ≡ was) × (answer ≡ Err fault.Memory))
 
 -- the node that gave an answer: the one with the own address, if its application was asked, or else the one that the link noted
 abbrev pub answerer : Address → Bool → Option Address → Address

@@ -5,6 +5,8 @@ pub mod Asking
 pub mod Calling
 pub mod Connections
 pub mod Errors
+pub mod Hosts
+pub mod HttpRefusals
 pub mod Joins
 pub mod Lines
 pub mod Onces

@@ -1,5 +1,5 @@
 -- What an action makes the node do, and the reply or the refusal that comes of it.
-use Rattle.std.specs.Prelude.{◌≡◌, ◌≢◌, ◌⊎◌, ◌==◌, ℕ, Bool, true, false, cond, bytes_eq, map, string_bytes, List, [], ◌∷◌, ◌++◌, slice_get, take, codes, Option, Some, None, Result, Ok, Err}
+use Rattle.std.specs.Prelude.{◌≡◌, ◌≢◌, ◌⊎◌, ◌||◌, ◌==◌, ℕ, Bool, true, false, cond, bytes_eq, map, string_bytes, List, [], ◌∷◌, ◌++◌, slice_get, take, codes, Option, Some, None, IfSome, Result, Ok, Err}
 use Rattle.change_core.specs.Digest.{digest_digits}
 use Rattle.change_core.specs.Members.{members}
 use Rattle.change_core.specs.declared.changes.Change.{Change}
@@ -30,7 +30,7 @@ use Rattle.agent_core.specs.declared.passing.Outgoing.{Outgoing}
 use Rattle.agent_core.specs.declared.passing.Outgoing.TheVariants.{Body}
 use Rattle.agent_core.specs.declared.refusals.Refusal.{Refusal}
 use Rattle.agent_core.specs.declared.refusals.Refusal.TheVariants as refusal
-use Rattle.agent.specs.Asking.{answerer, notes_call}
+use Rattle.agent.specs.Asking.{answerer, notes_asking}
 use Rattle.agent.specs.Calling.{AnyAnswer, AnyHandling, AnyTimes, Looks, hash_number, hash_of}
 use Rattle.agent.specs.Onces.{Noted, notes_send, unnoted}
 use Rattle.agent_http.specs.Replies.{IsOpenText, IsText}
@@ -145,7 +145,7 @@ ShowsAnswer owner text (Err why) = ⊥
 abbrev pub IsRequested : Bool → Bool → Noted → List (List ℕ) → List ℕ → Part Sha256Hash (List ℕ)
 IsRequested is_repeatable asked noted keys request r acts =
     IsRequest hash_of AnyAnswer AnyHandling AnyTimes keys request r acts
-    × SendsRequest hash_of notes_send notes_call keys request r false asked (unnoted is_repeatable) noted acts
+    × SendsRequest hash_of notes_send notes_asking keys request r false asked (unnoted is_repeatable) noted acts
 
 -- The refusal of a request that ended early, by whether a node may have performed it, whether it may be performed twice, and the limit of its wait: that
 -- its answer was lost; or that its owner does not answer, if the wait has a limit and no node can have performed it. None if it can't end early.
@@ -154,31 +154,25 @@ early_refusal is_unsure true None = None
 early_refusal is_unsure false None = Some refusal.AnswerLost
 early_refusal is_unsure is_repeatable (Some limit) = Some (cond is_unsure refusal.AnswerLost refusal.OwnerSilent)
 
--- A request may be refused so since it ended early: one that may not be performed twice, at a node that may have performed it and gave no reply; one whose
--- wait has a limit, once that is over.
-abbrev pub EndsEarly : Bool → Option ℕ → Refusal → Type 0
-EndsEarly true None why = ⊥
-EndsEarly false None why = why ≡ refusal.AnswerLost
-EndsEarly is_repeatable (Some limit) why = (why ≡ refusal.AnswerLost) ⊎ (why ≡ refusal.OwnerSilent)
-
--- what comes of a request: the text that answered it, or the refusal for its error; or this refusal, since it ended early
+-- what comes of a request: the text that answered it, or the refusal for its error; or, in place of that for memory, this refusal, if it ended early
 abbrev pub SettledBy : ℕ → Option Refusal → Result (List ℕ) ClusterError → Outcome → Type 0
-SettledBy owner ending result outcome =
-    ComesOf (ShowsAnswer owner) result outcome ⊎ ((why : Refusal) × (ending ≡ Some why) × (result ≡ Err error.Memory) × (outcome ≡ Err why))
+SettledBy owner (Some why) (Err error.Memory) outcome = outcome ≡ Err why
+SettledBy owner ending result outcome = ComesOf (ShowsAnswer owner) result outcome
 
--- What comes of a request: the text that answered it, or the refusal for its error. One that may not be performed twice, or whose wait has a limit, can
--- end early.
-abbrev pub Settled : ℕ → Bool → Option ℕ → Result (List ℕ) ClusterError → Outcome → Type 0
-Settled owner is_repeatable limit result outcome =
-    ComesOf (ShowsAnswer owner) result outcome
-    ⊎ ((why : Refusal) × EndsEarly is_repeatable limit why × (result ≡ Err error.Memory) × (outcome ≡ Err why))
+-- whether a request may have been performed without an answer to it: by another node, as the link notes, or since the application was asked
+abbrev pub is_in_doubt : Bool → Noted → Bool
+is_in_doubt asked noted = noted.is_unsure || asked
 
--- a request of one key is made, which this text has; it is not if memory runs out for its key
+-- this refusal is that of a request that ended early, after which this is noted of it
+abbrev pub EndsEarly : Bool → Option ℕ → Bool → Noted → Refusal → Type 0
+EndsEarly is_repeatable limit asked noted why = early_refusal (is_in_doubt asked noted) is_repeatable limit ≡ Some why
+
+-- A request of one key is made, which this text has; it is not if memory runs out for its key. It may end early.
 abbrev pub AsksOwner : Option ℕ → ℕ → List ℕ → List ℕ → Bool → Outcome → OfActs Sha256Hash
 AsksOwner limit own key request is_repeatable outcome acts =
     Declines refusal.Memory outcome acts
-    ⊎ ((asked : Bool) × (noted : Noted)
-    × After (IsRequested is_repeatable asked noted (key ∷ []) request) (Settled (answerer own asked noted.last) is_repeatable limit) outcome acts)
+    ⊎ ((asked : Bool) × (noted : Noted) × (ending : Option Refusal) × IfSome ending (EndsEarly is_repeatable limit asked noted)
+    × After (IsRequested is_repeatable asked noted (key ∷ []) request) (SettledBy (answerer own asked noted.last) ending) outcome acts)
 
 -- the owner of a key, and the node that would own it next, if there is one
 abbrev pub Owners : Type 0

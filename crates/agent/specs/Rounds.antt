@@ -1,5 +1,6 @@
 -- The rounds of an agent.
-use Rattle.std.specs.Prelude.{◌≡◌, ◌⊎◌, ℕ, Option, Some, None, Result, Ok, Err}
+use Rattle.std.specs.Prelude.{◌≡◌, ◌⊎◌, ◌+◌, ◌%◌, ◌^◌, ℕ, Option, Some, None, Result, Ok, Err}
+use Rattle.change_core.specs.Address.{address_of, ip_of, port_of}
 use Rattle.peer_core.specs.Correcting.{IsCorrectingRound}
 use Rattle.peer_core.specs.Parts.{Does}
 use Rattle.peer_core.specs.Rounds.{IsRound}
@@ -17,6 +18,10 @@ suspected_in other = None
 abbrev pub silent_in : Result Round ClusterError → Option ℕ
 silent_in (Ok round) = suspected_in round
 silent_in (Err error) = None
+
+-- the seed of healing at the node with its own address after this number of lists of hosts: the address with the number added to its IPv4 number, of 32 bits
+abbrev pub healing_seed : ℕ → ℕ → ℕ
+healing_seed own lists = address_of ((ip_of own + lists) % 2 ^ 32) (port_of own)
 
 -- one round was made at this moment, over a link whose answers may be any, with this result: one that corrects its target, or one that does not
 pub record MakesRound (now : ℕ) (result : Result Round ClusterError) (old new : Calling) : Type 0 where

@@ -11,14 +11,14 @@ ghost use Rattle.agent_core.specs.declared.actions.Action.TheVariants as action;
 ghost use Rattle.agent.specs.Answers.{IsAnswered, PerformsBy, Settles, ShowsTo};
 ghost use Rattle.agent.specs.Asking.{answerer};
 ghost use Rattle.agent.specs.Calling.{HasMade};
-ghost use Rattle.agent.specs.Onces.{Noted};
-ghost use Rattle.agent.specs.Performing.{AsksIfPlaced, AsksOwner, EndsEarly, Finds, IsFound, IsHealth, IsLiveness, IsRequested, IsUnjoined, Outcome, Performs, SettledBy, ShowsCounts, ShowsLevel, ShowsMembers, ShowsOwners, crowded, digest_by, refusal_of};
+ghost use Rattle.agent.specs.Onces.{Noted, noted_by};
+ghost use Rattle.agent.specs.Performing.{AsksIfPlaced, AsksOwner, EndsEarly, Finds, IsFound, IsHealth, IsLiveness, IsRequested, IsUnjoined, Outcome, Performs, SettledBy, ShowsCounts, ShowsLevel, ShowsMembers, ShowsOwners, crowded, digest_by, is_in_doubt, refusal_of};
 
 use crate::agents::{Agent, Flag, Phase};
 use crate::callers::Caller;
 use crate::links::{NotedHandler, NotedLink};
 use crate::onces::OnceLink;
-use crate::patience::{Patience, early_refusal};
+use crate::patience::{Patience, Patient, early_refusal};
 use agent_core::{Action, LogLevel, Outgoing, Refusal, is_live, pack_body, pack_request};
 use agent_http::{
     Form, Reply, action_of, is_of_key, limit_for, put_refusal, put_reply, takes_json,
@@ -163,6 +163,29 @@ fn settle(
     }
 }
 
+/// Returns whether a request may have been performed without an answer to it, as its link and its handler note.
+fn is_in_doubt<R, N>(once: &OnceLink<'_, '_, R, N>, handler: &Patient<'_, '_, R>) -> bool
+    ensures { result ≡ is_in_doubt handler.now.was_asked (noted_by once.now) }
+{
+    once.is_unsure || handler.was_asked
+}
+
+/// Returns the refusal of a request that ended early, as its link and its handler note; None if it did not.
+#[tactic(auto, using(crate::proofs::Unsure::ends_early))]
+fn ending_of<R, N>(
+    once: &OnceLink<'_, '_, R, N>,
+    handler: &Patient<'_, '_, R>,
+    is_repeatable: bool,
+    limit: Option<u64>,
+) -> Option<Refusal>
+    ensures { IfSome result (EndsEarly is_repeatable limit handler.now.was_asked (noted_by once.now)) }
+{
+    if !once.is_over && !handler.is_over {
+        return None;
+    }
+    early_refusal(is_in_doubt(once, handler), is_repeatable, limit)
+}
+
 /// The service that answers the requests of one connection.
 #[derive(Drop)]
 pub struct Front<'f, 'a, R> {
@@ -294,14 +317,14 @@ impl<'f, 'a, R: Host> Front<'f, 'a, R> {
         is_repeatable: bool,
     ) -> (Result<Text, ClusterError>, Address, Option<Refusal>)
         ensures requested { (asked : Bool) × (noted : Noted) × (result.1 ≡ answerer self.old.agent.now.own asked noted.last)
+            × IfSome result.2 (EndsEarly is_repeatable self.old.limit asked noted)
             × HasMade (IsRequested is_repeatable asked noted keys request result.0) self.old.caller.now self.new.caller.now }
-        ensures ending { IfSome result.2 (EndsEarly is_repeatable self.old.limit) }
         ensures agent { self.new.agent ≡ self.old.agent }
     {
         let (agent, alloc, limit) = (self.agent, self.alloc, self.limit);
         let patience = Patience::begin(agent, limit);
-        let mut handler = NotedHandler::new(&patience);
-        let mut once = OnceLink::new(&patience, &mut *self.link, is_repeatable);
+        let mut handler = Patient::new(&patience);
+        let mut once = OnceLink::new(&patience, &mut *self.link, agent.rt, is_repeatable);
         let answer = self.caller.request(
             &agent.rt,
             alloc,
@@ -312,12 +335,7 @@ impl<'f, 'a, R: Host> Front<'f, 'a, R> {
             request,
         );
         let owner = answerer(agent.own, handler.was_asked, once.last);
-        let is_unsure = once.is_unsure || patience.was_asked();
-        let ending = if once.is_over || patience.is_over() {
-            early_refusal(is_unsure, is_repeatable, limit)
-        } else {
-            None
-        };
+        let ending = ending_of(&once, &handler, is_repeatable, limit);
         (answer, owner, ending)
     }
 
@@ -330,8 +348,8 @@ impl<'f, 'a, R: Host> Front<'f, 'a, R> {
         is_repeatable: bool,
     ) -> (Result<Text, ClusterError>, Address, Option<Refusal>)
         ensures requested { (asked : Bool) × (noted : Noted) × (result.1 ≡ answerer self.old.agent.now.own asked noted.last)
+            × IfSome result.2 (EndsEarly is_repeatable self.old.limit asked noted)
             × HasMade (IsRequested is_repeatable asked noted keys request result.0) self.old.caller.now self.new.caller.now }
-        ensures ending { IfSome result.2 (EndsEarly is_repeatable self.old.limit) }
         ensures agent { self.new.agent ≡ self.old.agent }
     {
         if is_repeatable && self.limit.is_none() {

@@ -58,7 +58,7 @@ fn own_answer<R: Host, A: HandlerMut>(
     requires { handler.old.was_asked ≡ false }
     ensures answered { IsAnsweredHere (asks A.handled handler.new.was_asked (handler_of handler.old) (handler_of handler.new)) job.now.input result caller.old caller.new }
 {
-    let mut link = PeerLink::new(agent, agent.rt, agent.timeouts.links, 0);
+    let mut link = PeerLink::new(agent, agent.rt, agent.timeouts.links);
     let now = agent.now();
     caller.respond(&agent.rt, alloc, &mut link, handler, now, &job.input)
 }
@@ -200,7 +200,7 @@ pub fn serve_requests<R: Host>(
     jobs: Receiver<Job>,
 ) {
     let agent = &*agent;
-    let mut link = PeerLink::new(agent, agent.rt, agent.timeouts.links, 0);
+    let mut link = PeerLink::new(agent, agent.rt, agent.timeouts.links);
     for _ in agent.rt.forever() {
         let Ok(job) = jobs.recv(&agent.rt) else {
             return;

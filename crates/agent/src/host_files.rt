@@ -2,6 +2,7 @@
 ghost use Rattle.std.specs.Prelude.{◌≡◌, IfOk, IsSome, IsTrue};
 ghost use Rattle.std.specs.IoError.{error_kind};
 ghost use Rattle.agent.specs.Errors.{error_of_reading};
+ghost use Rattle.agent.specs.Hosts.{are_among, are_same, is_among};
 
 use crate::agents::Agent;
 use crate::errors::AgentError;
@@ -71,6 +72,27 @@ fn list_hosts<R: Files>(
     Ok(hosts)
 }
 
+/// Returns whether a host is one of these.
+fn is_among(host: Address, hosts: &[Address]) -> bool
+    ensures { result ≡ is_among hosts.now host }
+{
+    hosts.contains(&host)
+}
+
+/// Returns whether each of the first hosts is one of the others.
+fn are_among(hosts: &[Address], others: &[Address]) -> bool
+    ensures { result ≡ are_among hosts.now others.now }
+{
+    hosts.iter().all(|host| is_among(*host, others))
+}
+
+/// Returns whether two lists name the same hosts, in whatever order and however often.
+fn are_same(hosts: &[Address], others: &[Address]) -> bool
+    ensures { result ≡ are_same hosts.now others.now }
+{
+    are_among(hosts, others) && are_among(others, hosts)
+}
+
 impl Hosts {
     /// Makes the hosts of settings, whose file is read for the first time.
     ///
@@ -121,15 +143,21 @@ impl Hosts {
         self.for_joins.lock(rt).take()
     }
 
+    /// Returns whether the hosts changed since the thread that joins by them took them last.
+    pub fn have_changed<W: Wait>(&self, rt: &W) -> bool {
+        self.for_joins.lock(rt).is_some()
+    }
+
     /// Takes the hosts for the thread of the rounds, if they changed since it did so last.
     pub fn take_for_rounds<W: Wait>(&self, rt: &W) -> Option<Vec<Address>> {
         self.for_rounds.lock(rt).take()
     }
 
-    /// Takes these hosts in place of those that are known, and hands them to the threads that ask them. Returns whether they are others.
+    /// Takes these hosts in place of those that are known, and hands them to the threads that ask them, unless they are the same. Returns whether they are
+    /// others.
     fn set<W: Wait>(&self, rt: &W, hosts: Vec<Address>) -> Result<bool, AllocError> {
         let mut known = self.known.lock(rt);
-        if known.as_slice() == hosts.as_slice() {
+        if are_same(known.as_slice(), hosts.as_slice()) {
             return Ok(false);
         }
         let (for_joins, for_rounds) = (hosts.clone()?, hosts.clone()?);

@@ -61,23 +61,40 @@ fn is_held<R: Host>(agent: &Agent<R>, caller: &mut Caller, host: Address) -> boo
     }
 }
 
-/// Joins by the hosts in turn, until one has answered or is held as serving. Returns whether one has, or is.
+/// What came of the joins by the hosts in turn.
+#[derive(Clone, Copy)]
+enum Asked {
+    /// One of them has answered, or is held as serving.
+    Met,
+    /// There are other hosts by now.
+    Changed,
+    /// None has answered, or the node has left.
+    Silent,
+}
+
+/// Joins by the hosts in turn, unless the node has left, until one has answered or is held as serving, or there are other hosts.
 fn join_by<R: Host>(
     agent: &Agent<R>,
     alloc: Global,
     caller: &mut Caller,
     link: &mut NotedLink<'_, R>,
     hosts: &[Address],
-) -> bool {
+) -> Asked {
+    if agent.has_left.get() {
+        return Asked::Silent;
+    }
     for host in hosts {
+        if agent.hosts.have_changed(&agent.rt) {
+            return Asked::Changed;
+        }
         if *host == agent.own {
             continue;
         }
         if is_held(agent, caller, *host) || join_one(agent, alloc, caller, link, *host) {
-            return true;
+            return Asked::Met;
         }
     }
-    false
+    Asked::Silent
 }
 
 /// Returns whether the node is out of the ring, so that it asks no host. Requests of keys are answered by what it knows then.
@@ -97,8 +114,8 @@ fn note_alone<R: Host>(agent: &Agent<R>) {
     }
 }
 
-/// Sends a Join to one host after the other, again and again until one has answered, or the agent is to end. Hosts that come later are asked as these
-/// are. Once one has answered it is healing that asks them.
+/// Sends a Join to one host after the other, again and again until one has answered, or the agent is to end. Hosts that come later are asked in place of
+/// these as soon as the host that is asked has answered or its time is up. Once one has answered it is healing that asks them.
 pub fn join_hosts<R: Host>(
     agent: Arc<Agent<R>, Global>,
     alloc: Global,
@@ -117,15 +134,14 @@ pub fn join_hosts<R: Host>(
             wait = MAX_FIRST_WAIT;
         }
         let mut link = link_of(agent, wait);
-        let is_met = !agent.has_left.get()
-            && join_by(agent, alloc, &mut caller, &mut link, hosts.as_slice());
-        if is_met {
-            agent.has_joined.set(true);
-        } else {
-            note_alone(agent);
+        let asked = join_by(agent, alloc, &mut caller, &mut link, hosts.as_slice());
+        match asked {
+            Asked::Met => agent.has_joined.set(true),
+            Asked::Changed if !agent.is_stopping.get() => continue,
+            Asked::Changed | Asked::Silent => note_alone(agent),
         }
         agent.is_starting.set(false);
-        if is_met || agent.is_stopping.get() {
+        if matches!(asked, Asked::Met) || agent.is_stopping.get() {
             return;
         }
         wait = wait.saturating_mul(2).min(MAX_WAIT);

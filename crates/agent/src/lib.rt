@@ -13,6 +13,7 @@ mod fronts;
 mod hands;
 mod host_files;
 mod hosts;
+mod http_refusals;
 pub mod laws;
 mod lines;
 mod links;

@@ -1,7 +1,8 @@
 //! Requests that may end early: after a send of which nothing is known, one that is to be sent at most once; and one whose wait is over.
 ghost use Rattle.std.specs.Prelude.{◌≡◌, ◌||◌, ◌+◌, ◌-◌, ◌^◌, ◌↔◌, None, Err, IfErr, false, is_err, true};
 ghost use Rattle.peer_core.specs.Links.{IsNamed, failures_in};
-ghost use Rattle.agent.specs.Onces.{ends_request, is_unsure, noted_by, unnoted};
+ghost use Rattle.agent.specs.PeerLinks.{failures_by};
+ghost use Rattle.agent.specs.Onces.{MayConnect, ends_request, is_unsure, net_of, noted_by, unnoted, was_made};
 
 use crate::agents::Agent;
 use crate::links::{NotedLink, source_of};
@@ -18,43 +19,44 @@ use std::net::{SocketAddr, TcpStream};
 use std::sync::Wait;
 use std::time::Duration;
 
-/// A network that notes whether a connection was made.
+/// A network that counts its connections.
 #[derive(Drop)]
-struct NotedNet<R> {
-    rt: R,
-    was_made: bool,
+pub struct CountedNet<N> {
+    net: N,
+    /// The number of connections that were made, modulo 2^64.
+    made: u64,
 }
 
-impl<R: Host> Dial for NotedNet<R> {
-    ghost use Rattle.agent.specs.Onces.{made_by};
+impl<N: Dial<Stream = TcpStream>> Dial for CountedNet<N> {
+    ghost use Rattle.agent.specs.Onces.{Dials};
 
     type Stream = TcpStream;
 
-    ghost leads = { λ _ _. Unit {0} };
+    ghost leads = { N.leads };
 
-    // a connection is noted
-    ghost dialled = { λ _ _ connection old new. new.was_made ≡ made_by connection old.was_made };
+    // a connection is counted
+    ghost dialled = { Dials N.dialled };
 
     fn dial(&mut self, to: &SocketAddr, limit: Duration) -> io::Result<TcpStream> {
-        let stream = TcpStream::connect_timeout(&self.rt, to, limit)?;
-        self.was_made = true;
+        let stream = self.net.dial(to, limit)?;
+        self.made = self.made.wrapping_add(1);
         Ok(stream)
     }
 }
 
-/// Returns whether, by this answer, the node that was called may have performed a request without its reply: a connection to
-/// it was made, or it answered otherwise than by a Reply or a NotOwner. A link that is spent sends nothing.
+/// Returns whether, by this answer, the node that was called may have performed a request without its reply: it answered otherwise than by a Reply or a
+/// NotOwner, or it gave no answer, and a connection to it was made.
 fn is_unsure(answer: &Result<Message, LinkError>, was_made: bool) -> bool
     ensures { result ≡ is_unsure answer.now was_made }
 {
     match answer {
         Ok(message) => !matches!(&message.content, Content::Reply(_) | Content::NotOwner),
-        Err(LinkError::Spent) => false,
         Err(_) => was_made,
     }
 }
 
-/// Returns whether an answer ends a request: it is no Reply, and the wait is over, or a node may have performed a request that may not be performed twice.
+/// Returns whether an answer ends a request: it is neither a Reply nor a NotOwner, and the wait is over, or a node may have performed a request that may not
+/// be performed twice.
 fn ends_request(
     answer: &Result<Message, LinkError>,
     is_unsure: bool,
@@ -65,59 +67,21 @@ fn ends_request(
 {
     let is_last = is_late || (is_unsure && !is_repeatable);
     match answer {
-        Ok(message) => is_last && !matches!(&message.content, Content::Reply(_)),
+        Ok(message) => is_last
+            && !matches!(&message.content, Content::Reply(_) | Content::NotOwner),
         Err(_) => is_last,
-    }
-}
-
-/// The result of one send over a new connection.
-#[derive(Drop)]
-struct Sent {
-    answer: Result<Message, LinkError>,
-    /// The number of sends that failed, this one included.
-    failures: u64,
-    /// Whether a connection was made.
-    was_made: bool,
-    /// The error of the system by which the send failed; None if it did not fail by one.
-    fault: Option<io::Error>,
-}
-
-/// Sends a message within this many milliseconds, after this many sends that failed.
-fn send_within<R: Host>(
-    agent: &Agent<R>,
-    alloc: Global,
-    to: Address,
-    message: &Message,
-    failures: u64,
-    millis: u64,
-) -> Sent
-    ensures failures { result.failures ≡ failures + failures_in result.answer }
-    ensures spent { result.answer ≡ Err LinkError.Spent ↔ failures ≡ 2 ^ 64 - 1 }
-    ensures named { IfErr result.answer IsNamed }
-    ensures unmade { result.was_made ≡ false → is_err result.answer ≡ true }
-{
-    let net = NotedNet {
-        rt: agent.rt,
-        was_made: false,
-    };
-    let limits = limits_within(agent.timeouts.links, millis);
-    let mut link = PeerLink::new(agent, net, limits, failures);
-    let answer = link.call(&agent.rt, alloc, to, message);
-    Sent {
-        answer,
-        failures: link.failures(),
-        was_made: link.net().was_made,
-        fault: link.fault(),
     }
 }
 
 /// A link over which one request is sent. It ends the request by the one error of a link after which it is not sent again: once a node may have performed it
 /// without a reply, if it may not be performed twice, and once its wait is over.
 #[derive(Drop)]
-pub struct OnceLink<'l, 'a, R> {
+pub struct OnceLink<'l, 'a, R, N> {
     patience: &'l Patience<'a, R>,
     /// The link of the agent that notes each call.
     noted: &'l mut NotedLink<'a, R>,
+    /// The link over which each send opens a connection.
+    link: PeerLink<'a, R, CountedNet<N>>,
     is_repeatable: bool,
     failures: u64,
     /// The node that gave the answer to the last call; None if there was none, or if it ended the request.
@@ -128,24 +92,45 @@ pub struct OnceLink<'l, 'a, R> {
     pub is_over: bool,
 }
 
-impl<'l, 'a, R: Host> OnceLink<'l, 'a, R> {
-    /// Makes a link for one request, whose calls a link of the agent notes.
+impl<'l, 'a, R: Host, N: Dial<Stream = TcpStream>> OnceLink<'l, 'a, R, N> {
+    /// Makes a link for one request over this network, whose calls a link of the agent notes.
     pub fn new(
         patience: &'l Patience<'a, R>,
         noted: &'l mut NotedLink<'a, R>,
+        net: N,
         is_repeatable: bool,
     ) -> Self
         ensures noted { noted_by result ≡ unnoted is_repeatable }
+        ensures net { (net_of result).net ≡ net }
+        ensures failures { result.failures ≡ 0 }
     {
+        let agent = patience.agent;
+        let net = CountedNet { net, made: 0 };
         OnceLink {
             patience,
             noted,
+            link: PeerLink::new(agent, net, agent.timeouts.links),
             is_repeatable,
             failures: 0,
             last: None,
             is_unsure: false,
             is_over: false,
         }
+    }
+
+    /// Refuses to send, as a link that is spent.
+    fn refuse(&mut self) -> Result<Message, LinkError>
+        ensures error { result ≡ Err LinkError.Spent }
+        ensures over { self.new.is_over ≡ false }
+        ensures last { self.new.last ≡ None }
+        ensures unsure { self.new.is_unsure ≡ self.old.is_unsure }
+        ensures repeatable { self.new.is_repeatable ≡ self.old.is_repeatable }
+        ensures failures { self.new.failures ≡ self.old.failures }
+        ensures net { net_of self.new ≡ net_of self.old }
+    {
+        self.is_over = false;
+        self.last = None;
+        Err(LinkError::Spent)
     }
 
     /// Ends the request.
@@ -156,36 +141,68 @@ impl<'l, 'a, R: Host> OnceLink<'l, 'a, R> {
         ensures unsure { self.new.is_unsure ≡ self.old.is_unsure }
         ensures repeatable { self.new.is_repeatable ≡ self.old.is_repeatable }
         ensures failures { self.new.failures ≡ self.old.failures }
+        ensures net { net_of self.new ≡ net_of self.old }
     {
         self.is_over = true;
         self.last = None;
         Err(LinkError::Memory)
     }
 
-    /// Notes an answer. That none came in what was left of the wait says nothing of the node.
-    fn note(&mut self, to: Address, message: &Message, sent: &Sent, is_late: bool)
-        ensures unsure { self.new.is_unsure ≡ (self.old.is_unsure || is_unsure sent.now.answer sent.now.was_made) }
+    /// Sends a message within this many milliseconds, once, over a new connection.
+    fn send(
+        &mut self,
+        alloc: Global,
+        to: Address,
+        message: &Message,
+        millis: u64,
+    ) -> Result<Message, LinkError>
+        ensures connects { MayConnect N.dialled to (net_of self.old) (net_of self.new) }
+        ensures unmade { was_made (net_of self.old).made (net_of self.new).made ≡ false → is_err result ≡ true }
+        ensures unsure { self.new.is_unsure ≡ (self.old.is_unsure || is_unsure result (was_made (net_of self.old).made (net_of self.new).made)) }
         ensures repeatable { self.new.is_repeatable ≡ self.old.is_repeatable }
         ensures failures { self.new.failures ≡ self.old.failures }
+        ensures counted { failures_by self.new.link ≡ self.old.failures + failures_in result }
+        ensures spent { result ≡ Err LinkError.Spent ↔ self.old.failures ≡ 2 ^ 64 - 1 }
+        ensures named { IfErr result IsNamed }
     {
-        if is_late && sent.answer.is_err() {
+        let agent = self.patience.agent;
+        let made = self.link.net().made;
+        self.link
+            .reset(limits_within(agent.timeouts.links, millis), self.failures);
+        let answer = self.link.call(&agent.rt, alloc, to, message);
+        let was_made = self.link.net().made != made;
+        self.is_unsure = self.is_unsure || is_unsure(&answer, was_made);
+        answer
+    }
+
+    /// Notes an answer. That none came in what was left of the wait says nothing of the node.
+    fn note(
+        &mut self,
+        to: Address,
+        message: &Message,
+        answer: &Result<Message, LinkError>,
+        is_late: bool,
+    )
+        ensures same { noted_by self.new ≡ noted_by self.old }
+        ensures net { net_of self.new ≡ net_of self.old }
+        ensures failures { self.new.failures ≡ self.old.failures }
+        ensures counted { failures_by self.new.link ≡ failures_by self.old.link }
+    {
+        if is_late && answer.is_err() {
             self.patience.agent.counters.forwards.add(1);
         } else {
-            self.noted.take(to, message, &sent.answer, sent.fault);
+            self.noted.take(to, message, answer, self.link.fault());
         }
-        self.is_unsure = self.is_unsure || is_unsure(&sent.answer, sent.was_made);
     }
 }
 
-impl<'l, 'a, R: Host> Link for OnceLink<'l, 'a, R> {
+impl<'l, 'a, R: Host, N: Dial<Stream = TcpStream>> Link for OnceLink<'l, 'a, R, N> {
     ghost use Rattle.agent.specs.Calling.{AnyAnswer};
-    ghost use Rattle.agent.specs.Onces.{EndsIfOver, noted_by, notes_send};
+    ghost use Rattle.agent.specs.Onces.{sends_once};
 
     ghost may_answer = { AnyAnswer };
 
-    // what is known of the request is noted; it ends where a node may have performed it, if it may not be performed twice
-    ghost went = { λ to message answer old new. EndsIfOver answer new.is_over
-        × notes_send to message answer (noted_by old) (noted_by new) };
+    ghost went = { sends_once N.dialled };
 
     ghost failed = { λ n. n.failures };
 
@@ -193,6 +210,7 @@ impl<'l, 'a, R: Host> Link for OnceLink<'l, 'a, R> {
         self.failures
     }
 
+    #[tactic(auto, using(crate::proofs::Unsure::went_spent))]
     fn call<W: Wait>(
         &mut self,
         _rt: &W,
@@ -201,26 +219,21 @@ impl<'l, 'a, R: Host> Link for OnceLink<'l, 'a, R> {
         message: &Message,
     ) -> Result<Message, LinkError> {
         if self.failures == u64::MAX {
-            self.is_over = false;
-            self.last = None;
-            return Err(LinkError::Spent);
+            return self.refuse();
         }
-        let patience = self.patience;
-        let left = patience.left();
+        let left = self.patience.left();
         if left == 0 {
             return self.end();
         }
-        let agent = patience.agent;
-        let sent = send_within(agent, alloc, to, message, self.failures, left);
-        let is_late = patience.left() == 0;
-        self.note(to, message, &sent, is_late);
-        let (is_unsure, is_repeatable) = (self.is_unsure, self.is_repeatable);
-        if ends_request(&sent.answer, is_unsure, is_repeatable, is_late) {
+        let answer = self.send(alloc, to, message, left);
+        let is_late = self.patience.left() == 0;
+        self.note(to, message, &answer, is_late);
+        if ends_request(&answer, self.is_unsure, self.is_repeatable, is_late) {
             return self.end();
         }
         self.is_over = false;
-        self.last = source_of(&sent.answer);
-        self.failures = sent.failures;
-        sent.answer
+        self.last = source_of(&answer);
+        self.failures = self.link.failures();
+        answer
     }
 }

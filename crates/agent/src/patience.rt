@@ -1,16 +1,16 @@
 //! The time for which a request of a key may wait: its client may limit it. The link, the clock and the handler of the request keep to it.
-ghost use Rattle.std.specs.Prelude.{◌≡◌, ◌*◌, min, IfSome};
+ghost use Rattle.std.specs.Prelude.{◌≡◌, ◌*◌, min, false, true};
 ghost use Rattle.std.specs.Duration.{as_nanos};
-ghost use Rattle.agent.specs.Performing.{EndsEarly, early_refusal};
+ghost use Rattle.agent.specs.Performing.{early_refusal};
 
-use crate::agents::{Agent, Flag};
+use crate::agents::Agent;
 use crate::applications::Limited;
 use agent_core::Refusal;
 use agent_state::{Count, Host};
 use change_core::Moment;
 use cluster_core::Limits;
 use message_core::{Keys, Text};
-use peer_core::{Clock, Handler, HandlerFault};
+use peer_core::{Clock, Handler, HandlerFault, HandlerMut};
 use std::alloc::Global;
 use std::sync::Wait;
 use std::time::Duration;
@@ -23,10 +23,6 @@ pub struct Patience<'a, R> {
     until: u64,
     /// The number of the moment until which a rest was to last that was cut short.
     skipped: Count,
-    /// Whether the wait was over before the application was asked, or before it answered.
-    is_over: Flag,
-    /// Whether the application was asked.
-    was_asked: Flag,
 }
 
 /// Returns time limits with this many milliseconds for a request, if that is less than they have.
@@ -49,8 +45,7 @@ pub fn limits_within(limits: Limits, millis: u64) -> Limits
 /// Returns the refusal of a request that ended early, by whether a node may have performed it, whether it may be performed twice, and the limit
 /// of its wait in milliseconds. None if it can't have ended early.
 pub fn early_refusal(is_unsure: bool, is_repeatable: bool, limit: Option<u64>) -> Option<Refusal>
-    ensures refusal { result ≡ early_refusal is_unsure is_repeatable limit }
-    ensures fits { IfSome result (EndsEarly is_repeatable limit) }
+    ensures { result ≡ early_refusal is_unsure is_repeatable limit }
 {
     match limit {
         None if is_repeatable => None,
@@ -71,30 +66,12 @@ impl<'a, R: Host> Patience<'a, R> {
             agent,
             until,
             skipped: Count::new(),
-            is_over: Flag::new(false),
-            was_asked: Flag::new(false),
         }
     }
 
     /// Returns the milliseconds that are left.
     pub fn left(&self) -> u64 {
         self.until.saturating_sub(self.agent.now().number())
-    }
-
-    /// Returns whether the handler ended the request since the wait was over.
-    pub fn is_over(&self) -> bool {
-        self.is_over.get()
-    }
-
-    /// Returns whether the application was asked.
-    pub fn was_asked(&self) -> bool {
-        self.was_asked.get()
-    }
-
-    /// Ends the request, by the one error of a handler after which it is not tried again.
-    fn end(&self) -> HandlerFault {
-        self.is_over.set(true);
-        HandlerFault::Memory
     }
 }
 
@@ -117,26 +94,60 @@ impl<'a, R: Host> Clock for Patience<'a, R> {
     }
 }
 
-impl<'a, R: Host> Handler for Patience<'a, R> {
-    ghost use Rattle.agent.specs.Calling.{AnyHandling};
+/// The application as one request asks it, which keeps to the time for which the request may wait.
+#[derive(Drop)]
+pub struct Patient<'p, 'a, R> {
+    patience: &'p Patience<'a, R>,
+    /// Whether the application was asked.
+    pub was_asked: bool,
+    /// Whether the wait was over before the application was asked, or before it answered.
+    pub is_over: bool,
+}
 
-    ghost may_handle = { λ _. AnyHandling };
+impl<'p, 'a, R: Host> Patient<'p, 'a, R> {
+    /// Makes the handler of one request, by which the application was not asked.
+    pub fn new(patience: &'p Patience<'a, R>) -> Self
+        ensures asked { result.was_asked ≡ false }
+    {
+        Patient {
+            patience,
+            was_asked: false,
+            is_over: false,
+        }
+    }
 
-    fn handle<W: Wait>(
-        &self,
+    /// Ends the request, by the one error of a handler after which it is not tried again.
+    fn end(&mut self) -> HandlerFault
+        ensures fault { result ≡ HandlerFault.Memory }
+        ensures over { self.new.is_over ≡ true }
+        ensures asked { self.new.was_asked ≡ self.old.was_asked }
+    {
+        self.is_over = true;
+        HandlerFault::Memory
+    }
+}
+
+impl<'p, 'a, R: Host> HandlerMut for Patient<'p, 'a, R> {
+    ghost use Rattle.agent.specs.Asking.{notes_asking};
+
+    // a call of the application is noted
+    ghost handled = { λ keys body answer old new. notes_asking keys body answer old.was_asked new.was_asked };
+
+    fn handle_mut<W: Wait>(
+        &mut self,
         rt: &W,
         alloc: Global,
         keys: &Keys,
         body: &Text,
     ) -> Result<Text, HandlerFault> {
-        let left = self.left();
+        let left = self.patience.left();
         if left == 0 {
             return Err(self.end());
         }
-        self.was_asked.set(true);
-        let application = Limited::within(&self.agent.application, left);
+        self.was_asked = true;
+        let application = Limited::within(&self.patience.agent.application, left);
         let answer = application.handle(rt, alloc, keys, body);
-        if self.left() == 0 {
+        if self.patience.left() == 0 {
             return Err(self.end());
         }
         answer

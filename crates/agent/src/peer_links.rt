@@ -26,18 +26,25 @@ pub struct PeerLink<'a, R, N> {
 }
 
 impl<'a, R, N> PeerLink<'a, R, N> {
-    /// Makes a link of this agent over this network, with these time limits, after this number of failures: it continues the count of a link
-    /// that it replaces. Each call opens a connection.
-    pub fn new(agent: &'a Agent<R>, net: N, limits: Limits, failures: u64) -> Self
-        ensures failures { failures_by result ≡ failures }
+    /// Makes a link of this agent over this network, with these time limits. Each call opens a connection.
+    pub fn new(agent: &'a Agent<R>, net: N, limits: Limits) -> Self
+        ensures failures { failures_by result ≡ 0 }
         ensures net { net_by result ≡ net }
         ensures unkept { (content : Content) → keeps_over result.link content ≡ false }
     {
-        let link = KeptLink::new(net, &agent.rt, None, &agent.cluster, limits);
         PeerLink {
             agent,
-            link: link.after_failures(failures),
+            link: KeptLink::new(net, &agent.rt, None, &agent.cluster, limits),
         }
+    }
+
+    /// Sets the time limits and the count of failures. Each call opens a connection from then on.
+    pub fn reset(&mut self, limits: Limits, failures: u64)
+        ensures failures { failures_by self.new ≡ failures }
+        ensures net { net_by self.new ≡ net_by self.old }
+        ensures unkept { (content : Content) → keeps_over self.new.link content ≡ false }
+    {
+        self.link.reset(limits, failures);
     }
 
     /// Returns the network that the link uses.

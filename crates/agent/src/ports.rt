@@ -221,7 +221,7 @@ fn serve_port<R: Host>(
     port: Port,
 ) {
     let agent = &*agent;
-    let mut link = PeerLink::new(agent, agent.rt, agent.timeouts.links, 0);
+    let mut link = PeerLink::new(agent, agent.rt, agent.timeouts.links);
     let mut buffer = [0u8; MAX_READ];
     for _ in agent.rt.forever() {
         let Ok(visited) = port.ready.recv(&agent.rt) else {

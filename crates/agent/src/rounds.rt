@@ -1,6 +1,6 @@
 //! Rounds of gossip, and the last ones before the end.
 ghost use Rattle.std.specs.Prelude.{◌≡◌};
-ghost use Rattle.agent.specs.Rounds.{MakesRound, silent_in};
+ghost use Rattle.agent.specs.Rounds.{MakesRound, healing_seed, silent_in};
 
 use crate::agents::Agent;
 use crate::callers::Caller;
@@ -32,6 +32,8 @@ struct Rounds<'a, R> {
     period: u64,
     /// The last rounds that were made.
     last: u64,
+    /// The lists of hosts that rounds have healed by.
+    lists: u32,
     tombstones: Tombstones,
     /// The node's own entry before it met any other node.
     initial: Option<Change>,
@@ -62,6 +64,14 @@ fn silent_in(round: &Result<Round, ClusterError>) -> Option<Address>
         Ok(Round::Suspected(suspected)) => Some(*suspected),
         _ => None,
     }
+}
+
+/// Returns the seed of healing at the node with its own address after this number of lists of hosts, as the address that healing takes: the node's own for
+/// the first list, and another for each later one, so that it does not draw again what it drew for the list before.
+fn healing_seed(own: Address, lists: u32) -> Address
+    ensures { result ≡ healing_seed own lists }
+{
+    Address::new(own.ip().wrapping_add(lists), own.port()).unwrap_or(own)
 }
 
 /// Counts a round by its end. One that ran out of memory counts as a failed allocation, not as an error.
@@ -276,7 +286,8 @@ impl<'a, R: Host> Rounds<'a, R> {
     /// Makes rounds that heal by these hosts, until there are others, which it returns, or until the last round of all; then it returns None.
     fn make_with(&mut self, hosts: &[Address]) -> Option<Vec<Address>> {
         let agent = self.agent;
-        let mut healing = Healing::new(agent.own, hosts);
+        let mut healing = Healing::new(healing_seed(agent.own, self.lists), hosts);
+        self.lists = self.lists.wrapping_add(1);
         for _ in agent.rt.forever() {
             if self.make_one(&mut healing) {
                 return None;
@@ -308,6 +319,7 @@ pub fn make_rounds<R: Host>(
         link: link_of(agent, MAX_FIRST_WAIT),
         period,
         last: 0,
+        lists: 0,
         tombstones: Tombstones::new(agent.own),
         initial,
         members: None,

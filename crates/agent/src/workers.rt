@@ -9,11 +9,12 @@ use crate::agents::{Agent, Flag};
 use crate::callers::Caller;
 use crate::connections::{Answers, Requests, serve_over};
 use crate::fronts::Front;
+use crate::http_refusals::log_refusal;
 use crate::links::NotedLink;
 use agent_http::{Came, Framing, Kept, kept_of, new_connection};
 use agent_state::{Host, Question};
 use crossbeam_channel::Receiver;
-use http_server::Connection;
+use http_server::{Connection, State};
 use reactor::Lot;
 use std::alloc::Global;
 use std::hash::RandomState;
@@ -51,7 +52,7 @@ fn open(alloc: Global, keys: RandomState, kept: Option<Kept>) -> Option<(Box<Con
     }
 }
 
-/// Serves a connection while requests come.
+/// Serves a connection while requests come, and logs if it ends with one that HTTP refuses.
 fn serve<R: Host>(
     front: &mut Front<'_, '_, R>,
     ready: &Receiver<reactor::Connection<Kept>>,
@@ -79,7 +80,9 @@ fn serve<R: Host>(
         stream,
         is_answering: &is_answering,
     };
+    let was_open = connection.state() == State::Open;
     let waits = serve_over(front, &mut *connection, &mut requests, &mut answers);
+    log_refusal(front, was_open, connection.state());
     let Requests {
         came,
         question,

@@ -1,5 +1,6 @@
 pub mod Dated
 pub mod Fields
+pub mod Framed
 pub mod Keyed
 pub mod Limited
 pub mod Refused

@@ -1,4 +1,6 @@
 pub mod Exchanges
+pub mod Framings
+pub mod Lists
 pub mod Passing
 pub mod Replies
 pub mod Requests

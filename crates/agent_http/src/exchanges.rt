@@ -1,7 +1,9 @@
 //! One request to the application over HTTP/1.1, and its answer.
-ghost use Rattle.std.specs.Prelude.{◌≡◌, [], Err, IsFalse, false};
+ghost use Rattle.std.specs.Prelude.{◌≡◌, ◌≤◌, ◌++◌, ℕ, List, [], length, cond, Ok, IfOk, IfErr, OnOk, OnErr, MatchBool, false};
+ghost use Rattle.std.specs.Io.KnownBytes.{Consumes, IsAtEnd, Keeps};
 ghost use Rattle.std.specs.IoError.{error_kind};
-ghost use Rattle.agent_http.specs.Exchanges.{failure_of, part_of, says_json};
+ghost use Rattle.agent_http.specs.Exchanges.{IsKept, IsOfAnswer, body_after, failure_of, part_of, says_json};
+ghost use Rattle.agent_http.specs.Lists.{HasName, IsName, IsOther, LacksName};
 
 use agent_core::{Failure, is_of_connection, push_field};
 use bytes::{Buf, BytesMut};
@@ -155,10 +157,19 @@ fn says_json(unread: &[u8], field: &HeaderSpan) -> bool
         && part(unread, field.value).starts_with(b"application/json")
 }
 
+/// Returns whether an element of a list is this name in any case, perhaps with white space around it.
+pub fn is_name(element: &[u8], name: &[u8]) -> bool
+    ensures { MatchBool result (IsName name.now element.now) (IsOther name.now element.now) }
+{
+    element.trim_ascii().eq_ignore_ascii_case(name)
+}
+
 /// Returns whether a list of names, as the value of `Connection` is, has this name, in any case.
-pub fn has_name(list: &[u8], name: &[u8]) -> bool {
+pub fn has_name(list: &[u8], name: &[u8]) -> bool
+    ensures { MatchBool result (HasName list.now name.now) (LacksName list.now name.now) }
+{
     list.split(|byte| *byte == b',')
-        .any(|one| one.trim_ascii().eq_ignore_ascii_case(name))
+        .any(|element| is_name(element, name))
 }
 
 /// Returns whether a field of an answer passes: it is not for this connection alone, by its name or by what `Connection` says.
@@ -199,7 +210,11 @@ fn take_head(
     unread: &[u8],
     fields: &[HeaderSpan],
     answer: &mut Answer,
-) -> Result<(), AllocError> {
+) -> Result<(), AllocError>
+    ensures status { answer.new.status ≡ status }
+    ensures wanted { answer.new.wanted ≡ answer.old.wanted }
+    ensures body { answer.new.body ≡ answer.old.body }
+{
     answer.status = status;
     match answer.wanted {
         Wanted::Kind => {
@@ -220,7 +235,11 @@ fn take_event(
     unread: &[u8],
     fields: &[HeaderSpan],
     answer: &mut Answer,
-) -> Result<Step, AllocError> {
+) -> Result<Step, AllocError>
+    ensures wanted { answer.new.wanted ≡ answer.old.wanted }
+    ensures body { OnOk result (answer.new.body.items ≡ body_after unread.now event.now answer.old.body.items) }
+    ensures kept { IfOk result (λ step. IsKept step answer.old answer.new) }
+{
     match event {
         Event::Head(head) => {
             let fields = fields.get(..head.headers).unwrap_or(&[]);
@@ -245,7 +264,11 @@ fn take_next(
     input: &mut BytesMut,
     spans: &mut [HeaderSpan],
     answer: &mut Answer,
-) -> Result<Step, Failure> {
+) -> Result<Step, Failure>
+    ensures wanted { answer.new.wanted ≡ answer.old.wanted }
+    ensures kept { IfOk result (λ step. IsKept step answer.old answer.new) }
+    ensures failed { IfErr result IsOfAnswer }
+{
     let unread = input.as_slice();
     let read = client.read(unread, spans).map_err(|_| Failure::BadAnswer)?;
     let step = take_event(alloc, &read.event, unread, spans, answer).map_err(|_| {
@@ -256,14 +279,19 @@ fn take_next(
 }
 
 /// Reads once. Returns the number of bytes that came, 0 at the end.
-fn read_more<S: Read>(input: &mut BytesMut, stream: &mut S) -> io::Result<usize> {
+fn read_more<S: Read>(input: &mut BytesMut, stream: &mut S) -> io::Result<usize>
+    ensures read { IfOk result (λ n. (more : List ℕ) × (length more ≡ n) × (input.new.items ≡ input.old.items ++ more) × Consumes (S.remaining stream.old) (S.remaining stream.new) more) }
+    ensures end { IfOk result (λ n. n ≡ 0 → IsAtEnd (S.remaining stream.new)) }
+    ensures failed { OnErr result ((input.new.items ≡ input.old.items) × Keeps (S.remaining stream.old) (S.remaining stream.new)) }
+{
     input.reserve(READ_SIZE)?;
     input.read_from(stream)
 }
 
 /// Returns the answer if the connection ends here, after a byte of the answer or before, and its body lasts until the end.
 fn end(client: &mut Client, answer: Answer, has_begun: bool) -> Result<Answer, Failure>
-    ensures { result ≡ Err Failure.HungUp → IsFalse has_begun }
+    ensures answer { IfOk result (λ r. r ≡ answer) }
+    ensures failed { IfErr result (λ e. e ≡ cond has_begun Failure.NoAnswer Failure.HungUp) }
 {
     match client.read_eof() {
         Ok(Event::End(_)) => Ok(answer),
@@ -272,16 +300,20 @@ fn end(client: &mut Client, answer: Answer, has_begun: bool) -> Result<Answer, F
     }
 }
 
-/// Reads the rest of an answer.
+/// Reads an answer of which nothing has come.
 fn read_rest<S: Read>(
     alloc: Global,
     client: &mut Client,
     stream: &mut S,
-    answer: Answer,
-) -> Result<Answer, Failure> {
+    wanted: Wanted,
+) -> Result<Answer, Failure>
+    ensures wanted { IfOk result (λ r. r.wanted ≡ wanted) }
+    ensures short { IfOk result (λ r. length r.body.items ≤ 1048576) }
+    ensures failed { IfErr result IsOfAnswer }
+{
     let mut spans = [EMPTY_HEADER_SPAN; 64];
     let mut input = BytesMut::new(alloc);
-    let mut answer = answer;
+    let mut answer = Answer::new(alloc, wanted);
     let mut has_begun = false;
     for _ in 0..u64::MAX {
         match take_next(alloc, client, &mut input, &mut spans, &mut answer)? {
@@ -312,8 +344,12 @@ pub fn read_answer<S: Read>(
     alloc: Global,
     client: &mut Client,
     stream: &mut S,
-) -> Result<Answer, Failure> {
-    read_rest(alloc, client, stream, Answer::new(alloc, Wanted::Kind))
+) -> Result<Answer, Failure>
+    ensures wanted { IfOk result (λ r. r.wanted ≡ Wanted.Kind) }
+    ensures short { IfOk result (λ r. length r.body.items ≤ 1048576) }
+    ensures failed { IfErr result IsOfAnswer }
+{
+    read_rest(alloc, client, stream, Wanted::Kind)
 }
 
 /// Sends a request to the application, and reads its answer.
@@ -328,12 +364,16 @@ pub fn exchange<S: Read + Write>(
     client: &mut Client,
     stream: &mut S,
     asked: &Asked<'_>,
-) -> Result<Answer, Failure> {
+) -> Result<Answer, Failure>
+    ensures wanted { IfOk result (λ r. r.wanted ≡ asked.now.wanted) }
+    ensures short { IfOk result (λ r. length r.body.items ≤ 1048576) }
+    ensures failed { IfErr result IsOfAnswer }
+{
     let Some(output) = request(alloc, client, asked) else {
         return Err(Failure::NoAnswer);
     };
     if let Err(error) = stream.write_all(output.as_slice()) {
         return Err(failure_of(&error, false));
     }
-    read_rest(alloc, client, stream, Answer::new(alloc, asked.wanted))
+    read_rest(alloc, client, stream, asked.wanted)
 }

@@ -1,4 +1,6 @@
 //! Whether the bytes of a client end between two of its requests (RFC 9112, sections 2.1 and 6).
+ghost use Rattle.std.specs.Prelude.{◌≡◌, ◌↔◌, ◌≤◌, ◌<◌, length, IsTrue, IsFalse};
+ghost use Rattle.agent_http.specs.Framings.{IsBetween, past};
 
 /// The most bytes of a line that are kept: no length of a body needs more.
 const MAX_KEPT: usize = 40;
@@ -24,7 +26,9 @@ fn number_of(text: &[u8]) -> Option<u64> {
 
 impl Framing {
     /// Makes the place before the first request.
-    pub fn new() -> Framing {
+    pub fn new() -> Framing
+        ensures { IsBetween result }
+    {
         Framing {
             line: [0; MAX_KEPT],
             len: 0,
@@ -35,21 +39,34 @@ impl Framing {
     }
 
     /// Returns whether it is between two requests, or before the first.
-    pub fn is_between(&self) -> bool {
+    pub fn is_between(&self) -> bool
+        ensures { IsTrue result ↔ IsBetween self.now }
+    {
         !self.is_lost && !self.has_head && self.len == 0 && self.body == 0
     }
 
     /// Goes on by the bytes that were read.
-    pub fn take(&mut self, bytes: &[u8]) {
+    #[tactic(auto, using(crate::proofs::Framed::one_more))]
+    pub fn take(&mut self, bytes: &[u8])
+        ensures lost { IsTrue self.old.is_lost → self.new ≡ self.old }
+        ensures body { IsFalse self.old.is_lost → IsFalse self.old.has_head → length bytes.now ≤ self.old.body → self.new ≡ past (length bytes.now) self.old }
+    {
         if self.is_lost {
             return;
         }
         for byte in bytes {
-            if self.body > 0 && !self.has_head {
-                self.body -= 1;
-            } else {
-                self.take_of_head(*byte);
-            }
+            self.take_one(*byte);
+        }
+    }
+
+    /// Goes on by a byte of a body or of a head.
+    fn take_one(&mut self, byte: u8)
+        ensures { IsFalse self.old.has_head → 0 < self.old.body → self.new ≡ past 1 self.old }
+    {
+        if self.body > 0 && !self.has_head {
+            self.body -= 1;
+        } else {
+            self.take_of_head(byte);
         }
     }
 
@@ -68,7 +85,12 @@ impl Framing {
     }
 
     /// Goes on by the end of a line. An empty line ends the head, and means nothing before it.
-    fn end_line(&mut self) {
+    fn end_line(&mut self)
+        ensures line { self.new.line ≡ self.old.line }
+        ensures len { self.new.len ≡ 0 }
+        ensures head { IsTrue self.new.has_head ↔ (0 < self.old.len) }
+        ensures lost { IsTrue self.old.is_lost → IsTrue self.new.is_lost }
+    {
         let line = self.line.get(..self.len).unwrap_or(&[]);
         if let Some(text) = line.strip_prefix(b"content-length:") {
             match number_of(text) {

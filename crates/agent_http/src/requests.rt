@@ -1,9 +1,11 @@
 //! What a request over HTTP asks for.
-ghost use Rattle.std.specs.Prelude.{◌≡◌, ◌↔◌, Err, IfOk, IfErr, IsTrue, Ok, codes, option_copied};
+ghost use Rattle.std.specs.Prelude.{◌≡◌, ◌↔◌, ◌<◌, ◌==◌, Err, IfOk, IfErr, IfSome, IsTrue, MatchBool, Ok, length, position, codes, option_copied};
 ghost use Rattle.http.specs.Request.{head_of};
 ghost use Rattle.http_header.specs.HeaderMap.{ContainsKey, get_all};
+ghost use Rattle.agent_http.specs.Lists.{IsJson, IsOtherType, NamesJson, NamesNoJson, media_type};
 ghost use Rattle.agent_http.specs.Requests.{AsksFor, AsksHere, IsCrossSite, IsOfKey, IsRefused, IsRefusedHere, Refuses, answered_as, asked_by, field_text, limit_for, limit_of, passed_key};
 
+use crate::exchanges::is_name;
 use crate::passing::pass;
 use agent_core::{Action, Part, Refusal, key_text, route, wait_of};
 use bytes::Bytes;
@@ -133,15 +135,35 @@ pub fn is_of_key(request: &Request<Bytes>, key_field: &Option<HeaderName>) -> bo
     is_named || key_text(request.uri().path(), None).is_some()
 }
 
+/// Returns the place of the first semicolon in a media range; None if it has none.
+fn semicolon(range: &[u8]) -> Option<usize>
+    ensures place { result ≡ position (λ byte. byte == 59) range.now }
+    ensures within { IfSome result (λ i. i < length range.now) }
+{
+    range.iter().position(|byte| *byte == b';')
+}
+
+/// Returns the media type of a range: what stands before its parameters.
+fn media_type(range: &[u8]) -> &[u8]
+    ensures { result.now ≡ media_type range.now }
+{
+    match semicolon(range) {
+        Some(end) => range.get(..end).unwrap_or(&[]),
+        None => range,
+    }
+}
+
 /// Returns whether a media range is JSON, whatever its weight.
-fn is_json(range: &[u8]) -> bool {
-    let end = range.iter().position(|byte| *byte == b';');
-    let kind = range.get(..end.unwrap_or(range.len())).unwrap_or(&[]);
-    kind.trim_ascii().eq_ignore_ascii_case(b"application/json")
+fn is_json(range: &[u8]) -> bool
+    ensures { MatchBool result (IsJson range.now) (IsOtherType range.now) }
+{
+    is_name(media_type(range), b"application/json")
 }
 
 /// Returns whether a list of media ranges, as the value of `Accept` is, names JSON.
-pub fn names_json(list: &[u8]) -> bool {
+pub fn names_json(list: &[u8]) -> bool
+    ensures { MatchBool result (NamesJson list.now) (NamesNoJson list.now) }
+{
     list.split(|byte| *byte == b',').any(|range| is_json(range))
 }
 

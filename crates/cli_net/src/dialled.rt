@@ -80,8 +80,9 @@ impl<'a, C: Named, N: Dial + Clock + Copy> Link for DialledLink<'a, C, N> {
         message: &Message,
     ) -> Result<Message, LinkError> {
         let none: Option<&'a Pool<N::Stream>> = None;
-        let link = KeptLink::new(*self.net, self.net, none, self.cluster, Limits::standard());
-        let mut link = link.after_failures(self.failures);
+        let limits = Limits::standard();
+        let mut link = KeptLink::new(*self.net, self.net, none, self.cluster, limits);
+        link.reset(limits, self.failures);
         let answer = link.call(rt, alloc, to, message);
         self.failures = link.failures();
         answer

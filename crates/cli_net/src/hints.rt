@@ -89,13 +89,20 @@ fn say_no_answer<R: Net + Clock + Wait + Eprint + Copy>(
     };
 }
 
+/// Returns the line that tells of which cluster the node at an address is, if it answers as one of a cluster with a name.
+fn naming_line<R: Net + Clock + Wait + Copy>(
+    rt: &R,
+    alloc: Global,
+    address: Address,
+) -> Option<Vec<u8>> {
+    // (to a name that is not its own a node answers by its own)
+    let other = ClusterName::new(alloc, "-").ok()?;
+    foreign_line(rt, alloc, &other, address)
+}
+
 /// Prints of which cluster the node at an address is that took no line without a name.
 fn say_name<R: Net + Clock + Wait + Eprint + Copy>(rt: &R, alloc: Global, address: Address) {
-    // (to a name that is not its own a node answers by its own)
-    let Ok(other) = ClusterName::new(alloc, "-") else {
-        return;
-    };
-    let Some(line) = foreign_line(rt, alloc, &other, address) else {
+    let Some(line) = naming_line(rt, alloc, address) else {
         return;
     };
     if let Some(name) = name_in(&line) {
@@ -127,13 +134,26 @@ fn say_owner<R: Net + Clock + Wait + Eprint + Copy>(
     };
 }
 
+/// Prints why a host let a node without the name of a cluster not join: it is of a cluster with one, or else why no message came from it.
+fn say_unjoined<R: Net + Clock + Wait + Eprint + Copy>(rt: &R, alloc: Global, host: Address) {
+    let Some(line) = naming_line(rt, alloc, host) else {
+        return say_silent(rt, host);
+    };
+    let Some(name) = name_in(&line) else {
+        return say_silent(rt, host);
+    };
+    let _ = eprintln!(rt;
+        "ringpop: {host} is of cluster {name} and takes no node without this name, as serve makes it"
+    );
+}
+
 /// Prints why a node with these arguments joined no host.
-fn say_alone<R: Net + Eprint>(rt: &R, words: &ServeWords) {
+fn say_alone<R: Net + Clock + Wait + Eprint + Copy>(rt: &R, alloc: Global, words: &ServeWords) {
     for host in &words.hosts {
         if *host == words.address {
             let _ = eprintln!(rt; "ringpop: {host} is the node itself: name others");
         } else {
-            say_silent(rt, *host);
+            say_unjoined(rt, alloc, *host);
         }
     }
 }
@@ -155,9 +175,14 @@ fn say_threads<R: Eprint>(rt: &R, words: &ServeWords) {
 }
 
 /// Prints behind an error of `serve` what it was about.
-fn explain_serve<R: Net + Eprint>(rt: &R, words: &ServeWords, error: ServeError) {
+fn explain_serve<R: Net + Clock + Wait + Eprint + Copy>(
+    rt: &R,
+    alloc: Global,
+    words: &ServeWords,
+    error: ServeError,
+) {
     match error {
-        ServeError::NoneJoined => say_alone(rt, words),
+        ServeError::NoneJoined => say_alone(rt, alloc, words),
         ServeError::CannotListen => say_taken(rt, words.address),
         ServeError::NoThread => say_threads(rt, words),
         _ => {}
@@ -213,7 +238,7 @@ pub fn explain_command<R: Net + Clock + Wait + Eprint + Copy>(
 ) {
     match (command, error) {
         (ClusterCommand::Serve(words), ClusterCommandError::Serve(error)) => {
-            explain_serve(rt, words, error)
+            explain_serve(rt, alloc, words, error)
         }
         (_, ClusterCommandError::Ask(error) | ClusterCommandError::Tell(TellError::Asked(error))) =>
             { explain_question(rt, alloc, cluster, command, error) }

@@ -1,5 +1,5 @@
 //! A link over sockets that keeps the connections over which requests went.
-ghost use Rattle.std.specs.Prelude.{◌≡◌, ◌≢◌, ◌<◌, ◌-◌, ◌^◌, ◌⊎◌, ◌↔◌, Err, IfErr, IfOk, IfSome, IsTrue};
+ghost use Rattle.std.specs.Prelude.{◌≡◌, ◌≢◌, ◌<◌, ◌-◌, ◌^◌, ◌⊎◌, ◌↔◌, Err, IfErr, IfOk, IfSome, IsTrue, false};
 ghost use Rattle.cluster_core.specs.Deadlines.{limit_of, stream_of};
 ghost use Rattle.cluster_core.specs.Limits.{limit_for};
 ghost use Rattle.cluster_core.specs.Sockets.{IsTooLong};
@@ -152,17 +152,6 @@ impl<'a, N, C, P> KeptLink<'a, N, C, P> {
         }
     }
 
-    /// Returns the link with this count of failures: it continues that of a link that it replaces.
-    pub fn after_failures(self, failures: u64) -> Self
-        ensures net { net_over result ≡ net_over self.entry }
-        ensures cluster { cluster_over result ≡ cluster_over self.entry }
-        ensures limits { limits_over result ≡ limits_over self.entry }
-        ensures pool { (content : Content) → keeps_over result content ≡ keeps_over self.entry content }
-        ensures failures { failures_over result ≡ failures }
-    {
-        KeptLink { failures, ..self }
-    }
-
     /// Returns the network that the link uses.
     pub fn net(&self) -> &N
         ensures { result.now ≡ net_over self.now }
@@ -188,6 +177,21 @@ impl<'a, N, C, P> KeptLink<'a, N, C, P> {
             Some(_) => is_request(message),
             None => false,
         }
+    }
+}
+
+impl<'a, N, C, P: Drop> KeptLink<'a, N, C, P> {
+    /// Sets the time limits and the count of failures, and gives the pool up: each call opens a connection from then on.
+    pub fn reset(&mut self, limits: Limits, failures: u64)
+        ensures net { net_over self.new ≡ net_over self.old }
+        ensures cluster { cluster_over self.new ≡ cluster_over self.old }
+        ensures limits { limits_over self.new ≡ limits }
+        ensures pool { (content : Content) → keeps_over self.new content ≡ false }
+        ensures failures { failures_over self.new ≡ failures }
+    {
+        self.pool = None;
+        self.limits = limits;
+        self.failures = failures;
     }
 }
 

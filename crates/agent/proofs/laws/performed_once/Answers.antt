@@ -1,8 +1,18 @@
-use Rattle.agent.proofs.Owning.{answers_are_done_once, requests_end_once}
+use Rattle.agent.specs.Onces.{noted_by, sends_once}
+use Rattle.agent.proofs.Owning.{answers_are_done_once, errors_are_undone, others_are_sure, requests_end_once, shown_are_done_once}
 use Rattle.agent.proofs.laws.performed_once.Goals as goal
 
 pub returns-clause-sent : goal.returns-clause-sent
-returns-clause-sent c = requests_end_once
+returns-clause-sent g c = requests_end_once (sends_once g.N.Dial.dialled) g.A.HandlerMut.handled noted_by (λ to message answer old new goes. goes.2)
 
 pub returns-clause-answered : goal.returns-clause-answered
-returns-clause-answered c = answers_are_done_once
+returns-clause-answered g c = answers_are_done_once (sends_once g.N.Dial.dialled) g.A.HandlerMut.handled noted_by (λ to message answer old new goes. goes.2)
+
+pub returns-clause-undone : goal.returns-clause-undone
+returns-clause-undone g c = errors_are_undone (sends_once g.N.Dial.dialled) g.A.HandlerMut.handled noted_by (λ to message answer old new goes. goes.2)
+
+pub returns-clause-sure : goal.returns-clause-sure
+returns-clause-sure g c = others_are_sure (sends_once g.N.Dial.dialled) g.A.HandlerMut.handled noted_by (λ to message answer old new goes. goes.2)
+
+pub returns-clause-shown : goal.returns-clause-shown
+returns-clause-shown g c = shown_are_done_once

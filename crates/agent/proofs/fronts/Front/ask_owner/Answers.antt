@@ -14,5 +14,5 @@ pub returns-clause-asked : goal.returns-clause-asked
 returns-clause-asked g c =
     let it = c.ask-answer.ensures.requested in
     made_asked c.in-Ok.keys c.args.request c.ask-answer.result.0 c.args.is_repeatable it.0 it.1 c.args.self.now.caller.now c.ask-answer.new.self.caller.now
-    c.args.self.now.limit c.args.self.now.agent.now.own c.args.key c.ask-answer.result.2 c.settle.result c.in-Ok.ensures.ok c.ask-answer.ensures.ending it.3
+    c.args.self.now.limit c.args.self.now.agent.now.own c.args.key c.ask-answer.result.2 c.settle.result c.in-Ok.ensures.ok it.3 it.4
     (subst (λ (owner : ℕ). SettledBy owner c.ask-answer.result.2 c.ask-answer.result.0 c.settle.result) it.2 c.settle.ensures)

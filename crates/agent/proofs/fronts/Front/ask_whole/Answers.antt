@@ -1,4 +1,4 @@
-use Rattle.std.proofs.Common.{ℕ, Bool, true, List, refl, true≢false}
+use Rattle.std.proofs.Common.{ℕ, Bool, true, List, inl, refl, true≢false}
 use denote.Ref.{Bor}
 use Rattle.message_core.specs.declared.messages.Message.{Message}
 use Rattle.peer_core.specs.Handling.{Handled, handled_shared}
@@ -23,7 +23,7 @@ returns-clause-requested g c =
       c.answerer-owner.ensures,
       made_requested c.args.keys c.args.request c.request-answer.result true (asked_of c.request-answer.new.handler) (noted_of c.request-answer.new.link) old new
           (λ keys body answer. noting handled keys body answer c.new-handler.result c.request-answer.new.handler) c.request-answer.ensures.node c.request-answer.ensures.did
-          (makes_noted (noting handled) asked_of (λ keys body answer was is called. called.0)
+          (makes_noted (noting handled) asked_of (λ keys body answer was is called. inl called.0)
           (λ to message answer was is. notes_source to message answer was.last is.last) noted_of
           (λ to message answer was is goes. (goes, (refl, λ once. absurd (true≢false once))))
           c.args.keys c.args.request c.request-answer.result c.new-handler.result c.request-answer.new.handler _ c.request-answer.new.link true

@@ -18,12 +18,11 @@ import re
 import signal
 import subprocess
 import tempfile
-import threading
 import time
 from urllib.parse import quote
 
 from agents import agree, at_once, counted, fetch, running
-from nodes import NOBODY, ROOT, STEP, Wrong, call, connect, deaf, expect, hears, is_late, knocking, message, wait_until
+from nodes import Beside, NOBODY, ROOT, STEP, Wrong, call, connect, deaf, expect, hears, is_late, knocking, message, wait_until
 
 # the longest key, body and body that is read, in bytes, and after how many seconds a request that does not end is cut
 MAX_KEY_BYTES, MAX_BODY_BYTES, MAX_READ_BYTES, PATIENCE = 1_024, 131_072, 1_048_576, 30
@@ -53,13 +52,12 @@ def statuses(came):
     return [int(status) for status in re.findall(rb"HTTP/1\.1 (\d{3}) ", came)]
 
 
-class Pings:
+class Pings(Beside):
     """A thread that pings a node all the while."""
 
     def __init__(self, port):
-        self.port, self.longest, self.count, self.fault, self.is_over = port, 0.0, 0, None, threading.Event()
-        self.thread = threading.Thread(target=self.work)
-        self.thread.start()
+        self.port, self.longest, self.count, self.fault = port, 0.0, 0, None
+        super().__init__(self.work)
 
     def work(self):
         while not self.is_over.wait(0.05):
@@ -71,10 +69,6 @@ class Pings:
             except (OSError, ValueError) as fault:
                 self.fault = self.fault or f"a ping is not answered: {fault}"
             self.count, self.longest = self.count + 1, max(self.longest, time.monotonic() - begun)
-
-    def end(self):
-        self.is_over.set()
-        self.thread.join()
 
 
 class Hostile:

@@ -8,11 +8,10 @@ import json
 import os
 import re
 import signal
-import threading
 import time
 
 from agents import Agent, agree, counted
-from nodes import PATIENCE, Wrong, expect, is_late, wait_until
+from nodes import Beside, PATIENCE, Wrong, expect, is_late, wait_until
 
 SECONDS = 60
 # the most lines that wait to be written
@@ -49,25 +48,20 @@ def check_unread(agent, other):
     expect(slowest >= 3 and used == MOST and dropped >= 500, "an agent whose log is not read makes no rounds, or counts no lines")
 
 
-class Reader:
+class Reader(Beside):
     """A thread that reads a pipe."""
 
     def __init__(self, pipe):
-        self.read, self.is_over = b"", False
-        self.thread = threading.Thread(target=self.work, args=(pipe,), daemon=True)
-        self.thread.start()
+        self.pipe, self.read = pipe, b""
+        super().__init__(self.work)
 
-    def work(self, pipe):
-        os.set_blocking(pipe, False)
-        while not self.is_over:
+    def work(self):
+        os.set_blocking(self.pipe, False)
+        while not self.is_over.is_set():
             try:
-                self.read += os.read(pipe, 65_536)
+                self.read += os.read(self.pipe, 65_536)
             except BlockingIOError:
                 time.sleep(0.01)
-
-    def end(self):
-        self.is_over = True
-        self.thread.join()
 
 
 def check_read(agent, pipe):

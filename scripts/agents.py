@@ -1,6 +1,7 @@
 """Agents with applications, each in a process of its own, and what scripts ask of them."""
 import concurrent.futures
 import contextlib
+import functools
 import http.client
 import http.server
 import json
@@ -12,7 +13,7 @@ import threading
 import time
 from urllib.parse import quote
 
-from nodes import NOBODY, PATIENCE, ROOT, STEP, address, call, change, ending, expect, held, in_time, message, wait_until
+from nodes import Beside, NOBODY, PATIENCE, ROOT, STEP, address, call, change, ending, expect, held, in_time, message, wait_until
 
 
 def fetch(at, method, path, body=None, fields={}, seconds=60):
@@ -191,22 +192,20 @@ def agree(agents):
     return well(agents) and len({agent.ask("GET", "/digest")[1] for agent in agents}) == 1
 
 
-class Load:
+class Load(Beside):
     """Threads that ask for keys through agents, and check each answer; with `single` each request has a connection of its own."""
 
     def __init__(self, agents, keys, threads=8, most=None, single=False):
         self.agents, self.keys, self.most = agents, keys, most
         self.fields = {"connection": "close"} if single else {}
-        self.lock, self.is_over = threading.Lock(), False
+        self.lock = threading.Lock()
         self.asked, self.answered, self.elsewhere, self.failed, self.wrong, self.lost, self.longest = 0, 0, 0, {}, [], {}, 0.0
         self.refused = set()
-        self.threads = [threading.Thread(target=self.work, args=(number,), daemon=True) for number in range(threads)]
-        for thread in self.threads:
-            thread.start()
+        super().__init__(*(functools.partial(self.work, number) for number in range(threads)))
 
     def take(self):
         with self.lock:
-            if self.is_over or self.asked == self.most:
+            if self.is_over.is_set() or self.asked == self.most:
                 return None
             self.asked += 1
             return self.asked
@@ -259,8 +258,7 @@ class Load:
 
     def end(self):
         if self.most is None:
-            with self.lock:
-                self.is_over = True
+            self.is_over.set()
         for thread in self.threads:
             thread.join()
         expect(not self.wrong, f"{len(self.wrong)} wrong answers, the first {self.wrong[:1]}")

@@ -13,6 +13,7 @@ import signal
 import socket
 import subprocess
 import sys
+import threading
 import time
 
 ROOT = pathlib.Path(__file__).resolve().parent.parent
@@ -29,6 +30,8 @@ STEP = 24
 APART, SCRIPTS = 3 * STEP + 1, 230
 # a busy machine can miss a node's limit for a line, half a second: what took nearly as long is tried again, this often at most
 LIMIT, TRIES = 0.4, 10
+# how many connections come at once and say nothing, and how many each second; how many send a byte of a line, and how many seconds apart
+CROWD, SILENT, DRIPPING, DRIP = 500, 32, 100, 0.2
 # how many attempts a script made, and how many of them were repeats; two, and one in fifty attempts, may be
 ATTEMPTS, REPEATS = itertools.count(), itertools.count()
 # a limit of time is for a free processor: on a busy machine it is longer, this many times at most; and how many times it was
@@ -185,6 +188,44 @@ def knocking(port, count):
         yield
 
 
+class Beside:
+    """Threads that work while a script does, until they are to end."""
+
+    def __init__(self, *works):
+        self.is_over, self.threads = threading.Event(), [threading.Thread(target=work, daemon=True) for work in works]
+        for thread in self.threads:
+            thread.start()
+
+    def end(self):
+        self.is_over.set()
+        for thread in self.threads:
+            thread.join()
+
+
+class Knockers(Beside):
+    """Threads that hold connections to a port, until they are to end: 32 come each second and say nothing, after 500 within a tenth of one, and 100 send a
+    byte of a line now and then, and come again once they are closed."""
+
+    def __init__(self, port):
+        self.port, self.longest, self.streams = port, 0.0, []
+        super().__init__(self.say_nothing, *[self.drip] * DRIPPING)
+
+    def say_nothing(self):
+        for pause in itertools.chain([0.1 / CROWD] * CROWD, itertools.repeat(1 / SILENT)):
+            if self.is_over.wait(pause):
+                return
+            with contextlib.suppress(OSError):
+                self.streams.append(connect(self.port))
+
+    def drip(self):
+        while not self.is_over.is_set():
+            begun = time.monotonic()
+            with contextlib.suppress(OSError), connect(self.port) as stream:
+                while not self.is_over.wait(DRIP):
+                    stream.sendall(b"{")
+            self.longest = max(self.longest, time.monotonic() - begun)
+
+
 def deaf(port, sent):
     """A connection over which this was sent, and that takes 2 KiB of the answer."""
     stream = socket.socket()
@@ -294,6 +335,36 @@ def change(member, incarnation, status, source=None, **more):
 
 def message(kind, **more):
     return {"kind": kind, "source": "0.0.0.0:1", "sourceIncarnationNumber": 0, **more}
+
+
+def pinged(port):
+    """After how many seconds a ping is answered."""
+    begun = time.monotonic()
+    answer = call(port, message("ping", checksum=NOBODY, changes=[]), 30)
+    expect(answer and answer["kind"] == "ack", f"a ping is answered by {answer}")
+    return time.monotonic() - begun
+
+
+def check_pings(port, seconds, held_now):
+    """For so long nine of ten pings are answered within 50 milliseconds, and each within 400, while the port has many connections that say nothing or
+    too little. Each of these is closed in time, and none is answered. `held_now` gives how many the node holds."""
+    knockers, end, spent, most = Knockers(port), time.monotonic() + seconds, [], 0
+    try:
+        while time.monotonic() < end:
+            spent.append(pinged(port))
+            most = max(most, held_now())
+            time.sleep(0.05)
+    finally:
+        knockers.end()
+    usual, longest = sorted(spent)[len(spent) * 9 // 10], max(spent)
+    print(f"{len(spent)} pings beside {most} connections: nine of ten within {usual:.3f} s, the longest {longest:.3f} s", flush=True)
+    expect(most > DRIPPING / 2, f"{most} connections at most are held")
+    expect(not is_late(usual, 0.05) and not is_late(longest, LIMIT), "pings wait for those who say nothing")
+    print(f"a connection that drips is closed within {knockers.longest:.2f} s", flush=True)
+    expect(not is_late(knockers.longest, 2), "a connection that drips is not closed in time")
+    for stream in knockers.streams:
+        with stream:
+            expect(not rest(stream), "a connection that says nothing is answered")
 
 
 def request(key, body):

@@ -1,5 +1,5 @@
 -- Whether the application is asked, and which node answers.
-use Rattle.std.proofs.Common.{◌≡◌, ◌∙◌, ℕ, ◌<◌, Bool, true, false, not, refl, sym, ap, subst, inl, inr, Some, None, Option, Result, Ok, Err, List, [], ◌∷◌, ◌++◌, append-nil}
+use Rattle.std.proofs.Common.{◌≡◌, ◌∙◌, ℕ, ◌<◌, Bool, false, sym, ap, subst, inl, inr, Some, None, Option, Result, Ok, Err, List, [], ◌∷◌, ◌++◌, append-nil}
 use Rattle.std.specs.Prelude.{IfNone, IfSome, Vec}
 use Rattle.std.specs.Global.{Global}
 use Rattle.change_core.specs.declared.addresses.Address.{Address}
@@ -23,7 +23,6 @@ use Rattle.peer_core.specs.declared.errors.LinkError.{LinkError}
 use Rattle.peer_core.proofs.Acts.{makes_as, makes_none}
 use Rattle.peer_core.proofs.Requesting.{requested_as}
 use Rattle.peer_core.proofs.Served.{serves_as}
-use Rattle.agent_core.specs.declared.refusals.Refusal.{Refusal}
 use Rattle.line_service.specs.Answering.{AnswersInput, IsSilent, Responds, StaysSilent}
 use Rattle.line_service.specs.declared.inputs.Input.{Input}
 use Rattle.line_service.specs.declared.inputs.Input.TheVariants as input
@@ -32,7 +31,7 @@ use Rattle.agent.specs.Calling.{AnyAnswer, AnyHandling, AnyTimes, Calling, HasMa
 use Rattle.agent.specs.Onces.{Noted, notes_send, unnoted}
 use Rattle.agent.specs.Serving.{IsAnsweredHere, RespondsAsking, asks}
 use Rattle.agent.specs.declared.links.NotedHandler.{NotedHandler}
-use Rattle.agent.specs.Performing.{AsksOwner, EndsEarly, IsRequested, Outcome, SettledBy}
+use Rattle.agent.specs.Performing.{AsksOwner, IsRequested, Outcome, SettledBy, ending_of}
 use Rattle.agent.proofs.Performed.{made_as}
 use Rattle.agent.proofs.Relaying.{made_both}
 
@@ -167,9 +166,9 @@ module _ (keys : List (List ℕ)) (request : List ℕ) (r : Result (List ℕ) Cl
       (record { node = same; makes = sent })
 
   -- so the owner of a key was asked, and this came of it
-  pub made_asked : (limit : Option ℕ) (own : Address) (key : List ℕ) (ending : Option Refusal) (outcome : Outcome) → keys ≡ key ∷ []
-      → IfSome ending (EndsEarly is_repeatable limit asked noted) → HasMade (IsRequested is_repeatable asked noted keys request r) old new → SettledBy (answerer own asked noted.last) ending r outcome
+  pub made_asked : (limit : Option ℕ) (own : Address) (key : List ℕ) (is_over : Bool) (outcome : Outcome) → keys ≡ key ∷ []
+      → HasMade (IsRequested is_repeatable asked noted keys request r) old new → SettledBy (answerer own asked noted.last) (ending_of is_over is_repeatable limit asked noted) r outcome
       → HasMade (AsksOwner limit own key request is_repeatable outcome) old new
-  made_asked limit own key ending outcome one may made comes =
+  made_asked limit own key is_over outcome one made comes =
       made_as (AsksOwner limit own key request is_repeatable outcome) (IsRequested is_repeatable asked noted keys request r) old new
-      (λ acts both. inr (asked, noted, ending, may, (r, subst (λ (ks : List (List ℕ)). IsRequested is_repeatable asked noted ks request r acts) one both, comes))) made
+      (λ acts both. inr (asked, noted, is_over, (r, subst (λ (ks : List (List ℕ)). IsRequested is_repeatable asked noted ks request r acts) one both, comes))) made

@@ -1,6 +1,6 @@
 -- Which agents ask their applications for a request, and how often one was performed that may not be performed twice.
-use Rattle.std.proofs.Common.{◌≡◌, ◌≢◌, ◌∙◌, ◌⊎◌, ℕ, ◌<◌, Bool, true, false, cond, refl, sym, ap, subst, inl, inr, arith, Some, Option, Result, Ok, Err, List, [], ◌∷◌, ◌++◌, length, map, get_or, true≢false}
-use Rattle.std.specs.Prelude.{◌||◌, None, Contains}
+use Rattle.std.proofs.Common.{◌≡◌, ◌≢◌, ◌∙◌, ℕ, ◌<◌, Bool, true, false, refl, sym, ap, subst, inl, inr, arith, Some, Result, Ok, Err, List, [], ◌∷◌, ◌++◌, length, map, get_or, true≢false}
+use Rattle.std.specs.Prelude.{Contains}
 use Rattle.std.specs.List.{All}
 use Rattle.std.proofs.lemmas.Bool.{or_parts}
 use Rattle.std.proofs.lemmas.List.Elements.{All-tail, Contains-append_left}
@@ -21,7 +21,7 @@ use Rattle.peer_core.specs.Forwarding.{IsFailure}
 use Rattle.peer_core.specs.Handling.{Handled, between}
 use Rattle.peer_core.specs.Handlings.{Ends, FailsOver, IsHandledSo, OwnsAll}
 use Rattle.peer_core.specs.Links.{Went}
-use Rattle.peer_core.specs.Resending.{ForwardsOver, IsResultOf, Sending, SendsRequest, result_of_handler}
+use Rattle.peer_core.specs.Resending.{ForwardsOver, IsResultOf, Sending, result_of_handler}
 use Rattle.peer_core.specs.Serving.{message_from}
 use Rattle.peer_core.specs.declared.errors.ClusterError.{ClusterError}
 use Rattle.peer_core.specs.declared.errors.ClusterError.TheVariants as error
@@ -32,16 +32,11 @@ use Rattle.peer_core.proofs.HandlingCounts.{requests_handled, servings_handled}
 use Rattle.peer_core.proofs.Served.{serves_as}
 use Rattle.peer_core.proofs.Servings.{has_later}
 use Rattle.line_service.specs.declared.inputs.Input.TheVariants as input
-use Rattle.agent_core.specs.declared.passing.Outgoing.{Outgoing}
-use Rattle.agent_core.specs.declared.refusals.Refusal.{Refusal}
-use Rattle.agent_core.specs.Passing.{sent_text}
-use Rattle.agent.specs.Asking.{AsksFor, answerer, notes_asking, notes_call}
+use Rattle.agent.specs.Asking.{AsksFor, notes_asking, notes_call}
 use Rattle.agent.specs.Calling.{AnyAnswer, hash_number, hash_of}
 use Rattle.agent.specs.Onces.{Noted, is_other, is_unsure, notes_send, unnoted, was_made}
-use Rattle.agent.specs.Owning.{AnswersAreDoneOnce, AskersDiffer, AskersOwn, EndsAtOne, EndsOnce, ErrorsAreUndone, FailsUndone, HasAsked, IsUndone, LooksSo, OneAsks, OthersAreSure, RequestsEndOnce, ShownAreDoneOnce, undone_send}
-use Rattle.agent.specs.Performing.{AsksOwner, Outcome, SettledBy}
+use Rattle.agent.specs.Owning.{AnswersAreDoneOnce, AskersDiffer, AskersOwn, EndsAtOne, EndsOnce, ErrorsAreUndone, FailsUndone, HasAsked, IsUndone, LooksSo, OneAsks, OthersAreSure, RequestsEndOnce, undone_send}
 use Rattle.agent.specs.Serving.{asks}
-use Rattle.agent_http.specs.declared.replies.Reply.TheVariants as shown
 
 -- the only act of the later of two parts is among all
 last_seen : (view : Viewed Sha256Hash) (acts xs ys : List (Act Sha256Hash)) → acts ≡ xs ++ ys → Just (looked (Ok view)) ys → Contains acts (looked (Ok view))
@@ -278,43 +273,3 @@ module _ {L A : Type 0} (went : Went L) (handled : Handled A) (noted_of : L → 
   pub others_are_sure : OthersAreSure went handled noted_of
   others_are_sure keys request e was is old new acts other fresh sent =
       refused_sure went noted_of marks keys request handled e was is old new acts other (requests_end_once keys request (Err e) was is old new acts fresh sent)
-
--- the application was asked if the result is a text
-asked_here : (keys : List (List ℕ)) (request text : List ℕ) (asked : Bool) (mid last : Noted) (acts : List (Act Sha256Hash))
-    → EndsAtOne notes_send notes_asking keys request (Ok text) false asked mid last acts → EndsAtOne notes_send notes_call keys request (Ok text) false asked mid last acts
-asked_here keys request text asked mid last acts (view, just, inl (owned, (answer, inl called, is), stays)) = (view, just, inl (owned, (answer, called, is), stays))
-asked_here keys request text asked mid last acts (view, just, inl (owned, (answer, inr (unmoved, over), is), stays)) = absurd cc
-asked_here keys request text asked mid last acts (view, just, inr there) = (view, just, inr there)
-
--- what a client gets is the text of the request, by the node that the reply names
-module _ (limit : Option ℕ) (own : ℕ) (key : List ℕ) (owner : ℕ) (text : List ℕ) where
-  abbrev Answered : Outcome
-  Answered = Ok (shown.Handled owner text)
-
-  settled_so : (named : ℕ) (ending : Option Refusal) (result : Result (List ℕ) ClusterError) → SettledBy named ending result Answered → (owner ≡ named) × (result ≡ Ok text)
-  settled_so named None (Ok given) is = (cc, cc)
-  settled_so named (Some why) (Ok given) is = (cc, cc)
-  settled_so named (Some why) (Err error.Memory) is = absurd cc
-  settled_so named None (Err e) is = absurd cc
-  settled_so named (Some why) (Err e) is = absurd cc
-
-  asked_so : (request : List ℕ) (acts : List (Act Sha256Hash)) → AsksOwner limit own key request false Answered acts
-      → (asked : Bool) × (noted : Noted) × (owner ≡ answerer own asked noted.last)
-      × ((failed : List (Sending Sha256Hash)) × (mid : Noted) × (length failed < most_sends)
-      × Then (FailsUndone notes_send (λ n. n) (key ∷ []) request failed (unnoted false) mid)
-      (EndsAtOne notes_send notes_call (key ∷ []) request (Ok text) false asked mid noted) acts)
-  asked_so request acts (inl (none, is)) = absurd cc
-  asked_so request acts (inr (asked, noted, ending, may, (result, requested, settled))) =
-      let (named, is) = settled_so (answerer own asked noted.last) ending result settled in
-      let (failed, mid, few, (xs, ys, e, over, ends)) =
-      answers_are_done_once notes_send notes_asking (λ n. n) (λ to message answer was new goes. goes) (key ∷ []) request text false asked (unnoted false) noted acts refl
-      (subst (λ (it : Result (List ℕ) ClusterError). SendsRequest hash_of notes_send notes_asking (key ∷ []) request it false asked (unnoted false) noted acts) is requested.1) in
-      (asked, noted, named, (failed, mid, few, (xs, ys, e, over, asked_here (key ∷ []) request text asked mid noted ys ends)))
-
-pub shown_are_done_once : ShownAreDoneOnce
-shown_are_done_once limit own replicas key request owner text acts (inl (none, is)) = absurd cc
-shown_are_done_once limit own replicas key request owner text acts (inr (Err why, (xs, ys, e, finds, (none, is)))) = absurd cc
-shown_are_done_once limit own replicas key request owner text acts (inr (Ok found, (xs, ys, e, finds, inl (none, is)))) = absurd cc
-shown_are_done_once limit own replicas key request owner text acts (inr (Ok found, (xs, ys, e, finds, inr sent))) =
-    let (asked, noted, named, done) = asked_so limit own key owner text (sent_text found.1 request) ys sent in
-    (found, asked, noted, named, (xs, ys, e, finds, done))

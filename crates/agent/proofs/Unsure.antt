@@ -1,6 +1,6 @@
 -- A link over which a request is sent that may end early.
-use Rattle.std.proofs.Common.{◌≡◌, ◌≢◌, ◌-◌, ◌^◌, ◌↔◌, ℕ, Bool, true, false, Result, Ok, Err, refl, sym, ap, inl, inr, ◌∙◌, subst, eq-eqb, ne_eqb, arith, true≢false}
-use Rattle.std.specs.Prelude.{◌&&◌, ◌||◌, ◌+◌, ◌%◌, not, is_err, Option, Some, None, IfSome}
+use Rattle.std.proofs.Common.{◌≡◌, ◌≢◌, ◌-◌, ◌^◌, ◌↔◌, ℕ, Bool, true, false, Result, Ok, Err, refl, sym, ap, inr, ◌∙◌, subst, eq-eqb, ne_eqb, arith, true≢false}
+use Rattle.std.specs.Prelude.{◌&&◌, ◌||◌, ◌+◌, ◌%◌, not, is_err, Option, Some, None}
 use Rattle.std.proofs.Math.Bool.{or-false}
 use Rattle.change_core.specs.declared.addresses.Address.{Address}
 use Rattle.cluster_core.specs.Sockets.{Dialled}
@@ -12,7 +12,6 @@ use Rattle.message_core.specs.declared.messages.Message.{Message}
 use Rattle.peer_core.specs.Forwarding.{IsFailure}
 use Rattle.peer_core.specs.declared.errors.LinkError.{LinkError}
 use Rattle.peer_core.specs.declared.errors.LinkError.TheVariants.{Memory, Spent}
-use Rattle.agent_core.specs.declared.refusals.Refusal.{Refusal}
 use Rattle.agent.specs.Asking.{source_of}
 use Rattle.agent.specs.Onces.{MayConnect, Noted, NotesDoubt, counted, ends_request, is_last, is_other, is_unsure, net_of, noted_by, sends_once, was_made}
 use Rattle.agent.specs.declared.onces.CountedNet.{CountedNet}
@@ -150,8 +149,3 @@ module _ {R N S : Type 0} (dialled : Dialled N S) (to : Address) (message : Mess
       ),
     ),
   )
-
--- the refusal of a request that ended early is the one that there is
-pub ends_early : (result early : Option Refusal) → early ≡ result → IfSome result (λ why. early ≡ Some why)
-ends_early None early is = tt
-ends_early (Some why) early is = is

@@ -22,3 +22,8 @@ error_of_log log.Memory = error.Memory
 abbrev pub error_of_reading : ErrorKind → AgentError
 error_of_reading kind.OutOfMemory = error.Memory
 error_of_reading other = error.CannotRead other
+
+-- the error for one by which connections are not watched
+abbrev pub error_of_watching : ErrorKind → AgentError
+error_of_watching kind.OutOfMemory = error.Memory
+error_of_watching _ = error.NoReactor

@@ -8,12 +8,13 @@ pub mod Errors
 pub mod Hosts
 pub mod HttpRefusals
 pub mod Joins
+pub mod Journeys
 pub mod Lines
 pub mod Onces
 pub mod Owning
+pub mod Patience
 pub mod PeerLinks
 pub mod Performing
-pub mod Ports
 pub mod Rejections
 pub mod Relays
 pub mod Rounds

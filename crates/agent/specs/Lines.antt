@@ -37,6 +37,13 @@ HearsOwn None known (heard.Input it) = Hears known it
 HearsOwn None known (heard.Foreign foreign) = ⊥
 HearsOwn (Some name) known it = HearsNamed name known it
 
+-- what came over a connection to a node of this cluster: what its bytes are; out of memory for them; or, if the connection failed or its line was not
+-- whole in time, an input that needs no answer
+abbrev pub HearsCame : Option (List ℕ) → Result (Vec ℕ Global) WireError → Heard → Type 0
+HearsCame cluster (Ok bytes) it = HearsOwn cluster (Some bytes.items) it
+HearsCame cluster (Err wire.Memory) it = it ≡ heard.Input (input.Refused reason.Memory)
+HearsCame cluster (Err other) it = it ≡ heard.Input input.Nothing
+
 -- the input of what was heard: a line of another cluster or of none is refused as malformed
 abbrev pub input_of : Heard → Input
 input_of (heard.Input it) = it

@@ -72,8 +72,8 @@ pub record Noted : Type 0 where
 abbrev pub unnoted : Bool → Noted
 unnoted is_repeatable = record { last = None; made = 0; is_unsure = false; is_repeatable = is_repeatable }
 
--- What a call for a request that may not be performed twice notes: a node may have performed the request if one may have before, or by this answer, if a connection
--- was made for it or not; the link's own error for memory, by which a request ends, counts as no answer, and none comes without a connection. While the request
+-- What a call for a request that may not be performed twice notes: a node may have performed the request if one may have before, or by this answer, given whether a
+-- connection was made; the link's own error for memory, by which a request ends, counts as no answer, and none comes without a connection. While the request
 -- goes on, no node may have performed it.
 abbrev pub NotesDoubt : Result Message LinkError → Noted → Noted → Type 0
 NotesDoubt answer old new =

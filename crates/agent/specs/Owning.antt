@@ -1,6 +1,6 @@
 -- Which agents ask their applications for a request: of those whose views name owners alike, the one owner alone. And how often a request was performed that
 -- may not be performed twice.
-use Rattle.std.specs.Prelude.{◌≡◌, ◌≢◌, ◌⊎◌, ℕ, ◌<◌, Bool, true, false, length, List, [], ◌∷◌, Contains, Option, Some, Result, Ok, Err, get_or}
+use Rattle.std.specs.Prelude.{◌≡◌, ◌≢◌, ◌⊎◌, ℕ, ◌<◌, Bool, true, false, length, List, [], Contains, Some, Result, Ok, Err, get_or}
 use Rattle.std.specs.Option.{option_cmp}
 use Rattle.std.specs.Ordering.{nat_cmp}
 use Rattle.std.specs.declared.cmp.Ordering.TheVariants.{Less}
@@ -23,15 +23,11 @@ use Rattle.peer_core.specs.declared.errors.ClusterError.{ClusterError}
 use Rattle.peer_core.specs.declared.errors.ClusterError.TheVariants as error
 use Rattle.peer_core.specs.declared.errors.LinkError.{LinkError}
 use Rattle.line_service.specs.declared.inputs.Input.TheVariants as input
-use Rattle.agent_core.specs.Passing.{sent_text}
-use Rattle.agent_core.specs.declared.actions.Action.TheVariants as action
-use Rattle.agent_core.specs.declared.passing.Outgoing.{Outgoing}
-use Rattle.agent.specs.Asking.{AsksFor, answerer, notes_call}
+use Rattle.agent.specs.Asking.{AsksFor}
 use Rattle.agent.specs.Calling.{hash_number, hash_of}
-use Rattle.agent.specs.Onces.{Noted, notes_send, unnoted, was_made}
-use Rattle.agent.specs.Performing.{Finds, IsRequested, Owners, Performs}
+use Rattle.agent.specs.Onces.{Noted, unnoted, was_made}
+use Rattle.agent.specs.Performing.{IsRequested}
 use Rattle.agent.specs.Serving.{asks}
-use Rattle.agent_http.specs.declared.replies.Reply.TheVariants as shown
 
 -- each view among these acts is of the node at this address, and names owners by this number of points and these servers
 abbrev pub LooksSo : Address → ℕ → List Server → OfActs Sha256Hash
@@ -89,8 +85,8 @@ module _ {L : Type 0} (went : Went L) (noted_of : L → Noted) where
   FailsUndone keys request failed old mid acts = FailsOver hash_of undone_send keys request failed old mid acts × ((noted_of mid).is_unsure ≡ false)
 
 module _ {L A : Type 0} (went : Went L) (handled : Handled A) where
-  -- By the last view the request ended, at this node or at one more: this node owns the keys, its application was asked, once, and nothing more went; or it was
-  -- not asked, and one Forward more went to the owner.
+  -- By the last view the request ended, at this node or at one more: this node owns the keys, its handler was called, once, and its link no more; or it was
+  -- not called, and its link was given one Forward more, to the owner.
   abbrev pub EndsAtOne : List (List ℕ) → List ℕ → Result (List ℕ) ClusterError → A → A → L → L → OfActs Sha256Hash
   EndsAtOne keys request r was is mid new acts =
       (view : Viewed Sha256Hash) × Just (looked (Ok view)) acts
@@ -98,8 +94,8 @@ module _ {L A : Type 0} (went : Went L) (handled : Handled A) where
 
 -- A request that may not be performed twice: a link by which it goes notes its sends, and a handler is asked for it.
 module _ {L A : Type 0} (went : Went L) (handled : Handled A) (noted_of : L → Noted) where
-  -- fewer than four Forwards failed and no node performed them, and then the request ended at one node, this or another; or it ended by an error, nothing more
-  -- was sent, and no application was asked
+  -- fewer than four Forwards failed and no node performed them, and then the request ended at one node, this or another; or it ended by an error, its link was
+  -- given no more, and its handler was not called
   abbrev pub EndsOnce : List (List ℕ) → List ℕ → Result (List ℕ) ClusterError → A → A → L → L → OfActs Sha256Hash
   EndsOnce keys request r was is old new acts =
       (failed : List (Sending Sha256Hash)) × (mid : L)
@@ -112,8 +108,8 @@ module _ {L A : Type 0} (went : Went L) (handled : Handled A) (noted_of : L → 
       (keys : List (List ℕ)) (request : List ℕ) (r : Result (List ℕ) ClusterError) (was is : A) (old new : L) (acts : List (Act Sha256Hash))
       → noted_of old ≡ unnoted false → SendsRequest hash_of went handled keys request r was is old new acts → EndsOnce keys request r was is old new acts
 
-  -- One with a text was performed once: after Forwards that no node performed it ended at one node, which gave the text: at this one by its application, or at the
-  -- one that answered the one Forward more by a Reply.
+  -- One with a text ended so: after Forwards that no node performed, at one node, which gave the text, at this one by its handler, or at the one that answered
+  -- the one Forward more by a Reply.
   abbrev pub AnswersAreDoneOnce : Type 0
   AnswersAreDoneOnce =
       (keys : List (List ℕ)) (request text : List ℕ) (was is : A) (old new : L) (acts : List (Act Sha256Hash))
@@ -128,20 +124,9 @@ module _ {L A : Type 0} (went : Went L) (handled : Handled A) (noted_of : L → 
       → noted_of old ≡ unnoted false → (noted_of new).is_unsure ≡ false → SendsRequest hash_of went handled keys request (Err e) was is old new acts
       → Ends hash_of (undone_send went noted_of) handled keys request (Err e) was is old new acts
 
-  -- no doubt is left but by an error for memory, by which a request also ends early, and no application was asked but by that or its own
+  -- no doubt is left but by an error for memory, by which a request also ends early, and its handler was not called but by that or its own
   abbrev pub OthersAreSure : Type 0
   OthersAreSure =
       (keys : List (List ℕ)) (request : List ℕ) (e : ClusterError) (was is : A) (old new : L) (acts : List (Act Sha256Hash))
       → e ≢ error.Memory → noted_of old ≡ unnoted false → SendsRequest hash_of went handled keys request (Err e) was is old new acts
       → ((noted_of new).is_unsure ≡ false) × (e ≢ error.HandlerFault → is ≡ was)
-
--- A client of an agent that gets an answer to a request which may not be performed twice: after the look-up of its owner the request ended so, by some note of
--- what went, and the reply names the node that gave the text by it.
-abbrev pub ShownAreDoneOnce : Type 0
-ShownAreDoneOnce =
-    (limit : Option ℕ) (own replicas : ℕ) (key : List ℕ) (request : Outgoing) (owner : ℕ) (text : List ℕ) (acts : List (Act Sha256Hash))
-    → Performs limit own replicas (action.Pass key request false) (Ok (shown.Handled owner text)) acts
-    → (found : Owners) × (asked : Bool) × (noted : Noted) × (owner ≡ answerer own asked noted.last)
-    × Then (Finds key (Ok found)) (λ later. (failed : List (Sending Sha256Hash)) × (mid : Noted) × (length failed < most_sends)
-    × Then (FailsUndone notes_send (λ n. n) (key ∷ []) (sent_text found.1 request) failed (unnoted false) mid)
-    (EndsAtOne notes_send notes_call (key ∷ []) (sent_text found.1 request) (Ok text) false asked mid noted) later) acts

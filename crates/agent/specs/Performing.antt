@@ -1,5 +1,5 @@
 -- What an action makes the node do, and the reply or the refusal that comes of it.
-use Rattle.std.specs.Prelude.{◌≡◌, ◌≢◌, ◌⊎◌, ◌||◌, ◌==◌, ℕ, Bool, true, false, cond, bytes_eq, map, string_bytes, List, [], ◌∷◌, ◌++◌, slice_get, take, codes, Option, Some, None, IfSome, Result, Ok, Err}
+use Rattle.std.specs.Prelude.{◌≡◌, ◌≢◌, ◌⊎◌, ◌||◌, ◌==◌, ℕ, Bool, true, false, cond, bytes_eq, map, string_bytes, List, [], ◌∷◌, ◌++◌, slice_get, take, codes, Option, Some, None, Result, Ok, Err}
 use Rattle.change_core.specs.Digest.{digest_digits}
 use Rattle.change_core.specs.Members.{members}
 use Rattle.change_core.specs.declared.changes.Change.{Change}
@@ -163,16 +163,18 @@ SettledBy owner ending result outcome = ComesOf (ShowsAnswer owner) result outco
 abbrev pub is_in_doubt : Bool → Noted → Bool
 is_in_doubt asked noted = noted.is_unsure || asked
 
--- this refusal is that of a request that ended early, after which this is noted of it
-abbrev pub EndsEarly : Bool → Option ℕ → Bool → Noted → Refusal → Type 0
-EndsEarly is_repeatable limit asked noted why = early_refusal (is_in_doubt asked noted) is_repeatable limit ≡ Some why
+-- The refusal of a request that ended early, after which this is noted of it: its link or its handler ended it, or memory ran out where it may have been
+-- performed. None if it did not end early.
+abbrev pub ending_of : Bool → Bool → Option ℕ → Bool → Noted → Option Refusal
+ending_of is_over is_repeatable limit asked noted =
+    cond (is_over || is_in_doubt asked noted) (early_refusal (is_in_doubt asked noted) is_repeatable limit) None
 
 -- A request of one key is made, which this text has; it is not if memory runs out for its key. It may end early.
 abbrev pub AsksOwner : Option ℕ → ℕ → List ℕ → List ℕ → Bool → Outcome → OfActs Sha256Hash
 AsksOwner limit own key request is_repeatable outcome acts =
     Declines refusal.Memory outcome acts
-    ⊎ ((asked : Bool) × (noted : Noted) × (ending : Option Refusal) × IfSome ending (EndsEarly is_repeatable limit asked noted)
-    × After (IsRequested is_repeatable asked noted (key ∷ []) request) (SettledBy (answerer own asked noted.last) ending) outcome acts)
+    ⊎ ((asked : Bool) × (noted : Noted) × (is_over : Bool)
+    × After (IsRequested is_repeatable asked noted (key ∷ []) request) (SettledBy (answerer own asked noted.last) (ending_of is_over is_repeatable limit asked noted)) outcome acts)
 
 -- the owner of a key, and the node that would own it next, if there is one
 abbrev pub Owners : Type 0

@@ -3,7 +3,7 @@ ghost use Rattle.std.specs.Prelude.{◌≡◌, ◌<◌, ◌-◌, ◌/◌, ℕ, I
 
 use crate::agents::Agent;
 use crate::connections::MAX_IDLE;
-use crate::errors::AgentError;
+use crate::errors::{AgentError, unwatched};
 use crate::workers::serve_http;
 use agent_core::Notice;
 use agent_http::Kept;
@@ -187,14 +187,13 @@ pub fn start_http<R: System>(
 ) -> Result<Arc<Lot<Kept>, Global>, AgentError> {
     let keys = RandomState::new(rt).map_err(|_| AgentError::NoRandom)?;
     let timing = Timing {
-        patience: Duration::from_millis(PATIENCE),
+        patience: Some(Duration::from_millis(PATIENCE)),
         idle: MAX_IDLE,
         between_sweeps: BETWEEN_SWEEPS,
+        hands_over_late: false,
     };
     let places = Arc::try_clone(&agent.http)?;
-    let (reactor, ready) = Reactor::new(rt, alloc, listener, places, timing).map_err(
-        |_| AgentError::NoReactor,
-    )?;
+    let (reactor, ready) = Reactor::new(rt, alloc, listener, places, timing).map_err(unwatched)?;
     let lot = Arc::try_clone(reactor.lot())?;
     agent.watchers.set_lot(rt, Arc::try_clone(&lot)?);
     for _ in 0..WORKERS {
@@ -219,6 +218,6 @@ pub fn end_http<R: System>(rt: &R, agent: &Agent<R>, lot: &Lot<Kept>) {
         if agent.workers.get() == 0 {
             return;
         }
-        agent.bell.park_timeout(rt, left);
+        agent.wake.park_timeout(rt, left);
     }
 }

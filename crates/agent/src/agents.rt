@@ -123,7 +123,7 @@ pub struct Agent<R> {
     /// Whether a thread needed a pass and none was left.
     pub is_spent: Flag,
     /// The parker that is unparked when the agent is to end.
-    pub bell: Parker,
+    pub wake: Parker,
     /// The parker that is unparked when the last rounds have spread that the node left.
     pub spread: Parker,
 }
@@ -260,7 +260,7 @@ impl<R: Host> Agent<R> {
     pub fn end_worker(&self) {
         self.workers.subtract(1);
         if self.workers.get() == 0 {
-            self.bell.unpark();
+            self.wake.unpark();
         }
     }
 
@@ -278,7 +278,7 @@ impl<R: Host> Agent<R> {
             Some(next) => *caller = next,
             None => {
                 self.is_spent.set(true);
-                self.bell.unpark();
+                self.wake.unpark();
             }
         }
     }

@@ -8,7 +8,7 @@ ghost use Rattle.agent_http.specs.declared.pumps.Pause.TheVariants as pause;
 ghost use Rattle.agent.specs.Connections.{SendsAnswers};
 
 use crate::agents::{Agent, Flag};
-use crate::fronts::Front;
+use crate::api::Api;
 use agent_http::{Came, Kept, Pause, pump};
 use agent_state::{Host, Question};
 use crossbeam_channel::Receiver;
@@ -193,17 +193,17 @@ impl<'a> Write for Answers<'a> {
 ///
 /// - Each other error of the reader, and of the writer.
 pub fn serve_over<R: Host, I: Read, O: Write>(
-    front: &mut Front<'_, '_, R>,
+    api: &mut Api<'_, '_, R>,
     connection: &mut Connection,
     reader: &mut I,
     writer: &mut O,
 ) -> io::Result<Pause>
     requires { config_of connection.old ≡ connection_limits }
-    ensures answers { SendsAnswers front.old.agent.now.own front.old.agent.now.replicas front.old.agent.now.key_field (history connection.old) (history connection.new) (I.remaining reader.old) (I.remaining reader.new) (O.contents writer.old) (O.contents writer.new) front.old.caller.now front.new.caller.now }
+    ensures answers { SendsAnswers api.old.agent.now.own api.old.agent.now.replicas api.old.agent.now.key_field (history connection.old) (history connection.new) (I.remaining reader.old) (I.remaining reader.new) (O.contents writer.old) (O.contents writer.new) api.old.caller.now api.new.caller.now }
     ensures settled { result ≡ Ok pause.Input → IsSettled (history connection.new) }
     ensures owing { result ≡ Ok pause.Room → 0 < length (history connection.new).pending }
     ensures done { result ≡ Ok pause.Done → IsDone (history connection.new) }
     ensures limits { config_of connection.new ≡ connection_limits }
 {
-    pump(connection, front, reader, writer)
+    pump(connection, api, reader, writer)
 }

@@ -1,12 +1,14 @@
 //! The errors of an agent.
 ghost use Rattle.std.specs.Prelude.{◌≡◌};
-ghost use Rattle.agent.specs.Errors.{error_of_hosts, error_of_log};
+ghost use Rattle.std.specs.IoError.{error_kind};
+ghost use Rattle.agent.specs.Errors.{error_of_hosts, error_of_log, error_of_watching};
 
 use agent_core::HostsFault;
 use agent_state::LogError;
 use change_core::Address;
 use node_core::ConfigField;
 use std::alloc::{AllocError, AllocFailed};
+use std::io;
 use std::io::ErrorKind;
 use thiserror::Error;
 
@@ -58,6 +60,16 @@ pub enum AgentError {
     /// An allocation failed.
     #[error("out of memory")]
     Memory,
+}
+
+/// Returns the error of an agent for one by which connections are not watched.
+pub fn unwatched(error: io::Error) -> AgentError
+    ensures { result ≡ error_of_watching (error_kind error) }
+{
+    match error.kind() {
+        ErrorKind::OutOfMemory => AgentError::Memory,
+        _ => AgentError::NoReactor,
+    }
 }
 
 impl From<AllocError> for AgentError {

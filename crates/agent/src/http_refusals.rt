@@ -2,7 +2,7 @@
 ghost use Rattle.std.specs.Prelude.{◌≡◌};
 ghost use Rattle.agent.specs.HttpRefusals.{refusal_in, status_in};
 
-use crate::fronts::Front;
+use crate::api::Api;
 use agent_state::Host;
 use http_server::{Reason, Refusal, State};
 use log::debug;
@@ -49,11 +49,11 @@ fn status_of(refusal: Refusal) -> u16
 }
 
 /// Logs the refusal in which a connection that was open has come to this state, if it has: the access log knows neither method nor path nor time.
-pub fn log_refusal<R: Host>(front: &Front<'_, '_, R>, was_open: bool, state: State) {
+pub fn log_refusal<R: Host>(api: &Api<'_, '_, R>, was_open: bool, state: State) {
     let Some(refusal) = refusal_in(was_open, state) else {
         return;
     };
     let status = status_of(refusal);
-    let client = front.client.unwrap_or(IpAddr::V4(Ipv4Addr::UNSPECIFIED));
-    debug!(front.agent.log(); "- - {status} agent - ms {client}");
+    let client = api.client.unwrap_or(IpAddr::V4(Ipv4Addr::UNSPECIFIED));
+    debug!(api.agent.log(); "- - {status} agent - ms {client}");
 }

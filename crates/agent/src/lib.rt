@@ -5,11 +5,11 @@
 mod acceptors;
 mod admissions;
 mod agents;
+mod api;
 mod applications;
 mod callers;
 mod connections;
 mod errors;
-mod fronts;
 mod hands;
 mod host_files;
 mod hosts;

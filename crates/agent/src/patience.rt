@@ -57,7 +57,9 @@ pub fn early_refusal(is_unsure: bool, is_repeatable: bool, limit: Option<u64>) -
 
 impl<'a, R: Host> Patience<'a, R> {
     /// Begins to wait, for these milliseconds if there is a limit.
-    pub fn begin(agent: &'a Agent<R>, limit: Option<u64>) -> Self {
+    pub fn begin(agent: &'a Agent<R>, limit: Option<u64>) -> Self
+        ensures { result.agent ≡ agent.entry }
+    {
         let until = match limit {
             Some(millis) => agent.now().number().saturating_add(millis),
             None => u64::MAX,
@@ -128,10 +130,10 @@ impl<'p, 'a, R: Host> Patient<'p, 'a, R> {
 }
 
 impl<'p, 'a, R: Host> HandlerMut for Patient<'p, 'a, R> {
-    ghost use Rattle.agent.specs.Asking.{notes_asking};
+    ghost use Rattle.agent.specs.Patience.{asks_patiently};
 
     // a call of the application is noted
-    ghost handled = { λ keys body answer old new. notes_asking keys body answer old.was_asked new.was_asked };
+    ghost handled = { asks_patiently };
 
     fn handle_mut<W: Wait>(
         &mut self,

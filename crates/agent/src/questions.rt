@@ -8,7 +8,7 @@ ghost use Rattle.agent_core.specs.declared.answers.Kind.{Kind as Content};
 ghost use Rattle.agent.specs.Calling.{HasMade};
 ghost use Rattle.agent.specs.Performing.{Performs, ShowsAllOwners, ShowsRing, hidden_of, is_known, key_text, ring_digest};
 
-use crate::fronts::{Front, digest_of, refusal_of};
+use crate::api::{Api, digest_of, refusal_of};
 use agent_core::{KeyList, Refusal, on_ring, push_owners, ring_text};
 use agent_http::Reply;
 use agent_state::Host;
@@ -106,7 +106,7 @@ pub fn ring_digest(alloc: Global, members: &[Change]) -> Result<Digest, Refusal>
     digest_of(alloc, servers.as_slice())
 }
 
-impl<'f, 'a, R: Host> Front<'f, 'a, R> {
+impl<'f, 'a, R: Host> Api<'f, 'a, R> {
     /// Returns the first owners of keys by one view.
     ///
     /// # Errors

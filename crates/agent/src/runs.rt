@@ -19,7 +19,7 @@ use crate::hands::serve_requests;
 use crate::host_files::{Hosts, renew_hosts};
 use crate::hosts::join_hosts;
 use crate::peers::Job;
-use crate::ports::{PORT_THREADS, set_port_places, start_port};
+use crate::ports::{READERS, set_port_places, start_port};
 use crate::rejections::Refused;
 use crate::rounds::make_rounds;
 use crate::services::{await_service, watch_service};
@@ -51,7 +51,7 @@ use wire_json::write_line;
 
 /// The greatest number of threads of an agent for other nodes and its application: those of the node's port, the one that makes rounds, the one
 /// that asks the hosts, the one that looks after the application, the one that tells it of the ring, and the one that writes the log.
-pub const NODE_THREADS: u32 = PORT_THREADS + 5;
+pub const NODE_THREADS: u32 = READERS + 5;
 
 /// The number of passes for threads, each for 4,294,967,295 calls.
 const PASSES: u32 = 1_023;
@@ -216,7 +216,7 @@ fn agent_of<R: System + Files>(
         has_moved: Flag::new(false),
         is_stopping: Flag::new(false),
         is_spent: Flag::new(false),
-        bell: Parker::new(),
+        wake: Parker::new(),
         spread: Parker::new(),
     };
     Ok(Arc::new(alloc, agent)?)
@@ -332,7 +332,7 @@ fn watch_process<R: System + Files>(rt: &R, alloc: Global, agent: &Agent<R>) {
         agent.process.look(rt, alloc);
         renew_hosts(rt, alloc, agent, &mut told);
         agent
-            .bell
+            .wake
             .park_timeout(rt, Duration::from_millis(BETWEEN_LOOKS));
     }
 }
@@ -375,7 +375,7 @@ fn start<R: System>(
     }
     set_port_places(&**agent);
     let listener = listen(rt, settings.bind)?;
-    let front = match settings.http {
+    let http = match settings.http {
         Some(address) => Some(listen(rt, address)?),
         None => None,
     };
@@ -388,8 +388,8 @@ fn start<R: System>(
     start_watch(rt, agent, settings.app)?;
     start_port(rt, alloc, agent, listener, &hands)?;
     start_hands(rt, alloc, agent, &jobs, settings.hands)?;
-    let lot = match front {
-        Some(front) => Some(start_http(rt, alloc, agent, front)?),
+    let lot = match http {
+        Some(http) => Some(start_http(rt, alloc, agent, http)?),
         None => None,
     };
     start_notices(rt, alloc, agent, &settings)?;

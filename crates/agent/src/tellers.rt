@@ -35,7 +35,7 @@ pub struct Teller {
     noted: Mutex<Option<Ring>>,
     /// Whether the next notice is to go out now, whatever failed before.
     is_hurried: Flag,
-    bell: Parker,
+    wake: Parker,
     /// The parker that is unparked when nothing is left to tell.
     all_told: Parker,
     /// The notices that the application answered with a status from 200 to 299.
@@ -56,7 +56,7 @@ impl Teller {
             has_served: Flag::new(false),
             noted: Mutex::new(None),
             is_hurried: Flag::new(false),
-            bell: Parker::new(),
+            wake: Parker::new(),
             all_told: Parker::new(),
             taken: Count::new(),
             failed: Count::new(),
@@ -77,7 +77,7 @@ impl Teller {
         if self.is_on && self.note_served(own, members) {
             let servers = on_ring(alloc, members).ok()?;
             *self.noted.lock(rt) = Some(Ring { digest, servers });
-            self.bell.unpark();
+            self.wake.unpark();
         }
         Some(digest)
     }
@@ -96,7 +96,7 @@ impl Teller {
     /// Has the next notice go out now, whatever failed before.
     pub fn hurry(&self) {
         self.is_hurried.set(true);
-        self.bell.unpark();
+        self.wake.unpark();
     }
 
     /// Moves the ring that was noted to what is to be told.
@@ -140,8 +140,8 @@ impl Teller {
     /// Waits until a ring is noted, or these milliseconds have passed, if there are any. It may return early.
     fn wait<R: Wait>(&self, rt: &R, millis: Option<u64>) {
         match millis {
-            Some(millis) => self.bell.park_timeout(rt, Duration::from_millis(millis)),
-            None => self.bell.park(rt),
+            Some(millis) => self.wake.park_timeout(rt, Duration::from_millis(millis)),
+            None => self.wake.park(rt),
         }
     }
 }

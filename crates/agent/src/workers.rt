@@ -6,9 +6,9 @@ ghost use Rattle.agent_http.specs.Visits.{connection_limits};
 ghost use Rattle.agent.specs.Connections.{HasServed, SendsAnswers};
 
 use crate::agents::{Agent, Flag};
+use crate::api::Api;
 use crate::callers::Caller;
 use crate::connections::{Answers, Requests, serve_over};
-use crate::fronts::Front;
 use crate::http_refusals::log_refusal;
 use crate::links::NotedLink;
 use agent_http::{Came, Framing, Kept, kept_of, new_connection};
@@ -54,7 +54,7 @@ fn open(alloc: Global, keys: RandomState, kept: Option<Kept>) -> Option<(Box<Con
 
 /// Serves a connection while requests come, and logs if it ends with one that HTTP refuses.
 fn serve<R: Host>(
-    front: &mut Front<'_, '_, R>,
+    api: &mut Api<'_, '_, R>,
     ready: &Receiver<reactor::Connection<Kept>>,
     mut connection: Box<Connection>,
     came: Came,
@@ -62,11 +62,11 @@ fn serve<R: Host>(
     until: u64,
 ) -> Left
     requires { config_of (box_value connection) ≡ connection_limits }
-    ensures { (left : History) × SendsAnswers front.old.agent.now.own front.old.agent.now.replicas front.old.agent.now.key_field (history (box_value connection)) left None None None None front.old.caller.now front.new.caller.now }
+    ensures { (left : History) × SendsAnswers api.old.agent.now.own api.old.agent.now.replicas api.old.agent.now.key_field (history (box_value connection)) left None None None None api.old.caller.now api.new.caller.now }
 {
     let is_answering = Flag::new(false);
     let mut requests = Requests {
-        agent: front.agent,
+        agent: api.agent,
         stream,
         ready,
         is_answering: &is_answering,
@@ -74,15 +74,15 @@ fn serve<R: Host>(
         has_read: false,
         came,
         question: None,
-        is_turned_away: front.is_turned_away,
+        is_turned_away: api.is_turned_away,
     };
     let mut answers = Answers {
         stream,
         is_answering: &is_answering,
     };
     let was_open = connection.state() == State::Open;
-    let waits = serve_over(front, &mut *connection, &mut requests, &mut answers);
-    log_refusal(front, was_open, connection.state());
+    let waits = serve_over(api, &mut *connection, &mut requests, &mut answers);
+    log_refusal(api, was_open, connection.state());
     let Requests {
         came,
         question,
@@ -115,29 +115,29 @@ fn end_of_wait(is_full: bool, was_full: bool, until: u64, next: u64, now: u64) -
 
 /// Serves a connection while requests come, and then parks it; or closes it if it is done, fails, or its time is up.
 fn visit<R: Host>(
-    front: &mut Front<'_, '_, R>,
+    api: &mut Api<'_, '_, R>,
     lot: &Lot<Kept>,
     ready: &Receiver<reactor::Connection<Kept>>,
     keys: RandomState,
     visited: reactor::Connection<Kept>,
 )
-    ensures { HasServed front.old.agent.now.own front.old.agent.now.replicas front.old.agent.now.key_field front.old.caller.now front.new.caller.now }
+    ensures { HasServed api.old.agent.now.own api.old.agent.now.replicas api.old.agent.now.key_field api.old.caller.now api.new.caller.now }
 {
-    let agent = front.agent;
+    let agent = api.agent;
     let reactor::Connection {
         stream,
         kept,
         is_full: was_full,
         until,
     } = visited;
-    let Some((connection, came)) = open(front.alloc, keys, kept) else {
+    let Some((connection, came)) = open(api.alloc, keys, kept) else {
         return lot.close(stream);
     };
     let Left {
         kept,
         until: next,
         question,
-    } = serve(front, ready, connection, came, &stream, until);
+    } = serve(api, ready, connection, came, &stream, until);
     let Some(kept) = kept else {
         if question.is_some() {
             agent.watchers.count.subtract(1);
@@ -179,7 +179,7 @@ pub fn serve_http<R: Host>(
             break;
         };
         let is_turned_away = Flag::new(false);
-        let mut front = Front {
+        let mut api = Api {
             agent,
             alloc,
             client: ip_of(&visited.stream),
@@ -189,7 +189,7 @@ pub fn serve_http<R: Host>(
             is_turned_away: &is_turned_away,
         };
         agent.serving.add(1);
-        visit(&mut front, &*lot, &ready, keys, visited);
+        visit(&mut api, &*lot, &ready, keys, visited);
         agent.serving.subtract(1);
         agent.renew(&mut caller);
     }

@@ -9,7 +9,7 @@ use Rattle.peer_core.specs.Links.{MayAnswer}
 use Rattle.node_core.specs.Node.{Seen}
 use Rattle.peer_core.specs.Acts.{Makes}
 use Rattle.cluster_core.specs.Clusters.{AreAll, AreFresh}
-use Rattle.cli_net.specs.Service.{HasEnded, HasEntered, HasServed, IsCreated, IsEndFault, IsJoinedTo, IsThreadFault, LeavesServing, TellsEntry, end_fault}
+use Rattle.cli_net.specs.Service.{HasEnded, HasEntered, HasServed, IsCreated, IsEndFault, IsJoinedTo, IsPortFault, IsThreadFault, LeavesServing, TellsEntry, end_fault}
 use Rattle.cli_net.specs.declared.echoes.Echo.{Echo}
 use Rattle.server.specs.Starting.{IsHealedAs}
 use Rattle.server.specs.Threads.{ServeTogether}
@@ -28,8 +28,9 @@ abbrev pub MayFollow : ServeError → Type 0
 MayFollow serve.NoneJoined = ⊥
 MayFollow other = Unit {0}
 
-pub cannot_listen : (e : ServeError) → e ≡ serve.CannotListen → MayFollow e
-cannot_listen e is = subst MayFollow (sym is) tt
+pub cannot_open : (e : ServeError) → IsPortFault e → MayFollow e
+cannot_open e (inl is) = subst MayFollow (sym is) tt
+cannot_open e (inr is) = subst MayFollow (sym is) tt
 
 pub cannot_serve : (e : ServeError) → IsThreadFault e → MayFollow e
 cannot_serve serve.NoneJoined h = h

@@ -84,6 +84,10 @@ IsEndFault serve.StillHeld = Unit {0}
 IsEndFault serve.Miscounted = Unit {0}
 IsEndFault other = ⊥
 
+-- the errors of a port that is not opened
+abbrev pub IsPortFault : ServeError → Type 0
+IsPortFault fault = (fault ≡ serve.CannotListen) ⊎ (fault ≡ serve.OutOfMemory)
+
 -- the errors of threads that were not started, or of their end
 abbrev pub IsThreadFault : ServeError → Type 0
 IsThreadFault serve.NoThread = Unit {0}

@@ -12,7 +12,7 @@ ghost use Rattle.server.specs.Starting.{IsHealedAs};
 ghost use Rattle.server.specs.Threads.{ServeTogether};
 ghost use Rattle.server.specs.Working.{AreRounds, hosts_of};
 ghost use Rattle.cli_net.specs.Echoes.{MayEcho};
-ghost use Rattle.cli_net.specs.Service.{EntersBy, HasEnded, HasEntered, HasServed, IsEndFault, IsThreadFault, LeavesService, LeavesServing, ServesAsStandard, ServesBy, TellsEntry, end_fault, service_text, serving_line};
+ghost use Rattle.cli_net.specs.Service.{EntersBy, HasEnded, HasEntered, HasServed, IsEndFault, IsPortFault, IsThreadFault, LeavesService, LeavesServing, ServesAsStandard, ServesBy, TellsEntry, end_fault, service_text, serving_line};
 
 use crate::echoes::Echo;
 use crate::faults::ServeError;
@@ -24,18 +24,30 @@ use hash_ring::{PointHash, Sha256Hash, SumHash};
 use locked_node::NodePass;
 use node_core::NodeState;
 use server::{
-    EndError, Ended, HealingPlan, Running, Runtime, Server, ServerError, Stopwatch, Timeouts,
+    EndError, Ended, HealingPlan, Port, Running, Runtime, Server, ServerError, Stopwatch, Timeouts,
 };
 use std::alloc::Global;
-use std::io::Write;
+use std::io::{ErrorKind, Write};
 use std::net::{Net, TcpListener, TcpStream};
+use std::time::Duration;
 use wire_json::write_line;
 
-/// Listens at an address.
-fn listen<R: Net>(rt: &R, address: Address) -> Result<R::Listener, ServeError>
-    ensures { IsOkUnless result ServeError.CannotListen }
+/// Listens at an address, where a line has to be whole within the time limit.
+fn open_port<R: Net<Listener = TcpListener, Stream = TcpStream>>(
+    rt: &R,
+    alloc: Global,
+    address: Address,
+    limit: Duration,
+) -> Result<Port, ServeError>
+    ensures { IfErr result IsPortFault }
 {
-    TcpListener::bind(rt, socket_address(address)).map_err(|_| ServeError::CannotListen)
+    let Ok(listener) = TcpListener::bind(rt, socket_address(address)) else {
+        return Err(ServeError::CannotListen);
+    };
+    Port::open(rt, alloc, listener, limit).map_err(|error| match error.kind() {
+        ErrorKind::OutOfMemory => ServeError::OutOfMemory,
+        _ => ServeError::CannotListen,
+    })
 }
 
 /// Writes a line and flushes.
@@ -178,11 +190,11 @@ fn serve_by<
     let mut link = TcpLink::with_limits(*rt, timeouts.links);
     let now = stopwatch.moment(rt);
     join_hosts(rt, alloc, &node, &mut timer, &mut link, hosts, now)?;
-    let listener = listen(rt, words.address)?;
+    let port = open_port(rt, alloc, words.address, timeouts.line)?;
     let echo = Echo {
         address: words.address,
     };
-    let mut server = Server::new(node, echo, stopwatch, healing, listener, words.requests);
+    let mut server = Server::new(node, echo, stopwatch, healing, port, words.requests);
     server.timeouts = timeouts;
     say_serving(alloc, words.address, writer)?;
     let closed = serve_all(rt, alloc, server, timer, passes, words.period)?;
@@ -253,7 +265,7 @@ fn serve_by_sha256<R: Net<Listener = TcpListener, Stream = TcpStream> + Runtime,
 ///
 /// - `OutOfMemory`: out of memory, in any step before the first connection.
 /// - `NoneJoined`: hosts were named and none admitted the node.
-/// - `CannotListen`: the address can't be listened at.
+/// - `CannotListen`: the address can't be listened at, or the system lets no connections be watched.
 /// - `CannotWrite`: the writer failed, before any thread runs or after all have ended.
 /// - `NoThread`: a thread could not be made. None has served, and those that were started have ended.
 /// - `StillHeld`: a thread holds the node after all have ended. No run meets it.

@@ -55,6 +55,12 @@ Hears known heard =
     ((read : Result (Option (Vec ℕ Global)) WireError) × (left : Option (List ℕ)) × TakesLine known read left × IsInputOf read heard)
     ⊎ (heard ≡ input.Refused reason.Memory)
 
+-- the input that bytes are which came over a connection; or that of a connection over which they did not come: out of memory for them, or none that needs an answer
+abbrev pub HearsArrived : Result (Vec ℕ Global) WireError → Input → Type 0
+HearsArrived (Ok bytes) heard = Hears (Some bytes.items) heard
+HearsArrived (Err wire.Memory) heard = heard ≡ input.Refused reason.Memory
+HearsArrived (Err other) heard = heard ≡ input.Nothing
+
 -- the line of a message
 abbrev pub line_text : Message → List ℕ
 line_text message = compact_text (message_data message)

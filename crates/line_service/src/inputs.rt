@@ -1,6 +1,6 @@
 //! The inputs of connections.
-ghost use Rattle.std.specs.Prelude.{◌≡◌};
-ghost use Rattle.line_service.specs.Answering.{Hears, IsInputOf, IsReadAs, unread_as};
+ghost use Rattle.std.specs.Prelude.{◌≡◌, Some};
+ghost use Rattle.line_service.specs.Answering.{Hears, HearsArrived, IsInputOf, IsReadAs, unread_as};
 
 use message_core::{Message, Reason, WireError};
 use std::alloc::Global;
@@ -61,4 +61,25 @@ pub fn hear<S: Read + Drop>(alloc: Global, stream: S) -> Input
     };
     let read = read_line(alloc, &mut reader);
     input_of(alloc, read)
+}
+
+/// Returns the input that these bytes are, by their first line.
+fn heard_in(alloc: Global, bytes: &[u8]) -> Input
+    ensures { Hears (Some bytes.now) result }
+{
+    let mut reader = bytes;
+    let read = read_line(alloc, &mut reader);
+    input_of(alloc, read)
+}
+
+/// Returns the input that bytes are which came over a connection, or that they did not come: one that needs no answer if the connection failed or its line
+/// was not whole in time.
+pub fn hear_arrived(alloc: Global, line: &Result<Vec<u8>, WireError>) -> Input
+    ensures { HearsArrived line.now result }
+{
+    match line {
+        Ok(bytes) => heard_in(alloc, bytes.as_slice()),
+        Err(WireError::Memory) => Input::Refused(Reason::Memory),
+        Err(_) => Input::Nothing,
+    }
 }

@@ -6,8 +6,8 @@ ghost use Rattle.change_core.specs.Numbers.{greatest_number};
 use change_core::{MAX_NUMBER, Moment};
 use std::time::{Clock, Duration, Instant};
 
-/// The whole milliseconds of a time, 2^53 - 1 at most.
-fn millis_of(spent: Duration) -> u64
+/// Returns the whole milliseconds of a time, 2^53 - 1 at most.
+pub fn millis_of(spent: Duration) -> u64
     ensures millis { result ≡ min (as_nanos spent / 10 ^ 6) greatest_number }
     ensures few { result ≤ greatest_number }
 {

@@ -132,11 +132,25 @@ impl<K: Drop> Lot<K> {
     /// Parks a connection at this millisecond, until its client sends something or, if it is full, takes something. It is closed instead if
     /// idle connections are, and if the system or the memory is short.
     pub fn park<R: Wait>(&self, rt: &R, connection: Connection<K>, now: u64) {
-        if self.hold(rt, connection, now) {
-            self.call_if_full();
-        } else {
-            self.free(1);
+        if let Err(connection) = self.try_park(rt, connection, now) {
+            self.close(connection.stream);
         }
+    }
+
+    /// Parks a connection, as [`park`](Lot::park) does.
+    ///
+    /// # Errors
+    ///
+    /// - The connection, where `park` closes it.
+    pub fn try_park<R: Wait>(
+        &self,
+        rt: &R,
+        connection: Connection<K>,
+        now: u64,
+    ) -> Result<(), Connection<K>> {
+        self.hold(rt, connection, now)?;
+        self.call_if_full();
+        Ok(())
     }
 
     /// Wakes the reactor if it waits for a place, since a connection can be closed for another now.
@@ -146,8 +160,13 @@ impl<K: Drop> Lot<K> {
         }
     }
 
-    /// Holds a connection in a slot. Returns whether it does; else the connection is dropped.
-    fn hold<R: Wait>(&self, rt: &R, connection: Connection<K>, now: u64) -> bool {
+    /// Holds a connection in a slot, or gives it back.
+    fn hold<R: Wait>(
+        &self,
+        rt: &R,
+        connection: Connection<K>,
+        now: u64,
+    ) -> Result<(), Connection<K>> {
         let descriptor = connection.stream.as_raw_fd();
         let interest = if connection.is_full {
             Interest::WRITABLE
@@ -157,29 +176,57 @@ impl<K: Drop> Lot<K> {
         // (locked until it is registered: the reactor finds each connection of which it is told)
         let mut slots = self.slots.lock(rt);
         if slots.is_closed && !connection.is_full {
-            return false;
+            return Err(connection);
         }
         let parked = Parked {
             connection,
             since: now,
         };
-        let Ok(key) = slots.parked.insert(parked) else {
-            return false;
+        let key = match slots.parked.insert(parked) {
+            Ok(key) => key,
+            Err(refused) => return Err(refused.value.connection),
         };
         let mut source = SourceFd(&descriptor);
-        let is_registered = self.registry.register(&mut source, Token(key), interest);
-        if is_registered.is_err() {
-            let _unheard = slots.parked.try_remove(key);
+        if self
+            .registry
+            .register(&mut source, Token(key), interest)
+            .is_ok()
+        {
+            return Ok(());
         }
-        is_registered.is_ok()
+        match slots.parked.try_remove(key) {
+            Some(parked) => Err(parked.connection),
+            None => Ok(()),
+        }
+    }
+
+    /// Returns the number of slots, with those that are free.
+    pub(crate) fn slots<R: Wait>(&self, rt: &R) -> usize {
+        self.slots.lock(rt).parked.capacity()
+    }
+
+    /// Has the connection of a slot, which is out of it, watched no longer.
+    fn unwatch(&self, parked: Parked<K>) -> Connection<K> {
+        let descriptor = parked.connection.stream.as_raw_fd();
+        let _gone = self.registry.deregister(&mut SourceFd(&descriptor));
+        parked.connection
     }
 
     /// Takes the connection of a slot out of the lot; None if none is there.
     pub(crate) fn take<R: Wait>(&self, rt: &R, key: usize) -> Option<Connection<K>> {
         let parked = self.slots.lock(rt).parked.try_remove(key)?;
-        let descriptor = parked.connection.stream.as_raw_fd();
-        let _gone = self.registry.deregister(&mut SourceFd(&descriptor));
-        Some(parked.connection)
+        Some(self.unwatch(parked))
+    }
+
+    /// Takes the connection of a slot out of the lot if its time is up at this millisecond.
+    pub(crate) fn take_late<R: Wait>(&self, rt: &R, key: usize, now: u64) -> Option<Connection<K>> {
+        let mut slots = self.slots.lock(rt);
+        if slots.parked.get(key)?.connection.until > now {
+            return None;
+        }
+        let parked = slots.parked.try_remove(key)?;
+        drop(slots);
+        Some(self.unwatch(parked))
     }
 
     /// Closes the connections whose time is up at this millisecond.

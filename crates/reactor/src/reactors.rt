@@ -40,12 +40,14 @@ const ENOBUFS: i32 = 105;
 /// The time limits of connections.
 #[derive(Clone, Copy, Debug)]
 pub struct Timing {
-    /// For how long a read or a write of a worker waits.
-    pub patience: Duration,
+    /// For how long a read or a write of a worker waits; None: it does not wait.
+    pub patience: Option<Duration>,
     /// The milliseconds for which a connection may send nothing at first.
     pub idle: u64,
     /// The milliseconds between two looks for connections whose time is up.
     pub between_sweeps: u64,
+    /// Whether a connection whose time is up goes to a worker. Else it is closed.
+    pub hands_over_late: bool,
 }
 
 /// A reactor, for the one thread that makes its turns.
@@ -134,7 +136,8 @@ impl<K: Drop> Reactor<K> {
         let _polled = self.poll.poll(&mut self.events, Some(limit));
     }
 
-    /// Sends what is ready to the workers, closes what is late at this millisecond, and accepts what came. Returns whether more may wait to be accepted.
+    /// Sends what is ready to the workers, closes what is late at this millisecond, or sends it, too, and accepts what came. Returns whether more may
+    /// wait to be accepted.
     ///
     /// # Errors
     ///
@@ -143,7 +146,7 @@ impl<K: Drop> Reactor<K> {
         let is_called = self.hand_over(rt);
         if now >= self.swept.saturating_add(self.timing.between_sweeps) {
             self.swept = now;
-            self.lot.close_late(rt, now);
+            self.end_late(rt, now);
         }
         if !is_called && !self.is_called && !self.lot.is_ending() {
             return Ok(false);
@@ -153,6 +156,18 @@ impl<K: Drop> Reactor<K> {
         self.lot.places().note(self.is_failing);
         self.is_called = !matches!(&accepted, Ok(false));
         accepted
+    }
+
+    /// Closes the connections whose time is up at this millisecond, or sends them to the workers.
+    fn end_late<R: Wait>(&self, rt: &R, now: u64) {
+        if !self.timing.hands_over_late {
+            return self.lot.close_late(rt, now);
+        }
+        for key in 0..self.lot.slots(rt) {
+            if let Some(connection) = self.lot.take_late(rt, key, now) {
+                let _sent = self.ready.send(rt, connection);
+            }
+        }
     }
 
     /// Sends the connections that are ready to the workers. Returns whether others may wait to be accepted.
@@ -184,7 +199,7 @@ impl<K: Drop> Reactor<K> {
             }
             match listener.accept() {
                 Ok((stream, _)) => {
-                    self.admit(rt, stream, now);
+                    self.admit(rt, stream, now)?;
                     if has_closed {
                         return Ok(true);
                     }
@@ -202,18 +217,30 @@ impl<K: Drop> Reactor<K> {
         Ok(true)
     }
 
-    /// Parks a connection that was accepted. If all places are taken, the connection that has waited longest is closed for it.
-    fn admit<R: Wait>(&self, rt: &R, stream: TcpStream, now: u64) {
+    /// Has the reads and writes of a stream wait as long as those of workers do.
+    fn set_patience(&self, stream: &TcpStream) -> io::Result<()> {
+        if self.timing.patience.is_none() {
+            return stream.set_nonblocking(true);
+        }
+        stream.set_read_timeout(self.timing.patience)?;
+        stream.set_write_timeout(self.timing.patience)
+    }
+
+    /// Parks a connection that was accepted, or sends it to a worker if that does not wait. If all places are taken, the connection that has waited longest
+    /// is closed for it.
+    ///
+    /// # Errors
+    ///
+    /// - `OutOfMemory`: the memory or the system is short for it. It is closed.
+    fn admit<R: Wait>(&self, rt: &R, stream: TcpStream, now: u64) -> io::Result<()> {
         if !self.lot.places().has_free() {
             let _closed = self.lot.close_longest(rt);
         }
         self.lot.places().occupy();
-        let patience = Some(self.timing.patience);
         let _set = stream.set_nodelay(true);
-        if stream.set_read_timeout(patience).is_err()
-            || stream.set_write_timeout(patience).is_err()
-        {
-            return self.lot.close(stream);
+        if self.set_patience(&stream).is_err() {
+            self.lot.close(stream);
+            return Ok(());
         }
         let connection = Connection {
             stream,
@@ -221,7 +248,17 @@ impl<K: Drop> Reactor<K> {
             is_full: false,
             until: now.saturating_add(self.timing.idle),
         };
-        self.lot.park(rt, connection, now);
+        if self.timing.patience.is_none() {
+            let _sent = self.ready.send(rt, connection);
+            return Ok(());
+        }
+        match self.lot.try_park(rt, connection, now) {
+            Ok(()) => Ok(()),
+            Err(connection) => {
+                self.lot.close(connection.stream);
+                Err(no_memory())
+            }
+        }
     }
 
     /// Closes the listener: no connection is accepted any more.

@@ -31,6 +31,11 @@ pub(crate) const SILENT: Manner = Manner {
     by: 0,
 };
 
+/// A peer that has said this by a moment.
+pub(crate) fn saying(says: &'static str, by: u64) -> Manner {
+    Manner { says, by, ..SILENT }
+}
+
 /// A peer, with its clock.
 #[derive(Drop)]
 pub(crate) struct Peer {

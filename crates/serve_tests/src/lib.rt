@@ -9,6 +9,14 @@ macro_rules! rows {
     };
 }
 
+/// Values of a type, each on a line and ended by a semicolon: like another one but for the fields that are given.
+#[cfg(test)]
+macro_rules! like {
+    ($kind:ident: $($base:ident $({ $($field:ident: $value:expr),+ })?;)+) => {
+        [$($kind { $($($field: $value,)+)? ..$base }),+]
+    };
+}
+
 #[cfg(test)]
 mod answers;
 #[cfg(test)]

@@ -10,130 +10,47 @@ use wire_json::{Changes, Content, Message, News, decode};
 /// What a peer answers to a call, 10.0.0.1:1 if no other is named.
 #[derive(Clone, Copy)]
 pub(crate) enum Answer {
-    /// `hi` to a request.
-    Hi,
-    /// The empty text to a request.
-    Empty,
-    /// `mine 10.0.0.1:1` to a request.
-    Mine,
-    /// `mine 10.0.0.2:1` to a request, by that peer.
-    Theirs,
-    NotOwner,
-    RefusesNobody,
-    RefusesMalformed,
-    RefusesFailed,
-    RefusesFull,
-    /// A membership without members.
-    Nobody,
-    /// Of 10.0.0.1:1, alive at 7.
-    Alone,
-    /// The same with the digest of no members.
-    AloneAmiss,
-    /// Of 10.0.0.1:1, alive at 7, and 10.0.0.2:1, suspect at 3, with weight 2.
-    Two,
-    /// The same with the digest of 10.0.0.1:1 alone.
-    TwoAmiss,
-    /// A membership of all that it was given, with the digest of 10.0.0.1:1, alive at 7; with that of it as a suspect;
-    /// with that of two.
-    ToldAlone,
-    ToldSuspect,
-    ToldTwo,
+    /// This line to anything.
+    Line(&'static str),
+    /// This line to a join.
+    Joined(&'static str),
+    /// This line to a request, of the node with this IPv4 number.
+    Reply(u32, &'static str),
+    /// A membership of all that a join has, with this digest.
+    Told(&'static str),
     /// It can't be reached.
     Broken,
     /// Out of memory.
     Starved,
 }
 
-/// The line of an answer, if it is always the same.
-fn line_of(answer: Answer) -> Option<&'static str> {
-    Some(match answer {
-        Answer::Hi =>
-            r#"{"body":"hi","kind":"reply","source":"10.0.0.1:1","sourceIncarnationNumber":7}"#,
-        Answer::Empty =>
-            r#"{"body":"","kind":"reply","source":"10.0.0.1:1","sourceIncarnationNumber":7}"#,
-        Answer::Mine =>
-            r#"{"body":"mine 10.0.0.1:1","kind":"reply","source":"10.0.0.1:1","sourceIncarnationNumber":7}"#,
-        Answer::Theirs =>
-            r#"{"body":"mine 10.0.0.2:1","kind":"reply","source":"10.0.0.2:1","sourceIncarnationNumber":7}"#,
-        Answer::NotOwner =>
-            r#"{"kind":"not-owner","source":"10.0.0.1:1","sourceIncarnationNumber":7}"#,
-        Answer::RefusesNobody =>
-            r#"{"kind":"refused","reason":"nobody","source":"10.0.0.1:1","sourceIncarnationNumber":7}"#,
-        Answer::RefusesMalformed =>
-            r#"{"kind":"refused","reason":"malformed","source":"10.0.0.1:1","sourceIncarnationNumber":7}"#,
-        Answer::RefusesFailed =>
-            r#"{"kind":"refused","reason":"failed","source":"10.0.0.1:1","sourceIncarnationNumber":7}"#,
-        Answer::RefusesFull =>
-            r#"{"kind":"refused","reason":"full","source":"10.0.0.1:1","sourceIncarnationNumber":7}"#,
-        Answer::Nobody =>
-            r#"{"changes":[],"checksum":"e3b0c44298fc1c149afbf4c8996fb92427ae41e4649b934ca495991b7852b855","kind":"joined","source":"10.0.0.1:1","sourceIncarnationNumber":7}"#,
-        Answer::Alone =>
-            r#"{"changes":[{"address":"10.0.0.1:1","incarnationNumber":7,"source":"10.0.0.1:1","sourceIncarnationNumber":7,"status":"alive"}],"checksum":"114cdd273aed4efee25e37eb2d6f8902516de89bfb099e3deb7cd6f372fa39df","kind":"joined","source":"10.0.0.1:1","sourceIncarnationNumber":7}"#,
-        Answer::AloneAmiss =>
-            r#"{"changes":[{"address":"10.0.0.1:1","incarnationNumber":7,"source":"10.0.0.1:1","sourceIncarnationNumber":7,"status":"alive"}],"checksum":"e3b0c44298fc1c149afbf4c8996fb92427ae41e4649b934ca495991b7852b855","kind":"joined","source":"10.0.0.1:1","sourceIncarnationNumber":7}"#,
-        Answer::Two =>
-            r#"{"changes":[{"address":"10.0.0.1:1","incarnationNumber":7,"source":"10.0.0.1:1","sourceIncarnationNumber":7,"status":"alive"},{"address":"10.0.0.2:1","incarnationNumber":3,"source":"10.0.0.2:1","sourceIncarnationNumber":3,"status":"suspect","weight":2}],"checksum":"96236e70e85ed04fd1686bcf8c49d8c26e86a4cb4a04b7988c05563b2fa13c5b","kind":"joined","source":"10.0.0.1:1","sourceIncarnationNumber":7}"#,
-        Answer::TwoAmiss =>
-            r#"{"changes":[{"address":"10.0.0.1:1","incarnationNumber":7,"source":"10.0.0.1:1","sourceIncarnationNumber":7,"status":"alive"},{"address":"10.0.0.2:1","incarnationNumber":3,"source":"10.0.0.2:1","sourceIncarnationNumber":3,"status":"suspect","weight":2}],"checksum":"114cdd273aed4efee25e37eb2d6f8902516de89bfb099e3deb7cd6f372fa39df","kind":"joined","source":"10.0.0.1:1","sourceIncarnationNumber":7}"#,
-        _ => return None,
-    })
-}
-
-/// The digest of all that a peer was given, if its answer has that.
-fn digest_of(answer: Answer) -> Option<Digest> {
-    let digits = match answer {
-        Answer::ToldAlone => "114cdd273aed4efee25e37eb2d6f8902516de89bfb099e3deb7cd6f372fa39df",
-        Answer::ToldSuspect => "12e01587fa883c32c6b64e19957814e6c7120b69e8b68fbd3513c251a619658d",
-        Answer::ToldTwo => "96236e70e85ed04fd1686bcf8c49d8c26e86a4cb4a04b7988c05563b2fa13c5b",
-        _ => return None,
-    };
-    Digest::parse(digits)
-}
-
 /// Peers that answer one call after the other. None of another address is reached, none by a further call, and none by a message whose
 /// source is not `0.0.0.0:1` at 0.
 #[derive(Drop)]
 pub(crate) struct Peers {
-    answers: &'static [Answer],
+    pub(crate) answers: &'static [Answer],
     pub(crate) calls: usize,
-    failures: u64,
+    pub(crate) failures: u64,
 }
 
-impl Peers {
-    /// Peers that were asked nothing yet.
-    pub(crate) fn new(answers: &'static [Answer]) -> Peers {
-        Peers {
-            answers,
-            calls: 0,
-            failures: 0,
+/// The message of an answer; None if out of memory for it, or it does not fit the request.
+fn message_of(alloc: Global, answer: Answer, content: &Content) -> Option<Message> {
+    let line = match (answer, content) {
+        (Answer::Line(line), _)
+        | (Answer::Joined(line), Content::Join(_))
+        | (Answer::Reply(_, line), Content::Forward(_, _)) => line,
+        (Answer::Told(digits), Content::Join(news)) => {
+            let checksum = Digest::parse(digits)?;
+            let changes = Changes::from_slice(alloc, news.changes.as_slice()).ok()?;
+            return Some(Message {
+                source: Address::new(0x0a00_0001, 1)?,
+                source_incarnation: Incarnation::new(7)?,
+                content: Content::Joined(News { checksum, changes }),
+            });
         }
-    }
-}
-
-/// The message of a host's answer; None if out of memory for it, or it does not fit the request: a membership of
-/// members goes with a join, and `mine` with anything else.
-fn message_of(alloc: Global, answer: Answer, host: Address, content: &Content) -> Option<Message> {
-    let is_join = matches!(content, Content::Join(_));
-    match answer {
-        Answer::Alone | Answer::AloneAmiss | Answer::Two | Answer::TwoAmiss if !is_join => {
-            return None;
-        }
-        Answer::Mine | Answer::Theirs if is_join => return None,
-        _ => {}
-    }
-    if let Some(line) = line_of(answer) {
-        return decode(alloc, line.as_bytes()).ok();
-    }
-    let (checksum, source_incarnation) = (digest_of(answer)?, Incarnation::new(7)?);
-    let Content::Join(news) = content else {
-        return None;
+        _ => return None,
     };
-    let changes = Changes::from_slice(alloc, news.changes.as_slice()).ok()?;
-    Some(Message {
-        source: host,
-        source_incarnation,
-        content: Content::Joined(News { checksum, changes }),
-    })
+    decode(alloc, line.as_bytes()).ok()
 }
 
 impl Link for Peers {
@@ -157,50 +74,33 @@ impl Link for Peers {
         if self.failures == u64::MAX {
             return Err(LinkError::Spent);
         }
-        let answer = self
-            .answers
-            .get(self.calls)
-            .copied()
-            .unwrap_or(Answer::Broken);
+        let answer = *self.answers.get(self.calls).unwrap_or(&Answer::Broken);
         self.calls = self.calls.wrapping_add(1);
         let host = match answer {
             Answer::Broken => 0,
-            Answer::Theirs => 0x0a00_0002,
+            Answer::Reply(host, _) => host,
             _ => 0x0a00_0001,
         };
         // the source of a question is `0.0.0.0:1` at 0
-        let is_question = message.source.ip() == 0
-            && message.source.port() == 1
+        let is_question = Address::new(0, 1) == Some(message.source)
             && message.source_incarnation.number() == 0;
         if !is_question || Address::new(host, 1) != Some(to) {
             self.failures += 1;
             return Err(LinkError::Io);
         }
-        message_of(alloc, answer, to, &message.content).ok_or(LinkError::Memory)
+        message_of(alloc, answer, &message.content).ok_or(LinkError::Memory)
     }
 }
 
 /// A text, this many times, and then another. The reader fails after this many bytes.
 #[derive(Drop)]
 pub(crate) struct Lines<'a> {
-    text: &'a [u8],
-    times: usize,
-    last: &'a [u8],
-    left: usize,
+    pub(crate) text: &'a [u8],
+    pub(crate) times: usize,
+    pub(crate) last: &'a [u8],
+    pub(crate) left: usize,
     /// How many bytes of the text were read.
-    place: usize,
-}
-
-impl<'a> Lines<'a> {
-    pub(crate) fn new(text: &'a str, times: usize, last: &'a str, left: usize) -> Lines<'a> {
-        Lines {
-            text: text.as_bytes(),
-            times,
-            last: last.as_bytes(),
-            left,
-            place: 0,
-        }
-    }
+    pub(crate) place: usize,
 }
 
 impl<'a> Read for Lines<'a> {
@@ -226,21 +126,18 @@ impl<'a> Read for Lines<'a> {
     }
 }
 
-/// A writer that takes this text, and nothing else.
+/// A writer that takes this text, and nothing else: what was not written yet.
 #[derive(Drop)]
-pub(crate) struct Page<'a> {
-    /// What was not written yet.
-    pub(crate) left: &'a [u8],
-}
+pub(crate) struct Page<'a>(pub(crate) &'a [u8]);
 
 impl<'a> Write for Page<'a> {
     fn write(&mut self, buf: &[u8]) -> io::Result<usize> {
         let Some(&byte) = buf.first() else {
             return Ok(0);
         };
-        match self.left.split_first() {
+        match self.0.split_first() {
             Some((&next, behind)) if next == byte => {
-                self.left = behind;
+                self.0 = behind;
                 Ok(1)
             }
             _ => Err(io::Error::from(ErrorKind::WriteZero)),

@@ -3,15 +3,13 @@
 //! is made at the moment that it is.
 ghost use Rattle.locked_node.specs.Passes.{Fits};
 
-use crate::connections::{is_due, server_of, shared_node};
-use crate::plans::local;
-use crate::shared::again;
+use crate::connections::{is_due, server_of};
+use crate::shared::{System, check_again};
 use change_core::Status;
 use cli_net::Echo;
 use hash_ring::SumHash;
 use locked_node::NodePass;
 use server::{Server, make_rounds};
-use std::alloc::Global;
 use std::cell::Cell;
 use std::io;
 use std::io::ErrorKind;
@@ -25,50 +23,19 @@ const PERIOD: u64 = 8;
 /// After how many rounds they are ended.
 const ROUNDS: u32 = 3;
 
-/// A clock that continues by a millisecond with each look.
-#[derive(Drop)]
-struct Looks {
-    seen: Cell<u64>,
-}
-
-impl Clock for Looks {
-    fn monotonic(&self) -> io::Result<Duration> {
-        self.seen.set(self.seen.get().wrapping_add(1));
-        Ok(Duration::from_millis(self.seen.get()))
-    }
-
-    fn since_1970(&self) -> io::Result<Duration> {
-        self.monotonic()
-    }
-}
-
-/// A network in which no peer is reached, and the rounds of a server there.
+/// A network in which no peer is reached, with a clock that continues by a millisecond with each look, and the rounds of a server there.
 #[derive(Drop)]
 struct Desert<'a, R> {
     rt: &'a R,
-    looks: &'a Looks,
     server: &'a Server<SumHash, Echo>,
+    /// How many looks there were.
+    looks: Cell<u64>,
     /// The moment of the last round, or else the start.
     last: Cell<u64>,
     /// How many were made.
     rounds: Cell<u32>,
     /// How many of them were made before their period was over.
     early: Cell<u32>,
-}
-
-impl<'a, R> Desert<'a, R> {
-    /// A round is made, whose target is asked for; after enough of them they are ended.
-    fn see_round(&self) {
-        let now = self.looks.seen.get();
-        if now.saturating_sub(self.last.get()) < PERIOD {
-            self.early.set(self.early.get().wrapping_add(1));
-        }
-        self.last.set(now);
-        self.rounds.set(self.rounds.get().wrapping_add(1));
-        if self.rounds.get() >= ROUNDS {
-            self.server.end();
-        }
-    }
 }
 
 impl<'a, R> Net for Desert<'a, R> {
@@ -84,19 +51,29 @@ impl<'a, R> Net for Desert<'a, R> {
         Err(io::Error::from(ErrorKind::Unsupported))
     }
 
+    /// A round is made, whose target is asked for; after enough of them they are ended.
     fn connect_timeout(&self, _addr: SocketAddr, _timeout: Duration) -> io::Result<TcpStream> {
-        self.see_round();
+        let now = self.looks.get();
+        if now.saturating_sub(self.last.get()) < PERIOD {
+            self.early.set(self.early.get().wrapping_add(1));
+        }
+        self.last.set(now);
+        self.rounds.set(self.rounds.get().wrapping_add(1));
+        if self.rounds.get() >= ROUNDS {
+            self.server.end();
+        }
         Err(io::Error::from(ErrorKind::TimedOut))
     }
 }
 
 impl<'a, R> Clock for Desert<'a, R> {
     fn monotonic(&self) -> io::Result<Duration> {
-        self.looks.monotonic()
+        self.looks.set(self.looks.get().wrapping_add(1));
+        Ok(Duration::from_millis(self.looks.get()))
     }
 
     fn since_1970(&self) -> io::Result<Duration> {
-        self.looks.since_1970()
+        self.monotonic()
     }
 }
 
@@ -105,47 +82,35 @@ impl<'a, R: Wait> Wait for Desert<'a, R> {}
 /// After how many milliseconds a suspect is faulty.
 const SUSPECT: u64 = 1_000;
 
-/// How many rounds a server makes until they are ended, and how many of them too early.
-fn rounds_of<R: Wait>(
-    rt: &R,
-    alloc: Global,
+/// How many rounds a server makes until they are ended, how many of them too early, and the millisecond that it then is.
+fn rounds_of(
+    rt: &impl System,
     server: &Server<SumHash, Echo>,
     pass: &mut NodePass<SumHash>,
-    looks: &Looks,
-) -> (u32, u32)
+) -> (u32, u32, u64)
     requires { Fits server.now.node pass.old }
     ensures { Fits server.now.node pass.new }
 {
     let desert = Desert {
         rt,
-        looks,
         server,
-        last: Cell::new(looks.seen.get()),
+        looks: Cell::new(0),
+        last: Cell::new(0),
         rounds: Cell::new(0),
         early: Cell::new(0),
     };
-    make_rounds(server, pass, &&desert, alloc, PERIOD);
-    (desert.rounds.get(), desert.early.get())
+    make_rounds(server, pass, &&desert, rt.alloc(), PERIOD);
+    (desert.rounds.get(), desert.early.get(), desert.looks.get())
 }
 
 /// How many rounds a server makes until they are ended, how many of them too early, and whether the node that it
 /// suspects since the first of them is due as faulty so long after the last millisecond of the first period, and after
 /// now; None if out of memory.
-fn rounds<R: Net<Listener = TcpListener, Stream = TcpStream> + Wait>(
-    rt: &R,
-    alloc: Global,
-) -> Option<(u32, u32, Option<bool>, Option<bool>)> {
-    let own = local(29_177)?;
-    let listener = TcpListener::bind(rt, "127.0.0.1:0").ok()?;
-    let (node, mut pass) = shared_node(alloc, SUSPECT, Some(Status::Alive))?;
-    let looks = Looks { seen: Cell::new(0) };
-    let server = server_of(&looks, own, node, listener);
-    let (made, early) = rounds_of(rt, alloc, &server, &mut pass, &looks);
-    let now = SUSPECT.saturating_add(looks.seen.get());
+fn rounds(rt: &impl System) -> Option<(u32, u32, Option<bool>, Option<bool>)> {
+    let (server, mut pass) = server_of(rt, SUSPECT, Some(Status::Alive))?;
+    let (made, early, now) = rounds_of(rt, &server, &mut pass);
     let is_early = is_due(rt, &server, &mut pass, SUSPECT + PERIOD - 1);
-    let is_due = is_due(rt, &server, &mut pass, now);
-    drop(server);
-    drop(pass);
+    let is_due = is_due(rt, &server, &mut pass, SUSPECT.saturating_add(now));
     Some((made, early, is_early, is_due))
 }
 
@@ -155,7 +120,6 @@ fn rounds<R: Net<Listener = TcpListener, Stream = TcpStream> + Wait>(
 /// after the last round.
 #[test]
 fn no_round_comes_before_its_period_is_over(rt: HostRuntime) {
-    let alloc: Global = rt.alloc();
     let wanted = Some((ROUNDS, 0, Some(false), Some(true)));
-    assert!(&rt; again!(&rt, rounds(&rt, alloc) == wanted));
+    check_again!(&rt, rounds(&rt) == wanted);
 }

@@ -1,12 +1,8 @@
 //! What peers say to a server, line by line, and what it makes of that.
 use crate::plans::Plan;
-use crate::shared::{Running, again, connect, ends_well, spend, start};
-use cli_net::Runtime;
-use std::alloc::Global;
-use std::env::Env;
+use crate::shared::{Running, System, connect, ends_well, spend, start, turn};
 use std::io::{ErrorKind, Read, Write};
-use std::net::{Net, Shutdown, TcpListener, TcpStream};
-use std::process::Abort;
+use std::net::{Shutdown, TcpStream};
 use std::time::{Clock, Duration, Instant};
 use std::{io, thread};
 
@@ -91,36 +87,24 @@ enum Rest {
 /// What comes until the other side hangs up.
 fn rest_of<S: Read>(stream: &mut S, wanted: &str) -> Rest {
     let mut left = wanted.as_bytes();
-    let mut is_ended = false;
     for _ in 0..1024 {
         let mut place = [0];
         match stream.read(&mut place) {
-            Ok(0) => {
-                is_ended = true;
-                break;
-            }
-            Ok(_) => match left.split_first() {
+            Ok(1) => match left.split_first() {
                 Some((&byte, behind)) if byte == place[0] => left = behind,
                 _ => return Rest::Other,
             },
-            Err(fault) => match fault.kind() {
-                ErrorKind::ConnectionReset | ErrorKind::BrokenPipe => {
-                    is_ended = true;
-                    break;
-                }
-                _ => return Rest::Other,
-            },
+            Err(fault)
+                if !matches!(
+                    fault.kind(),
+                    ErrorKind::ConnectionReset | ErrorKind::BrokenPipe
+                ) => return Rest::Other,
+            _ if left.is_empty() => return Rest::Wanted,
+            _ if left.len() == wanted.len() => return Rest::Nothing,
+            _ => return Rest::Other,
         }
     }
-    if !is_ended {
-        Rest::Other
-    } else if left.is_empty() {
-        Rest::Wanted
-    } else if left.len() == wanted.len() {
-        Rest::Nothing
-    } else {
-        Rest::Other
-    }
+    Rest::Other
 }
 
 /// What a peer that talks so receives on a stream.
@@ -134,94 +118,47 @@ fn hears<C: Clock>(clock: &C, stream: &mut TcpStream, talk: &Talk) -> Rest {
     }
 }
 
-/// Whether a peer receives what it has to, and no earlier. One that receives nothing talks again, as often as it may.
-fn is_heard<R: Net<Listener = TcpListener, Stream = TcpStream> + Clock>(
-    rt: &R,
-    server: &Running,
-    talk: &Talk,
-) -> bool {
+/// Whether a peer receives what it has to, and no earlier. One that receives nothing talks again, as often as it may. None if it was
+/// not connected.
+fn is_heard(rt: &impl System, server: &Running, talk: &Talk) -> Option<bool> {
     for _ in 0..talk.looks {
-        let Ok(begun) = Instant::now(rt) else {
-            return false;
-        };
-        let Some(mut stream) = connect(rt, server) else {
-            return false;
-        };
+        let begun = Instant::now(rt).ok()?;
+        let mut stream = connect(rt, server)?;
         let rest = hears(rt, &mut stream, talk);
         drop(stream);
         if rest != Rest::Nothing {
-            return match begun.elapsed(rt) {
-                Ok(spent) => rest == Rest::Wanted && spent >= Duration::from_millis(talk.least),
-                Err(_) => false,
-            };
+            let spent = begun.elapsed(rt).ok()?;
+            return Some(rest == Rest::Wanted && spent >= Duration::from_millis(talk.least));
         }
     }
-    false
+    None
 }
 
-/// Connects this many peers that are unresponsive; None if one was not connected or out of memory.
-fn connect_silent<R: Net<Listener = TcpListener, Stream = TcpStream> + Clock>(
-    rt: &R,
-    silent: &mut Vec<TcpStream>,
-    server: &Running,
-    count: u32,
-) -> Option<()> {
-    for _ in 0..count {
+/// Whether a server makes of a talk what it is to make of it; None if a peer was not connected, or out of memory.
+fn makes(rt: &impl System, server: &Running, talk: &Talk) -> Option<bool> {
+    let mut silent = Vec::new(rt.alloc());
+    for _ in 0..talk.beside {
         silent.push(connect(rt, server)?).ok()?;
     }
-    Some(())
+    is_heard(rt, server, talk)
 }
 
-/// Whether a server makes of a talk what it is to make of it.
-fn makes<R: Net<Listener = TcpListener, Stream = TcpStream> + Clock>(
-    rt: &R,
-    alloc: Global,
-    server: &Running,
-    talk: &Talk,
-) -> bool {
-    let mut silent = Vec::new(alloc);
-    let are_connected = connect_silent(rt, &mut silent, server, talk.beside).is_some();
-    let is_made = are_connected && is_heard(rt, server, talk);
-    drop(silent);
-    is_made
-}
-
-/// Whether a server makes of each talk, one after the other, what it is to make of it, and each connection is one of its requests.
-fn makes_all<R: Net<Listener = TcpListener, Stream = TcpStream> + Clock>(
-    rt: &R,
-    alloc: Global,
-    server: &Running,
-    requests: u64,
-    talks: &[Talk],
-) -> bool {
+/// The same of each talk, one after the other, where each connection is one of its requests.
+fn makes_all(rt: &impl System, server: &Running, requests: u64, talks: &[Talk]) -> bool {
     for talk in talks {
-        if !makes(rt, alloc, server, talk) {
+        if makes(rt, server, talk) != Some(true) {
             return false;
         }
     }
     spend(rt, server, requests)
 }
 
-/// Whether a server so planned makes of all talks what it is to make of them, and ends with all of its page written.
-fn serves_once<R: Net<Listener = TcpListener, Stream = TcpStream> + Runtime>(
-    rt: &R,
-    alloc: Global,
-    plan: &Plan,
-    talks: &[Talk],
-) -> bool {
-    let Some(server) = start(rt, alloc, plan) else {
+/// The same of a server so planned, which ends with all of its page written.
+pub(crate) fn serves(rt: &impl System, plan: &Plan, talks: &[Talk]) -> bool {
+    let _turn = turn(rt);
+    let Some(server) = start(rt, plan) else {
         return false;
     };
-    let is_served = makes_all(rt, alloc, &server, plan.requests, talks);
+    let is_served = makes_all(rt, &server, plan.requests, talks);
     ends_well(rt, server, is_served)
-}
-
-/// The same, and another server if an allocation failed.
-pub(crate) fn serves<R: Net<Listener = TcpListener, Stream = TcpStream> + Runtime + Env + Abort>(
-    rt: &R,
-    alloc: Global,
-    plan: &Plan,
-    talks: &[Talk],
-) -> bool {
-    again!(rt, serves_once(rt, alloc, plan, talks))
 }

@@ -1,5 +1,5 @@
 -- Why a node is not started, and what is started.
-use Rattle.std.proofs.Common.{◌≡◌, ◌<◌, ◌+◌, ◌-◌, ◌↔◌, ◌∙◌, ℕ, Bool, ap, sym, subst, arith, All, List, [], ◌∷◌, ◌++◌, take, drop, length, Option, Some, None, Result, Ok, Err}
+use Rattle.std.proofs.Common.{◌≡◌, ◌<◌, ◌+◌, ◌-◌, ◌↔◌, ◌∙◌, ℕ, Bool, ap, sym, subst, inl, inr, arith, All, List, [], ◌∷◌, ◌++◌, take, drop, length, Option, Some, None, Result, Ok, Err}
 use Rattle.std.proofs.lemmas.List.Elements.{All-drop, All-take}
 use Rattle.std.proofs.lemmas.List.{length-drop, length-take-le, take-append-drop}
 use Rattle.change_core.specs.declared.addresses.Address.{Address}
@@ -12,15 +12,28 @@ use Rattle.locked_node.specs.declared.node.LockedNode.{LockedNode}
 use Rattle.locked_node.specs.Passes.{Fits, NodePass, opening_of}
 use Rattle.cluster_core.specs.Clusters.{AreAll}
 use Rattle.server.specs.Running.{Started}
-use Rattle.server.specs.Starting.{IsCreated, IsHealedAs, IsNotCreated, IsStarted, start_error}
+use Rattle.server.specs.Starting.{AreCountsInRange, IsCreated, IsHealedAs, IsNotCreated, IsNotStarted, IsStarted, IsUnopened, error_of_server, start_error}
 use Rattle.server.specs.Working.{hosts_of}
+use Rattle.server.specs.declared.errors.ServerError.{ServerError}
+use Rattle.server.specs.declared.errors.ServerError.TheVariants as server
 use Rattle.server.specs.declared.healing.HealingPlan.{HealingPlan}
 use Rattle.server.specs.declared.servers.Server.{Server}
 use Rattle.server.specs.declared.starting.Settings.{Settings}
+use Rattle.server.specs.declared.starting.StartError.{StartError}
 
 error_in : {A E : Type 0} → E → Result A E → E
 error_in d (Ok a) = d
 error_in d (Err e) = e
+
+-- a port that is not opened is the error of a start whose settings are right
+pub not_opened : (settings : Settings) (why : StartError) → bad_field settings.config ≡ None → AreCountsInRange settings → IsUnopened why → IsNotStarted settings why
+not_opened settings why fine counts (inl is) = subst (IsNotStarted settings) (sym is) (fine, counts)
+not_opened settings why fine counts (inr is) = subst (IsNotStarted settings) (sym is) fine
+
+-- so are the errors of its threads
+pub not_run : (settings : Settings) (why : ServerError) → bad_field settings.config ≡ None → AreCountsInRange settings → IsNotStarted settings (error_of_server why)
+not_run settings server.NoThread fine counts = (fine, counts)
+not_run settings server.Memory fine counts = fine
 
 -- the node was refused for the first bad field, or for memory
 pub not_created : {H : Type 0} (settings : Settings) (bad : Option ConfigField) → bad_field settings.config ≡ bad → (made : Result (Seen H) NodeError) (e : NodeError)

@@ -196,6 +196,11 @@ module _ {H : Type 0} (hash_of : H → List ℕ → ℕ) (Handles : Handlings) (
       → Makes locked (IsConnection hash_of Handles) p q
   a_connection left p q m = makes_as (IsConnection hash_of Handles) (λ acts h. (h.3.now, h.0, h.3.line, h.3.treated)) m
 
+-- an input that was answered over a stream is a connection
+pub an_answer : {H S : Type 0} (hash_of : H → List ℕ → ℕ) (Handles : Handlings) (locked : LockedNode H) (contents : S → Option (List ℕ)) (stream : S) (heard : Input) (left : Option S)
+    (p q : NodePass H) → Makes locked (IsAnsweredOver contents hash_of Handles stream heard left) p q → Makes locked (IsConnection hash_of Handles) p q
+an_answer hash_of Handles locked contents stream heard left p q m = makes_as (IsConnection hash_of Handles) (λ acts h. (h.now, heard, h.line, h.treated)) m
+
 -- a handler that is shared is unchanged after a connection
 module _ {H A : Type 0} (hash_of : H → List ℕ → ℕ) (Handles : A → MayHandle) (start is : A) (now : ℕ) where
   input_shared : (heard : Input) (r : Result Message ClusterError) (acts : List (Act H)) → AnswersInput hash_of any_answer (between (handled_shared Handles) start is) now heard r acts

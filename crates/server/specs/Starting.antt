@@ -1,5 +1,5 @@
 -- The settings of a start of a node and its server, and its result.
-use Rattle.std.specs.Prelude.{◌≡◌, Bool, true, false, ℕ, ◌+◌, ◌*◌, ◌^◌, ◌≤◌, ◌<◌, List, ◌∷◌, [], ◌++◌, Option, Some, None, length, All}
+use Rattle.std.specs.Prelude.{◌≡◌, ◌⊎◌, Bool, true, false, ℕ, ◌+◌, ◌*◌, ◌^◌, ◌≤◌, ◌<◌, List, ◌∷◌, [], ◌++◌, Option, Some, None, length, All}
 use Rattle.change_core.specs.declared.addresses.Address.{Address}
 use Rattle.detector_core.specs.Choices.{seeded}
 use Rattle.node_core.specs.Configs.{bad_field, standard}
@@ -69,6 +69,10 @@ IsNotStarted settings error.BadCount = (bad_field settings.config ≡ None) × �
 IsNotStarted settings error.CannotListen = (bad_field settings.config ≡ None) × AreCountsInRange settings
 IsNotStarted settings error.NoThread = (bad_field settings.config ≡ None) × AreCountsInRange settings
 IsNotStarted settings error.Memory = bad_field settings.config ≡ None
+
+-- the error of a port that is not opened
+abbrev pub IsUnopened : StartError → Type 0
+IsUnopened why = (why ≡ error.CannotListen) ⊎ (why ≡ error.Memory)
 
 -- a start's error for an error of a server
 abbrev pub error_of_server : ServerError → StartError

@@ -252,8 +252,8 @@ impl<
     }
 
     /// Stops the server: no further connection is accepted and no further round made. Connections that are being
-    /// served, and a round that is under way, are waited for, as `wait` does; connections that wait are closed with the
-    /// server.
+    /// served, and a round that is under way, are waited for, as `wait` does; what came over connections before is still answered, and
+    /// those that wait are closed.
     pub fn stop(self, rt: &R) -> Ended<H, A>
         ensures server { arc_value result.server ≡ self.server }
         ensures rounds { Makes self.server.node (AreRounds R.times self.period (hosts_of self.server.hosts) self.server.healing) self.rounds result.rounds }

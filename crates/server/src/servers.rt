@@ -7,26 +7,21 @@ ghost use Rattle.line_service.specs.Answering.{IsSame};
 ghost use Rattle.line_service.specs.Timeouts.{AreStandardTimeouts};
 ghost use Rattle.server.specs.Working.{ServesEach, hosts_of};
 
-use crate::connections::serve_connection;
+use crate::connections::{Asked, answer_over};
 use crate::healing::HealingPlan;
 use change_core::Address;
 use cluster_core::{Deadline, TcpLink};
 use hash_ring::PointHash;
-use libc::net::{SHUT_RDWR, shutdown};
-use line_service::{Stopwatch, Timeouts};
+use line_service::{MAX_READ, Port, Stopwatch, Timeouts, Turn, hear_arrived};
 use locked_node::{LockedNode, NodePass};
 use peer_core::{HandlerMut, Member};
+use reactor::Places;
 use std::alloc::Global;
-use std::net::{Net, TcpListener, TcpStream};
-use std::os::fd::AsRawFd;
+use std::net::{Net, TcpStream};
 use std::sync::atomic::{AtomicBool, AtomicU64, Ordering};
 use std::sync::{Mutex, MutexGuard, Wait};
-use std::thread;
 use std::thread::Parker;
 use std::time::{Clock, Duration};
-
-/// The milliseconds for which a thread rests before it tries again.
-const REST: u64 = 10;
 
 /// The part of a server that its threads share.
 #[derive(Drop)]
@@ -45,7 +40,7 @@ pub struct Server<H: PointHash, A> {
     pub hosts: Option<Vec<Address>>,
     /// The number of connections after which it ends by itself.
     pub connections: u64,
-    listener: TcpListener,
+    port: Port,
     /// The number of connections that are left to be served.
     connections_left: AtomicU64,
     /// Held while threads are started; no worker serves before.
@@ -55,13 +50,13 @@ pub struct Server<H: PointHash, A> {
 }
 
 impl<H: PointHash, A> Server<H, A> {
-    /// Makes a server of this number of connections, with the standard timeouts; none has been served yet. It joins no hosts.
+    /// Makes a server of this number of connections at a port, with the standard timeouts; none has been served yet. It joins no hosts.
     pub fn new(
         node: LockedNode<H>,
         handler: A,
         stopwatch: Stopwatch,
         healing: Option<HealingPlan>,
-        listener: TcpListener,
+        port: Port,
         connections: u64,
     ) -> Self
         ensures node { result.node ≡ node }
@@ -80,7 +75,7 @@ impl<H: PointHash, A> Server<H, A> {
             healing,
             hosts: None,
             connections,
-            listener,
+            port,
             connections_left: AtomicU64::new(connections),
             starting: Mutex::new(()),
             is_ending: AtomicBool::new(false),
@@ -124,14 +119,24 @@ impl<H: PointHash, A> Server<H, A> {
         drop(self.starting.lock(rt));
     }
 
-    /// Ends the server: no further connection is accepted, and no further round made. Connections that wait to be accepted are closed.
+    /// Returns the places of its port: how many connections wait there for their line, how many may, how many were closed for others, and
+    /// how often the system let none be accepted.
+    pub fn places(&self) -> &Places {
+        self.port.places()
+    }
+
+    /// Ends the server: no further connection is accepted, and no further round made. What came over connections is still answered; those
+    /// whose line is not whole are closed, and so are those that wait to be accepted.
     pub fn end(&self) {
-        let order = Ordering::SeqCst;
-        self.connections_left.store(0, order);
-        self.is_ending.store(true, order);
-        // (an accept that waits returns with an error, and none waits from now on)
-        let _shut = shutdown(self.listener.as_raw_fd(), SHUT_RDWR);
+        self.is_ending.store(true, Ordering::SeqCst);
+        self.port.close();
         self.wake.unpark();
+    }
+
+    /// Ends the server before it serves: no connection is left.
+    pub(crate) fn give_up(&self) {
+        self.connections_left.store(0, Ordering::SeqCst);
+        self.end();
     }
 
     /// Takes one of the connections that are left to be served, which the caller then has to serve; returns whether
@@ -143,27 +148,29 @@ impl<H: PointHash, A> Server<H, A> {
             .is_ok()
     }
 
-    /// The next connection; none once the server ends. An accept that failed is tried again.
-    fn accept<R: Wait + Clock>(&self, rt: &R) -> Option<TcpStream> {
+    /// Returns what came over the next connection, by this buffer; None if none is left, or the server ends.
+    fn next_asked<R: Wait + Clock>(
+        &self,
+        rt: &R,
+        alloc: Global,
+        buffer: &mut [u8],
+    ) -> Option<Asked<TcpStream>> {
+        if !self.take_turn() {
+            return None;
+        }
         for _ in rt.forever() {
-            if self.is_ending.load(Ordering::SeqCst) {
-                return None;
+            match self.port.turn(rt, alloc, &self.stopwatch, buffer) {
+                Turn::Came(came) => {
+                    return Some(Asked {
+                        input: hear_arrived(alloc, &came.line),
+                        stream: came.stream,
+                    });
+                }
+                Turn::Closed => return None,
+                Turn::Parked | Turn::Watched(_) => {}
             }
-            if let Ok((stream, _)) = self.listener.accept() {
-                return Some(stream);
-            }
-            thread::sleep(rt, Duration::from_millis(REST));
         }
         unreachable!()
-    }
-
-    /// Returns the next connection to serve; None if none is left, or the server ends.
-    fn next_connection<R: Wait + Clock>(&self, rt: &R) -> Option<TcpStream> {
-        if self.take_turn() {
-            self.accept(rt)
-        } else {
-            None
-        }
     }
 
     /// Rests for this time at most; whether rounds are still made.
@@ -206,11 +213,12 @@ fn work_over<R: Net + Wait + Clock, H: PointHash, T, A: HandlerMut>(
     ensures same { IsSame member.old member.new }
 {
     server.wait_for_start(rt);
+    let mut buffer = [0u8; MAX_READ];
     for served in 0..server.connections {
-        let Some(stream) = server.next_connection(rt) else {
+        let Some(asked) = server.next_asked(rt, alloc, &mut buffer) else {
             return served;
         };
-        serve_connection(server, member, handler, rt, alloc, stream);
+        answer_over(server, member, handler, rt, alloc, asked);
     }
     server.connections
 }

@@ -4,7 +4,7 @@ ghost use Rattle.std.specs.Vec.{vec_capacity};
 ghost use Rattle.std.specs.List.{All};
 ghost use Rattle.cluster_core.specs.Clusters.{AreAll};
 ghost use Rattle.locked_node.specs.Passes.{Fits, opening_of};
-ghost use Rattle.server.specs.Starting.{AreCountsInRange, AreStandardFor, IsCreated, IsHealedAs, IsNotCreated, IsNotStarted, IsStarted, seed_of, start_error};
+ghost use Rattle.server.specs.Starting.{AreCountsInRange, AreStandardFor, IsCreated, IsHealedAs, IsNotCreated, IsNotStarted, IsStarted, IsUnopened, seed_of, start_error};
 
 use crate::errors::ServerError;
 use crate::healing::HealingPlan;
@@ -14,12 +14,14 @@ use crate::servers::Server;
 use change_core::{Address, Incarnation, Moment};
 use cluster_core::{share, socket_address};
 use hash_ring::PointHash;
-use line_service::{Stopwatch, Timeouts};
+use line_service::{Port, Stopwatch, Timeouts};
 use locked_node::{LockedNode, NodePass};
 use node_core::{Config, ConfigField, MAX_WORKERS, NodeError, NodeState};
 use peer_core::Handler;
 use std::alloc::Global;
+use std::io::ErrorKind;
 use std::net::{Net, TcpListener, TcpStream};
+use std::time::Duration;
 use thiserror::Error;
 
 /// The greatest number of handles of a node for the threads of a service.
@@ -91,7 +93,7 @@ pub enum StartError {
     /// The workers or the handles are out of their range.
     #[error("bad count")]
     BadCount,
-    /// The address can't be listened at.
+    /// The address can't be listened at, or its connections can't be watched.
     #[error("cannot listen")]
     CannotListen,
     /// The system gave no thread.
@@ -219,6 +221,24 @@ fn share_out<H: PointHash>(
     }
 }
 
+/// Listens at an address, where a line has to be whole within the time limit.
+fn open_port<R: Net<Listener = TcpListener, Stream = TcpStream>>(
+    rt: &R,
+    alloc: Global,
+    address: Address,
+    limit: Duration,
+) -> Result<Port, StartError>
+    ensures { IfErr result IsUnopened }
+{
+    let Ok(listener) = TcpListener::bind(rt, socket_address(address)) else {
+        return Err(StartError::CannotListen);
+    };
+    Port::open(rt, alloc, listener, limit).map_err(|error| match error.kind() {
+        ErrorKind::OutOfMemory => StartError::Memory,
+        _ => StartError::CannotListen,
+    })
+}
+
 /// Starts a node and its server: it listens at the address of the settings, serves each connection by one line in and one line
 /// out, requests by the handler, and makes rounds, until it is stopped. The handles are for the service's own threads: each makes
 /// its calls of the node by one, as a [`Member`](peer_core::Member) does. To be known to others the node has to join one of them: by a
@@ -228,7 +248,7 @@ fn share_out<H: PointHash>(
 ///
 /// - `BadConfig`: a field of the configuration is out of its range.
 /// - `BadCount`: the workers or the handles are.
-/// - `CannotListen`: the address can't be listened at.
+/// - `CannotListen`: the address can't be listened at, or the system lets no connections be watched.
 /// - `NoThread`: the system gave no thread.
 /// - `Memory`: an allocation failed.
 pub fn start<
@@ -249,14 +269,12 @@ pub fn start<
     if !settings.are_counts_in_range() {
         return Err(StartError::BadCount);
     }
-    let Ok(listener) = TcpListener::bind(rt, socket_address(settings.address)) else {
-        return Err(StartError::CannotListen);
-    };
+    let port = open_port(rt, alloc, settings.address, settings.timeouts.line)?;
     let (node, rounds, workers, handles) = share_out(alloc, created, settings)?;
     let hosts = hosts_of(alloc, settings)?;
     let healing = plan_of(alloc, settings)?;
     let stopwatch = Stopwatch::start(rt);
-    let server = Server::new(node, handler, stopwatch, healing, listener, u64::MAX);
+    let server = Server::new(node, handler, stopwatch, healing, port, u64::MAX);
     let mut server = server.joining(hosts);
     server.timeouts = settings.timeouts;
     let running = Running::start(rt, alloc, server, rounds, workers, settings.period)?;

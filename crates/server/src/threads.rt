@@ -192,7 +192,7 @@ pub(crate) fn start_all<
         Err(fault) => Err(fault),
     };
     if started.is_err() {
-        server.end();
+        server.give_up();
     }
     drop(blocked);
     started

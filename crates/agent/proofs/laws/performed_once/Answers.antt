@@ -1,5 +1,5 @@
 use Rattle.agent.specs.Onces.{noted_by, sends_once}
-use Rattle.agent.proofs.Owning.{answers_are_done_once, errors_are_undone, others_are_sure, requests_end_once, shown_are_done_once}
+use Rattle.agent.proofs.Owning.{answers_are_done_once, errors_are_undone, others_are_sure, requests_end_once}
 use Rattle.agent.proofs.laws.performed_once.Goals as goal
 
 pub returns-clause-sent : goal.returns-clause-sent
@@ -13,6 +13,3 @@ returns-clause-undone g c = errors_are_undone (sends_once g.N.Dial.dialled) g.A.
 
 pub returns-clause-sure : goal.returns-clause-sure
 returns-clause-sure g c = others_are_sure (sends_once g.N.Dial.dialled) g.A.HandlerMut.handled noted_by (λ to message answer old new goes. goes.2)
-
-pub returns-clause-shown : goal.returns-clause-shown
-returns-clause-shown g c = shown_are_done_once

@@ -2,7 +2,7 @@ use Rattle.std.proofs.Common.{None, ap, refl}
 use Rattle.cli_net.specs.declared.echoes.Echo.{Echo}
 use Rattle.cluster_core.specs.Channels.{any_answer}
 use Rattle.peer_core.proofs.Acts.{said_so}
-use Rattle.cli_net.proofs.Entered.{MayFollow, cannot_begin, cannot_end, cannot_listen, cannot_serve, had_hosts, kept_out_by, let_in_by, entered_by, served_by}
+use Rattle.cli_net.proofs.Entered.{MayFollow, cannot_begin, cannot_end, cannot_open, cannot_serve, had_hosts, kept_out_by, let_in_by, entered_by, served_by}
 use Rattle.cli_net.proofs.Written.{said_both, unsaid_first, unsaid_last}
 use Rattle.server.proofs.Starts.{healed_by}
 use Rattle.cli_net.proofs.serving.serve_by.Goals as goal
@@ -20,13 +20,13 @@ returns-in_err-join_hosts-clause-entered g c =
     c.in_err-join_hosts.field-0.0 c.from_residual-in_err-join_hosts.result c.in_err-join_hosts.ensures.named c.in_err-join_hosts.ensures.joined
     c.from_residual-in_err-join_hosts.ensures.1
 
-pub returns-in_err-listener-clause-entered : goal.returns-in_err-listener-clause-entered
-returns-in_err-listener-clause-entered g c =
-    let out = c.from_residual-in_err-listener in
-    let fault = c.in_err-listener.field-0.0 in
+pub returns-in_err-port-clause-entered : goal.returns-in_err-port-clause-entered
+returns-in_err-port-clause-entered g c =
+    let out = c.from_residual-in_err-port in
+    let fault = c.in_err-port.field-0.0 in
     let_in_by g.H.PointHash.hash_of any_answer c.args.hash c.args.words.now c.in_ok-node.node c.in_ok-node.passes.items c.in_ok-node.timer c.join_hosts.new.pass
     c.as_slice-hosts.result.now c.moment-now.result c.in_ok-node.ensures.created c.in_ok-node.ensures.fresh c.as_slice-hosts.ensures.value (λ none. (c.in_ok-join_hosts.ensures.alone none).1)
-    out.result (said_so MayFollow out.result fault out.ensures.1 (cannot_listen fault c.in_err-listener.ensures))
+    out.result (said_so MayFollow out.result fault out.ensures.1 (cannot_open fault c.in_err-port.ensures))
     c.in_ok-join_hosts.ensures.joined
 
 pub returns-in_err-say_serving-clause-entered : goal.returns-in_err-say_serving-clause-entered

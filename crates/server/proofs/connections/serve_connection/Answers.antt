@@ -1,7 +1,7 @@
 use Rattle.std.proofs.Common.{None, refl}
 use Rattle.cluster_core.specs.Deadlines.{stream_of}
 use Rattle.peer_core.specs.Handling.{between}
-use Rattle.server.proofs.Worked.{a_connection, over_answered, over_heard, over_quiet}
+use Rattle.server.proofs.Worked.{a_connection, over_heard, over_quiet}
 use Rattle.server.proofs.connections.serve_connection.Goals as goal
 
 -- no line was heard
@@ -16,12 +16,10 @@ returns-in_default-clause-made g c =
 
 pub returns-clause-over : goal.returns-clause-over
 returns-clause-over g c =
-    over_heard g.H.PointHash.hash_of (between g.A.HandlerMut.handled c.args.handler.now c.respond-line.new.handler) c.args.member.now.node g.S.Read.remaining g.S.Write.contents c.args.stream c.hear-input.result (stream_of c.new-stream.result)
-    _ c.send_back.result c.args.member.now.pass.now c.respond-line.new.member.pass.now c.new-stream.ensures.stream c.hear-input.ensures
-    (over_answered g.H.PointHash.hash_of (between g.A.HandlerMut.handled c.args.handler.now c.respond-line.new.handler) c.moment-now.result c.args.member.now.node g.S.Write.contents _ c.hear-input.result c.respond-line.result
-    c.send_back.result c.args.member.now.pass.now c.respond-line.new.member.pass.now c.send_back.ensures c.respond-line.ensures.sent c.respond-line.ensures.silent)
+    over_heard g.H.PointHash.hash_of (between g.A.HandlerMut.handled c.args.handler.now c.answer_over.new.handler) c.args.member.now.node g.S.Read.remaining g.S.Write.contents c.args.stream c.hear.result (stream_of c.new-stream.result)
+    _ c.answer_over.result c.args.member.now.pass.now c.answer_over.new.member.pass.now c.new-stream.ensures.stream c.hear.ensures c.answer_over.ensures.answered
 
 pub returns-clause-made : goal.returns-clause-made
 returns-clause-made g c =
-    a_connection g.H.PointHash.hash_of (between g.A.HandlerMut.handled c.args.handler.now c.respond-line.new.handler) c.args.member.now.node g.S.Read.remaining g.S.Write.contents c.args.stream c.send_back.result c.args.member.now.pass.now
-    c.respond-line.new.member.pass.now (returns-clause-over g c)
+    a_connection g.H.PointHash.hash_of (between g.A.HandlerMut.handled c.args.handler.now c.answer_over.new.handler) c.args.member.now.node g.S.Read.remaining g.S.Write.contents c.args.stream c.answer_over.result c.args.member.now.pass.now
+    c.answer_over.new.member.pass.now (returns-clause-over g c)
